@@ -1,0 +1,37 @@
+# make          builds bin/ordtx (the first time it proves every crate that the program stands on)
+# make run      runs the example of a day's ledger
+# make test     the gate: every proof from nothing, the must-fail edits, the tests, the programs
+# make bench    prints the figures of bench/
+# make install  puts the program into PREFIX/bin
+RT ?= rt
+PREFIX ?= /usr/local
+PROGRAM := crates/ordtx_cli
+SOURCES := crates.txt $(shell find crates \( -name '*.rt' -o -name '*.antt' \) -not -path '*/out/*')
+
+.PHONY: all run test bench install clean
+
+all: bin/ordtx
+
+# `rt run` proves and builds the program, and has it print its version.
+bin/ordtx: $(SOURCES)
+	@echo "Proving and building ordtx: some minutes the first time, seconds after an edit."
+	cd $(PROGRAM) && $(RT) run -- --version > /dev/null
+	mkdir -p bin
+	cp $(PROGRAM)/out/ordtx_cli bin/ordtx
+
+run: bin/ordtx
+	bin/ordtx run examples/ledger.json
+
+test:
+	@echo "Proving every crate from nothing, with its must-fail edits, tests and programs."
+	$(RT) ci
+
+bench:
+	RT=$(RT) bench/claims
+
+install: bin/ordtx
+	install -d $(DESTDIR)$(PREFIX)/bin
+	install -m 755 bin/ordtx $(DESTDIR)$(PREFIX)/bin/ordtx
+
+clean:
+	rm -rf bin crates/*/out

@@ -1,0 +1,73 @@
+-- The trees of blocks and records, level by level.
+use Rattle.std.proofs.Common.{◌≡◌, ℕ, Bool, List, [], ◌∷◌, Option, Some, None, Vec, Global, map, refl, ap, rules}
+use Rattle.std.specs.Prelude.{option_map}
+use Rattle.objects.specs.declared.call.Call.{Call}
+use Rattle.objects.specs.declared.call.Reply.{Reply}
+use Rattle.meaning.specs.declared.test.Test.{Test}
+use Rattle.meaning.specs.Trees.{Operation, If, Subaction as subaction_step, Abort as abort_step, Parallel as parallel_step, handlers_of}
+use Rattle.meaning.specs.Shown.{Shown, AtEnd, ShownStep, Replied, Branched, Acted, InParallel, NoChild}
+use Rattle.batch.specs.Views.{block_view, step_view, handler_view, subaction_view, steps_view, children_view, record_view, taken_view, tried_view, all_tried_view, before_end, shown_child, before_younger}
+use Rattle.batch.specs.declared.tree.Block.{Block}
+use Rattle.batch.specs.declared.tree.Step.{Op, If as if_variant, Sub, Abort, Parallel, the_lemmas}
+use Rattle.batch.specs.declared.tree.Subaction.{Subaction, out-Subaction}
+use Rattle.batch.specs.declared.tree.Handler.{Handler}
+use Rattle.batch.specs.declared.record.Record.{Record}
+use Rattle.batch.specs.declared.record.Taken as taken
+
+pub block_view-is : (block : Block) → block_view block ≡ steps_view block.steps.items
+block_view-is block = search (rules, the_lemmas)
+
+pub handler_view-is : (handler : Handler) → handler_view handler ≡ (handler.reason, block_view handler.block)
+handler_view-is handler = search (rules, the_lemmas)
+
+pub step_view-Op : (object : ℕ) (call : Call) (labelled : Bool) → step_view (Op object call labelled) ≡ Operation object call labelled
+step_view-Op object call labelled = search (rules, the_lemmas)
+
+pub step_view-If : (label : ℕ) (test : Test) (then otherwise : Block) → step_view (if_variant label test then otherwise) ≡ If label test (block_view then) (block_view otherwise)
+step_view-If label test then otherwise = search (rules, the_lemmas)
+
+pub step_view-Sub : (child : Subaction) → step_view (Sub child) ≡ subaction_step (subaction_view child).body (subaction_view child).handlers (subaction_view child).labelled
+step_view-Sub child = search (rules, the_lemmas)
+
+pub step_view-Abort : (reason : Option ℕ) → step_view (Abort reason) ≡ abort_step reason
+step_view-Abort reason = search (rules, the_lemmas)
+
+pub step_view-Parallel : (children : Vec Subaction Global) → step_view (Parallel children) ≡ parallel_step (children_view children.items)
+step_view-Parallel children = search (rules, the_lemmas)
+
+pub record_view-is : (done : Record) → record_view done ≡ before_end (map taken_view done.taken.items) (AtEnd done.outcome)
+record_view-is done = search (rules, taken.the_lemmas)
+
+pub taken_view-Op : (reply : Reply) → taken_view (taken.Op reply) ≡ Replied reply
+taken_view-Op reply = search (rules, taken.the_lemmas)
+
+pub taken_view-If : (then : Bool) (branch : Record) → taken_view (taken.If then branch) ≡ Branched then (record_view branch)
+taken_view-If then branch = search (rules, taken.the_lemmas)
+
+pub taken_view-Sub : (body : Record) (handler : Option Record) → taken_view (taken.Sub body handler) ≡ Acted (tried_view (body, handler))
+taken_view-Sub body None = search (rules, taken.the_lemmas)
+taken_view-Sub body (Some handler) = search (rules, taken.the_lemmas)
+
+pub taken_view-Abort : taken_view taken.Abort ≡ ShownStep.Abort
+taken_view-Abort = search (rules, taken.the_lemmas)
+
+-- a child, seen part by part
+tried_parts : (tried : Record × Option Record) → shown_child (taken.TheShapes.former-Taken-Parallel-0-at-3.map Record Shown record_view tried) ≡ tried_view tried
+tried_parts (body, None) = refl
+tried_parts (body, Some handler) = refl
+
+all_tried_parts : (tried : List (Record × Option Record)) → map shown_child (map (taken.TheShapes.former-Taken-Parallel-0-at-3.map Record Shown record_view) tried) ≡ map tried_view tried
+all_tried_parts [] = refl
+all_tried_parts (first ∷ others) = let one = tried_parts first in let rest = all_tried_parts others in cc
+
+pub taken_view-Parallel : (children : Vec (Record × Option Record) Global) → taken_view (taken.Parallel children) ≡ InParallel (all_tried_view children.items)
+taken_view-Parallel children = simp taken.the_lemmas (ap (λ tried. InParallel (before_younger tried NoChild)) (all_tried_parts children.items))
+
+pub subaction_view-body : (child : Subaction) → (subaction_view child).body ≡ block_view (out-Subaction child).body
+subaction_view-body child = search (rules, the_lemmas)
+
+pub subaction_view-labelled : (child : Subaction) → (subaction_view child).labelled ≡ (out-Subaction child).labelled
+subaction_view-labelled child = search (rules, the_lemmas)
+
+pub subaction_view-handlers : (child : Subaction) → (subaction_view child).handlers ≡ handlers_of (option_map (λ by_reason. map handler_view by_reason.items) (out-Subaction child).handlers) (option_map block_view (out-Subaction child).handler)
+subaction_view-handlers child = search (rules, the_lemmas)

@@ -1,0 +1,4 @@
+pub mod Names
+pub mod Views
+pub mod Limits
+pub mod LimitsProps

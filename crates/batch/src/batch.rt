@@ -1,0 +1,37 @@
+//! A batch: objects, their names, and transactions over them.
+ghost use Rattle.std.specs.Prelude.{◌≡◌, map};
+ghost use Rattle.batch.specs.Views.{block_view};
+ghost use Rattle.batch.specs.Limits.{IsBatch};
+ghost use Rattle.batch.specs.LimitsProps.{IsBatch-prop};
+
+use crate::names::Names;
+use crate::tree::Block;
+use objects::Objects;
+
+/// Objects, the names of what it numbers, and transactions, which are numbered from 1.
+///
+/// Every batch can be run: its calls fit their objects, its labels are bound, its tests fit them,
+/// and it is within the limits of a document, so that no number outgrows its type.
+#[derive(Drop)]
+pub struct Batch {
+    pub objects: Objects,
+    pub names: Names,
+    pub transactions: Vec<Block>,
+    pub ghost is_batch: { IsBatch objects names (map block_view transactions.items) } by { IsBatch-prop objects names (map block_view transactions.items) },
+}
+
+impl Batch {
+    /// The batch of these objects, names and transactions.
+    pub fn new(objects: Objects, names: Names, transactions: Vec<Block>) -> Batch
+        requires { IsBatch objects names (map block_view transactions.items) }
+        ensures objects { result.objects ≡ objects }
+        ensures names { result.names ≡ names }
+        ensures transactions { result.transactions ≡ transactions }
+    {
+        Batch {
+            objects,
+            names,
+            transactions,
+        }
+    }
+}

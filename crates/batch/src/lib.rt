@@ -1,0 +1,20 @@
+//! Batches of nested transactions and what running one answers: the types that every layer names,
+//! and the trees of the meaning that they stand for.
+#![tactic(auto)]
+
+mod answer;
+mod batch;
+mod names;
+mod record;
+mod tree;
+
+pub use answer::{Outcome, Plain};
+pub use batch::Batch;
+pub use meaning::{End, Test, Word};
+pub use names::Names;
+pub use objects::{Call, Entry, Item, Kind, NoMemory, Objects, Reply, Value};
+pub use record::{Record, Taken};
+pub use tree::{Block, Handler, Step, Subaction};
+
+#[cfg(test)]
+mod tests;

@@ -1,0 +1,57 @@
+//! Transactions as trees: blocks of steps (Moss 1981: nested transactions).
+use meaning::Test;
+use objects::Call;
+
+/// Steps, taken in order. A transaction is a block.
+#[derive(Debug, Drop)]
+#[cycle(tree)]
+pub struct Block {
+    pub steps: Vec<Step>,
+}
+
+/// A step of a block. A label is a number: how many labels are seen before it. A step that is
+/// `labelled` adds one more, for the steps behind it.
+#[derive(Debug, Drop)]
+#[cycle(tree)]
+pub enum Step {
+    /// One call on the object at this place; its label holds the reply.
+    Op {
+        object: u32,
+        call: Call,
+        labelled: bool,
+    },
+    /// The branch that the test of a label picks.
+    If {
+        label: u32,
+        test: Test,
+        then: Block,
+        otherwise: Block,
+    },
+    Sub(Subaction),
+    /// Ends the innermost subaction or the transaction around it, for a reason or without one.
+    Abort(Option<u32>),
+    /// Subactions that may run at once; they mean the same as one after the other.
+    Parallel(Vec<Subaction>),
+}
+
+/// A subaction, or a child of a parallel step; its label holds its outcome.
+///
+/// Where the body aborts, its effects are undone, and the first handler that takes the abort runs:
+/// one of its reason, else `handler`. Where there is none, the parent goes on if there are no
+/// `handlers`, and aborts as the body did if there are.
+#[derive(Debug, Drop)]
+#[cycle(tree)]
+pub struct Subaction {
+    pub body: Block,
+    pub handlers: Option<Vec<Handler>>,
+    pub handler: Option<Block>,
+    pub labelled: bool,
+}
+
+/// The block that takes aborts for a reason.
+#[derive(Debug, Drop)]
+#[cycle(tree)]
+pub struct Handler {
+    pub reason: u32,
+    pub block: Block,
+}

@@ -1,0 +1,47 @@
+// A seat at a board.
+ghost use Rattle.std.specs.Prelude.{◌≡◌, []};
+ghost use Rattle.claims.specs.Views.{is_over};
+
+use crate::view::View;
+use std::marker::Model;
+
+pub(crate) type Token = atomic_table::Seat<(), View>;
+
+/// A seat at a board, with which one thread at a time claims. It has no copy, so the seats that
+/// [`Board::open`](crate::Board::open) gave are all that there are of a board.
+#[derive(Drop)]
+pub struct Seat {
+    pub(crate) token: Token,
+    pub(crate) over: bool,
+}
+
+impl Model for Seat {
+    ghost use Rattle.std.specs.Prelude.{◌≡◌, []};
+    ghost use Rattle.claims.specs.Seated.{Seated};
+    ghost use Rattle.claims.specs.Views.{is_over};
+
+    ghost Value = { Seated };
+
+    ghost view = { λ s. record { board = s.token.table_id; view = s.token.me.0 } };
+
+    ghost invariant = { λ s. (s.token.me.1 ≡ []) × (s.token.me.0.shares ≡ 1)
+        × (s.over ≡ is_over s.token.me.0) };
+}
+
+impl Seat {
+    /// Whether the seat was told `Done` or `Stopped`. It claims no more then, and may still raise,
+    /// lower and ask for the bound. It takes no step and no memory.
+    pub fn is_over(&self) -> bool
+        ensures { result ≡ is_over self.now.view }
+    {
+        self.over
+    }
+
+    pub(crate) fn into_token(self) -> Token
+        ensures board { (result.table_id ≡ self.board) × (result.me ≡ (self.view, [])) }
+        ensures share { self.view.shares ≡ 1 }
+    {
+        let Seat { token, over: _ } = self;
+        token
+    }
+}

@@ -1,0 +1,86 @@
+-- Lists of entries: what they leave, which are legal and which have room.
+use Rattle.std.proofs.Common.{◌≡◌, ℕ, zero, suc, ◌+◌, ◌<◌, arith, List, [], ◌∷◌, ◌++◌, length, take, drop, refl, sym, ap, ◌∙◌, subst, Option, Some, None, get_or}
+use Rattle.std.proofs.lemmas.List.{length-set, drop_more}
+use Rattle.std.specs.Prelude.{slice_get}
+use Rattle.objects.specs.Objects.{objects, one_value, kind_of_value, kind_of_call, Fits, ObjectHasRoom}
+use Rattle.serial.specs.Places.{after_found}
+use Rattle.objects.specs.declared.value.Value.{Value}
+use Rattle.objects.specs.declared.value.Value.TheVariants.{Account as account_value, Counter as counter_value, Set as set_value, Queue as queue_value, Directory as directory_value, Max as max_value}
+use Rattle.objects.specs.declared.call.Call.{Call}
+use Rattle.objects.specs.declared.call.Call.TheVariants.{Account as account_call, Counter as counter_call, Set as set_call, Queue as queue_call, Directory as directory_call, Max as max_call}
+use Rattle.objects.specs.declared.call.Reply.{Reply}
+use Rattle.objects.specs.declared.entry.Entry.{Entry}
+use Rattle.intentions.specs.Levels.{after_entries, AllEntriesLegal, AllHaveRoom}
+
+pub after_entries-append : (values : List Value) (xs ys : List Entry) → after_entries values (xs ++ ys) ≡ after_entries (after_entries values xs) ys
+after_entries-append values [] ys = refl
+after_entries-append values (x ∷ xs) ys = after_entries-append (objects.after values (x.object, x.call)) xs ys
+
+pub legal-append : (values : List Value) (xs ys : List Entry) → AllEntriesLegal values xs → AllEntriesLegal (after_entries values xs) ys → AllEntriesLegal values (xs ++ ys)
+legal-append values [] ys h k = k
+legal-append values (x ∷ xs) ys h k = (h.0, legal-append (objects.after values (x.object, x.call)) xs ys h.1 k)
+
+pub room-append : (values : List Value) (xs ys : List Entry) → AllHaveRoom values xs → AllHaveRoom (after_entries values xs) ys → AllHaveRoom values (xs ++ ys)
+room-append values [] ys h k = k
+room-append values (x ∷ xs) ys h k = (h.0, room-append (objects.after values (x.object, x.call)) xs ys h.1 k)
+
+pub legal-take : (values : List Value) (n : ℕ) (xs : List Entry) → AllEntriesLegal values xs → AllEntriesLegal values (take n xs)
+legal-take values zero xs h = tt
+legal-take values (suc n) [] h = tt
+legal-take values (suc n) (x ∷ xs) h = (h.0, legal-take (objects.after values (x.object, x.call)) n xs h.1)
+
+pub room-take : (values : List Value) (n : ℕ) (xs : List Entry) → AllHaveRoom values xs → AllHaveRoom values (take n xs)
+room-take values zero xs h = tt
+room-take values (suc n) [] h = tt
+room-take values (suc n) (x ∷ xs) h = (h.0, room-take (objects.after values (x.object, x.call)) n xs h.1)
+
+-- a call whose reply an entry has fits
+kinds_agree : (v : Value) (c : Call) (r : Reply) → one_value.reply v c ≡ Some r → kind_of_value v ≡ kind_of_call c
+kinds_agree (account_value v) (account_call c) r h = refl
+kinds_agree (counter_value v) (counter_call c) r h = refl
+kinds_agree (set_value v) (set_call c) r h = refl
+kinds_agree (queue_value v) (queue_call c) r h = refl
+kinds_agree (directory_value v) (directory_call c) r h = refl
+kinds_agree (max_value v) (max_call c) r h = refl
+kinds_agree v c r h = cc
+
+pub legal-fits : (values : List Value) (object : ℕ) (c : Call) (r : Reply) → objects.reply values (object, c) ≡ Some r → Fits values object c
+legal-fits [] object c r h = cc
+legal-fits (v ∷ values) zero c r h = kinds_agree v c r h
+legal-fits (v ∷ values) (suc object) c r h = legal-fits values object c r h
+
+length-after_found : (values : List Value) (object : ℕ) (c : Call) (o : Option Value) → length (after_found one_value values object c o) ≡ length values
+length-after_found values object c None = refl
+length-after_found values object c (Some v) = length-set values object (one_value.after v c)
+
+-- entries change no number of objects
+pub length-after_entries : (values : List Value) (entries : List Entry) → length (after_entries values entries) ≡ length values
+length-after_entries values [] = refl
+length-after_entries values (e ∷ entries) =
+    length-after_entries (objects.after values (e.object, e.call)) entries ∙ length-after_found values e.object e.call (slice_get values e.object)
+
+pub get-past : {A : Type 0} (xs : List A) (i : ℕ) → i < length xs → slice_get xs i ≡ None → ⊥
+get-past [] i h e = absurd (omega arith)
+get-past (x ∷ xs) zero h e = cc
+get-past (x ∷ xs) (suc i) h e = get-past xs i (omega arith) e
+
+pub get_or-found : {A : Type 0} (xs : List A) (i : ℕ) (x : A) → slice_get xs i ≡ Some x → get_or xs i x ≡ x
+get_or-found [] i x e = refl
+get_or-found (y ∷ xs) zero x e = cc
+get_or-found (y ∷ xs) (suc i) x e = get_or-found xs i x e
+
+-- the first of the entries that are left
+pub record NextEntry (values : List Value) (rest : List Entry) (e : Entry) (more : List Entry) : Type 0 where
+  pub legal : objects.reply values (e.object, e.call) ≡ Some e.reply
+  pub room : ObjectHasRoom values e.object e.call
+  pub rest_legal : AllEntriesLegal (objects.after values (e.object, e.call)) more
+  pub rest_room : AllHaveRoom (objects.after values (e.object, e.call)) more
+  pub leads : after_entries values rest ≡ after_entries (objects.after values (e.object, e.call)) more
+
+pub next_entry : (values : List Value) (entries : List Entry) (i : ℕ) (e : Entry) → i < length entries → e ≡ get_or entries i e
+    → AllEntriesLegal values (drop i entries) → AllHaveRoom values (drop i entries) → NextEntry values (drop i entries) e (drop (i + 1) entries)
+next_entry values entries i e h at legal room =
+    let is : drop i entries ≡ e ∷ drop (i + 1) entries = drop_more entries i e h ∙ ap (λ x. x ∷ drop (i + 1) entries) (sym at) in
+    let all_legal : AllEntriesLegal values (e ∷ drop (i + 1) entries) = subst (AllEntriesLegal values) is legal in
+    let all_room : AllHaveRoom values (e ∷ drop (i + 1) entries) = subst (AllHaveRoom values) is room in
+    record { legal = all_legal.0; room = all_room.0; rest_legal = all_legal.1; rest_room = all_room.1; leads = ap (after_entries values) is }

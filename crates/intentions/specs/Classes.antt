@@ -1,0 +1,90 @@
+-- Classes of operations that always commute forward.
+use Rattle.std.specs.Prelude.{ℕ, Bool, true, false}
+use Rattle.atoms.specs.declared.account.AccountCall.{AccountCall}
+use Rattle.atoms.specs.declared.account.AccountReply.{AccountReply}
+use Rattle.atoms.specs.declared.account.AccountCall.TheVariants as account_call
+use Rattle.atoms.specs.declared.account.AccountReply.TheVariants as account_reply
+use Rattle.atoms.specs.declared.counter.CounterCall.{CounterCall}
+use Rattle.atoms.specs.declared.counter.CounterReply.{CounterReply}
+use Rattle.atoms.specs.declared.counter.CounterCall.TheVariants as counter_call
+use Rattle.atoms.specs.declared.counter.CounterReply.TheVariants as counter_reply
+use Rattle.atoms.specs.declared.item_set.SetCall.{SetCall}
+use Rattle.atoms.specs.declared.item_set.SetReply.{SetReply}
+use Rattle.atoms.specs.declared.item_set.SetCall.TheVariants as set_call
+use Rattle.atoms.specs.declared.item_set.SetReply.TheVariants as set_reply
+use Rattle.atoms.specs.declared.queue.QueueCall.{QueueCall}
+use Rattle.atoms.specs.declared.queue.QueueReply.{QueueReply}
+use Rattle.atoms.specs.declared.queue.QueueCall.TheVariants as queue_call
+use Rattle.atoms.specs.declared.queue.QueueReply.TheVariants as queue_reply
+use Rattle.atoms.specs.declared.directory.DirectoryCall.{DirectoryCall}
+use Rattle.atoms.specs.declared.directory.DirectoryReply.{DirectoryReply}
+use Rattle.atoms.specs.declared.directory.DirectoryCall.TheVariants as directory_call
+use Rattle.atoms.specs.declared.directory.DirectoryReply.TheVariants as directory_reply
+use Rattle.atoms.specs.declared.max_register.MaxCall.{MaxCall}
+use Rattle.atoms.specs.declared.max_register.MaxReply.{MaxReply}
+use Rattle.atoms.specs.declared.max_register.MaxCall.TheVariants as max_call
+use Rattle.atoms.specs.declared.max_register.MaxReply.TheVariants as max_reply
+use Rattle.objects.specs.declared.call.Call.{Call}
+use Rattle.objects.specs.declared.call.Call.TheVariants as call
+use Rattle.objects.specs.declared.call.Reply.{Reply}
+use Rattle.objects.specs.declared.call.Reply.TheVariants as reply
+use Rattle.intentions.specs.declared.classes.Class.{Class}
+use Rattle.intentions.specs.declared.classes.Class.TheVariants.{Look, Deposit, Withdrawal, Count, Raise, Change}
+
+abbrev pub account_class : AccountCall → AccountReply → Class
+account_class (account_call.Deposit a) account_reply.Ok = Deposit
+account_class (account_call.Withdraw a) account_reply.Ok = Withdrawal
+account_class c r = Look
+
+abbrev pub counter_class : CounterCall → CounterReply → Class
+counter_class (counter_call.Add k) counter_reply.Ok = Count
+counter_class (counter_call.Sub k) counter_reply.Ok = Count
+counter_class c r = Look
+
+abbrev pub set_class : SetCall → SetReply → Class
+set_class (set_call.Insert x) set_reply.Added = Change
+set_class (set_call.Remove x) set_reply.Removed = Change
+set_class c r = Look
+
+abbrev pub queue_class : QueueCall → QueueReply → Class
+queue_class (queue_call.Enq x) queue_reply.Ok = Change
+queue_class queue_call.Deq (queue_reply.Got x) = Change
+queue_class c r = Look
+
+abbrev pub directory_class : DirectoryCall → DirectoryReply → Class
+directory_class (directory_call.Bind k v) directory_reply.Bound = Change
+directory_class (directory_call.Put k v) directory_reply.Ok = Change
+directory_class (directory_call.Unbind k) directory_reply.Gone = Change
+directory_class c r = Look
+
+abbrev pub max_class : MaxCall → MaxReply → Class
+max_class (max_call.Raise k) max_reply.Ok = Raise
+max_class c r = Look
+
+-- an operation that is legal at no value is taken for a look
+abbrev pub class_of : Call → Reply → Class
+class_of (call.Account c) (reply.Account r) = account_class c r
+class_of (call.Counter c) (reply.Counter r) = counter_class c r
+class_of (call.Set c) (reply.Set r) = set_class c r
+class_of (call.Queue c) (reply.Queue r) = queue_class c r
+class_of (call.Directory c) (reply.Directory r) = directory_class c r
+class_of (call.Max c) (reply.Max r) = max_class c r
+class_of c r = Look
+
+abbrev pub number_of : Class → ℕ
+number_of Look = 0
+number_of Deposit = 1
+number_of Withdrawal = 2
+number_of Count = 3
+number_of Raise = 4
+number_of Change = 5
+
+-- any two operations of these classes commute forward
+abbrev pub always_commute : Class → Class → Bool
+always_commute Look Look = true
+always_commute Deposit Deposit = true
+always_commute Deposit Withdrawal = true
+always_commute Withdrawal Deposit = true
+always_commute Count Count = true
+always_commute Raise Raise = true
+always_commute c d = false

@@ -1,0 +1,69 @@
+-- Intentions: what a view shows, by the lists of the levels that are open.
+use Rattle.std.specs.Prelude.{List, [], ◌∷◌, ◌++◌, map}
+use Rattle.serial.specs.Serial.{after_all, AllLegal}
+use Rattle.objects.specs.Objects.{objects, operation_of, ObjectHasRoom}
+use Rattle.objects.specs.declared.value.Value.{Value}
+use Rattle.objects.specs.declared.entry.Entry.{Entry}
+
+-- what is seen of a view
+pub record Intentions : Type 0 where
+  pub snapshot : List Value
+  pub entries : List Entry
+  -- the net of the innermost level
+  pub net : List Entry
+  -- the nets of the levels around it, from the inside
+  pub outer : List (List Entry)
+
+-- the values that a list of entries leaves
+abbrev pub after_entries : List Value → List Entry → List Value
+after_entries values entries = after_all objects values (map operation_of entries)
+
+-- the nets of the levels around, the outermost first, one after the other
+abbrev pub joined : List (List Entry) → List Entry
+joined [] = []
+joined (net ∷ outer) = joined outer ++ net
+
+-- the state that a view shows
+abbrev pub shown : Intentions → List Value
+shown v = after_entries v.snapshot (joined v.outer ++ v.net)
+
+-- a view of these values with no entries
+abbrev pub opened : List Value → Intentions
+opened values = record { snapshot = values; entries = []; net = []; outer = [] }
+
+-- one more entry
+abbrev pub performed : Intentions → Entry → Intentions
+performed v entry = record v { entries = v.entries ++ entry ∷ []; net = v.net ++ entry ∷ [] }
+
+-- one more level
+abbrev pub begun : Intentions → Intentions
+begun v = record v { net = []; outer = v.net ∷ v.outer }
+
+abbrev pub parent : List (List Entry) → List Entry
+parent [] = []
+parent (net ∷ outer) = net
+
+abbrev pub parents : List (List Entry) → List (List Entry)
+parents [] = []
+parents (net ∷ outer) = outer
+
+-- the innermost net at the end of its parent's
+abbrev pub committed : Intentions → Intentions
+committed v = record v { net = parent v.outer ++ v.net; outer = parents v.outer }
+
+-- the innermost net dropped
+abbrev pub aborted : Intentions → Intentions
+aborted v = record v { net = parent v.outer; outer = parents v.outer }
+
+-- two more lists
+abbrev pub absorbed : Intentions → List Entry → List Entry → Intentions
+absorbed v entries net = record v { entries = v.entries ++ entries; net = v.net ++ net }
+
+-- each entry finds room at the values that those before it leave
+abbrev pub AllHaveRoom : List Value → List Entry → Type 0
+AllHaveRoom values [] = Unit {0}
+AllHaveRoom values (entry ∷ entries) = ObjectHasRoom values entry.object entry.call × AllHaveRoom (objects.after values (entry.object, entry.call)) entries
+
+-- each entry has the reply of its call at the values that those before it leave
+abbrev pub AllEntriesLegal : List Value → List Entry → Type 0
+AllEntriesLegal values entries = AllLegal objects values (map operation_of entries)

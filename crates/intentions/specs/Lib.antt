@@ -1,0 +1,6 @@
+pub mod Levels
+pub mod Committed
+pub mod Starts
+pub mod Classes
+pub mod Layers
+pub mod Index

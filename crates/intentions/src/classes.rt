@@ -1,0 +1,155 @@
+//! Classes of operations that always commute forward, whatever their arguments and replies are.
+ghost use Rattle.std.specs.Prelude.{◌≡◌};
+ghost use Rattle.intentions.specs.Classes.{account_class, counter_class, set_class, queue_class, directory_class, max_class, class_of, number_of, always_commute};
+ghost use Rattle.intentions.specs.Index.{filed_at, list_of};
+
+use objects::{
+    AccountCall, AccountReply, Call, CounterCall, CounterReply, DirectoryCall, DirectoryReply,
+    Entry, MaxCall, MaxReply, QueueCall, QueueReply, Reply, SetCall, SetReply,
+};
+
+/// What an operation did, as far as it decides with which others it always commutes forward.
+#[derive(Clone, Copy, Debug, PartialEq, Eq)]
+pub enum Class {
+    /// It left the value as it was.
+    Look,
+    Deposit,
+    Withdrawal,
+    /// It changed a counter.
+    Count,
+    /// It raised a register, or found it higher.
+    Raise,
+    /// It changed a set, a queue or a directory.
+    Change,
+}
+
+/// How many classes there are.
+const CLASSES: usize = 6;
+
+impl Class {
+    /// Every class, in the order of the numbers.
+    pub const ALL: [Class; CLASSES] = [
+        Class::Look,
+        Class::Deposit,
+        Class::Withdrawal,
+        Class::Count,
+        Class::Raise,
+        Class::Change,
+    ];
+
+    /// The class of an entry's operation.
+    pub fn of(entry: &Entry) -> Class
+        ensures { result ≡ class_of entry.now.call entry.now.reply }
+    {
+        match (&entry.call, &entry.reply) {
+            (Call::Account(call), Reply::Account(reply)) => account_class(call, reply),
+            (Call::Counter(call), Reply::Counter(reply)) => counter_class(call, reply),
+            (Call::Set(call), Reply::Set(reply)) => set_class(call, reply),
+            (Call::Queue(call), Reply::Queue(reply)) => queue_class(call, reply),
+            (Call::Directory(call), Reply::Directory(reply)) => directory_class(call, reply),
+            (Call::Max(call), Reply::Max(reply)) => max_class(call, reply),
+            _ => Class::Look,
+        }
+    }
+
+    /// The place of the class among all.
+    pub fn number(self) -> usize
+        ensures { result ≡ number_of self }
+    {
+        match self {
+            Class::Look => 0,
+            Class::Deposit => 1,
+            Class::Withdrawal => 2,
+            Class::Count => 3,
+            Class::Raise => 4,
+            Class::Change => 5,
+        }
+    }
+
+    /// Whether any two operations of these classes commute forward.
+    pub fn always_commutes(self, other: Class) -> bool
+        ensures { result ≡ always_commute self other }
+    {
+        match (self, other) {
+            (Class::Look, Class::Look)
+            | (Class::Deposit, Class::Deposit | Class::Withdrawal)
+            | (Class::Withdrawal, Class::Deposit)
+            | (Class::Count, Class::Count)
+            | (Class::Raise, Class::Raise) => true,
+            _ => false,
+        }
+    }
+}
+
+/// Which list of an index has the places of an object's entries of a class.
+pub fn list_of(object: u32, class: Class) -> usize
+    ensures { result ≡ list_of object class }
+{
+    object as usize * CLASSES + class.number()
+}
+
+/// Which list of an index has the place of the entry.
+pub fn filed_at(entry: &Entry) -> usize
+    ensures { result ≡ filed_at entry.now }
+{
+    list_of(entry.object, Class::of(entry))
+}
+
+fn account_class(call: &AccountCall, reply: &AccountReply) -> Class
+    ensures { result ≡ account_class call.now reply.now }
+{
+    match (*call, *reply) {
+        (AccountCall::Deposit(_), AccountReply::Ok) => Class::Deposit,
+        (AccountCall::Withdraw(_), AccountReply::Ok) => Class::Withdrawal,
+        _ => Class::Look,
+    }
+}
+
+fn counter_class(call: &CounterCall, reply: &CounterReply) -> Class
+    ensures { result ≡ counter_class call.now reply.now }
+{
+    match (*call, *reply) {
+        (CounterCall::Add(_) | CounterCall::Sub(_), CounterReply::Ok) => Class::Count,
+        _ => Class::Look,
+    }
+}
+
+fn set_class(call: &SetCall, reply: &SetReply) -> Class
+    ensures { result ≡ set_class call.now reply.now }
+{
+    match (*call, *reply) {
+        (SetCall::Insert(_), SetReply::Added) | (SetCall::Remove(_), SetReply::Removed) => {
+            Class::Change
+        }
+        _ => Class::Look,
+    }
+}
+
+fn queue_class(call: &QueueCall, reply: &QueueReply) -> Class
+    ensures { result ≡ queue_class call.now reply.now }
+{
+    match (*call, *reply) {
+        (QueueCall::Enq(_), QueueReply::Ok) | (QueueCall::Deq, QueueReply::Got(_)) => Class::Change,
+        _ => Class::Look,
+    }
+}
+
+fn directory_class(call: &DirectoryCall, reply: &DirectoryReply) -> Class
+    ensures { result ≡ directory_class call.now reply.now }
+{
+    match (*call, *reply) {
+        (DirectoryCall::Bind(_, _), DirectoryReply::Bound)
+        | (DirectoryCall::Put(_, _), DirectoryReply::Ok)
+        | (DirectoryCall::Unbind(_), DirectoryReply::Gone) => Class::Change,
+        _ => Class::Look,
+    }
+}
+
+fn max_class(call: &MaxCall, reply: &MaxReply) -> Class
+    ensures { result ≡ max_class call.now reply.now }
+{
+    match (*call, *reply) {
+        (MaxCall::Raise(_), MaxReply::Ok) => Class::Raise,
+        _ => Class::Look,
+    }
+}

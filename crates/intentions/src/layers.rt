@@ -1,0 +1,241 @@
+//! Copies of changed values over a snapshot, in levels.
+ghost use Rattle.std.specs.Prelude.{◌≡◌, ◌<◌, ◌^◌, ℕ, [], ◌∷◌, ◌++◌, length, reverse, slice_get, slice_set, Some, IfOk, IfSome, IsSome, OnOk, OnErr, MatchOption, drop};
+ghost use Rattle.std.specs.Option.{option_copied};
+ghost use Rattle.objects.specs.Objects.{objects, Fits, ObjectHasRoom};
+ghost use Rattle.intentions.specs.Levels.{after_entries, AllEntriesLegal, AllHaveRoom};
+ghost use Rattle.intentions.specs.Starts.{innermost_start};
+ghost use Rattle.intentions.specs.Layers.{States, IsUnchanged, IsLatest};
+
+use crate::looks::reply_of_look;
+use objects::{Call, Entry, NoMemory, Objects, Reply, Value};
+use std::alloc::Global;
+use std::marker::Model;
+
+/// What the value of an object became in a level.
+#[derive(Drop)]
+struct Version {
+    object: u32,
+    value: Value,
+}
+
+/// The values of a snapshot and of what was changed since, by levels.
+#[derive(Drop)]
+pub struct Layers<'s> {
+    snapshot: &'s Objects,
+    versions: Vec<Version>,
+    /// For each open level, how many versions there were at its begin.
+    starts: Vec<usize>,
+}
+
+impl<'s> Model for Layers<'s> {
+    ghost use Rattle.std.specs.Prelude.{List, length, reverse};
+    ghost use Rattle.objects.specs.declared.value.Value.{Value as OneValue};
+    ghost use Rattle.std.specs.Coded.{coded_list, coded×, code_by};
+    ghost use Rattle.std.proofs.Common.{refl};
+    ghost use Rattle.objects.specs.contracts.value.Value as one_value_type;
+    ghost use Rattle.intentions.specs.Layers.{States};
+
+    ghost Value = { States };
+
+    ghost coded = { code_by (List OneValue × List (List OneValue)) (coded× (coded_list one_value_type.the_row.coded) (coded_list (coded_list one_value_type.the_row.coded))) (λ s. (s.shown, s.begun)) (λ p. record { shown = p.0; begun = p.1 }) (λ _. refl) };
+
+    ghost use Rattle.intentions.specs.Starts.{IsNested, at_starts};
+    ghost use Rattle.intentions.specs.Layers.{overlaid};
+
+    ghost view = { λ layers. record {
+      shown = overlaid layers.snapshot.now layers.versions.items;
+      begun = at_starts (overlaid layers.snapshot.now) (reverse layers.starts.items) layers.versions.items;
+    } };
+
+    ghost invariant = { λ layers. IsNested (reverse layers.starts.items) (length layers.versions.items) };
+}
+
+impl<'s> Layers<'s> {
+    /// Layers that show the snapshot, with no level.
+    pub fn open(alloc: Global, snapshot: &'s Objects) -> Layers<'s>
+        ensures { result ≡ record { shown = snapshot.now; begun = [] } }
+    {
+        Layers {
+            snapshot,
+            versions: Vec::new(alloc),
+            starts: Vec::new(alloc),
+        }
+    }
+
+    /// The number of open levels.
+    pub fn depth(&self) -> usize
+        ensures { result ≡ length self.now.begun }
+    {
+        self.starts.len()
+    }
+
+    /// What is shown of the object.
+    pub fn value(&self, object: u32) -> Option<&Value>
+        ensures { option_copied result ≡ slice_get self.now.shown object }
+    {
+        match self.snapshot.value(object) {
+            Some(original) => match latest(&self.versions, object) {
+                Some(place) => Some(&self.versions[place].value),
+                None => Some(original),
+            },
+            None => None,
+        }
+    }
+
+    /// Performs a call on the object. A value is copied only where the call changes it for the
+    /// first time in its level.
+    pub fn perform(&mut self, object: u32, call: &Call) -> Result<Reply, NoMemory>
+        requires fits { Fits self.old.shown object call.now }
+        requires room { ObjectHasRoom self.old.shown object call.now }
+        ensures reply { IfOk result (λ reply. objects.reply self.old.shown (object, call.now) ≡ Some reply) }
+        ensures ok { OnOk result (self.new ≡ record self.old { shown = objects.after self.old.shown (object, call.now) }) }
+        ensures err { OnErr result (self.new ≡ self.old) }
+    {
+        if let Some(reply) = self.look(object, call) {
+            return Ok(reply);
+        }
+        let start = innermost_start(&self.starts);
+        match latest(&self.versions, object) {
+            Some(place) if start <= place => self.versions[place].value.perform(call),
+            _ => {
+                let (value, reply) = self.changed_copy(object, call)?;
+                self.versions.push(Version { object, value })?;
+                Ok(reply)
+            }
+        }
+    }
+
+    /// Performs the calls of entries, one after the other. On NoMemory some may have been
+    /// performed.
+    fn perform_all(&mut self, entries: &[Entry]) -> Result<(), NoMemory>
+        requires legal { AllEntriesLegal self.old.shown entries.now }
+        requires room { AllHaveRoom self.old.shown entries.now }
+        ensures ok { OnOk result (self.new.shown ≡ after_entries self.old.shown entries.now) }
+        ensures levels { self.new.begun ≡ self.old.begun }
+    {
+        for entry in entries {
+            let _reply = self.perform(entry.object, &entry.call)?;
+        }
+        Ok(())
+    }
+
+    /// Performs the calls of entries, all or, on NoMemory, none.
+    pub fn perform_whole(&mut self, entries: &[Entry]) -> Result<(), NoMemory>
+        requires legal { AllEntriesLegal self.old.shown entries.now }
+        requires room { AllHaveRoom self.old.shown entries.now }
+        ensures ok { OnOk result (self.new ≡ record self.old { shown = after_entries self.old.shown entries.now }) }
+        ensures err { OnErr result (self.new ≡ self.old) }
+    {
+        self.begin()?;
+        match self.perform_all(entries) {
+            Ok(()) => {
+                self.commit();
+                Ok(())
+            }
+            Err(error) => {
+                self.abort();
+                Err(error)
+            }
+        }
+    }
+
+    /// A copy of what is shown of these many objects, which are all.
+    pub fn state(&self, alloc: Global, count: u32) -> Result<Objects, NoMemory>
+        requires { count ≡ length self.now.shown }
+        ensures { IfOk result (λ state. state ≡ self.now.shown) }
+    {
+        let mut state = Objects::new(alloc);
+        for object in 0..count {
+            match self.value(object) {
+                Some(value) => state.push(value.copy()?)?,
+                None => unreachable!(),
+            }
+        }
+        Ok(state)
+    }
+
+    /// The reply of a call that leaves the object as it is. None for a call that may change it.
+    fn look(&self, object: u32, call: &Call) -> Option<Reply>
+        ensures reply { IfSome result (λ reply. objects.reply self.now.shown (object, call.now) ≡ Some reply) }
+        ensures same { IsSome result → objects.after self.now.shown (object, call.now) ≡ self.now.shown }
+    {
+        match self.value(object) {
+            Some(value) => reply_of_look(value, call),
+            None => None,
+        }
+    }
+
+    /// What a call makes of the object's value, and its reply.
+    fn changed_copy(&self, object: u32, call: &Call) -> Result<(Value, Reply), NoMemory>
+        requires fits { Fits self.now.shown object call.now }
+        requires room { ObjectHasRoom self.now.shown object call.now }
+        ensures reply { IfOk result (λ made. objects.reply self.now.shown (object, call.now) ≡ Some made.1) }
+        ensures value { IfOk result (λ made. objects.after self.now.shown (object, call.now) ≡ slice_set self.now.shown object made.0) }
+    {
+        match self.value(object) {
+            Some(value) => {
+                let mut changed = value.copy()?;
+                let reply = changed.perform(call)?;
+                Ok((changed, reply))
+            }
+            None => unreachable!(),
+        }
+    }
+
+    /// Opens a level.
+    pub fn begin(&mut self) -> Result<(), NoMemory>
+        ensures ok { OnOk result (self.new ≡ record self.old { begun = self.old.shown ∷ self.old.begun }) }
+        ensures err { OnErr result (self.new ≡ self.old) }
+    {
+        self.starts.push(self.versions.len())?;
+        Ok(())
+    }
+
+    /// Makes the innermost level part of the one around it.
+    pub fn commit(&mut self)
+        requires { 0 < length self.old.begun }
+        ensures { self.new ≡ record self.old { begun = drop 1 self.old.begun } }
+    {
+        // The level's versions stand behind those of the level around it.
+        let Some(_start) = self.starts.pop() else {
+            unreachable!()
+        };
+    }
+
+    /// Takes back all that was done since the begin of the innermost level, and closes it.
+    pub fn abort(&mut self)
+        requires { 0 < length self.old.begun }
+        ensures { self.old.begun ≡ self.new.shown ∷ self.new.begun }
+    {
+        let Some(start) = self.starts.pop() else {
+            unreachable!()
+        };
+        self.versions.truncate(start);
+    }
+}
+
+/// The innermost start, or 0 where there is none.
+fn innermost_start(starts: &[usize]) -> usize
+    ensures { result ≡ innermost_start (reverse starts.now) }
+{
+    match starts.last() {
+        Some(start) => *start,
+        None => 0,
+    }
+}
+
+/// The place of the object's last version.
+fn latest(versions: &[Version], object: u32) -> Option<usize>
+    ensures { MatchOption result
+        (IsUnchanged versions.now object)
+        (λ place. IsLatest versions.now object place) }
+{
+    let mut place = versions.len();
+    while place > 0 {
+        place -= 1;
+        if versions[place].object == object {
+            return Some(place);
+        }
+    }
+    None
+}

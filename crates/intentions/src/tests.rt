@@ -1,0 +1,214 @@
+//! Views and the committed list, on their happy paths.
+use super::*;
+use objects::{
+    AccountCall, AccountReply, Amount, CounterCall, CounterReply, Directory, DirectoryCall,
+    DirectoryReply, Item, ItemSet, MaxCall, MaxReply, Queue, QueueCall, QueueReply, SetCall,
+    SetReply,
+};
+use std::alloc::Global;
+use std::process::Abort;
+use std::test::Fail;
+
+/// An account, a queue, a set, a directory, a counter and a maximum register, at their places.
+fn objects(alloc: Global) -> Result<Objects, NoMemory> {
+    let mut objects = Objects::new(alloc);
+    objects.push(Value::Account(100))?;
+    objects.push(Value::Queue(Queue::new(alloc)))?;
+    objects.push(Value::Set(ItemSet::new(alloc)))?;
+    objects.push(Value::Directory(Directory::new(alloc)))?;
+    objects.push(Value::Counter(0))?;
+    objects.push(Value::Max(0))?;
+    Ok(objects)
+}
+
+/// Performs a call that the view says fits and has room.
+fn perform(
+    rt: &impl Abort,
+    view: &mut View<'_>,
+    object: u32,
+    call: Call,
+) -> Result<Reply, NoMemory> {
+    assert!(rt; view.fits(object, &call) && view.has_room(object, &call)?);
+    view.perform(object, &call)
+}
+
+/// Takes back the innermost level, which is open.
+fn abort(rt: &impl Abort, view: &mut View<'_>) {
+    assert!(rt; view.depth() > 0);
+    view.abort();
+}
+
+/// Commits the innermost level, which is open.
+fn commit(rt: &impl Abort, view: &mut View<'_>) -> Result<(), NoMemory> {
+    assert!(rt; view.depth() > 0);
+    view.commit()
+}
+
+/// Absorbs a child that enqueued the item twice and took the first of them back.
+fn absorb_enq(view: &mut View<'_>, object: u32, item: Item) -> Result<(), NoMemory> {
+    let call = Call::Queue(QueueCall::Enq(item));
+    let entry = Entry {
+        object,
+        call,
+        reply: Reply::Queue(QueueReply::Ok),
+    };
+    if view.fits(object, &call) {
+        view.absorb(&[entry, entry], &[entry])?;
+    }
+    Ok(())
+}
+
+fn amount(rt: &impl Abort, number: u64) -> Amount {
+    Amount::new(number).expect(rt, "an amount")
+}
+
+#[test]
+fn levels(rt: HostRuntime) -> Result<(), Fail> {
+    let snapshot = objects(rt.alloc())?;
+    let mut view = View::open(rt.alloc(), &snapshot)?;
+    let balance = Call::Account(AccountCall::Balance);
+    let withdraw = Call::Account(AccountCall::Withdraw(amount(&rt, 60)));
+    let enq = Call::Queue(QueueCall::Enq(Item(7)));
+    let deq = Call::Queue(QueueCall::Deq);
+    assert!(rt; !view.fits(0, &enq) && !view.fits(6, &enq));
+    assert_eq!(rt;
+        perform(&rt, &mut view, 0, withdraw)?,
+        Reply::Account(AccountReply::Ok)
+    );
+    view.begin()?;
+    assert_eq!(rt;
+        perform(&rt, &mut view, 1, enq)?,
+        Reply::Queue(QueueReply::Ok)
+    );
+    view.begin()?;
+    assert_eq!(rt; view.depth(), 2);
+    assert_eq!(rt;
+        perform(&rt, &mut view, 0, withdraw)?,
+        Reply::Account(AccountReply::No)
+    );
+    assert_eq!(rt;
+        perform(&rt, &mut view, 1, deq)?,
+        Reply::Queue(QueueReply::Got(Item(7)))
+    );
+    assert_eq!(rt; view.net().len(), 2);
+    abort(&rt, &mut view);
+    assert_eq!(rt; view.net().len(), 1);
+    commit(&rt, &mut view)?;
+    assert_eq!(rt;
+        perform(&rt, &mut view, 0, balance)?,
+        Reply::Account(AccountReply::Number(40))
+    );
+    assert_eq!(rt;
+        perform(&rt, &mut view, 1, deq)?,
+        Reply::Queue(QueueReply::Got(Item(7)))
+    );
+    assert_eq!(rt; view.entries().len(), 6);
+    assert_eq!(rt; view.depth(), 0);
+    let Lists { entries, net } = view.into_run();
+    assert_eq!(rt; entries.len(), 6);
+    assert_eq!(rt; net.len(), 4);
+    Ok(())
+}
+
+#[test]
+fn every_kind_is_taken_back(rt: HostRuntime) -> Result<(), Fail> {
+    let snapshot = objects(rt.alloc())?;
+    let mut view = View::open(rt.alloc(), &snapshot)?;
+    let five = amount(&rt, 5);
+    let changes = [
+        (0, Call::Account(AccountCall::Deposit(five))),
+        (1, Call::Queue(QueueCall::Enq(Item(1)))),
+        (2, Call::Set(SetCall::Insert(Item(2)))),
+        (3, Call::Directory(DirectoryCall::Put(Item(3), Item(4)))),
+        (4, Call::Counter(CounterCall::Sub(five))),
+        (5, Call::Max(MaxCall::Raise(five))),
+    ];
+    let looks = [
+        (0, Call::Account(AccountCall::Balance)),
+        (1, Call::Queue(QueueCall::Length)),
+        (2, Call::Set(SetCall::Size)),
+        (3, Call::Directory(DirectoryCall::Lookup(Item(3)))),
+        (4, Call::Counter(CounterCall::Read)),
+        (5, Call::Max(MaxCall::Top)),
+    ];
+    let before = [
+        Reply::Account(AccountReply::Number(100)),
+        Reply::Queue(QueueReply::Number(0)),
+        Reply::Set(SetReply::Number(0)),
+        Reply::Directory(DirectoryReply::Missing),
+        Reply::Counter(CounterReply::Number(0)),
+        Reply::Max(MaxReply::Number(0)),
+    ];
+    let after = [
+        Reply::Account(AccountReply::Number(105)),
+        Reply::Queue(QueueReply::Number(1)),
+        Reply::Set(SetReply::Number(1)),
+        Reply::Directory(DirectoryReply::Found(Item(4))),
+        Reply::Counter(CounterReply::Number(-5)),
+        Reply::Max(MaxReply::Number(5)),
+    ];
+    view.begin()?;
+    for (object, call) in changes {
+        let _reply = perform(&rt, &mut view, object, call)?;
+    }
+    for ((object, call), reply) in looks.into_iter().zip(after) {
+        assert_eq!(rt; perform(&rt, &mut view, object, call)?, reply);
+    }
+    abort(&rt, &mut view);
+    for ((object, call), reply) in looks.into_iter().zip(before) {
+        assert_eq!(rt; perform(&rt, &mut view, object, call)?, reply);
+    }
+    Ok(())
+}
+
+#[test]
+fn a_childs_lists_are_absorbed(rt: HostRuntime) -> Result<(), Fail> {
+    let snapshot = objects(rt.alloc())?;
+    let mut parent = View::open(rt.alloc(), &snapshot)?;
+    let enq = Call::Queue(QueueCall::Enq(Item(7)));
+    let deq = Call::Queue(QueueCall::Deq);
+    let got = [
+        Reply::Queue(QueueReply::Got(Item(7))),
+        Reply::Queue(QueueReply::Got(Item(8))),
+        Reply::Queue(QueueReply::Empty),
+    ];
+    let _reply = perform(&rt, &mut parent, 1, enq)?;
+    absorb_enq(&mut parent, 1, Item(8))?;
+    assert_eq!(rt; parent.entries().len(), 3);
+    assert_eq!(rt; parent.net().len(), 2);
+    let state = parent.state()?;
+    assert_eq!(rt; state.len(), 6);
+    let mut later = View::open(rt.alloc(), &state)?;
+    for reply in got {
+        assert_eq!(rt; perform(&rt, &mut later, 1, deq)?, reply);
+    }
+    Ok(())
+}
+
+#[test]
+fn stands(rt: HostRuntime) -> Result<(), Fail> {
+    let deposit = Entry {
+        object: 0,
+        call: Call::Account(AccountCall::Deposit(amount(&rt, 1))),
+        reply: Reply::Account(AccountReply::Ok),
+    };
+    let balance = Entry {
+        object: 0,
+        call: Call::Account(AccountCall::Balance),
+        reply: Reply::Account(AccountReply::Number(5)),
+    };
+    let elsewhere = Entry {
+        object: 3,
+        call: Call::Account(AccountCall::Balance),
+        reply: Reply::Account(AccountReply::Number(5)),
+    };
+    let mut committed = Committed::new(rt.alloc());
+    committed.append(&[elsewhere, deposit, deposit])?;
+    committed.append(&[balance])?;
+    assert_eq!(rt; committed.len(), 4);
+    assert!(rt; committed.stands(&[deposit, elsewhere], 0, 3));
+    assert!(rt; !committed.stands(&[deposit], 0, 4));
+    assert!(rt; committed.stands(&[balance], 3, 4));
+    assert!(rt; !committed.stands(&[balance], 2, 4));
+    Ok(())
+}

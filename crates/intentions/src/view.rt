@@ -1,0 +1,237 @@
+//! Views: what a transaction sees while its intentions are recorded.
+ghost use Rattle.std.specs.Prelude.{◌≡◌, ◌↔◌, ◌<◌, length, IsTrue, Some, IsOk, IfOk, OnOk, OnErr};
+ghost use Rattle.objects.specs.Objects.{objects, Fits, ObjectHasRoom};
+ghost use Rattle.intentions.specs.Levels.{shown, opened, performed, begun, committed, aborted, absorbed, after_entries, AllEntriesLegal, AllHaveRoom};
+
+use crate::layers::Layers;
+use crate::reserved::{extend_reserved, push_reserved};
+use objects::{Call, Entry, NoMemory, Objects, Reply};
+use std::alloc::Global;
+use std::marker::Model;
+
+/// What a view recorded: the entries of all calls in the order of the calls, and its net, those of
+/// them that no aborted level took back.
+#[derive(Drop)]
+pub struct Lists {
+    pub entries: Vec<Entry>,
+    pub net: Vec<Entry>,
+}
+
+/// A lent state, and the intentions of a transaction on it: it shows what the state would be after
+/// them, and leaves the state as it is (Weihl 1988, intentions lists). Subactions are levels, the
+/// base being the outermost one; an open level commits into the level around it, or is aborted
+/// (Moss 1981). After a call that answers `NoMemory` the view is unchanged.
+#[derive(Drop)]
+pub struct View<'s> {
+    snapshot: &'s Objects,
+    layers: Layers<'s>,
+    entries: Vec<Entry>,
+    /// The nets of all levels, the outermost first.
+    net: Vec<Entry>,
+    /// For each open level but the base, how long the net was at its begin.
+    marks: Vec<usize>,
+}
+
+impl<'s> Model for View<'s> {
+    ghost use Rattle.std.specs.Prelude.{List, reverse};
+    ghost use Rattle.objects.specs.declared.value.Value.{Value as OneValue};
+    ghost use Rattle.objects.specs.declared.entry.Entry.{Entry as OneEntry};
+    ghost use Rattle.std.specs.Coded.{coded_list, coded×, code_by};
+    ghost use Rattle.std.proofs.Common.{refl};
+    ghost use Rattle.objects.specs.contracts.value.Value as one_value_type;
+    ghost use Rattle.objects.specs.contracts.entry.Entry as one_entry_type;
+    ghost use Rattle.intentions.specs.Levels.{Intentions};
+    ghost use Rattle.intentions.specs.Starts.{innermost, around};
+    ghost use Rattle.intentions.specs.Layers.{IsKept};
+
+    ghost Value = { Intentions };
+
+    ghost coded = { code_by (List OneValue × (List OneEntry × (List OneEntry × List (List OneEntry)))) (coded× (coded_list one_value_type.the_row.coded) (coded× (coded_list one_entry_type.the_row.coded) (coded× (coded_list one_entry_type.the_row.coded) (coded_list (coded_list one_entry_type.the_row.coded))))) (λ v. (v.snapshot, (v.entries, (v.net, v.outer)))) (λ p. record { snapshot = p.0; entries = p.1.0; net = p.1.1.0; outer = p.1.1.1 }) (λ _. refl) };
+
+    ghost view = { λ v. record {
+      snapshot = v.snapshot.now;
+      entries = v.entries.items;
+      net = innermost (reverse v.marks.items) v.net.items;
+      outer = around (reverse v.marks.items) v.net.items;
+    } };
+
+    ghost invariant = { λ v. IsKept v.snapshot.now v.net.items (reverse v.marks.items) v.layers };
+}
+
+impl<'s> View<'s> {
+    /// A view that shows the snapshot, with no entries and no level but the base. Takes no time or
+    /// memory that grows with the snapshot, and never answers `NoMemory`.
+    pub fn open(alloc: Global, snapshot: &'s Objects) -> Result<View<'s>, NoMemory>
+        ensures succeeds { IsOk result }
+        ensures opened { IfOk result (λ view. view ≡ opened snapshot.now) }
+    {
+        Ok(View {
+            snapshot,
+            layers: Layers::open(alloc, snapshot),
+            entries: Vec::new(alloc),
+            net: Vec::new(alloc),
+            marks: Vec::new(alloc),
+        })
+    }
+
+    /// The number of levels begun and not ended.
+    pub fn depth(&self) -> usize
+        ensures { result ≡ length self.now.outer }
+    {
+        self.marks.len()
+    }
+
+    /// All entries, in the order of the calls, those of aborted levels included.
+    pub fn entries(&self) -> &[Entry]
+        ensures { result.now ≡ self.now.entries }
+    {
+        &self.entries
+    }
+
+    /// The net of the innermost level.
+    pub fn net(&self) -> &[Entry]
+        ensures { result.now ≡ self.now.net }
+    {
+        match self.marks.last() {
+            Some(mark) => &self.net[*mark..],
+            None => &self.net,
+        }
+    }
+
+    /// Whether the object is there and the call is of its kind.
+    pub fn fits(&self, object: u32, call: &Call) -> bool
+        ensures { IsTrue result ↔ Fits (shown self.now) object call.now }
+    {
+        match self.layers.value(object) {
+            Some(value) => value.fits(call),
+            None => false,
+        }
+    }
+
+    /// Whether the object, as it is shown, has room for the call. Never answers `NoMemory`.
+    pub fn has_room(&self, object: u32, call: &Call) -> Result<bool, NoMemory>
+        requires { Fits (shown self.now) object call.now }
+        ensures succeeds { IsOk result }
+        ensures room { IfOk result (λ room. IsTrue room ↔ ObjectHasRoom (shown self.now) object call.now) }
+    {
+        match self.layers.value(object) {
+            Some(value) => Ok(value.has_room(call)),
+            None => unreachable!(),
+        }
+    }
+
+    /// Performs a call on what is shown, and records it in the entries and in the net of the
+    /// innermost level. On `NoMemory` the view is unchanged.
+    pub fn perform(&mut self, object: u32, call: &Call) -> Result<Reply, NoMemory>
+        requires fits { Fits (shown self.old) object call.now }
+        requires room { ObjectHasRoom (shown self.old) object call.now }
+        ensures reply { IfOk result (λ reply. objects.reply (shown self.old) (object, call.now) ≡ Some reply) }
+        ensures ok { IfOk result (λ reply. self.new ≡ performed self.old (record { object = object; call = call.now; reply = reply })) }
+        ensures err { OnErr result (self.new ≡ self.old) }
+    {
+        self.entries.reserve(1)?;
+        self.net.reserve(1)?;
+        let reply = self.layers.perform(object, call)?;
+        let entry = Entry {
+            object,
+            call: *call,
+            reply,
+        };
+        push_reserved(&mut self.entries, entry);
+        push_reserved(&mut self.net, entry);
+        Ok(reply)
+    }
+
+    /// Opens a level, with an empty net. On `NoMemory` the view is unchanged.
+    pub fn begin(&mut self) -> Result<(), NoMemory>
+        ensures ok { OnOk result (self.new ≡ begun self.old) }
+        ensures err { OnErr result (self.new ≡ self.old) }
+    {
+        self.marks.reserve(1)?;
+        self.layers.begin()?;
+        push_reserved(&mut self.marks, self.net.len());
+        Ok(())
+    }
+
+    /// Ends the innermost level as part of the level around it: its net joins the end of that
+    /// level's. Never answers `NoMemory`.
+    pub fn commit(&mut self) -> Result<(), NoMemory>
+        requires { 0 < length self.old.outer }
+        ensures succeeds { IsOk result }
+        ensures committed { self.new ≡ committed self.old }
+    {
+        let Some(_mark) = self.marks.pop() else {
+            unreachable!()
+        };
+        self.layers.commit();
+        Ok(())
+    }
+
+    /// Ends the innermost level and takes back what it did: its net is dropped, and the view shows
+    /// the state at its begin. The entries stay.
+    pub fn abort(&mut self)
+        requires { 0 < length self.old.outer }
+        ensures { self.new ≡ aborted self.old }
+    {
+        let Some(mark) = self.marks.pop() else {
+            unreachable!()
+        };
+        self.net.truncate(mark);
+        self.layers.abort();
+    }
+
+    /// Takes in what a child recorded on a copy of what is shown: its entries, and its net into the
+    /// net of the innermost level. On `NoMemory` the view is unchanged.
+    pub fn absorb(&mut self, entries: &[Entry], net: &[Entry]) -> Result<(), NoMemory>
+        requires legal { AllEntriesLegal (shown self.old) net.now }
+        requires room { AllHaveRoom (shown self.old) net.now }
+        ensures ok { OnOk result (self.new ≡ absorbed self.old entries.now net.now) }
+        ensures err { OnErr result (self.new ≡ self.old) }
+    {
+        self.entries.reserve(entries.len())?;
+        self.net.reserve(net.len())?;
+        self.layers.perform_whole(net)?;
+        extend_reserved(&mut self.entries, entries);
+        extend_reserved(&mut self.net, net);
+        Ok(())
+    }
+
+    /// A copy of what is shown. `NoMemory` where there is no memory for it.
+    pub fn state(&self) -> Result<Objects, NoMemory>
+        ensures { IfOk result (λ state. state ≡ shown self.now) }
+    {
+        match u32::try_from(self.snapshot.len()) {
+            Ok(count) => self.layers.state(*self.entries.allocator(), count),
+            // So many objects that a `u32` can't name each.
+            Err(_) => {
+                let mut state = self.snapshot.copy()?;
+                perform_each(&mut state, &self.net)?;
+                Ok(state)
+            }
+        }
+    }
+
+    /// The entries, and the net of the base.
+    pub fn into_run(self) -> Lists
+        requires { length self.outer ≡ 0 }
+        ensures entries { result.entries.items ≡ self.entry.entries }
+        ensures net { result.net.items ≡ self.entry.net }
+    {
+        Lists {
+            entries: self.entries,
+            net: self.net,
+        }
+    }
+}
+
+/// Performs the calls of entries, one after the other. On `NoMemory` some may have been performed.
+pub fn perform_each(state: &mut Objects, entries: &[Entry]) -> Result<(), NoMemory>
+    requires legal { AllEntriesLegal state.old entries.now }
+    requires room { AllHaveRoom state.old entries.now }
+    ensures { OnOk result (state.new ≡ after_entries state.old entries.now) }
+{
+    for entry in entries {
+        let _reply = state.perform(entry.object, &entry.call)?;
+    }
+    Ok(())
+}

@@ -1,0 +1,16 @@
+use Rattle.std.proofs.Common.{arith}
+use Rattle.serde_json.specs.View.{view}
+use Rattle.lang.specs.Answer.{IsFirst}
+use Rattle.lang.specs.Asked.{operation_asked}
+use Rattle.lang.specs.Setting.{setting_of}
+use Rattle.lang.proofs.Checks.{parts, passed_on}
+use Rattle.lang.proofs.operations.read_operation.Goals as goal
+
+pub returns-in_err-call-clause-first : goal.returns-in_err-call-clause-first
+unfolding operation_asked
+returns-in_err-call-clause-first c =
+    let setting = setting_of c.args.declared.now in
+    let d = view c.args.step.now in
+    let e = c.in_err-call.field-0.0 in
+    passed_on c.from_residual-in_err-call.result (IsFirst c.args.counts.now (operation_asked setting d)) e c.from_residual-in_err-call.ensures.1
+    (λ other. let failed = c.in_err-call.ensures.first other in grind (arith, parts))

@@ -1,0 +1,13 @@
+use Rattle.std.proofs.Common.{◌≡◌, Bool, true, false, not, refl, sym, ap, ◌∙◌}
+use Rattle.batch.specs.Names.{texts_of}
+use Rattle.lang.proofs.TableLemmas.{new_text}
+use Rattle.lang.proofs.starts.add_name.Goals as goal
+
+is_new : (b : Bool) → not b ≡ true → b ≡ false
+is_new true h = cc
+is_new false h = refl
+
+pub returns-clause-names : goal.returns-clause-names
+returns-clause-names c =
+    let new = sym c.is_taken.ensures ∙ is_new c.is_taken.result c.in_ok-demand-2.ensures in
+    ap texts_of c.in_ok-insert.ensures.keys ∙ new_text c.args.name.now c.args.names.now.keys c.in_ok-from_str.field-0 c.in_ok-from_str.ensures.ok new

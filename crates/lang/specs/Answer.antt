@@ -1,0 +1,14 @@
+-- What an answer says of what is asked.
+use Rattle.std.specs.Prelude.{◌≡◌, ◌≢◌, List, Ok, Err}
+use Rattle.lang.specs.declared.fault.Fault.{Fault}
+use Rattle.lang.specs.declared.counts.Counts.{Counts}
+use Rattle.lang.specs.Demand.{Demand, check}
+use Rattle.lang.specs.Faults.{memory_fault}
+
+-- all of it is met, and the counts are then these
+abbrev pub IsMet : Counts → List Demand → Counts → Type 0
+IsMet c asked next = check c asked ≡ Ok next
+
+-- unless memory was refused, the fault is the first
+abbrev pub IsFirst : Counts → List Demand → Fault → Type 0
+IsFirst c asked fault = fault ≢ memory_fault → check c asked ≡ Err fault

@@ -1,0 +1,46 @@
+-- What is asked of a document, as one flat list in reading order, and the first fault of such a list.
+use Rattle.std.specs.Prelude.{ℕ, ◌+◌, Bool, List, [], ◌∷◌, Option, None, Some, Result, Ok, Err, nat_lt, if◌then◌else◌}
+use Rattle.lang.specs.declared.fault.Code.{Code}
+use Rattle.lang.specs.declared.fault.Code.TheVariants.{TooMany}
+use Rattle.lang.specs.declared.fault.Fault.{Fault}
+use Rattle.lang.specs.declared.counts.Counts.{Counts}
+
+-- A test with the code that is answered where it fails, or one more of what is counted towards a limit.
+-- Behind `in_transaction n` stands what is asked of transaction n.
+pub data Demand : Type 0 where
+  holds : Bool → Code → Demand
+  one_more_operation : Demand
+  in_transaction : ℕ → Demand
+
+abbrev pub fault_at : Code → Counts → Fault
+fault_at code c = record { code = code; transaction = c.transaction }
+
+abbrev pub limited : Bool → Counts → Counts → Result Counts Fault
+limited within c next = if within then Ok next else Err (fault_at TooMany c)
+
+-- the counts after one demand, or its fault
+abbrev pub check_one : Counts → Demand → Result Counts Fault
+check_one c (holds b code) = if b then Ok c else Err (fault_at code c)
+check_one c one_more_operation = limited (nat_lt c.operations 100000) c (record c { operations = c.operations + 1 })
+check_one c (in_transaction n) = Ok (record c { transaction = n })
+
+abbrev pub and_then : {A : Type 0} → Result A Fault → (A → Result A Fault) → Result A Fault
+and_then (Ok x) f = f x
+and_then (Err e) f = Err e
+
+-- the counts after all the demands, or the first fault
+abbrev pub check : Counts → List Demand → Result Counts Fault
+check c [] = Ok c
+check c (d ∷ ds) = and_then (check_one c d) (λ next. check next ds)
+
+-- before anything is read
+abbrev pub no_counts : Counts
+no_counts = record { transaction = 0; operations = 0 }
+
+abbrev pub fault_of : Result Counts Fault → Option Fault
+fault_of (Ok c) = None
+fault_of (Err e) = Some e
+
+-- the first fault of a document's demands
+abbrev pub first_fault : List Demand → Option Fault
+first_fault ds = fault_of (check no_counts ds)

@@ -1,0 +1,10 @@
+pub mod Faults
+pub mod Demand
+pub mod Words
+pub mod Look
+pub mod Amounts
+pub mod Setting
+pub mod Asked
+pub mod Spelled
+pub mod Answer
+pub mod Reading

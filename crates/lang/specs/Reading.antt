@@ -1,0 +1,34 @@
+-- What bytes spell: a document, or the first fault.
+use Rattle.std.specs.Prelude.{ℕ, List, length, map, Option, None, Some, Result, Ok, Err, nat_lt, if◌then◌else◌}
+use Rattle.std.specs.Str.{is_utf8}
+use Rattle.serde_json.specs.Data.{Data}
+use Rattle.serde_json.specs.Read.{read as read_text}
+use Rattle.batch.specs.declared.batch.Batch.{Batch}
+use Rattle.batch.specs.Views.{block_view}
+use Rattle.lang.specs.declared.fault.Code.TheVariants.{NotJson, TooMany}
+use Rattle.lang.specs.declared.fault.Fault.{Fault}
+use Rattle.lang.specs.Faults.{fault_outside}
+use Rattle.lang.specs.Demand.{first_fault}
+use Rattle.lang.specs.Asked.{asked}
+pub use Rattle.lang.specs.Spelled.{Document}
+use Rattle.lang.specs.Spelled.{document_in}
+
+-- the value that the bytes write, or none
+abbrev pub value_of : List ℕ → Option Data
+value_of bytes = if is_utf8 bytes then read_text bytes else None
+
+abbrev pub unless_fault : Data → Option Fault → Result Document Fault
+unless_fault d None = Ok (document_in d)
+unless_fault d (Some fault) = Err fault
+
+abbrev pub spelled_by : Option Data → Result Document Fault
+spelled_by None = Err (fault_outside NotJson)
+spelled_by (Some d) = unless_fault d (first_fault (asked d))
+
+-- the document that the bytes spell, or their first fault
+unfoldable pub reading : List ℕ → Result Document Fault
+reading bytes = if nat_lt 67108864 (length bytes) then Err (fault_outside TooMany) else spelled_by (value_of bytes)
+
+-- what a batch is seen as
+abbrev pub document_of : Batch → Document
+document_of batch = record { start = batch.objects; texts = batch.names; transactions = map block_view batch.transactions.items }

@@ -1,0 +1,110 @@
+//! Why a document has no answer, and in which transaction.
+ghost use Rattle.std.specs.Prelude.{◌≡◌};
+ghost use Rattle.lang.specs.Faults.{number_of, fault_outside};
+
+use batch::NoMemory;
+use std::alloc::{AllocError, AllocFailed};
+use thiserror::Error;
+
+/// What is wrong with a document, or what failed beside it.
+#[derive(Clone, Copy, Debug, Drop, PartialEq, Eq)]
+pub enum Code {
+    /// The bytes are no JSON.
+    NotJson = 1,
+    /// A part has not the form that its place asks for.
+    Shape = 2,
+    /// A text is no name.
+    Name = 3,
+    /// An earlier object has the name.
+    DuplicateObject = 4,
+    /// No object has the name.
+    UnknownObject = 5,
+    /// The object's kind has no such call.
+    UnknownOperation = 6,
+    /// A call's arguments are too many, too few, or out of range.
+    Argument = 7,
+    /// No label of the name is seen.
+    UnknownLabel = 8,
+    /// A label of the name is seen already.
+    DuplicateLabel = 9,
+    /// A test does not fit its label.
+    Condition = 10,
+    /// Blocks stand too deep in one another.
+    Depth = 11,
+    /// There are more of something than a document may have.
+    TooMany = 12,
+    /// An object cannot start so.
+    Start = 13,
+    /// Memory was refused.
+    Memory = 20,
+    /// The document could not be read.
+    Input = 21,
+    /// The answer could not be written.
+    Output = 22,
+}
+
+/// A code, with the number of the transaction that was being read, or 0 outside of them.
+#[derive(Clone, Copy, Debug, Drop, PartialEq, Eq, Error)]
+#[error("fault {} transaction {transaction}", .code.number())]
+pub struct Fault {
+    pub code: Code,
+    pub transaction: u32,
+}
+
+impl Code {
+    /// The number that stands for the code in what is printed.
+    pub fn number(self) -> u8
+        ensures { result ≡ number_of self }
+    {
+        self as u8
+    }
+
+    /// The fault of this code that is in no transaction.
+    pub fn outside(self) -> Fault
+        ensures { result ≡ fault_outside self }
+    {
+        Fault {
+            code: self,
+            transaction: 0,
+        }
+    }
+}
+
+impl Fault {
+    /// The number of its code.
+    pub fn number(&self) -> u8
+        ensures { result ≡ number_of self.now.code }
+    {
+        self.code.number()
+    }
+}
+
+impl From<AllocError> for Fault {
+    ghost use Rattle.lang.specs.Faults.{memory_fault};
+
+    ghost from_gives = { λ _ fault. fault ≡ memory_fault };
+
+    fn from(_refused: AllocError) -> Fault {
+        Code::Memory.outside()
+    }
+}
+
+impl<T: Drop> From<AllocFailed<T>> for Fault {
+    ghost use Rattle.lang.specs.Faults.{memory_fault};
+
+    ghost from_gives = { λ _ fault. fault ≡ memory_fault };
+
+    fn from(_refused: AllocFailed<T>) -> Fault {
+        Code::Memory.outside()
+    }
+}
+
+impl From<NoMemory> for Fault {
+    ghost use Rattle.lang.specs.Faults.{memory_fault};
+
+    ghost from_gives = { λ _ fault. fault ≡ memory_fault };
+
+    fn from(_refused: NoMemory) -> Fault {
+        Code::Memory.outside()
+    }
+}

@@ -1,0 +1,194 @@
+-- What a run keeps: the kinds of the objects, and a bound on their numbers.
+use Rattle.std.proofs.Common.{◌≡◌, ℕ, zero, suc, ◌+◌, ◌≤◌, ◌<◌, ◌^◌, ℤ, pos, negsuc, ◌+ℤ◌, ◌-ℤ◌, ◌<ℤ◌, nat_abs, List, [], ◌∷◌, length, take, Bool, true, false, Option, Some, None, ◌++◌, ◌-◌, refl, sym, ap, ◌∙◌, subst, arith}
+use Rattle.std.proofs.lemmas.Bool.Decides.{nat_tests}
+use Rattle.std.proofs.lemmas.Int.{ints}
+use Rattle.std.specs.Prelude.{slice_index_or}
+use Rattle.atoms.specs.Account.{account_after}
+use Rattle.atoms.specs.Counter.{counter_after}
+use Rattle.atoms.specs.declared.account.AccountCall.{AccountCall}
+use Rattle.atoms.specs.declared.account.AccountCall.TheVariants.{Deposit, Withdraw, Balance}
+use Rattle.atoms.specs.declared.counter.CounterCall.{CounterCall}
+use Rattle.atoms.specs.declared.counter.CounterCall.TheVariants.{Add, Sub, Read}
+use Rattle.objects.specs.Objects.{kind_of_value, value_after, Fits, ObjectHasRoom, HasRoom as ValueHasRoom}
+use Rattle.objects.specs.declared.value.Value.{Value}
+use Rattle.objects.specs.declared.value.Value.TheVariants.{Account, Counter, Set, Queue, Directory, Max}
+use Rattle.objects.specs.declared.call.Call.{Call}
+use Rattle.objects.specs.declared.call.Call.TheVariants as to
+use Rattle.objects.specs.declared.call.Reply.{Reply}
+use Rattle.meaning.specs.declared.end.End.TheVariants.{Ended, Aborted}
+use Rattle.meaning.specs.Entries.{State, kinds, reply_at, after_call}
+use Rattle.meaning.specs.Trees.{Block, NoStep, Steps, Operation, If, Subaction, Abort, Parallel, ForReason, Otherwise, GoOn, Pass, NoChild, Child}
+use Rattle.meaning.specs.Labels.{holds}
+use Rattle.meaning.specs.declared.held.Held.{Held}
+use Rattle.meaning.specs.Records.{Taken, TakenStep, TakenChild, TakenHandler, TakenChildren}
+use Rattle.meaning.specs.OneThread.{Run, Ran, state_of, operate, choose, is_for, choose_handler, act, go_on, go_on_children, one, one_step, one_handler, one_children}
+use Rattle.meaning.specs.Batch.{settled, block_at, state_at}
+use Rattle.meaning.specs.WellFormed.{CallFits, operations, size_of, largest, largest_amount, HasRoom}
+use Rattle.meaning.specs.Running.{Keeps, PerformLaw, LimitLaw, CallKeepsLaw, BlockKeepsLaw, StepKeepsLaw, HandlersKeepLaw, ChildrenKeepLaw, EntriesKeepLaw, all_operations, BatchKeepsLaw}
+use Rattle.meaning.proofs.Misfits.{after_call_rest}
+
+-- ---- one call
+
+account_grows : (v : ℕ) (c : AccountCall) → account_after v c ≤ v + largest_amount
+account_grows v (Deposit a) = omega (arith, a.in_range.1)
+account_grows v (Withdraw a) = grind (arith, nat_tests)
+account_grows v Balance = omega arith
+
+sum_grows : (v : ℤ) (k : ℕ) → nat_abs (v +ℤ pos k) ≤ nat_abs v + k
+sum_grows (pos n) k = omega (arith, ints)
+sum_grows (negsuc n) k = omega (arith, ints)
+
+difference_grows : (v : ℤ) (k : ℕ) → nat_abs (v -ℤ pos k) ≤ nat_abs v + k
+difference_grows (pos n) k = omega (arith, ints)
+difference_grows (negsuc n) k = omega (arith, ints)
+
+counter_grows : (v : ℤ) (c : CounterCall) → nat_abs (counter_after v c) ≤ nat_abs v + largest_amount
+counter_grows v (Add k) = omega (arith, sum_grows v k.value, k.in_range.1)
+counter_grows v (Sub k) = omega (arith, difference_grows v k.value, k.in_range.1)
+counter_grows v Read = omega arith
+
+value_grows : (v : Value) (c : Call) → size_of (value_after v c) ≤ size_of v + largest_amount
+value_grows (Account v) (to.Account c) = account_grows v c
+value_grows (Counter v) (to.Counter c) = counter_grows v c
+value_grows (Set v) (to.Set c) = omega arith
+value_grows (Queue v) (to.Queue c) = omega arith
+value_grows (Directory v) (to.Directory c) = omega arith
+value_grows (Max v) (to.Max c) = omega arith
+value_grows v c = omega arith
+
+same_kind : (v : Value) (c : Call) → kind_of_value (value_after v c) ≡ kind_of_value v
+same_kind (Account v) (to.Account c) = refl
+same_kind (Counter v) (to.Counter c) = refl
+same_kind (Set v) (to.Set c) = refl
+same_kind (Queue v) (to.Queue c) = refl
+same_kind (Directory v) (to.Directory c) = refl
+same_kind (Max v) (to.Max c) = refl
+same_kind v c = refl
+
+kinds_after : (state : State) (object : ℕ) (call : Call) → kinds (after_call state object call) ≡ kinds state
+kinds_after [] object call = refl
+kinds_after (v ∷ vs) zero call = ap (λ k. k ∷ kinds vs) (same_kind v call)
+kinds_after (v ∷ vs) (suc object) call = ap kinds (after_call_rest v vs object call) ∙ ap (λ ks. kind_of_value v ∷ ks) (kinds_after vs object call)
+
+largest_after : (state : State) (object : ℕ) (call : Call) → largest (after_call state object call) ≤ largest state + largest_amount
+largest_after [] object call = omega arith
+largest_after (v ∷ vs) zero call = omega (arith, value_grows v call)
+largest_after (v ∷ vs) (suc object) call = omega (arith, ap largest (after_call_rest v vs object call), largest_after vs object call)
+
+pub call_keeps : CallKeepsLaw
+call_keeps state object call = record { same_kinds = kinds_after state object call; growth = omega (arith, largest_after state object call) }
+
+call_fits : (state : State) (object : ℕ) (call : Call) → CallFits (kinds state) object call → Fits state object call
+call_fits [] object call fits = absurd cc
+call_fits (v ∷ vs) zero call fits = cc
+call_fits (v ∷ vs) (suc object) call fits = call_fits vs object call fits
+
+small : (z : ℤ) → nat_abs z < 2 ^ 63 → (negsuc (2 ^ 63 - 1) <ℤ z) × (z <ℤ pos (2 ^ 63))
+small (pos n) h = (omega (arith, ints), omega (arith, ints))
+small (negsuc n) h = (omega (arith, ints), omega (arith, ints))
+
+value_has_room : (v : Value) (c : Call) → size_of v + largest_amount < 2 ^ 63 → ValueHasRoom v c
+value_has_room (Account v) (to.Account c) room = omega (arith, account_grows v c)
+value_has_room (Counter v) (to.Counter c) room = small (counter_after v c) (omega (arith, counter_grows v c))
+value_has_room v c room = tt
+
+call_has_room : (state : State) (object : ℕ) (call : Call) → HasRoom state 1 → ObjectHasRoom state object call
+call_has_room [] object call room = tt
+call_has_room (v ∷ vs) zero call room = value_has_room v call (omega arith)
+call_has_room (v ∷ vs) (suc object) call room = call_has_room vs object call (omega arith)
+
+pub perform : PerformLaw
+perform state object call fits room = record { fits = call_fits state object call fits; room = call_has_room state object call room }
+
+pub limit : LimitLaw
+limit state done left most all = omega arith
+
+-- ---- a run
+
+pub keeps_same : (state : State) (count : ℕ) → Keeps count state state
+keeps_same state count = record { same_kinds = refl; growth = omega arith }
+
+pub keeps_then : (first second : ℕ) (s t u : State) → Keeps first s t → Keeps second t u → Keeps (first + second) s u
+keeps_then first second s t u h k = record { same_kinds = k.same_kinds ∙ h.same_kinds; growth = omega (arith, h.growth, k.growth) }
+
+pub keeps_weaker : (fewer more : ℕ) (s t : State) → fewer ≤ more → Keeps fewer s t → Keeps more s t
+keeps_weaker fewer more s t le h = record { same_kinds = h.same_kinds; growth = omega (arith, h.growth, le) }
+
+operation_keeps : (object : ℕ) (call : Call) (labelled : Bool) (state : State) (reply : Option Reply) → Keeps 1 state (state_of (operate object call labelled state reply))
+operation_keeps object call labelled state None = keeps_same state 1
+operation_keeps object call labelled state (Some reply) = call_keeps state object call
+
+choice_keeps : (test : Bool) (then else : State → Run Taken) (state : State) (m n : ℕ) → Keeps m state (state_of (then state)) → Keeps n state (state_of (else state)) → Keeps (m + n) state (state_of (choose test then else state))
+choice_keeps true then else state m n h k = keeps_weaker m (m + n) _ _ (omega arith) h
+choice_keeps false then else state m n h k = keeps_weaker n (m + n) _ _ (omega arith) k
+
+handler_choice_keeps : (test : Bool) (handler : State → Run Taken) (others : State → Run TakenHandler) (state : State) (m n : ℕ) → Keeps m state (state_of (handler state)) → Keeps n state (state_of (others state)) → Keeps (m + n) state (state_of (choose_handler test handler others state))
+handler_choice_keeps true handler others state m n h k = keeps_weaker m (m + n) _ _ (omega arith) h
+handler_choice_keeps false handler others state m n h k = keeps_weaker n (m + n) _ _ (omega arith) k
+
+pub act_keeps : (labelled : Bool) (body : Run Taken) (handlers : Option ℕ → State → Run TakenHandler) (state : State) (m n : ℕ) → Keeps m state (state_of body) → ((reason : Option ℕ) → Keeps n state (state_of (handlers reason state))) → Keeps (m + n) state (state_of (act labelled body handlers state))
+act_keeps labelled (Ran body Ended labels after_body) handlers state m n h k = keeps_weaker m (m + n) _ _ (omega arith) h
+act_keeps labelled (Ran body (Aborted reason) labels after_body) handlers state m n h k = keeps_weaker n (m + n) _ _ (omega arith) (k reason)
+
+go_on_keeps : (step : Run TakenStep) (rest : List Held → State → Run Taken) (state : State) (m n : ℕ) → Keeps m state (state_of step) → ((labels : List Held) (mid : State) → Keeps n mid (state_of (rest labels mid))) → Keeps (m + n) state (state_of (go_on step rest))
+go_on_keeps (Ran step Ended labels mid) rest state m n h k = keeps_then m n state mid _ h (k labels mid)
+go_on_keeps (Ran step (Aborted reason) labels mid) rest state m n h k = keeps_weaker m (m + n) _ _ (omega arith) h
+
+go_on_children_keeps : (child : Run TakenChild) (younger : State → Run TakenChildren) (state : State) (m n : ℕ) → Keeps m state (state_of child) → ((mid : State) → Keeps n mid (state_of (younger mid))) → Keeps (m + n) state (state_of (go_on_children child younger))
+go_on_children_keeps (Ran child Ended labels mid) younger state m n h k = keeps_then m n state mid _ h (k mid)
+go_on_children_keeps (Ran child (Aborted reason) labels mid) younger state m n h k = keeps_weaker m (m + n) _ _ (omega arith) h
+
+mutual
+  unfolding one
+
+  pub block_keeps : BlockKeepsLaw
+  block_keeps NoStep labels state = keeps_same state 0
+  block_keeps (Steps step rest) labels state =
+      go_on_keeps (one_step step labels state) (λ added mid. one rest (labels ++ added) mid) state _ _ (step_keeps step labels state) (λ added mid. block_keeps rest (labels ++ added) mid)
+
+  pub step_keeps : StepKeepsLaw
+  step_keeps (Operation object call labelled) labels state = operation_keeps object call labelled state (reply_at state object call)
+  step_keeps (If label test then else) labels state =
+      choice_keeps (holds labels label test) (one then labels) (one else labels) state _ _ (block_keeps then labels state) (block_keeps else labels state)
+  step_keeps (Subaction body handlers labelled) labels state =
+      act_keeps labelled (one body labels state) (one_handler handlers labels) state _ _ (block_keeps body labels state) (λ reason. handlers_keep handlers labels reason state)
+  step_keeps (Abort reason) labels state = keeps_same state 0
+  step_keeps (Parallel children) labels state = children_keep children labels state
+
+  pub handlers_keep : HandlersKeepLaw
+  handlers_keep (ForReason reason handler others) labels aborted state =
+      handler_choice_keeps (is_for reason aborted) (one handler labels) (one_handler others labels aborted) state _ _ (block_keeps handler labels state) (handlers_keep others labels aborted state)
+  handlers_keep (Otherwise handler) labels aborted state = block_keeps handler labels state
+  handlers_keep GoOn labels aborted state = keeps_same state 0
+  handlers_keep Pass labels aborted state = keeps_same state 0
+
+  pub children_keep : ChildrenKeepLaw
+  children_keep NoChild labels state = keeps_same state 0
+  children_keep (Child body handlers labelled younger) labels state =
+      go_on_children_keeps (act labelled (one body labels state) (one_handler handlers labels) state) (one_children younger labels) state _ _ (act_keeps labelled (one body labels state) (one_handler handlers labels) state _ _ (block_keeps body labels state) (λ reason. handlers_keep handlers labels reason state)) (λ mid. children_keep younger labels mid)
+
+pub entries_keep : EntriesKeepLaw
+entries_keep state [] = keeps_same state 0
+entries_keep state (p ∷ ps) =
+    let mid = after_call state p.object p.call in
+    keeps_weaker (1 + length ps) (length (p ∷ ps)) _ _ (omega arith) (keeps_then 1 (length ps) state mid _ (call_keeps state p.object p.call) (entries_keep mid ps))
+
+-- ---- a batch
+
+settled_keeps : (before : State) (run : Run Taken) (count : ℕ) → Keeps count before (state_of run) → Keeps count before (settled before run)
+settled_keeps before (Ran taken Ended labels state) count h = h
+settled_keeps before (Ran taken (Aborted reason) labels state) count h = keeps_same before count
+
+one_more_block : (batch : List Block) (b : ℕ) → b < length batch → all_operations (take (suc b) batch) ≡ all_operations (take b batch) + operations (slice_index_or batch b NoStep)
+one_more_block [] b within = absurd (omega arith)
+one_more_block (block ∷ blocks) zero within = omega arith
+one_more_block (block ∷ blocks) (suc b) within = omega (arith, one_more_block blocks b (omega arith))
+
+pub batch_keeps : BatchKeepsLaw
+unfolding state_at
+batch_keeps start batch zero within = keeps_same start _
+batch_keeps start batch (suc b) within =
+    let before = state_at start batch b in
+    let run = one (block_at batch b) [] before in
+    subst (λ n. Keeps n start (settled before run)) (sym (one_more_block batch b (omega arith)))
+    (keeps_then _ _ start before _ (batch_keeps start batch b (omega arith)) (settled_keeps before run _ (block_keeps (block_at batch b) [] before)))

@@ -1,0 +1,112 @@
+-- What one thread does with a block, depth first.
+use Rattle.std.specs.Prelude.{ℕ, List, [], ◌∷◌, ◌++◌, Bool, true, false, Option, Some, None, ◌==◌}
+use Rattle.objects.specs.declared.call.Call.{Call}
+use Rattle.objects.specs.declared.call.Reply.{Reply}
+use Rattle.meaning.specs.declared.end.End.{End}
+use Rattle.meaning.specs.declared.end.End.TheVariants.{Ended, Aborted}
+use Rattle.meaning.specs.Entries.{State, reply_at, after_call}
+use Rattle.meaning.specs.Trees.{Block, NoStep, Steps, Step, Operation, If, Subaction, Abort, Parallel, Handlers, ForReason, Otherwise, GoOn, Pass, Children, NoChild, Child}
+use Rattle.meaning.specs.Labels.{holds}
+use Rattle.meaning.specs.declared.held.Held.{Held}
+use Rattle.meaning.specs.declared.held.Held.TheVariants.{Replied, Outcome}
+use Rattle.meaning.specs.Records.{Taken, Nothing, Took, TakenStep, Performed, Branched, Acted, InParallel, TakenChild, Committed, Undone, TakenHandler, NoHandler, Handled, TakenChildren}
+
+-- what was done: its record, how it ended, the labels that it adds, and the state that it leaves
+pub data Run (A : Type 0) : Type 0 where
+  Ran : (taken : A) (outcome : End) (labels : List Held) (state : State) → Run A
+
+abbrev pub record_of : {A : Type 0} → Run A → A
+record_of (Ran taken outcome labels state) = taken
+
+abbrev pub outcome_of : {A : Type 0} → Run A → End
+outcome_of (Ran taken outcome labels state) = outcome
+
+abbrev pub labels_of : {A : Type 0} → Run A → List Held
+labels_of (Ran taken outcome labels state) = labels
+
+abbrev pub state_of : {A : Type 0} → Run A → State
+state_of (Ran taken outcome labels state) = state
+
+abbrev pub label_if : Bool → Held → List Held
+label_if true held = held ∷ []
+label_if false held = []
+
+-- an operation: its reply is recorded. A call that doesn't fit aborts; no batch that is read has one
+abbrev pub operate : ℕ → Call → Bool → State → Option Reply → Run TakenStep
+operate object call labelled state None = Ran TakenStep.Abort (Aborted None) [] state
+operate object call labelled state (Some reply) =
+    Ran (Performed (record { object = object; call = call; reply = reply })) Ended (label_if labelled (Replied reply)) (after_call state object call)
+
+-- a branch that aborts makes its block abort; its labels are forgotten
+abbrev pub as_branch : Bool → Run Taken → Run TakenStep
+as_branch then branch = Ran (Branched then (record_of branch) (outcome_of branch)) (outcome_of branch) [] (state_of branch)
+
+abbrev pub choose : Bool → (State → Run Taken) → (State → Run Taken) → State → Run TakenStep
+choose true then else state = as_branch true (then state)
+choose false then else state = as_branch false (else state)
+
+-- a handler that aborts makes its block abort; its labels are forgotten
+abbrev pub as_handler : Run Taken → Run TakenHandler
+as_handler handler = Ran (Handled (record_of handler) (outcome_of handler)) (outcome_of handler) [] (state_of handler)
+
+abbrev pub is_for : ℕ → Option ℕ → Bool
+is_for reason None = false
+is_for reason (Some other) = reason == other
+
+abbrev pub choose_handler : Bool → (State → Run Taken) → (State → Run TakenHandler) → State → Run TakenHandler
+choose_handler true handler others state = as_handler (handler state)
+choose_handler false handler others state = others state
+
+-- where the body aborts, the handlers go on from the state before the body
+abbrev pub after_abort : Bool → Taken → Option ℕ → Run TakenHandler → Run TakenChild
+after_abort labelled body reason handler =
+    Ran (Undone body reason (record_of handler)) (outcome_of handler) (label_if labelled (Outcome (Aborted reason))) (state_of handler)
+
+abbrev pub act : Bool → Run Taken → (Option ℕ → State → Run TakenHandler) → State → Run TakenChild
+act labelled (Ran body Ended labels after_body) handlers state = Ran (Committed body) Ended (label_if labelled (Outcome Ended)) after_body
+act labelled (Ran body (Aborted reason) labels after_body) handlers state = after_abort labelled body reason (handlers reason state)
+
+abbrev pub as_step : {A : Type 0} → (A → TakenStep) → Run A → Run TakenStep
+as_step step run = Ran (step (record_of run)) (outcome_of run) (labels_of run) (state_of run)
+
+-- after a step the block goes on with that step's labels, unless it aborted
+abbrev pub before_rest : TakenStep → Run Taken → Run Taken
+before_rest step rest = Ran (Took step (record_of rest)) (outcome_of rest) [] (state_of rest)
+
+abbrev pub go_on : Run TakenStep → (List Held → State → Run Taken) → Run Taken
+go_on (Ran step Ended labels state) rest = before_rest step (rest labels state)
+go_on (Ran step (Aborted reason) labels state) rest = Ran (Took step Nothing) (Aborted reason) [] state
+
+-- after a child its younger siblings are run, unless its handlers aborted
+abbrev pub before_younger : TakenChild → List Held → Run TakenChildren → Run TakenChildren
+before_younger child labels younger =
+    Ran (TakenChildren.Child child (record_of younger)) (outcome_of younger) (labels ++ labels_of younger) (state_of younger)
+
+abbrev pub go_on_children : Run TakenChild → (State → Run TakenChildren) → Run TakenChildren
+go_on_children (Ran child Ended labels state) younger = before_younger child labels (younger state)
+go_on_children (Ran child (Aborted reason) labels state) younger = Ran (TakenChildren.Child child TakenChildren.NoChild) (Aborted reason) [] state
+
+unfoldable mutual
+  pub one : Block → List Held → State → Run Taken
+  one NoStep labels state = Ran Nothing Ended [] state
+  one (Steps step rest) labels state = go_on (one_step step labels state) (λ added after_step. one rest (labels ++ added) after_step)
+
+  pub one_step : Step → List Held → State → Run TakenStep
+  one_step (Operation object call labelled) labels state = operate object call labelled state (reply_at state object call)
+  one_step (If label test then else) labels state = choose (holds labels label test) (one then labels) (one else labels) state
+  one_step (Subaction body handlers labelled) labels state = as_step Acted (act labelled (one body labels state) (one_handler handlers labels) state)
+  one_step (Abort reason) labels state = Ran TakenStep.Abort (Aborted reason) [] state
+  one_step (Parallel children) labels state = as_step InParallel (one_children children labels state)
+
+  -- the handler that takes an abort for this reason
+  pub one_handler : Handlers → List Held → Option ℕ → State → Run TakenHandler
+  one_handler (ForReason reason handler others) labels aborted state =
+      choose_handler (is_for reason aborted) (one handler labels) (one_handler others labels aborted) state
+  one_handler (Otherwise handler) labels aborted state = as_handler (one handler labels state)
+  one_handler GoOn labels aborted state = Ran NoHandler Ended [] state
+  one_handler Pass labels aborted state = Ran NoHandler (Aborted aborted) [] state
+
+  pub one_children : Children → List Held → State → Run TakenChildren
+  one_children NoChild labels state = Ran TakenChildren.NoChild Ended [] state
+  one_children (Child body handlers labelled younger) labels state =
+      go_on_children (act labelled (one body labels state) (one_handler handlers labels) state) (one_children younger labels)

@@ -1,0 +1,11 @@
+//! What a batch of nested transactions over typed objects means, and the laws of that meaning.
+#![tactic(auto)]
+
+mod end;
+mod held;
+pub mod laws;
+mod test;
+
+pub use end::End;
+pub use held::Held;
+pub use test::{Test, Word};

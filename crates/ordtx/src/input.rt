@@ -1,0 +1,64 @@
+//! The bytes of a source.
+ghost use Rattle.std.specs.Prelude.{◌≡◌, ◌+◌, ◌<◌, ◌≤◌, ◌⊎◌, ◌↔◌, ◌||◌, true, false, Err, IfOk, OnOk, IfErr, MatchResult, is_err, length, take, drop, vec_len};
+ghost use Rattle.std.specs.Io.KnownBytes.{Consumes, IsAtEnd, Keeps};
+ghost use Rattle.lang.specs.Faults.{input_fault, memory_fault};
+ghost use Rattle.ordtx.specs.Streams.{ReadsInput};
+
+use crate::source::{Failed, Source};
+use lang::{Code, Fault};
+use std::alloc::{AllocError, Global};
+
+// One byte more than a document has: so a longer input is told from a document of the greatest length.
+const MOST_READ: usize = 67_108_865;
+
+const FIRST_ROOM: usize = 65_536;
+
+/// All bytes to the end of the source, but at most `MOST_READ`.
+pub fn read_input<R: Source>(alloc: Global, source: &mut R) -> Result<Vec<u8>, Fault>
+    requires { R.has_failed source.old ≡ false }
+    ensures bytes { IfOk result (λ bytes. ReadsInput (R.remaining source.old) (R.remaining source.new) bytes.items) }
+    ensures faults { IfErr result (λ fault. (fault ≡ memory_fault) ⊎ (fault ≡ input_fault)) }
+    ensures mark { R.has_failed source.new ≡ true ↔ result ≡ Err input_fault }
+{
+    let mut bytes = Vec::new(alloc);
+    let mut filled = 0;
+    while filled < MOST_READ {
+        make_room(&mut bytes, filled)?;
+        match fetch_at(source, &mut bytes, filled) {
+            Ok(0) => break,
+            Ok(count) => filled += count,
+            Err(Failed) => return Err(Code::Input.outside()),
+        }
+    }
+    bytes.truncate(filled);
+    Ok(bytes)
+}
+
+// Room for a fetch behind the bytes that are filled, twice as much each time.
+fn make_room(bytes: &mut Vec<u8>, filled: usize) -> Result<(), AllocError>
+    requires room { filled < MOST_READ }
+    requires within { filled ≤ vec_len bytes.old }
+    requires most { vec_len bytes.old ≤ MOST_READ }
+    ensures most { vec_len bytes.new ≤ MOST_READ }
+    ensures front { take filled bytes.new.items ≡ take filled bytes.old.items }
+    ensures room { OnOk result (filled < vec_len bytes.new) }
+{
+    if filled < bytes.len() {
+        return Ok(());
+    }
+    let wanted = (filled * 2).max(FIRST_ROOM).min(MOST_READ);
+    bytes.resize(wanted, 0)
+}
+
+// One fetch behind the bytes that are filled.
+fn fetch_at<R: Source>(source: &mut R, bytes: &mut Vec<u8>, filled: usize) -> Result<usize, Failed>
+    requires { filled < vec_len bytes.old }
+    ensures len { vec_len bytes.new ≡ vec_len bytes.old }
+    ensures front { take filled bytes.new.items ≡ take filled bytes.old.items }
+    ensures fits { IfOk result (λ count. filled + count ≤ vec_len bytes.new) }
+    ensures given { IfOk result (λ count. Consumes (R.remaining source.old) (R.remaining source.new) (take count (drop filled bytes.new.items))) }
+    ensures end { IfOk result (λ count. count ≡ 0 → IsAtEnd (R.remaining source.new)) }
+    ensures mark { R.has_failed source.new ≡ (R.has_failed source.old || is_err result) }
+{
+    source.fetch(&mut bytes.as_mut_slice()[filled..])
+}

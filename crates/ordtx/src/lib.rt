@@ -1,0 +1,26 @@
+//! Transactions from a source to a sink: the document is read, and its answer is written.
+#![tactic(auto)]
+
+mod asked;
+mod command_line;
+mod input;
+mod marked;
+mod memory;
+mod output;
+mod sink;
+mod source;
+mod streams;
+
+pub use asked::{Command, Line, Refused};
+pub use command_line::line;
+pub use lang::{Code, Fault};
+pub use marked::Marked;
+pub use memory::{TestSink, TestSource};
+pub use rounds::Plan;
+pub use sink::Sink;
+pub use source::{Failed, Source};
+pub use speculate::{Gate, NoGate};
+pub use streams::run_stream;
+
+#[cfg(test)]
+mod tests;

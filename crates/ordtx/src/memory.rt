@@ -1,0 +1,109 @@
+//! Sources and sinks over memory, which give and take a few bytes a call, and fail after some.
+ghost use Rattle.std.specs.Prelude.{◌≡◌, ◌<◌, false, Some, length};
+
+use crate::sink::Sink;
+use crate::source::{Failed, Source};
+
+/// A source that gives at most `most` bytes a call, and fails where it is asked for more than `sound` in all.
+#[derive(Debug, Drop)]
+pub struct TestSource<'a> {
+    rest: &'a [u8],
+    most: usize,
+    sound: usize,
+    failed: bool,
+    pub ghost gives: { 0 < most },
+}
+
+impl<'a> TestSource<'a> {
+    pub fn new(bytes: &'a [u8], most: usize, sound: usize) -> TestSource<'a>
+        requires { 0 < most }
+        ensures rest { result.rest ≡ bytes.entry }
+        ensures unmarked { result.failed ≡ false }
+    {
+        TestSource {
+            rest: bytes,
+            most,
+            sound,
+            failed: false,
+        }
+    }
+}
+
+impl<'a> Source for TestSource<'a> {
+    ghost remaining = { λ source. Some source.rest.now };
+
+    ghost has_failed = { λ source. source.failed };
+
+    fn fetch(&mut self, piece: &mut [u8]) -> Result<usize, Failed> {
+        if self.sound == 0 {
+            self.failed = true;
+            return Err(Failed);
+        }
+        let count = piece
+            .len()
+            .min(self.most)
+            .min(self.sound)
+            .min(self.rest.len());
+        let (given, rest) = self.rest.split_at(count);
+        piece[..count].copy_from_slice(given);
+        self.rest = rest;
+        self.sound -= count;
+        Ok(count)
+    }
+
+    fn failed(&self) -> bool {
+        self.failed
+    }
+}
+
+/// A sink that takes at most `most` bytes a call, and fails where it is given more than `sound` in all.
+#[derive(Debug, Drop)]
+pub struct TestSink {
+    taken: Vec<u8>,
+    most: usize,
+    sound: usize,
+    failed: bool,
+    pub ghost takes: { 0 < most },
+}
+
+impl TestSink {
+    /// The sink's room is taken beforehand, so that a put needs no memory.
+    pub fn new(taken: Vec<u8>, most: usize, sound: usize) -> TestSink
+        requires { 0 < most }
+        ensures taken { result.taken ≡ taken }
+        ensures unmarked { result.failed ≡ false }
+    {
+        TestSink {
+            taken,
+            most,
+            sound,
+            failed: false,
+        }
+    }
+
+    pub fn taken(&self) -> &[u8]
+        ensures { result.now ≡ self.now.taken.items }
+    {
+        self.taken.as_slice()
+    }
+}
+
+impl Sink for TestSink {
+    ghost taken = { λ sink. Some sink.taken.items };
+
+    ghost has_failed = { λ sink. sink.failed };
+
+    fn put(&mut self, piece: &[u8]) -> Result<usize, Failed> {
+        let count = piece.len().min(self.most).min(self.sound);
+        if self.sound == 0 || self.taken.extend_from_slice(&piece[..count]).is_err() {
+            self.failed = true;
+            return Err(Failed);
+        }
+        self.sound -= count;
+        Ok(count)
+    }
+
+    fn failed(&self) -> bool {
+        self.failed
+    }
+}

@@ -1,0 +1,11 @@
+//! `ordtx run [FILE]`: the report of a document, from a file or standard input to standard output.
+#![tactic(auto)]
+
+mod program;
+
+use program::answer_words;
+use std::process::ExitCode;
+
+fn main(rt: HostRuntime) -> ExitCode {
+    answer_words(&rt, &rt)
+}

@@ -1,0 +1,102 @@
+use Rattle.std.proofs.Common.{◌≡◌, ◌<◌, ◌≤◌, ◌+◌, ◌++◌, length, refl, sym, ap, ◌∙◌, arith, append-nil, append_assoc, string_bytes}
+use Rattle.std.specs.Prelude.{codes}
+use Rattle.std.specs.Fmt.{decimal}
+use Rattle.meaning.specs.Texts.{part, reason_of}
+use Rattle.batch.specs.Names.{names_of}
+use Rattle.batch.specs.Views.{record_view, subaction_view}
+use Rattle.batch.proofs.ViewLemmas.{block_view-is, record_view-is, step_view-Parallel, taken_view-Parallel}
+use Rattle.batch.proofs.SizeLemmas.{handler-is_smaller}
+use Rattle.report.proofs.TextLemmas.{rest_text-start, rest_text-more, rest_text-no_step, rest_text-end, rest_children_text-start, rest_children_text-more, rest_children_text-no_child, rest_children_text-end, no_text, after_text, after_two, body_lines, child_text-body, child_text-handler}
+use Rattle.report.proofs.HandlerLemmas.{handled_text, place-within, handled_text-found, handled_text-none_found, handled_text-plain}
+use Rattle.report.proofs.lines.+lines.Goals as goal
+
+-- ---- steps one after the other
+
+pub write_block-loop-index-init : goal.write_block-loop-index-init
+write_block-loop-index-init t c = rw (rest_text-start, record_view-is c.args.done.now, block_view-is c.args.block.now) refl
+
+pub write_block-loop-index-preserved : goal.write_block-loop-index-preserved
+write_block-loop-index-preserved t c =
+    let steps = c.args.block.now.steps in
+    let lt : c.loop-index.index < length c.args.done.now.taken.items = rw c.deref-taken-items.ensures.value at c.loop-index-test.true in
+    let is = rw c.deref-taken-items.ensures.value at c.taken-item.is in
+    let lt' : c.loop-index.index < length steps.items = omega (arith, c.if-index-len.false, c.len.ensures, steps.ok.0) in
+    let path : c.as_str.result.now ≡ part c.args.path.now (c.loop-index.index + 1) = c.as_str.ensures.value ∙ c.in_ok-step_path.ensures.ok ∙ sym (append_assoc c.args.path.now (codes ".") (decimal (c.loop-index.index + 1))) in
+    let splits = rest_text-more _ c.args.path.now c.loop-index.index steps.items _ c.args.done.now.outcome _ _ lt' c.index-step.ensures lt is in
+    after_text _ _ _ _ _ _ c.loop-index.invariant (rw path at c.in_ok-write_step.ensures) splits
+
+pub write_block-returns-then-index-len : goal.write_block-returns-then-index-len
+write_block-returns-then-index-len t c =
+    let steps = c.args.block.now.steps in
+    let le : length steps.items ≤ c.loop-index.index = omega (arith, c.if-index-len.true, c.len.ensures, steps.ok.0) in
+    sym (append-nil _) ∙ rw (rest_text-no_step _ _ _ _ _ _ le) at c.loop-index.invariant
+
+pub write_block-returns : goal.write_block-returns
+write_block-returns t c =
+    let le = rw c.deref-taken-items.ensures.value at c.loop-index-test.false in
+    sym (append-nil _) ∙ rw (rest_text-end _ _ _ _ _ _ le) at c.loop-index.invariant
+
+-- ---- children one after the other
+
+pub write_children-loop-index-init : goal.write_children-loop-index-init
+write_children-loop-index-init t c = rw rest_children_text-start refl
+
+pub write_children-loop-index-preserved : goal.write_children-loop-index-preserved
+write_children-loop-index-preserved t c =
+    let path : c.as_str.result.now ≡ part c.args.path.now (c.loop-index.index + 1) = c.as_str.ensures.value ∙ c.in_ok-child_path.ensures.ok ∙ sym (append_assoc c.args.path.now (codes ".") (decimal (c.loop-index.index + 1))) in
+    let splits = rest_children_text-more _ c.args.path.now c.loop-index.index _ _ _ _ c.if-index-children.false c.index-children-index.is c.loop-index-test.true c.index-all_tried-index.is in
+    after_text _ _ _ _ _ _ c.loop-index.invariant (rw path at c.in_ok-write_child.ensures) splits
+
+pub write_children-returns-then-index-children : goal.write_children-returns-then-index-children
+write_children-returns-then-index-children t c =
+    sym (append-nil _) ∙ rw (rest_children_text-no_child _ _ _ _ _ c.if-index-children.true) at c.loop-index.invariant
+
+pub write_children-returns : goal.write_children-returns
+write_children-returns t c =
+    sym (append-nil _) ∙ rw (rest_children_text-end _ _ _ _ _ c.loop-index-test.false) at c.loop-index.invariant
+
+pub write_step-returns-in-Parallel-Parallel : goal.write_step-returns-in-Parallel-Parallel
+write_step-returns-in-Parallel-Parallel t c =
+    rw (c.in-Parallel-Parallel.is-0, c.in-Parallel-Parallel.is-1, step_view-Parallel, taken_view-Parallel) (rw (c.deref.ensures.value, c.deref-in-Parallel-Parallel.ensures.value) at c.write_children.ensures)
+
+-- ---- a subaction
+
+pub write_child-returns : goal.write_child-returns
+write_child-returns t c =
+    let path : c.as_str.result.now ≡ c.args.path.now ++ codes ".b" = c.as_str.ensures.value ∙ c.in_ok-body_path.ensures.ok in
+    after_two _ _ _ _ _ c.in_ok-write_outcome.ensures (rw path at c.in_ok-write_block.ensures)
+    ∙ ap (λ text. string_bytes c.args.out.now ++ text) (sym (child_text-body _ c.args.path.now c.args.child.now c.args.body.now c.args.handler.now c.in-None.is))
+
+pub write_child-returns-in-Some : goal.write_child-returns-in-Some
+write_child-returns-in-Some t c =
+    let path : c.as_str.result.now ≡ c.args.path.now ++ codes ".b" = c.as_str.ensures.value ∙ c.in_ok-body_path.ensures.ok in
+    let names = names_of c.args.names.now in
+    let lines = body_lines names c.args.path.now c.args.child.now c.args.body.now in
+    let wrote : string_bytes c.write_block.new.out ≡ string_bytes c.args.out.now ++ lines = after_two _ _ _ _ _ c.in_ok-write_outcome.ensures (rw path at c.in_ok-write_block.ensures) in
+    let handled = handled_text names c.args.path.now (reason_of c.args.body.now.outcome) (record_view c.in-Some.done) (subaction_view c.args.child.now).handlers in
+    rw (child_text-handler names c.args.path.now c.args.child.now c.args.body.now c.args.handler.now c.in-Some.done c.in-Some.is, sym (append_assoc (string_bytes c.args.out.now) lines handled)) (rw (wrote, c.reason_of.ensures) at c.write_handler.ensures)
+
+-- ---- the handler that takes an abort
+
+pub write_handler-index-handler-requires : goal.write_handler-index-handler-requires
+write_handler-index-handler-requires t c =
+    let within = place-within c.in-Some.handlers.items c.args.reason c.in-Some-handler_for.place (sym c.handler_for.ensures ∙ c.in-Some-handler_for.is) in
+    omega (arith, within, c.in-Some.handlers.ok.0)
+
+pub write_handler-write_block-requires : goal.write_handler-write_block-requires
+write_handler-write_block-requires t c =
+    let within = place-within c.in-Some.handlers.items c.args.reason c.in-Some-handler_for.place (sym c.handler_for.ensures ∙ c.in-Some-handler_for.is) in
+    let smaller = handler-is_smaller c.args.child.now c.in-Some.handlers c.in-Some-handler_for.place c.index-handler.result.now c.in-Some.is within c.index-handler.ensures in
+    omega (arith, smaller, c.requires)
+
+pub write_handler-returns-in_ok-handler_path-in-Some-handler_for : goal.write_handler-returns-in_ok-handler_path-in-Some-handler_for
+write_handler-returns-in_ok-handler_path-in-Some-handler_for t c =
+    let handler = c.index-handler.result.now in
+    let path : c.as_str.result.now ≡ c.args.path.now ++ codes ".h:" ++ (names_of c.args.names.now).reason handler.reason =
+    c.as_str.ensures.value ∙ c.in_ok-handler_path-in-Some-handler_for.ensures.ok ∙ ap (λ name. c.args.path.now ++ (codes ".h:" ++ name)) c.reason_name-name.ensures ∙ sym (append_assoc c.args.path.now (codes ".h:") ((names_of c.args.names.now).reason handler.reason)) in
+    let text = handled_text-found (names_of c.args.names.now) c.args.path.now c.args.reason (record_view c.args.done.now) c.args.child.now c.in-Some.handlers c.in-Some-handler_for.place c.index-handler.result.now c.in-Some.is (sym c.handler_for.ensures ∙ c.in-Some-handler_for.is) c.index-handler.ensures in
+    rw text (rw path at c.write_block.ensures)
+
+pub write_handler-returns-in-None-handler_for : goal.write_handler-returns-in-None-handler_for
+write_handler-returns-in-None-handler_for t c =
+    rw (handled_text-none_found (names_of c.args.names.now) c.args.path.now c.args.reason (record_view c.args.done.now) c.args.child.now c.in-Some.handlers c.in-Some.is (sym c.handler_for.ensures ∙ c.in-None-handler_for.is)) c.write_last_handler.ensures

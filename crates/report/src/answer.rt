@@ -1,0 +1,143 @@
+//! The texts of answers.
+ghost use Rattle.std.specs.Prelude.{◌≡◌, ◌++◌, ◌^◌, ◌<◌, OnOk, IfOk, codes, length, map, string_bytes};
+ghost use Rattle.std.specs.Fmt.{decimal};
+ghost use Rattle.objects.specs.Objects.{kind_of_value};
+ghost use Rattle.meaning.specs.Words.{kind_text, value_text};
+ghost use Rattle.meaning.specs.Texts.{line, outcome_text, steps_text, transactions_text, objects_text, counts_text, plain_text, text, audit_text};
+ghost use Rattle.batch.specs.Names.{names_of};
+ghost use Rattle.batch.specs.Views.{block_view, record_view};
+
+use crate::lines::{write_block, write_end};
+use crate::names::object_name;
+use crate::values::write_value;
+use crate::words::kind_word;
+use batch::{Batch, Block, Names, Outcome, Plain, Record};
+use objects::{NoMemory, Objects, Value};
+use std::alloc::Global;
+
+/// The text of what rounds of speculative runs answer to a batch.
+///
+/// A line `T NUMBER OUTCOME` for each transaction, in order, and below it a line for each step that
+/// was taken, under the path of its place; then a line `= NAME KIND VALUE` for each object, and a
+/// line `rounds COUNT`. A step that its record does not fit has no line, and a number that has no
+/// name has the empty name.
+///
+/// `NoMemory` is answered where a growth of memory was refused.
+pub fn render(alloc: Global, batch: &Batch, outcome: &Outcome) -> Result<String, NoMemory>
+    requires { length outcome.now.objects < 2 ^ 32 }
+    ensures { IfOk result (λ t. string_bytes t ≡ text (names_of batch.now.names) (map block_view batch.now.transactions.items) (map record_view outcome.now.records.items) outcome.now.objects outcome.now.rounds) }
+{
+    let mut out = render_parts(alloc, batch, &outcome.records, &outcome.objects)?;
+    let rounds = outcome.rounds;
+    write!(&mut out, "rounds {rounds}\n")?;
+    Ok(out)
+}
+
+/// The text of what one thread answers to a batch: that of `render` without its last line.
+///
+/// `NoMemory` is answered where a growth of memory was refused.
+pub fn render_plain(alloc: Global, batch: &Batch, plain: &Plain) -> Result<String, NoMemory>
+    requires { length plain.now.objects < 2 ^ 32 }
+    ensures { IfOk result (λ t. string_bytes t ≡ plain_text (names_of batch.now.names) (map block_view batch.now.transactions.items) (map record_view plain.now.records.items) plain.now.objects) }
+{
+    render_parts(alloc, batch, &plain.records, &plain.objects)
+}
+
+/// The text of `render`, and below it a line `runs NUMBER COUNT` for each transaction: how often it
+/// was run.
+///
+/// `NoMemory` is answered where a growth of memory was refused.
+pub fn render_audit(alloc: Global, batch: &Batch, outcome: &Outcome) -> Result<String, NoMemory>
+    requires { length outcome.now.objects < 2 ^ 32 }
+    ensures { IfOk result (λ t. string_bytes t ≡ audit_text (names_of batch.now.names) (map block_view batch.now.transactions.items) (map record_view outcome.now.records.items) outcome.now.objects outcome.now.rounds outcome.now.runs.items) }
+{
+    let mut out = render(alloc, batch, outcome)?;
+    write_counts(&mut out, &outcome.runs)?;
+    Ok(out)
+}
+
+fn render_parts(
+    alloc: Global,
+    batch: &Batch,
+    records: &[Record],
+    objects: &Objects,
+) -> Result<String, NoMemory>
+    requires { length objects.now < 2 ^ 32 }
+    ensures { IfOk result (λ t. string_bytes t ≡ plain_text (names_of batch.now.names) (map block_view batch.now.transactions.items) (map record_view records.now) objects.now) }
+{
+    let mut out = String::new(alloc);
+    write_transactions(alloc, &mut out, &batch.names, &batch.transactions, records)?;
+    write_objects(&mut out, &batch.names, objects)?;
+    Ok(out)
+}
+
+fn write_transactions(
+    alloc: Global,
+    out: &mut String,
+    names: &Names,
+    blocks: &[Block],
+    records: &[Record],
+) -> Result<(), NoMemory>
+    ensures { OnOk result (string_bytes out.new ≡ string_bytes out.old ++ transactions_text (names_of names.now) 1 (map block_view blocks.now) (map record_view records.now)) }
+{
+    for (index, block) in blocks.iter().enumerate() {
+        if index >= records.len() {
+            return Ok(());
+        }
+        write_transaction(alloc, out, names, index + 1, block, &records[index])?;
+    }
+    Ok(())
+}
+
+fn write_transaction(
+    alloc: Global,
+    out: &mut String,
+    names: &Names,
+    number: usize,
+    block: &Block,
+    done: &Record,
+) -> Result<(), NoMemory>
+    ensures { OnOk result (string_bytes out.new ≡ string_bytes out.old
+        ++ (line (codes "T " ++ decimal number ++ outcome_text (names_of names.now) done.now.outcome) ++ steps_text (names_of names.now) (decimal number) 1 (block_view block.now) (record_view done.now))) }
+{
+    write!(out, "T {number}")?;
+    write_end(out, names, done.outcome)?;
+    let path = format!(in alloc; "{number}")?;
+    write_block(alloc, out, names, path.as_str(), block, done)?;
+    Ok(())
+}
+
+fn write_objects(out: &mut String, names: &Names, objects: &Objects) -> Result<(), NoMemory>
+    requires { length objects.now < 2 ^ 32 }
+    ensures { OnOk result (string_bytes out.new ≡ string_bytes out.old ++ objects_text (names_of names.now) 0 objects.now) }
+{
+    for object in 0..objects.len() as u32 {
+        match objects.value(object) {
+            Some(value) => write_object(out, names, object, value)?,
+            None => return Ok(()),
+        }
+    }
+    Ok(())
+}
+
+fn write_object(out: &mut String, names: &Names, object: u32, value: &Value) -> Result<(), NoMemory>
+    ensures { OnOk result (string_bytes out.new ≡ string_bytes out.old
+        ++ line (codes "= " ++ (names_of names.now).object object ++ codes " " ++ kind_text (kind_of_value value.now) ++ codes " " ++ value_text (names_of names.now) value.now)) }
+{
+    let name = object_name(names, object);
+    let kind = kind_word(value.kind());
+    write!(out, "= {name} {kind} ")?;
+    write_value(out, names, value)?;
+    write!(out, "\n")?;
+    Ok(())
+}
+
+fn write_counts(out: &mut String, counts: &[u32]) -> Result<(), NoMemory>
+    ensures { OnOk result (string_bytes out.new ≡ string_bytes out.old ++ counts_text 1 counts.now) }
+{
+    for (index, count) in counts.iter().enumerate() {
+        let number = index + 1;
+        write!(out, "runs {number} {count}\n")?;
+    }
+    Ok(())
+}

@@ -1,0 +1,12 @@
+//! The text of a batch's answer: a line for each step that was taken, under the path of its place,
+//! and a line for each object.
+#![tactic(auto)]
+
+mod answer;
+mod lines;
+mod names;
+mod values;
+mod words;
+
+pub use answer::{render, render_audit, render_plain};
+pub use batch::{Batch, NoMemory, Outcome, Plain};

@@ -1,0 +1,298 @@
+//! The lines of a record.
+ghost use Rattle.std.specs.Prelude.{◌≡◌, ◌++◌, OnOk, codes, string_bytes};
+ghost use Rattle.meaning.specs.Texts.{line, reason_text, outcome_text, choice_text, operation_line, steps_text, step_text, child_text, children_text, handler_path, handler_block, reason_of};
+ghost use Rattle.meaning.specs.OneThread.{is_for};
+ghost use Rattle.batch.specs.Names.{names_of};
+ghost use Rattle.batch.specs.Views.{block_view, record_view, step_view, taken_view, subaction_view, tried_view, children_view, all_tried_view};
+ghost use Rattle.batch.specs.declared.tree.Subaction.{out-Subaction};
+ghost use Rattle.report.specs.Handled.{last_block, place_for};
+
+use crate::names::{object_name, reason_name};
+use crate::words::{write_call, write_reply};
+use batch::{Block, Handler, Names, Record, Step, Subaction, Taken};
+use meaning::End;
+use objects::{Call, NoMemory, Reply};
+use std::alloc::Global;
+
+/// Writes the lines of the steps of a block at a path.
+#[cycle(lines)]
+pub(crate) fn write_block(
+    alloc: Global,
+    out: &mut String,
+    names: &Names,
+    path: &str,
+    block: &Block,
+    done: &Record,
+) -> Result<(), NoMemory>
+    ensures { OnOk result (string_bytes out.new ≡ string_bytes out.old ++ steps_text (names_of names.now) path.now 1 (block_view block.now) (record_view done.now)) }
+{
+    for (index, taken) in done.taken.iter().enumerate() {
+        if index >= block.steps.len() {
+            return Ok(());
+        }
+        let step = &block.steps[index];
+        let number = index + 1;
+        let step_path = format!(in alloc; "{path}.{number}")?;
+        write_step(alloc, out, names, step_path.as_str(), step, taken)?;
+    }
+    Ok(())
+}
+
+#[cycle(lines)]
+fn write_step(
+    alloc: Global,
+    out: &mut String,
+    names: &Names,
+    path: &str,
+    step: &Step,
+    taken: &Taken,
+) -> Result<(), NoMemory>
+    ensures { OnOk result (string_bytes out.new ≡ string_bytes out.old ++ step_text (names_of names.now) path.now (step_view step.now) (taken_view taken.now)) }
+{
+    match (step, taken) {
+        (Step::Op { object, call, .. }, Taken::Op(reply)) => {
+            write_operation(out, names, path, *object, call, reply)
+        }
+        (
+            Step::If {
+                then,
+                otherwise,
+                ..
+            },
+            Taken::If(holds, record),
+        ) => {
+            write_choice(out, path, *holds)?;
+            if *holds {
+                let branch_path = format!(in alloc; "{path}.t")?;
+                write_block(alloc, out, names, branch_path.as_str(), then, record)
+            } else {
+                let branch_path = format!(in alloc; "{path}.e")?;
+                write_block(alloc, out, names, branch_path.as_str(), otherwise, record)
+            }
+        }
+        (Step::Sub(child), Taken::Sub(body, handler)) => {
+            write_child(alloc, out, names, path, child, body, handler)
+        }
+        (Step::Abort(reason), Taken::Abort) => write_abort(out, names, path, *reason),
+        (Step::Parallel(children), Taken::Parallel(tried)) => {
+            write_children(alloc, out, names, path, children, tried)
+        }
+        _ => Ok(()),
+    }
+}
+
+#[cycle(lines)]
+fn write_child(
+    alloc: Global,
+    out: &mut String,
+    names: &Names,
+    path: &str,
+    child: &Subaction,
+    body: &Record,
+    handler: &Option<Record>,
+) -> Result<(), NoMemory>
+    ensures { OnOk result (let child = subaction_view child.now in
+        string_bytes out.new ≡ string_bytes out.old ++ child_text (names_of names.now) path.now child.body child.handlers (tried_view (body.now, handler.now))) }
+{
+    write_outcome(out, names, path, body.outcome)?;
+    let body_path = format!(in alloc; "{path}.b")?;
+    write_block(alloc, out, names, body_path.as_str(), &child.body, body)?;
+    match handler {
+        Some(done) => write_handler(
+            alloc,
+            out,
+            names,
+            path,
+            child,
+            reason_of(body.outcome),
+            done,
+        ),
+        None => Ok(()),
+    }
+}
+
+// Writes the lines of the handler that takes an abort for this reason.
+#[cycle(lines)]
+fn write_handler(
+    alloc: Global,
+    out: &mut String,
+    names: &Names,
+    path: &str,
+    child: &Subaction,
+    reason: Option<u32>,
+    done: &Record,
+) -> Result<(), NoMemory>
+    ensures { OnOk result (let handlers = (subaction_view child.now).handlers in
+        string_bytes out.new ≡ string_bytes out.old ++ steps_text (names_of names.now) (handler_path (names_of names.now) path.now handlers reason) 1 (handler_block handlers reason) (record_view done.now)) }
+{
+    match &child.handlers {
+        Some(handlers) => match handler_for(handlers, reason) {
+            Some(place) => {
+                let handler = &handlers[place];
+                let name = reason_name(names, handler.reason);
+                let handler_path = format!(in alloc; "{path}.h:{name}")?;
+                write_block(
+                    alloc,
+                    out,
+                    names,
+                    handler_path.as_str(),
+                    &handler.block,
+                    done,
+                )
+            }
+            None => write_last_handler(alloc, out, names, path, child, done),
+        },
+        None => write_last_handler(alloc, out, names, path, child, done),
+    }
+}
+
+// Writes the lines of the handler for every abort, where there is one.
+#[cycle(lines)]
+fn write_last_handler(
+    alloc: Global,
+    out: &mut String,
+    names: &Names,
+    path: &str,
+    child: &Subaction,
+    done: &Record,
+) -> Result<(), NoMemory>
+    ensures { OnOk result (string_bytes out.new ≡ string_bytes out.old ++ steps_text (names_of names.now) (path.now ++ codes ".h") 1 (last_block (out-Subaction child.now).handler) (record_view done.now)) }
+{
+    match &child.handler {
+        Some(block) => {
+            let handler_path = format!(in alloc; "{path}.h")?;
+            write_block(alloc, out, names, handler_path.as_str(), block, done)
+        }
+        None => Ok(()),
+    }
+}
+
+#[cycle(lines)]
+fn write_children(
+    alloc: Global,
+    out: &mut String,
+    names: &Names,
+    path: &str,
+    children: &[Subaction],
+    all_tried: &[(Record, Option<Record>)],
+) -> Result<(), NoMemory>
+    ensures { OnOk result (string_bytes out.new ≡ string_bytes out.old ++ children_text (names_of names.now) path.now 1 (children_view children.now) (all_tried_view all_tried.now)) }
+{
+    for (index, tried) in all_tried.iter().enumerate() {
+        if index >= children.len() {
+            return Ok(());
+        }
+        let child = &children[index];
+        let number = index + 1;
+        let child_path = format!(in alloc; "{path}.{number}")?;
+        write_child(
+            alloc,
+            out,
+            names,
+            child_path.as_str(),
+            child,
+            &tried.0,
+            &tried.1,
+        )?;
+    }
+    Ok(())
+}
+
+fn write_operation(
+    out: &mut String,
+    names: &Names,
+    path: &str,
+    object: u32,
+    call: &Call,
+    reply: &Reply,
+) -> Result<(), NoMemory>
+    ensures { OnOk result (string_bytes out.new ≡ string_bytes out.old ++ operation_line (names_of names.now) path.now object call.now reply.now) }
+{
+    let name = object_name(names, object);
+    write!(out, "O {path} {name} ")?;
+    write_call(out, names, call)?;
+    write!(out, " = ")?;
+    write_reply(out, names, reply)?;
+    write!(out, "\n")?;
+    Ok(())
+}
+
+fn write_choice(out: &mut String, path: &str, holds: bool) -> Result<(), NoMemory>
+    ensures { OnOk result (string_bytes out.new ≡ string_bytes out.old ++ line (codes "I " ++ path.now ++ choice_text holds)) }
+{
+    if holds {
+        write!(out, "I {path} then\n")?;
+    } else {
+        write!(out, "I {path} else\n")?;
+    }
+    Ok(())
+}
+
+fn write_abort(
+    out: &mut String,
+    names: &Names,
+    path: &str,
+    reason: Option<u32>,
+) -> Result<(), NoMemory>
+    ensures { OnOk result (string_bytes out.new ≡ string_bytes out.old ++ line (codes "A " ++ path.now ++ reason_text (names_of names.now) reason)) }
+{
+    match reason {
+        Some(reason) => {
+            let name = reason_name(names, reason);
+            write!(out, "A {path} {name}\n")?;
+        }
+        None => write!(out, "A {path}\n")?,
+    }
+    Ok(())
+}
+
+fn write_outcome(out: &mut String, names: &Names, path: &str, outcome: End) -> Result<(), NoMemory>
+    ensures { OnOk result (string_bytes out.new ≡ string_bytes out.old ++ line (codes "S " ++ path.now ++ outcome_text (names_of names.now) outcome)) }
+{
+    write!(out, "S {path}")?;
+    write_end(out, names, outcome)
+}
+
+/// Writes how a block ended, and ends the line.
+pub(crate) fn write_end(out: &mut String, names: &Names, outcome: End) -> Result<(), NoMemory>
+    ensures { OnOk result (string_bytes out.new ≡ string_bytes out.old ++ line (outcome_text (names_of names.now) outcome)) }
+{
+    match outcome {
+        End::Ended => write!(out, " committed\n")?,
+        End::Aborted(None) => write!(out, " aborted\n")?,
+        End::Aborted(Some(reason)) => {
+            let name = reason_name(names, reason);
+            write!(out, " aborted {name}\n")?;
+        }
+    }
+    Ok(())
+}
+
+// The place of the first handler that takes an abort for this reason.
+#[tactic(auto, unfolding(crate::specs::Handled::place_for))]
+fn handler_for(handlers: &Vec<Handler>, reason: Option<u32>) -> Option<usize>
+    ensures { result ≡ place_for handlers.now.items reason }
+{
+    handlers
+        .iter()
+        .position(|handler| is_for(handler.reason, reason))
+}
+
+// Whether a handler for one reason takes an abort for this one.
+fn is_for(handled: u32, reason: Option<u32>) -> bool
+    ensures { result ≡ is_for handled reason }
+{
+    match reason {
+        Some(reason) => handled == reason,
+        None => false,
+    }
+}
+
+fn reason_of(outcome: End) -> Option<u32>
+    ensures { result ≡ reason_of outcome }
+{
+    match outcome {
+        End::Ended => None,
+        End::Aborted(reason) => reason,
+    }
+}

@@ -1,0 +1,36 @@
+//! The names of numbers; a number that has none has the empty text.
+ghost use Rattle.std.specs.Prelude.{◌≡◌};
+ghost use Rattle.batch.specs.Names.{names_of};
+
+use batch::Names;
+use objects::Item;
+
+#[tactic(auto, using(crate::proofs::NameLemmas::no_name))]
+pub(crate) fn object_name(names: &Names, object: u32) -> &str
+    ensures { result.now ≡ (names_of names.now).object object }
+{
+    match names.object(object) {
+        Some(name) => name,
+        None => "",
+    }
+}
+
+#[tactic(auto, using(crate::proofs::NameLemmas::no_name))]
+pub(crate) fn item_name(names: &Names, item: Item) -> &str
+    ensures { result.now ≡ (names_of names.now).item item }
+{
+    match names.item(item) {
+        Some(name) => name,
+        None => "",
+    }
+}
+
+#[tactic(auto, using(crate::proofs::NameLemmas::no_name))]
+pub(crate) fn reason_name(names: &Names, reason: u32) -> &str
+    ensures { result.now ≡ (names_of names.now).reason reason }
+{
+    match names.reason(reason) {
+        Some(name) => name,
+        None => "",
+    }
+}

@@ -1,0 +1,72 @@
+//! The words of the values of objects.
+ghost use Rattle.std.specs.Prelude.{◌≡◌, ◌++◌, OnOk, map, string_bytes};
+ghost use Rattle.std.specs.FinMap as finite_map;
+ghost use Rattle.meaning.specs.Words.{spaced, binding_text, members, value_text};
+ghost use Rattle.batch.specs.Names.{names_of};
+
+use crate::names::item_name;
+use batch::Names;
+use objects::{Directory, ItemSet, NoMemory, Queue, Value};
+
+/// Writes the value of an object: members and keys in order.
+pub(crate) fn write_value(out: &mut String, names: &Names, value: &Value) -> Result<(), NoMemory>
+    ensures { OnOk result (string_bytes out.new ≡ string_bytes out.old ++ value_text (names_of names.now) value.now) }
+{
+    match value {
+        Value::Account(number) | Value::Max(number) => write!(out, "{number}")?,
+        Value::Counter(number) => write!(out, "{number}")?,
+        Value::Set(set) => {
+            write!(out, "{{")?;
+            write_members(out, names, set)?;
+            write!(out, "}}")?;
+        }
+        Value::Queue(queue) => {
+            write!(out, "[")?;
+            write_queue(out, names, queue)?;
+            write!(out, "]")?;
+        }
+        Value::Directory(directory) => {
+            write!(out, "{{")?;
+            write_bindings(out, names, directory)?;
+            write!(out, "}}")?;
+        }
+    }
+    Ok(())
+}
+
+fn write_members(out: &mut String, names: &Names, set: &ItemSet) -> Result<(), NoMemory>
+    ensures { OnOk result (string_bytes out.new ≡ string_bytes out.old ++ spaced (map (names_of names.now).item (members set.now))) }
+{
+    let mut space = "";
+    for member in set.items().iter() {
+        let name = item_name(names, *member);
+        write!(out, "{space}{name}")?;
+        space = " ";
+    }
+    Ok(())
+}
+
+fn write_queue(out: &mut String, names: &Names, queue: &Queue) -> Result<(), NoMemory>
+    ensures { OnOk result (string_bytes out.new ≡ string_bytes out.old ++ spaced (map (names_of names.now).item queue.now)) }
+{
+    let mut space = "";
+    for item in queue.items().iter() {
+        let name = item_name(names, *item);
+        write!(out, "{space}{name}")?;
+        space = " ";
+    }
+    Ok(())
+}
+
+fn write_bindings(out: &mut String, names: &Names, directory: &Directory) -> Result<(), NoMemory>
+    ensures { OnOk result (string_bytes out.new ≡ string_bytes out.old ++ spaced (map (binding_text (names_of names.now)) (finite_map.entries directory.now))) }
+{
+    let mut space = "";
+    for (key, item) in directory.entries().iter() {
+        let key_name = item_name(names, *key);
+        let name = item_name(names, *item);
+        write!(out, "{space}{key_name}:{name}")?;
+        space = " ";
+    }
+    Ok(())
+}

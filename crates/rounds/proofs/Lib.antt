@@ -1,0 +1,9 @@
+pub mod Times
+pub mod Refuted
+pub mod Making
+pub mod Firsts
+pub mod Conflicts
+pub mod Room
+pub mod Commits
+pub mod Steps
+pub mod Ends

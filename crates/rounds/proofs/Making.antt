@@ -1,0 +1,105 @@
+-- Runs are made one after the other, and put in their places in any order.
+use Rattle.std.proofs.Common.{◌≡◌, ℕ, zero, suc, ◌+◌, ◌<◌, ◌≤◌, List, [], ◌∷◌, ◌++◌, length, get_or, set, take, refl, sym, ap, ◌∙◌, subst, arith}
+use Rattle.std.proofs.lemmas.List.{take_more, map-append, get_or-set_same, get_or-set_other, length-set}
+use Rattle.std.proofs.lemmas.List.Elements.{All-push, All-same}
+use Rattle.std.specs.List.{All}
+use native.Mathlib.Decide.{ℕ_discrete}
+use Rattle.meaning.specs.Entries.{State}
+use Rattle.rounds.specs.Views.{meaning}
+use Rattle.speculate.specs.Runs.{IsRunOf}
+use Rattle.speculate.specs.declared.speculated.Run.{Run}
+use Rattle.batch.specs.declared.batch.Batch.{Batch}
+use Rattle.rounds.specs.declared.passes.Made.{Made}
+use Rattle.rounds.specs.Passes.{times, numbers_of, AreMade, AreRenewed}
+use Rattle.rounds.proofs.Times.{times_append, times_one, times_none}
+
+abbrev pub IsMade : Batch → State → Made → Type 0
+IsMade batch state m = IsRunOf (meaning batch m.number state) m.run
+
+times_numbers : (i : ℕ) (made : List Made) (m : Made) → times i (numbers_of (made ++ m ∷ [])) ≡ times i (numbers_of made) + times i (m.number ∷ [])
+times_numbers i made m = ap (times i) (map-append (λ (x : Made). x.number) made (m ∷ [])) ∙ times_append i (numbers_of made) (m.number ∷ [])
+
+pub made_more : (batch : Batch) (state : State) (numbers : List ℕ) (i : ℕ) (m : Made) (made more : List Made) → i < length numbers → m.number ≡ get_or numbers i 0 → more ≡ made ++ m ∷ [] → AreMade batch state (take i numbers) made → IsMade batch state m → AreMade batch state (take (i + 1) numbers) more
+made_more batch state numbers i m made more lt is pushed so_far here = record {
+  each = All-same (IsMade batch state) more (made ++ m ∷ []) pushed (All-push (IsMade batch state) made m so_far.each here);
+  dealt = λ j.
+      let left : times j (numbers_of more) ≡ times j (numbers_of made) + times j (m.number ∷ []) = ap (λ ms. times j (numbers_of ms)) pushed ∙ times_numbers j made m in
+      let right : times j (take (i + 1) numbers) ≡ times j (take i numbers) + times j (get_or numbers i 0 ∷ []) = ap (times j) (take_more numbers i 0 lt) ∙ times_append j (take i numbers) (get_or numbers i 0 ∷ []) in
+      left ∙ (ap (λ n. n + times j (m.number ∷ [])) (so_far.dealt j) ∙ (ap (λ n. times j (take i numbers) + times j (n ∷ [])) is ∙ sym right));
+}
+
+-- Some of the runs are in their places, and these are left.
+pub record ArePut (batch : Batch) (state : State) (numbers : List ℕ) (old runs : List Run) (was counts : List ℕ) (left : List Made) : Type 0 where
+  pub each : All (IsMade batch state) left
+  pub runs_all : length runs ≡ length old
+  pub counts_all : length counts ≡ length was
+  pub few : (i : ℕ) → times i (numbers_of left) ≤ times i numbers
+  pub same : (i : ℕ) (d : Run) → times i (numbers_of left) ≡ times i numbers → get_or runs i d ≡ get_or old i d
+  pub made : (i : ℕ) (d : Run) → times i (numbers_of left) < times i numbers → IsRunOf (meaning batch i state) (get_or runs i d)
+  pub told : (i : ℕ) → i < length was → get_or counts i 0 + times i (numbers_of left) ≡ get_or was i 0 + times i numbers
+
+pub none_put : (batch : Batch) (state : State) (numbers : List ℕ) (runs : List Run) (counts : List ℕ) (made : List Made) → AreMade batch state numbers made → ArePut batch state numbers runs runs counts counts made
+none_put batch state numbers runs counts made are = record {
+  each = are.each;
+  runs_all = refl;
+  counts_all = refl;
+  few = λ i. let e = are.dealt i in omega arith;
+  same = λ i d e. refl;
+  made = λ i d lt. let e = are.dealt i in absurd (omega arith);
+  told = λ i lt. ap (λ n. get_or counts i 0 + n) (are.dealt i);
+}
+
+pub all_put : (batch : Batch) (state : State) (numbers : List ℕ) (old runs : List Run) (was counts : List ℕ) (left : List Made) → left ≡ [] → ArePut batch state numbers old runs was counts left → AreRenewed batch state numbers old runs was counts
+all_put batch state numbers old runs was counts left none put = record {
+  runs = put.runs_all;
+  counted = put.counts_all;
+  same = λ i d e. put.same i d (ap (λ ms. times i (numbers_of ms)) none ∙ sym e);
+  made = λ i d lt. let empty : times i (numbers_of left) ≡ 0 = ap (λ ms. times i (numbers_of ms)) none in put.made i d (omega arith);
+  told = λ i lt. let empty : times i (numbers_of left) ≡ 0 = ap (λ ms. times i (numbers_of ms)) none in let told = put.told i lt in omega arith;
+}
+
+pub put_inside : (batch : Batch) (state : State) (numbers : List ℕ) (old runs : List Run) (was counts : List ℕ) (left rest : List Made) (m : Made) → left ≡ rest ++ m ∷ [] → ArePut batch state numbers old runs was counts left → 0 < times m.number numbers
+put_inside batch state numbers old runs was counts left rest m popped put =
+    let split : times m.number (numbers_of left) ≡ times m.number (numbers_of rest) + times m.number (m.number ∷ []) = ap (λ ms. times m.number (numbers_of ms)) popped ∙ times_numbers m.number rest m in
+    let once = times_one m.number in
+    let few = put.few m.number in
+    omega arith
+
+front : (P : Made → Type 0) (x : Made) (xs : List Made) → P x → All P xs → All P (x ∷ xs)
+front P x xs here rest zero d lt = here
+front P x xs here rest (suc k) d lt = rest k d (omega arith)
+
+all_front : (P : Made → Type 0) (xs : List Made) (y : Made) → All P (xs ++ y ∷ []) → All P xs × P y
+all_front P [] y all = (λ k d lt. absurd (omega arith), all 0 y (omega arith))
+all_front P (x ∷ xs) y all =
+    let rest = all_front P xs y (λ k d lt. all (suc k) d (omega arith)) in
+    (front P x xs (all 0 x (omega arith)) rest.0, rest.1)
+
+pub put_one : (batch : Batch) (state : State) (numbers : List ℕ) (old runs : List Run) (was counts : List ℕ) (left rest : List Made) (m : Made) → length was ≡ length old → m.number < length old → left ≡ rest ++ m ∷ [] → ArePut batch state numbers old runs was counts left → ArePut batch state numbers old (set runs m.number m.run) was (set counts m.number (get_or counts m.number 0 + 1)) rest
+put_one batch state numbers old runs was counts left rest m sizes inside popped put =
+    let made = all_front (IsMade batch state) rest m (subst (All (IsMade batch state)) popped put.each) in
+    let split : (i : ℕ) → times i (numbers_of left) ≡ times i (numbers_of rest) + times i (m.number ∷ []) = λ i. ap (λ ms. times i (numbers_of ms)) popped ∙ times_numbers i rest m in
+    let runs_all = put.runs_all in
+    let counts_all = put.counts_all in
+    record {
+      each = made.0;
+      runs_all = length-set runs m.number m.run ∙ put.runs_all;
+      counts_all = length-set counts m.number (get_or counts m.number 0 + 1) ∙ put.counts_all;
+      few = λ i. let s = split i in let f = put.few i in omega arith;
+      same = λ i d e. elim (ℕ_discrete i m.number) [
+        | yes here ↦ let s = split i in let f = put.few i in let once : times i (m.number ∷ []) ≡ 1 = ap (λ n. times i (n ∷ [])) (sym here) ∙ times_one i in absurd (omega arith)
+        | no other ↦ let s = split i in let none = times_none i m.number (λ h. other (sym h)) in get_or-set_other runs m.number i m.run d other ∙ put.same i d (omega arith)
+      ];
+      made = λ i d lt. elim (ℕ_discrete i m.number) [
+        | yes here ↦ let at : m.number < length runs = omega arith in subst (λ n. IsRunOf (meaning batch n state) (get_or (set runs m.number m.run) n d)) (sym here) (subst (IsRunOf (meaning batch m.number state)) (sym (get_or-set_same runs m.number m.run d at)) made.1)
+        | no other ↦ let s = split i in let none = times_none i m.number (λ h. other (sym h)) in subst (IsRunOf (meaning batch i state)) (sym (get_or-set_other runs m.number i m.run d other)) (put.made i d (omega arith))
+      ];
+      told = λ i lt. elim (ℕ_discrete i m.number) [
+        | yes here ↦ let s = split i in let t = put.told i lt in let once : times i (m.number ∷ []) ≡ 1 = ap (λ n. times i (n ∷ [])) (sym here) ∙ times_one i in
+            let at : m.number < length counts = omega arith in
+            let now : get_or (set counts m.number (get_or counts m.number 0 + 1)) i 0 ≡ get_or counts i 0 + 1 = ap (λ n. get_or (set counts m.number (get_or counts m.number 0 + 1)) n 0) here ∙ (get_or-set_same counts m.number (get_or counts m.number 0 + 1) 0 at ∙ ap (λ n. get_or counts n 0 + 1) (sym here)) in
+            omega arith
+        | no other ↦ let s = split i in let t = put.told i lt in let none = times_none i m.number (λ h. other (sym h)) in
+            let now = get_or-set_other counts m.number i (get_or counts m.number 0 + 1) 0 other in omega arith
+      ];
+    }

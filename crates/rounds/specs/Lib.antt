@@ -1,0 +1,4 @@
+pub mod Plans
+pub mod Views
+pub mod Passes
+pub mod Openings

@@ -1,0 +1,189 @@
+//! The loop of openings: each round makes the runs that are needed, seeks the first that doesn't
+//! stand, commits those before it, and tells which of the others are kept.
+ghost use Rattle.std.specs.Prelude.{◌≡◌, ◌+◌, ◌<◌, ◌≤◌, ◌++◌, ℕ, length, IfOk, OnOk, map, slice_index_or};
+ghost use Rattle.std.specs.List.{All};
+ghost use Rattle.meaning.specs.Entries.{after, kinds};
+ghost use Rattle.meaning.specs.Batch.{all_shown, final_state, nets};
+ghost use Rattle.meaning.specs.Rounds.{Rounds};
+ghost use Rattle.batch.specs.Views.{record_view};
+ghost use Rattle.intentions.specs.Levels.{AllEntriesLegal, AllHaveRoom};
+ghost use Rattle.rounds.specs.Views.{start_of, blocks_of};
+ghost use Rattle.rounds.specs.Passes.{CanBeMade, nets_of, times, AreRenewed};
+ghost use Rattle.rounds.specs.Openings.{AreCounts};
+
+use crate::passes::{Made, first_conflict, keep_all, make_all};
+use crate::plan::Plan;
+use batch::{Batch, Outcome, Record};
+use intentions::{Committed, perform_each};
+use meaning::End;
+use speculate::{Gate, NoMemory, Objects, Run};
+use std::alloc::Global;
+use std::thread::Threads;
+
+// Makes runs for the stale numbers, puts them in their places and counts them.
+fn renew<R: Threads + Sync, G: Gate>(
+    threads: &R,
+    alloc: Global,
+    batch: &Batch,
+    objects: &Objects,
+    stale: &[usize],
+    runs: &mut Vec<Run>,
+    counts: &mut Vec<u32>,
+    plan: Plan,
+    gate: &G,
+) -> Result<(), NoMemory>
+    requires every { length runs.old.items ≡ length batch.now.transactions.items }
+    requires counted { length counts.old.items ≡ length batch.now.transactions.items }
+    requires few { length batch.now.transactions.items ≤ 10000 }
+    requires numbers { (i : ℕ) → 0 < times i stale.now → i < length batch.now.transactions.items }
+    requires made { All (λ n. CanBeMade batch.now objects.now n) stale.now }
+    requires same_kinds { kinds objects.now ≡ kinds batch.now.objects }
+    requires room { (i : ℕ) → slice_index_or counts.old.items i 0 + times i stale.now ≤ 10001 }
+    ensures { IfOk result (λ _. AreRenewed batch.now objects.now stale.now runs.old.items runs.new.items counts.old.items counts.new.items) }
+{
+    let mut made = make_all(threads, alloc, batch, objects, stale, plan, gate)?;
+    'putting: while let Some(next) = made.pop() {
+        let Made { number, run } = next;
+        runs[number] = run;
+        counts[number] += 1;
+    }
+    Ok(())
+}
+
+// Commits runs in order: their nets are performed on the objects, and listed.
+fn commit(runs: &[Run], objects: &mut Objects, committed: &mut Committed) -> Result<(), NoMemory>
+    requires legal { AllEntriesLegal objects.old (nets_of runs.now) }
+    requires room { AllHaveRoom objects.old (nets_of runs.now) }
+    ensures state { OnOk result (objects.new ≡ after objects.old (nets_of runs.now)) }
+    ensures committed { OnOk result (committed.new ≡ committed.old ++ nets_of runs.now) }
+{
+    for run in runs {
+        perform_each(objects, &run.net)?;
+        committed.append(&run.net)?;
+    }
+    Ok(())
+}
+
+// A place for each transaction, with no run yet.
+fn blank_runs(alloc: Global, count: usize) -> Result<Vec<Run>, NoMemory>
+    ensures { IfOk result (λ runs. length runs.items ≡ count) }
+{
+    let mut runs = Vec::with_capacity(alloc, count)?;
+    for _ in 0..count {
+        let tree = Record {
+            taken: Vec::new(alloc),
+            outcome: End::Ended,
+        };
+        runs.push(Run {
+            tree,
+            entries: Vec::new(alloc),
+            net: Vec::new(alloc),
+        })?;
+    }
+    Ok(runs)
+}
+
+fn all_numbers(alloc: Global, count: usize) -> Result<Vec<usize>, NoMemory>
+    ensures below { IfOk result (λ numbers. (i : ℕ) → i < count → times i numbers.items ≡ 1) }
+    ensures beyond { IfOk result (λ numbers. (i : ℕ) → count ≤ i → times i numbers.items ≡ 0) }
+{
+    let mut numbers = Vec::with_capacity(alloc, count)?;
+    for i in 0..count {
+        numbers.push(i)?;
+    }
+    Ok(numbers)
+}
+
+fn no_counts(alloc: Global, count: usize) -> Result<Vec<u32>, NoMemory>
+    ensures { IfOk result (λ counts. (length counts.items ≡ count) × ((i : ℕ) → slice_index_or counts.items i 0 ≡ 0)) }
+{
+    let mut counts = Vec::with_capacity(alloc, count)?;
+    for _ in 0..count {
+        counts.push(0)?;
+    }
+    Ok(counts)
+}
+
+// The records of runs.
+fn records_of(alloc: Global, runs: Vec<Run>) -> Result<Vec<Record>, NoMemory>
+    ensures { IfOk result (λ records. records.items ≡ map (λ r. r.tree) runs.items) }
+{
+    let mut records = Vec::with_capacity(alloc, runs.len())?;
+    for made in runs {
+        let Run {
+            tree,
+            entries: _,
+            net: _,
+        } = made;
+        records.push(tree)?;
+    }
+    Ok(records)
+}
+
+/// Runs a batch in rounds: what it answers is what one thread answers that runs the transactions by
+/// number, depth first.
+///
+/// `NoMemory` is answered where a growth of memory was refused; nothing is given out then.
+pub fn execute<R: Threads + Sync, G: Gate>(
+    threads: &R,
+    alloc: Global,
+    batch: &Batch,
+    plan: Plan,
+    gate: &G,
+) -> Result<Outcome, NoMemory>
+    // Each transaction's replies, branches and outcomes are those of one thread.
+    ensures records { IfOk result (λ o. map record_view o.records.items ≡ all_shown (start_of batch.now) (blocks_of batch.now)) }
+    // So are the objects at the end.
+    ensures objects { IfOk result (λ o. o.objects ≡ final_state (start_of batch.now) (blocks_of batch.now)) }
+    // They are what the transactions leave, without anything that was aborted.
+    ensures net { IfOk result (λ o. o.objects ≡ after (start_of batch.now) (nets (start_of batch.now) (blocks_of batch.now) 0 (length (blocks_of batch.now)))) }
+    // The number of rounds is the defined one, and at most the number of transactions.
+    ensures rounds { IfOk result (λ o. Rounds (start_of batch.now) (blocks_of batch.now) o.rounds) }
+    ensures few { IfOk result (λ o. o.rounds ≤ length (blocks_of batch.now)) }
+    // So is how often each transaction was run.
+    ensures runs { IfOk result (λ o. AreCounts batch.now o.runs.items) }
+{
+    let count = batch.transactions.len();
+    let mut objects = batch.objects.copy()?;
+    let mut runs = blank_runs(alloc, count)?;
+    let mut counts = no_counts(alloc, count)?;
+    let mut stale = all_numbers(alloc, count)?;
+    let mut committed = Committed::new(alloc);
+    let mut opened: usize = 0;
+    let mut rounds: u32 = 0;
+    'opening: while opened < count {
+        renew(
+            threads,
+            alloc,
+            batch,
+            &objects,
+            &stale,
+            &mut runs,
+            &mut counts,
+            plan,
+            gate,
+        )?;
+        let since = committed.len();
+        let passed = first_conflict(threads, alloc, &runs[opened..], plan.workers, gate)?;
+        commit(&runs[opened..opened + passed], &mut objects, &mut committed)?;
+        opened += passed;
+        rounds += 1;
+        stale = keep_all(
+            threads,
+            alloc,
+            &runs,
+            opened,
+            &committed,
+            since,
+            plan.workers,
+            gate,
+        )?;
+    }
+    let records = records_of(alloc, runs)?;
+    Ok(Outcome {
+        records,
+        objects,
+        rounds,
+        runs: counts,
+    })
+}

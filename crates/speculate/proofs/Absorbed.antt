@@ -1,0 +1,29 @@
+-- Views that took in lists, and the states that they show.
+use Rattle.std.proofs.Common.{◌≡◌, List, [], ◌∷◌, ◌++◌, refl, sym, ap, ◌∙◌, append_assoc}
+use Rattle.std.proofs.lemmas.List.{append-nil}
+use Rattle.objects.specs.declared.entry.Entry.{Entry}
+use Rattle.intentions.specs.Levels.{Intentions as View, after_entries, shown, begun, committed, aborted, absorbed, joined}
+use Rattle.intentions.proofs.EntriesLemmas.{after_entries-append}
+
+pub absorbed-none : (v : View) → v ≡ absorbed v [] []
+absorbed-none v =
+    ap (λ es. record v { entries = es }) (sym (append-nil v.entries)) ∙ ap (λ ns. record v { entries = v.entries ++ []; net = ns }) (sym (append-nil v.net))
+
+pub absorbed-then : (v : View) (es ns fs ms : List Entry) → absorbed (absorbed v es ns) fs ms ≡ absorbed v (es ++ fs) (ns ++ ms)
+absorbed-then v es ns fs ms = let e = append_assoc v.entries es fs in let n = append_assoc v.net ns ms in cc
+
+pub shown-absorbed : (v : View) (es ns : List Entry) → shown (absorbed v es ns) ≡ after_entries (shown v) ns
+shown-absorbed v es ns = ap (after_entries v.snapshot) (sym (append_assoc (joined v.outer) v.net ns)) ∙ after_entries-append v.snapshot (joined v.outer ++ v.net) ns
+
+pub shown-begun : (v : View) → shown (begun v) ≡ shown v
+shown-begun v = ap (after_entries v.snapshot) (append-nil (joined v.outer ++ v.net))
+
+pub committed-begun : (v : View) (es ns : List Entry) → committed (absorbed (begun v) es ns) ≡ absorbed v es ns
+committed-begun v es ns = refl
+
+pub aborted-begun : (v : View) (es ns : List Entry) → aborted (absorbed (begun v) es ns) ≡ absorbed v es []
+aborted-begun v es ns = let n = append-nil v.net in cc
+
+-- what an aborted level leaves shows what was shown at its begin
+pub shown-aborted : (v : View) (es : List Entry) → shown (absorbed v es []) ≡ shown v
+shown-aborted v es = shown-absorbed v es []

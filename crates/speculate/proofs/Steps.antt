@@ -1,0 +1,191 @@
+-- A run of a block of which the first steps are taken.
+use Rattle.std.proofs.Common.{◌≡◌, ℕ, suc, ◌+◌, ◌<◌, ◌≤◌, List, [], ◌∷◌, ◌++◌, map, length, get_or, drop, refl, sym, ap, subst, ◌∙◌, arith, append_assoc, add-one, drop-cons, Option}
+use Rattle.std.proofs.Math.ListN.{drop_of_length-le}
+use Rattle.std.proofs.lemmas.List.{map-append, append-nil}
+use Rattle.objects.specs.declared.entry.Entry.{Entry}
+use Rattle.meaning.specs.declared.end.End.{End}
+use Rattle.meaning.specs.declared.end.End.TheVariants.{Ended, Aborted}
+use Rattle.meaning.specs.declared.held.Held.{Held}
+use Rattle.meaning.specs.Entries.{State, kinds, after}
+use Rattle.meaning.specs.Trees as meant
+use Rattle.meaning.specs.Records as record_tree
+use Rattle.meaning.specs.Records.{Nothing, Took, TakenStep, entries, entries_of_step, kept, kept_of_step}
+use Rattle.meaning.specs.Shown.{Shown, AtEnd, ShownStep, shown_step, shown}
+use Rattle.meaning.specs.OneThread.{Run, record_of, outcome_of, labels_of, state_of, one, one_step}
+use Rattle.meaning.specs.WellFormed.{IsWellFormed, added_by}
+use Rattle.meaning.proofs.HeldLabels.{more_labels, step_labels}
+use Rattle.meaning.proofs.Keeping.{step_keeps}
+use Rattle.meaning.proofs.Nets.{step_leads}
+use Rattle.batch.specs.Views.{step_view, steps_view, record_view, taken_view, before_end}
+use Rattle.batch.specs.declared.tree.Step.{Step}
+use Rattle.batch.specs.declared.record.Record.{Record}
+use Rattle.batch.specs.declared.record.Taken.{Taken}
+use Rattle.batch.proofs.ViewLemmas.{record_view-is}
+use Rattle.intentions.specs.Levels.{Intentions as View, shown as state_of_view, absorbed}
+use Rattle.speculate.specs.Running.{CanRunHere, CanStepHere, StillSeen, ShowsRun, ShowsStep}
+use Rattle.speculate.proofs.Absorbed.{absorbed-none, absorbed-then, shown-absorbed}
+use Rattle.speculate.proofs.Meant.{one-Steps, one-NoStep, go_on-ended, go_on-aborted}
+
+-- the first step can be taken, and the others after it
+pub can_step : (step : meant.Step) (rest : meant.Block) (held : List Held) (state : State) → CanRunHere (meant.Steps step rest) held state → CanStepHere step held state
+can_step step rest held state h = record { labels = h.labels; held_by = h.held_by; well_formed = h.well_formed.0; room = omega (arith, h.room) }
+
+pub can_run_rest : (step : meant.Step) (rest : meant.Block) (held : List Held) (state : State) → CanRunHere (meant.Steps step rest) held state
+    → outcome_of (one_step step held state) ≡ Ended → CanRunHere rest (held ++ labels_of (one_step step held state)) (state_of (one_step step held state))
+can_run_rest step rest held state h ended =
+    let keeps = step_keeps step held state in
+    record {
+      labels = h.labels ++ added_by step;
+      held_by = more_labels held _ h.labels (added_by step) h.held_by (step_labels step held state ended);
+      well_formed = subst (λ ks. IsWellFormed rest (h.labels ++ added_by step) ks) (sym keeps.same_kinds) h.well_formed.1;
+      room = omega (arith, h.room, keeps.growth);
+    }
+
+-- ---- labels that are seen still
+
+pub still_same : (held : List Held) → StillSeen held held
+still_same held = ([], sym (append-nil held))
+
+pub still_then : (first second third : List Held) → StillSeen first second → StillSeen second third → StillSeen first third
+still_then first second third h k = (h.0 ++ k.0, k.1 ∙ ap (λ x. x ++ k.0) h.1 ∙ append_assoc first h.0 k.0)
+
+-- ---- steps that were taken
+
+-- the record of these steps, and then of others
+pub record_after : List TakenStep → record_tree.Taken → record_tree.Taken
+record_after [] rest = rest
+record_after (step ∷ steps) rest = Took step (record_after steps rest)
+
+pub all_entries : List TakenStep → List Entry
+all_entries [] = []
+all_entries (step ∷ steps) = entries_of_step step ++ all_entries steps
+
+pub all_kept : List TakenStep → List Entry
+all_kept [] = []
+all_kept (step ∷ steps) = kept_of_step step ++ all_kept steps
+
+record_after-more : (steps : List TakenStep) (step : TakenStep) (rest : record_tree.Taken) → record_after (steps ++ step ∷ []) rest ≡ record_after steps (Took step rest)
+unfolding record_after
+record_after-more [] step rest = refl
+record_after-more (first ∷ steps) step rest = ap (Took first) (record_after-more steps step rest)
+
+all_entries-more : (steps : List TakenStep) (step : TakenStep) → all_entries steps ++ entries_of_step step ≡ all_entries (steps ++ step ∷ [])
+unfolding all_entries
+all_entries-more [] step = sym (append-nil (entries_of_step step))
+all_entries-more (first ∷ steps) step = append_assoc (entries_of_step first) (all_entries steps) (entries_of_step step) ∙ ap (λ es. entries_of_step first ++ es) (all_entries-more steps step)
+
+all_kept-more : (steps : List TakenStep) (step : TakenStep) → all_kept steps ++ kept_of_step step ≡ all_kept (steps ++ step ∷ [])
+unfolding all_kept
+all_kept-more [] step = sym (append-nil (kept_of_step step))
+all_kept-more (first ∷ steps) step = append_assoc (kept_of_step first) (all_kept steps) (kept_of_step step) ∙ ap (λ es. kept_of_step first ++ es) (all_kept-more steps step)
+
+entries-after : (steps : List TakenStep) → entries (record_after steps Nothing) ≡ all_entries steps
+unfolding record_after all_entries
+entries-after [] = refl
+entries-after (step ∷ steps) = ap (λ es. entries_of_step step ++ es) (entries-after steps)
+
+kept-after : (steps : List TakenStep) → kept (record_after steps Nothing) ≡ all_kept steps
+unfolding record_after all_kept
+kept-after [] = refl
+kept-after (step ∷ steps) = ap (λ es. kept_of_step step ++ es) (kept-after steps)
+
+shown-after : (steps : List TakenStep) (outcome : End) → shown (record_after steps Nothing) outcome ≡ before_end (map shown_step steps) (AtEnd outcome)
+unfolding record_after
+shown-after [] outcome = refl
+shown-after (step ∷ steps) outcome = ap (Shown.First (shown_step step)) (shown-after steps outcome)
+
+-- ---- a part of a run
+
+-- of these steps the first i are taken, from labels and a view to others
+pub record IsPartRun (steps : List Step) (held : List Held) (before : View) (i : ℕ) (taken : List Taken) (seen : List Held) (now : View) : Type 0 where
+  pub done : List TakenStep
+  pub whole : record_of (one (steps_view steps) held (state_of_view before)) ≡ record_after done (record_of (one (steps_view (drop i steps)) seen (state_of_view now)))
+  pub outcome : outcome_of (one (steps_view steps) held (state_of_view before)) ≡ outcome_of (one (steps_view (drop i steps)) seen (state_of_view now))
+  pub can : CanRunHere (steps_view (drop i steps)) seen (state_of_view now)
+  pub still : StillSeen held seen
+  pub tree : map taken_view taken ≡ map shown_step done
+  pub view : now ≡ absorbed before (all_entries done) (all_kept done)
+
+pub part_run-start : (steps : List Step) (held : List Held) (before : View) → CanRunHere (steps_view steps) held (state_of_view before) → IsPartRun steps held before 0 [] held before
+unfolding record_after all_entries all_kept
+part_run-start steps held before h = record { done = []; whole = refl; outcome = refl; can = h; still = still_same held; tree = refl; view = absorbed-none before }
+
+-- the steps from the next one on
+next_step : (steps : List Step) (i : ℕ) (x : Step) → i < length steps → x ≡ get_or steps i x → steps_view (drop i steps) ≡ meant.Steps (step_view x) (steps_view (drop (i + 1) steps))
+next_step steps i x lt e =
+    ap steps_view (drop-cons steps i x lt) ∙ ap (λ y. meant.Steps (step_view y) (steps_view (drop (suc i) steps))) (sym e) ∙ rw add-one refl
+
+pub part_run-can_step : (steps : List Step) (held : List Held) (before : View) (i : ℕ) (taken : List Taken) (seen : List Held) (now : View) (x : Step)
+    → IsPartRun steps held before i taken seen now → i < length steps → x ≡ get_or steps i x → CanStepHere (step_view x) seen (state_of_view now)
+part_run-can_step steps held before i taken seen now x h lt is =
+    can_step (step_view x) (steps_view (drop (i + 1) steps)) seen (state_of_view now) (subst (λ b. CanRunHere b seen (state_of_view now)) (next_step steps i x lt is) h.can)
+
+-- what a view shows after a step is the state of the step's run
+shows_state : (step : meant.Step) (seen : List Held) (now next : View)
+    → next ≡ absorbed now (entries_of_step (record_of (one_step step seen (state_of_view now)))) (kept_of_step (record_of (one_step step seen (state_of_view now))))
+    → state_of (one_step step seen (state_of_view now)) ≡ state_of_view next
+shows_state step seen now next is =
+    (step_leads step seen (state_of_view now)).1 ∙ sym (shown-absorbed now (entries_of_step (record_of (one_step step seen (state_of_view now)))) (kept_of_step (record_of (one_step step seen (state_of_view now))))) ∙ ap state_of_view (sym is)
+
+pub part_run-more : (steps : List Step) (held : List Held) (before : View) (i : ℕ) (taken : List Taken) (seen : List Held) (now : View) (x : Step) (done : Taken) (how : End) (seen_next : List Held) (next : View)
+    → IsPartRun steps held before i taken seen now → i < length steps → x ≡ get_or steps i x → ShowsStep (one_step (step_view x) seen (state_of_view now)) done how seen seen_next now next → how ≡ Ended → StillSeen seen seen_next
+    → IsPartRun steps held before (i + 1) (taken ++ done ∷ []) seen_next next
+part_run-more steps held before i taken seen now x done how seen_next next h lt is shows ended still =
+    let step = step_view x in
+    let rest = steps_view (drop (i + 1) steps) in
+    let run = one_step step seen (state_of_view now) in
+    let ends : outcome_of run ≡ Ended = sym shows.end ∙ ended in
+    let labels : seen ++ labels_of run ≡ seen_next = sym (shows.labels ended) in
+    let state : state_of run ≡ state_of_view next = shows_state step seen now next shows.view in
+    let on = go_on-ended run (λ added mid. one rest (seen ++ added) mid) ends in
+    let here : steps_view (drop i steps) ≡ meant.Steps step rest = next_step steps i x lt is in
+    let goes = ap (λ b. one b seen (state_of_view now)) here ∙ one-Steps step rest seen (state_of_view now) in
+    let there : one rest (seen ++ labels_of run) (state_of run) ≡ one rest seen_next (state_of_view next) = ap (λ l. one rest l (state_of run)) labels ∙ ap (one rest seen_next) state in
+    let can : CanRunHere rest (seen ++ labels_of run) (state_of run) = can_run_rest step rest seen (state_of_view now) (subst (λ b. CanRunHere b seen (state_of_view now)) here h.can) ends in
+    record {
+      done = h.done ++ record_of run ∷ [];
+      whole = h.whole ∙ ap (record_after h.done) (ap record_of goes ∙ on.0 ∙ ap (λ r. Took (record_of run) (record_of r)) there) ∙ sym (record_after-more h.done (record_of run) _);
+      outcome = h.outcome ∙ ap outcome_of goes ∙ on.1 ∙ ap outcome_of there;
+      can = subst (CanRunHere rest seen_next) state (subst (λ l. CanRunHere rest l (state_of run)) labels can);
+      still = still_then held seen seen_next h.still still;
+      tree = map-append taken_view taken (done ∷ []) ∙ ap (λ xs. xs ++ taken_view done ∷ []) h.tree ∙ ap (λ y. map shown_step h.done ++ y ∷ []) shows.tree ∙ sym (map-append shown_step h.done (record_of run ∷ []));
+      view = shows.view ∙ ap (λ v. absorbed v (entries_of_step (record_of run)) (kept_of_step (record_of run))) h.view ∙ absorbed-then before _ _ _ _
+          ∙ ap (λ es. absorbed before es (all_kept h.done ++ kept_of_step (record_of run))) (all_entries-more h.done (record_of run)) ∙ ap (absorbed before (all_entries (h.done ++ record_of run ∷ []))) (all_kept-more h.done (record_of run));
+    }
+
+-- the run of steps that were taken, with this end
+shows_run : (run : Run record_tree.Taken) (before now : View) (taken : List Taken) (done : List TakenStep) (made : Record)
+    → record_of run ≡ record_after done Nothing → outcome_of run ≡ made.outcome → made.taken.items ≡ taken → map taken_view taken ≡ map shown_step done → now ≡ absorbed before (all_entries done) (all_kept done)
+    → ShowsRun run made before now
+shows_run run before now taken done made is ends items tree view =
+    record {
+      tree = record_view-is made ∙ ap (λ ts. before_end (map taken_view ts) (AtEnd made.outcome)) items ∙ ap (λ ts. before_end ts (AtEnd made.outcome)) tree ∙ sym (shown-after done made.outcome)
+          ∙ ap (λ e. shown (record_after done Nothing) e) (sym ends) ∙ ap (λ t. shown t (outcome_of run)) (sym is);
+      end = sym ends;
+      view = view ∙ ap (λ es. absorbed before es (all_kept done)) (sym (entries-after done) ∙ ap entries (sym is)) ∙ ap (absorbed before (entries (record_of run))) (sym (kept-after done) ∙ ap kept (sym is));
+    }
+
+-- the run of steps that are all taken
+pub part_run-ended : (steps : List Step) (held : List Held) (before : View) (i : ℕ) (taken : List Taken) (seen : List Held) (now : View) (made : Record)
+    → IsPartRun steps held before i taken seen now → length steps ≤ i → made.taken.items ≡ taken → made.outcome ≡ Ended → ShowsRun (one (steps_view steps) held (state_of_view before)) made before now
+part_run-ended steps held before i taken seen now made h le items ends =
+    let over : one (steps_view (drop i steps)) seen (state_of_view now) ≡ _ = ap (λ xs. one (steps_view xs) seen (state_of_view now)) (drop_of_length-le steps le) ∙ one-NoStep seen (state_of_view now) in
+    shows_run _ before now taken h.done made (h.whole ∙ ap (λ r. record_after h.done (record_of r)) over) (h.outcome ∙ ap outcome_of over ∙ sym ends) items h.tree h.view
+
+-- the run of steps of which one aborted
+pub part_run-aborted : (steps : List Step) (held : List Held) (before : View) (i : ℕ) (taken : List Taken) (seen : List Held) (now : View) (x : Step) (done : Taken) (how : End) (seen_next : List Held) (next : View) (reason : Option ℕ) (made : Record)
+    → IsPartRun steps held before i taken seen now → i < length steps → x ≡ get_or steps i x → ShowsStep (one_step (step_view x) seen (state_of_view now)) done how seen seen_next now next → how ≡ Aborted reason
+    → made.taken.items ≡ taken ++ done ∷ [] → made.outcome ≡ how → ShowsRun (one (steps_view steps) held (state_of_view before)) made before next
+part_run-aborted steps held before i taken seen now x done how seen_next next reason made h lt is shows aborted items ends =
+    let step = step_view x in
+    let rest = steps_view (drop (i + 1) steps) in
+    let run = one_step step seen (state_of_view now) in
+    let off = go_on-aborted run (λ added mid. one rest (seen ++ added) mid) reason (sym shows.end ∙ aborted) in
+    let goes = ap (λ b. one b seen (state_of_view now)) (next_step steps i x lt is) ∙ one-Steps step rest seen (state_of_view now) in
+    shows_run _ before next (taken ++ done ∷ []) (h.done ++ record_of run ∷ []) made
+    (h.whole ∙ ap (record_after h.done) (ap record_of goes ∙ off.0) ∙ sym (record_after-more h.done (record_of run) Nothing))
+    (h.outcome ∙ ap outcome_of goes ∙ off.1 ∙ sym aborted ∙ sym ends)
+    items
+    (map-append taken_view taken (done ∷ []) ∙ ap (λ xs. xs ++ taken_view done ∷ []) h.tree ∙ ap (λ y. map shown_step h.done ++ y ∷ []) shows.tree ∙ sym (map-append shown_step h.done (record_of run ∷ [])))
+    (shows.view ∙ ap (λ v. absorbed v (entries_of_step (record_of run)) (kept_of_step (record_of run))) h.view ∙ absorbed-then before _ _ _ _
+    ∙ ap (λ es. absorbed before es (all_kept h.done ++ kept_of_step (record_of run))) (all_entries-more h.done (record_of run)) ∙ ap (absorbed before (all_entries (h.done ++ record_of run ∷ []))) (all_kept-more h.done (record_of run)))

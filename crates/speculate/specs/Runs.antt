@@ -1,0 +1,22 @@
+-- What the run of a transaction asks, and what it has.
+use Rattle.std.specs.Prelude.{◌≡◌, ℕ, ◌+◌, ◌-◌, ◌*◌, ◌≤◌, List}
+use Rattle.meaning.specs.Entries.{State}
+use Rattle.meaning.specs.Trees.{Block}
+use Rattle.meaning.specs.Records.{Taken, entries}
+use Rattle.meaning.specs.OneThread.{Run, record_of}
+use Rattle.meaning.specs.Batch.{block_at, net_of, shown_of}
+use Rattle.meaning.specs.WellFormed.{operations, largest, largest_amount}
+use Rattle.meaning.specs.Running.{all_operations}
+use Rattle.batch.specs.Views.{record_view}
+use Rattle.speculate.specs.declared.speculated.Run as speculated
+
+-- no number is larger than the operations of all other transactions can make it
+abbrev pub IsWithinOthers : List Block → ℕ → State → Type 0
+IsWithinOthers batch i state =
+    largest state ≤ 1_000_000_000_000_000 + largest_amount * (all_operations batch - operations (block_at batch i))
+
+-- the record, all entries and the net of a run
+pub record IsRunOf (meant : Run Taken) (run : speculated.Run) : Type 0 where
+  pub tree : record_view run.tree ≡ shown_of meant
+  pub entries : run.entries.items ≡ entries (record_of meant)
+  pub net : run.net.items ≡ net_of meant

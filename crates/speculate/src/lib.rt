@@ -1,0 +1,15 @@
+//! Speculative runs: what a transaction does on the objects of an opening, with all that it performed.
+#![tactic(auto)]
+
+mod executor;
+mod gate;
+mod labels;
+mod speculated;
+mod transaction;
+
+pub use batch::{Batch, Block, Names, Outcome, Plain, Record, Step, Subaction, Taken};
+pub use gate::{Gate, NoGate};
+pub use intentions::{Entry, NoMemory, Objects};
+pub use meaning::End;
+pub use speculated::Run;
+pub use transaction::run;

@@ -1,0 +1,52 @@
+//! The run of one transaction on the objects of an opening.
+ghost use Rattle.std.specs.Prelude.{◌≡◌, ◌-◌, ◌≤◌, [], map, length, IfOk};
+ghost use Rattle.batch.specs.Views.{block_view};
+ghost use Rattle.meaning.specs.Entries.{kinds};
+ghost use Rattle.meaning.specs.OneThread.{one};
+ghost use Rattle.meaning.specs.Batch.{block_at};
+ghost use Rattle.speculate.specs.Runs.{IsRunOf, IsWithinOthers};
+
+use crate::executor::run_block;
+use crate::gate::Gate;
+use crate::speculated::Run;
+use batch::Batch;
+use intentions::{Lists, NoMemory, Objects, View};
+use meaning::End;
+use std::alloc::Global;
+use std::thread::Threads;
+
+/// Runs transaction `number` (from 1) of the batch on these objects, which stay as they are.
+///
+/// At most `width` children of a parallel block are run at once. `NoMemory` is answered where a
+/// growth of memory was refused; the batch and the objects are then as before.
+pub fn run<T: Threads + Sync, G: Gate>(
+    _threads: &T,
+    alloc: Global,
+    objects: &Objects,
+    batch: &Batch,
+    number: u32,
+    _width: u32,
+    gate: &G,
+) -> Result<Run, NoMemory>
+    requires first { 1 ≤ number }
+    requires last { number ≤ length batch.now.transactions.items }
+    requires narrow { (1 ≤ _width) × (_width ≤ 64) }
+    requires same_kinds { kinds objects.now ≡ kinds batch.now.objects }
+    requires room { IsWithinOthers (map block_view batch.now.transactions.items) (number - 1) objects.now }
+    ensures { IfOk result (IsRunOf (one (block_at (map block_view batch.now.transactions.items) (number - 1)) [] objects.now)) }
+{
+    gate.pass(number, 0);
+    let block = &batch.transactions[number as usize - 1];
+    let mut view = View::open(alloc, objects)?;
+    let mut labels = Vec::new(alloc);
+    view.begin()?;
+    let tree = run_block(alloc, block, &mut labels, &mut view)?;
+    match tree.outcome {
+        End::Ended => view.commit()?,
+        End::Aborted(_) => view.abort(),
+    }
+    let Lists { entries, net } = view.into_run();
+    let run = Run { tree, entries, net };
+    gate.made(number, &run);
+    Ok(run)
+}
