@@ -1,24 +1,32 @@
--- A document's faults have the codes of documents: none is of the memory, the input or the output.
+-- A document's faults have the codes of documents, or the memory's: none is of the input or the output.
 use Rattle.std.proofs.lemmas.Bool.{cases_lt}
-use Rattle.std.proofs.Common.{◌≢◌, ◌⊎◌, inl, inr, ◌<◌, ◌≡◌, ℕ, ◌+◌, ◌≤◌, Bool, true, false, List, [], ◌∷◌, ◌++◌, Option, None, Some, Result, Ok, Err, ap, subst, cond, arith}
-use Rattle.std.specs.Prelude.{⊤, codes, IfErr, IfSome, nat_lt, unwrap_or}
-use Rattle.serde_json.specs.Data.{Data, Items, no_items, item}
-use Rattle.serde_json.specs.Find.{as_array}
+use Rattle.std.proofs.Common.{◌≡◌, ◌≢◌, ◌⊎◌, inl, inr, ◌<◌, ℕ, zero, suc, ◌+◌, ◌≤◌, Bool, true, false, List, [], ◌∷◌, ◌++◌, Option, None, Some, Result, Ok, Err, ap, subst, cond, arith}
+use Rattle.std.specs.Prelude.{⊤, codes, IfErr, IfSome, nat_lt}
+use Rattle.serde_json.specs.Data.{Data, Items, no_items, item, Members, no_members, member}
+use Rattle.serde_json.specs.Find.{as_array, as_str, get}
 use Rattle.objects.specs.declared.kind.Kind.{Kind}
 use Rattle.objects.specs.declared.kind.Kind.TheVariants as kind
+use Rattle.lang.specs.declared.fault.Code.TheVariants.{Argument, Depth, Name, Shape, Start}
 use Rattle.lang.specs.declared.fault.Fault.{Fault}
 use Rattle.lang.specs.declared.counts.Counts.{Counts}
 use Rattle.lang.specs.declared.words.Verb.{Verb}
-use Rattle.lang.specs.declared.words.Verb.TheVariants as verb
+use Rattle.lang.specs.declared.words.Verb.TheVariants.{OfAmount, OfItem, OfPair, Alone}
+use Rattle.lang.specs.declared.words.Subject.{Subject}
+use Rattle.lang.specs.declared.words.Subject.TheVariants.{Outcome}
+use Rattle.lang.specs.declared.steps.Sort.{Sort}
+use Rattle.lang.specs.declared.steps.Sort.TheVariants as sort
 use Rattle.lang.specs.Faults.{memory_fault, number_of}
-use Rattle.lang.specs.Demand.{Demand, holds, one_more_operation, in_transaction, and_then, check, check_one, fault_of, first_fault, no_counts}
-use Rattle.lang.specs.Setting.{Setting, Table}
-use Rattle.lang.specs.Asked.{array_asked, arguments_asked, asked, block_asked, call_named, document_shape_asked, object_asked, object_kind, object_name, object_name_asked, object_of, object_shape_asked, objects_asked, objects_in, operation_asked, operation_shape_asked, part, setting_in, start_asked, steps_asked, target_asked, transactions_asked, transactions_in, verb_in}
+use Rattle.lang.specs.Demand.{Demand, holds, one_more_start, one_more_operation, one_more_node, in_transaction, and_then, check, check_one, fault_of, first_fault, most_operations, no_counts}
+use Rattle.lang.specs.Scope.{Table, Setting, Scope, with_label, with_text}
+
+use Rattle.lang.specs.Asked.{Asks, abort_asked, abort_shape_asked, amount_asked, arguments_asked, array_asked, array_start_asked, asked, block_asked, block_asked_if, call_named, children_asked, children_in, document_shape_asked, element_asked, elements_asked, entries_asked, entry_asked, handlers_asked, handlers_in, holds_item, holds_number, holds_word, if_asked, if_label, if_shape_asked, item_asked, key_of, kind_in, label_asked, label_in, member_asked, members_asked, object_asked, object_name, object_name_asked, object_of, object_shape_asked, objects_asked, objects_in, operation_asked, operation_shape_asked, pair_asked, pairs_asked, parallel_asked, parallel_shape_asked, part, reason_asked, scope_after, seen_asked, setting_in, sort_of, start_asked, step_asked, step_asked_by, steps_asked, sub_asked, sub_shape_asked, subject_of, target_asked, test_asked, text_of, transactions_asked, transactions_in, verb_in, version_in}
 
 -- the demand fails with a code of documents
 HasCode : Demand → Type 0
 HasCode (holds b code) = number_of code ≤ 20
-HasCode one_more_operation = ⊤
+HasCode one_more_start = ⊤
+HasCode (one_more_operation version) = ⊤
+HasCode one_more_node = ⊤
 HasCode (in_transaction n) = ⊤
 
 HaveCodes : List Demand → Type 0
@@ -30,65 +38,261 @@ unfolding HaveCodes
 append [] ys hx hy = hy
 append (x ∷ xs) ys hx hy = (hx.0, append xs ys hx.1 hy)
 
--- ---- the parts of a document
+-- ---- parts without blocks
+
+label_has : (scope elder : Scope) (name : Option (List ℕ)) → HaveCodes (label_asked scope elder name)
+unfolding HaveCodes HasCode label_asked
+label_has scope elder None = tt
+label_has scope elder (Some name) = (omega arith, (omega arith, tt))
+
+item_has : (i : ℕ) (op : Data) → HaveCodes (item_asked i op)
+unfolding HaveCodes HasCode item_asked
+item_has i op = (omega arith, (omega arith, tt))
+
+amount_has : (op : Data) → HaveCodes (amount_asked op)
+unfolding HaveCodes HasCode amount_asked
+amount_has op = (omega arith, (omega arith, tt))
+
+counted : HaveCodes (one_more_node ∷ [])
+unfolding HaveCodes HasCode
+counted = (tt, tt)
+
+operation_counted : (version : ℕ) → HaveCodes (one_more_operation version ∷ [])
+unfolding HaveCodes HasCode
+operation_counted version = (tt, tt)
+
+begun : (n : ℕ) (ds : List Demand) → HaveCodes ds → HaveCodes (in_transaction n ∷ ds)
+unfolding HaveCodes HasCode
+begun n ds have = (tt, have)
+
+argument_first : (b : Bool) (ds : List Demand) → HaveCodes ds → HaveCodes (holds b Argument ∷ ds)
+unfolding HaveCodes HasCode
+argument_first b ds have = (omega arith, have)
+
+none_has : HaveCodes []
+unfolding HaveCodes
+none_has = tt
 
 arguments_have : (v : Verb) (op : Data) → HaveCodes (arguments_asked v op)
-unfolding HaveCodes HasCode arguments_asked
-arguments_have verb.Deposit op = (omega arith, (omega arith, tt))
-arguments_have verb.Withdraw op = (omega arith, (omega arith, tt))
-arguments_have verb.Balance op = (omega arith, tt)
+unfolding arguments_asked
+arguments_have (OfAmount v) op = amount_has op
+arguments_have (OfItem v) op = argument_first _ _ (item_has 2 op)
+arguments_have (OfPair v) op = argument_first _ _ (append _ _ (item_has 2 op) (item_has 3 op))
+arguments_have (Alone v) op = argument_first _ _ none_has
 
-operation_has : (setting : Setting) (d : Data) → HaveCodes (operation_asked setting d)
-unfolding HaveCodes HasCode operation_asked operation_shape_asked target_asked
-operation_has setting d =
+operation_shape_has : (d : Data) → HaveCodes (operation_shape_asked d)
+unfolding HaveCodes HasCode operation_shape_asked
+operation_shape_has d = (omega arith, (omega arith, (omega arith, (omega arith, tt))))
+
+target_has : (setting : Setting) (object call : List ℕ) → HaveCodes (target_asked setting object call)
+unfolding HaveCodes HasCode target_asked
+target_has setting object call = (omega arith, (omega arith, tt))
+
+operation_has : (setting : Setting) (scope : Scope) (d : Data) → HaveCodes (operation_asked setting scope d)
+unfolding operation_asked
+operation_has setting scope d =
     let op = part (codes "op") d in
-    let target = target_asked setting (object_of op) (call_named op) in
-    let arguments = arguments_asked (verb_in setting op) op in
-    append (operation_shape_asked d) (one_more_operation ∷ target ++ arguments) (omega arith, (omega arith, (omega arith, tt)))
-    (tt, append (target_asked setting (object_of op) (call_named op)) arguments (omega arith, (omega arith, tt)) (arguments_have (verb_in setting op) op))
+    append _ _ (append _ _ (append _ _ (append _ _ (operation_shape_has d) (operation_counted setting.version)) (target_has setting (object_of op) (call_named op))) (arguments_have (verb_in setting op) op)) (label_has scope [] (label_in d))
 
-steps_have : (setting : Setting) (ds : Items) → HaveCodes (steps_asked setting ds)
-unfolding HaveCodes
-steps_have setting no_items = tt
-steps_have setting (item d ds) = append (operation_asked setting d) (steps_asked setting ds) (operation_has setting d) (steps_have setting ds)
-
-array_has : (setting : Setting) (items : Option Items) → HaveCodes (array_asked (steps_asked setting) items)
+word_has : (subject : Subject) (d : Data) → HaveCodes (holds_word subject d)
 unfolding HaveCodes HasCode
-array_has setting None = (omega arith, tt)
-array_has setting (Some ds) = steps_have setting ds
+word_has subject d = (omega arith, tt)
 
-block_has : (setting : Setting) (d : Data) → HaveCodes (block_asked setting d)
+number_has : (subject : Subject) (d : Data) → HaveCodes (holds_number subject d)
+unfolding HaveCodes HasCode
+number_has subject d = (omega arith, (omega arith, tt))
+
+named_item_has : (subject : Subject) (d : Data) → HaveCodes (holds_item subject d)
+unfolding HaveCodes HasCode
+named_item_has subject d = (omega arith, (omega arith, (omega arith, tt)))
+
+one_of : (b : Bool) (xs ys : List Demand) → HaveCodes xs → HaveCodes ys → HaveCodes (cond b xs ys)
+one_of true xs ys hx hy = hx
+one_of false xs ys hx hy = hy
+
+test_has : (subject : Subject) (d : Data) → HaveCodes (test_asked subject d)
+unfolding test_asked
+test_has subject d = one_of _ _ _ (word_has subject d) (one_of _ _ _ (number_has subject d) (named_item_has subject d))
+
+if_shape_has : (d : Data) → HaveCodes (if_shape_asked d)
+unfolding HaveCodes HasCode if_shape_asked
+if_shape_has d = (omega arith, (omega arith, (omega arith, (omega arith, tt))))
+
+seen_has : (scope : Scope) (name : List ℕ) → HaveCodes (seen_asked scope name)
+unfolding HaveCodes HasCode seen_asked
+seen_has scope name = (omega arith, tt)
+
+sub_shape_has : (version : ℕ) (d : Data) → HaveCodes (sub_shape_asked version d)
+unfolding HaveCodes HasCode sub_shape_asked
+sub_shape_has version d = (omega arith, (omega arith, (omega arith, (omega arith, tt))))
+
+abort_shape_has : (version : ℕ) (d : Data) → HaveCodes (abort_shape_asked version d)
+unfolding HaveCodes HasCode abort_shape_asked
+abort_shape_has version d = (omega arith, (omega arith, (tt, tt)))
+
+reason_has : (reason : Option (List ℕ)) → HaveCodes (reason_asked reason)
+unfolding HaveCodes HasCode reason_asked
+reason_has None = tt
+reason_has (Some reason) = (omega arith, tt)
+
+abort_has : (version : ℕ) (d : Data) → HaveCodes (abort_asked version d)
+unfolding abort_asked
+abort_has version d = append _ _ (abort_shape_has version d) (reason_has (as_str (part (codes "abort") d)))
+
+parallel_shape_has : (d : Data) → HaveCodes (parallel_shape_asked d)
+unfolding HaveCodes HasCode parallel_shape_asked
+parallel_shape_has d = (omega arith, (omega arith, tt))
+
+-- a part of another form
+refused : HaveCodes (holds false Shape ∷ [])
+unfolding HaveCodes HasCode
+refused = (omega arith, tt)
+
+named_first : (b : Bool) (ds : List Demand) → HaveCodes ds → HaveCodes (holds b Name ∷ ds)
+unfolding HaveCodes HasCode
+named_first b ds have = (omega arith, have)
+
+-- ---- steps, where the blocks in them have codes of documents
+
+module _ (asks : Asks) (have : (scope : Scope) (d : Data) → HaveCodes (asks scope d)) where
+  maybe_has : (scope : Scope) (d : Option Data) → HaveCodes (block_asked_if asks scope d)
+  unfolding block_asked_if
+  maybe_has scope None = none_has
+  maybe_has scope (Some d) = have scope d
+
+  if_has : (scope : Scope) (d : Data) → HaveCodes (if_asked asks scope d)
+  unfolding if_asked
+  if_has scope d =
+      append _ _ (append _ _ (append _ _ (append _ _ (append _ _ (if_shape_has d) counted) (seen_has scope (if_label d))) (test_has (subject_of (if_label d) scope) d)) (have scope (part (codes "then") d))) (maybe_has scope (get (codes "else") d))
+
+  members_have : (scope : Scope) (ds : Members) → HaveCodes (members_asked asks scope ds)
+  members_have scope no_members = none_has
+  members_have scope (member reason d ds) = append _ _ (named_first _ _ (have scope d)) (members_have scope ds)
+
+  handlers_have : (scope : Scope) (ds : Option Members) → HaveCodes (handlers_asked asks scope ds)
+  unfolding handlers_asked
+  handlers_have scope None = none_has
+  handlers_have scope (Some ds) = members_have scope ds
+
+  sub_has : (version : ℕ) (scope elder : Scope) (d : Data) → HaveCodes (sub_asked version asks scope elder d)
+  unfolding sub_asked
+  sub_has version scope elder d =
+      append _ _ (append _ _ (append _ _ (append _ _ (append _ _ (sub_shape_has version d) counted) (label_has scope elder (label_in d))) (have scope (part (codes "sub") d))) (handlers_have scope (handlers_in d))) (maybe_has scope (get (codes "handler") d))
+
+  children_have : (version : ℕ) (scope elder : Scope) (ds : Items) → HaveCodes (children_asked version asks scope elder ds)
+  children_have version scope elder no_items = none_has
+  children_have version scope elder (item d ds) =
+      append _ _ (sub_has version scope elder d) (children_have version scope (with_label (label_in d) Outcome elder) ds)
+
+  parallel_has : (version : ℕ) (scope : Scope) (d : Data) → HaveCodes (parallel_asked version asks scope d)
+  unfolding parallel_asked
+  parallel_has version scope d = append _ _ (append _ _ (parallel_shape_has d) counted) (children_have version scope [] (children_in d))
+
+  step_by_has : (s : Option Sort) (setting : Setting) (scope : Scope) (d : Data) → HaveCodes (step_asked_by s asks setting scope d)
+  step_by_has None setting scope d = refused
+  step_by_has (Some sort.Operation) setting scope d = operation_has setting scope d
+  step_by_has (Some sort.If) setting scope d = if_has scope d
+  step_by_has (Some sort.Sub) setting scope d = sub_has setting.version scope [] d
+  step_by_has (Some sort.Abort) setting scope d = abort_has setting.version d
+  step_by_has (Some sort.Parallel) setting scope d = parallel_has setting.version scope d
+
+  step_has : (setting : Setting) (scope : Scope) (d : Data) → HaveCodes (step_asked asks setting scope d)
+  unfolding step_asked
+  step_has setting scope d = step_by_has (sort_of d) setting scope d
+
+  steps_have : (setting : Setting) (scope : Scope) (ds : Items) → HaveCodes (steps_asked asks setting scope ds)
+  steps_have setting scope no_items = none_has
+  steps_have setting scope (item d ds) = append _ _ (step_has setting scope d) (steps_have setting (scope_after setting scope d) ds)
+
+-- ---- blocks
+
+too_deep : HaveCodes (holds false Depth ∷ [])
+unfolding HaveCodes HasCode
+too_deep = (omega arith, tt)
+
+array_has : (asks : Items → List Demand) → ((ds : Items) → HaveCodes (asks ds)) → (items : Option Items) → HaveCodes (array_asked asks items)
+array_has asks have None = refused
+array_has asks have (Some ds) = have ds
+
+block_has : (setting : Setting) (levels : ℕ) (scope : Scope) (d : Data) → HaveCodes (block_asked setting levels scope d)
 unfolding block_asked
-block_has setting d = array_has setting (as_array d)
+block_has setting zero scope d = array_has _ (λ _. too_deep) (as_array d)
+block_has setting (suc n) scope d = array_has _ (steps_have (block_asked setting n) (block_has setting n) setting scope) (as_array d)
+
+-- ---- objects
+
+entry_has : (d : Data) → HaveCodes (entry_asked d)
+unfolding HaveCodes HasCode entry_asked
+entry_has d = (omega arith, (omega arith, (tt, tt)))
+
+entries_have : (ds : Items) → HaveCodes (entries_asked ds)
+entries_have no_items = none_has
+entries_have (item d ds) = append _ _ (entry_has d) (entries_have ds)
+
+element_has : (earlier : Table) (d : Data) → HaveCodes (element_asked earlier d)
+unfolding HaveCodes HasCode element_asked
+element_has earlier d = (omega arith, (omega arith, (omega arith, (tt, tt))))
+
+elements_have : (earlier : Table) (ds : Items) → HaveCodes (elements_asked earlier ds)
+elements_have earlier no_items = none_has
+elements_have earlier (item d ds) = append _ _ (element_has earlier d) (elements_have (with_text (text_of d) earlier) ds)
+
+pair_has : (earlier : Table) (d : Data) → HaveCodes (pair_asked earlier d)
+unfolding HaveCodes HasCode pair_asked
+pair_has earlier d = (omega arith, (omega arith, (omega arith, (omega arith, (omega arith, (omega arith, (tt, tt)))))))
+
+pairs_have : (earlier : Table) (ds : Items) → HaveCodes (pairs_asked earlier ds)
+pairs_have earlier no_items = none_has
+pairs_have earlier (item d ds) = append _ _ (pair_has earlier d) (pairs_have (with_text (key_of d) earlier) ds)
+
+start_fails : (b : Bool) → HaveCodes (holds b Start ∷ [])
+unfolding HaveCodes HasCode
+start_fails b = (omega arith, tt)
+
+array_start_has : (asks : Items → List Demand) → ((ds : Items) → HaveCodes (asks ds)) → (items : Option Items) → HaveCodes (array_start_asked asks items)
+unfolding array_start_asked
+array_start_has asks have None = start_fails false
+array_start_has asks have (Some ds) = have ds
 
 start_has : (k : Kind) (d : Data) → HaveCodes (start_asked k d)
-unfolding HaveCodes HasCode start_asked
-start_has kind.Account d = (omega arith, tt)
-start_has k d = (omega arith, tt)
+unfolding start_asked
+start_has kind.Account d = start_fails _
+start_has kind.Counter d = start_fails _
+start_has kind.Set d = array_start_has _ (elements_have []) (as_array d)
+start_has kind.Queue d = array_start_has _ entries_have (as_array d)
+start_has kind.Directory d = array_start_has _ (pairs_have []) (as_array d)
+start_has kind.Max d = start_fails _
 
-object_has : (names : Table) (d : Data) → HaveCodes (object_asked names d)
-unfolding HaveCodes HasCode object_asked object_shape_asked object_name_asked
-object_has names d =
-    let start = start_asked (unwrap_or (object_kind d) kind.Account) (part (codes "start") d) in
-    append (object_shape_asked d) (object_name_asked names (object_name d) ++ start) (omega arith, (omega arith, (omega arith, (omega arith, tt))))
-    (append (object_name_asked names (object_name d)) start (omega arith, (omega arith, tt)) (start_has (unwrap_or (object_kind d) kind.Account) (part (codes "start") d)))
+object_shape_has : (version : ℕ) (d : Data) → HaveCodes (object_shape_asked version d)
+unfolding HaveCodes HasCode object_shape_asked
+object_shape_has version d = (omega arith, (omega arith, (omega arith, (omega arith, tt))))
 
-objects_have : (names : Table) (ds : Items) → HaveCodes (objects_asked names ds)
-unfolding HaveCodes
-objects_have names no_items = tt
-objects_have names (item d ds) = append (object_asked names d) (objects_asked (names ++ object_name d ∷ []) ds) (object_has names d) (objects_have (names ++ object_name d ∷ []) ds)
+object_name_has : (names : Table) (name : List ℕ) → HaveCodes (object_name_asked names name)
+unfolding HaveCodes HasCode object_name_asked
+object_name_has names name = (omega arith, (omega arith, tt))
+
+object_has : (version : ℕ) (names : Table) (d : Data) → HaveCodes (object_asked version names d)
+unfolding object_asked
+object_has version names d =
+    append _ _ (append _ _ (object_shape_has version d) (object_name_has names (object_name d))) (start_has (kind_in version d) (part (codes "start") d))
+
+objects_have : (version : ℕ) (names : Table) (ds : Items) → HaveCodes (objects_asked version names ds)
+objects_have version names no_items = none_has
+objects_have version names (item d ds) = append _ _ (object_has version names d) (objects_have version (names ++ object_name d ∷ []) ds)
 
 transactions_have : (n : ℕ) (setting : Setting) (ds : Items) → HaveCodes (transactions_asked n setting ds)
-unfolding HaveCodes HasCode
-transactions_have n setting no_items = tt
-transactions_have n setting (item d ds) = (tt, append (block_asked setting d) (transactions_asked (n + 1) setting ds) (block_has setting d) (transactions_have (n + 1) setting ds))
+transactions_have n setting no_items = none_has
+transactions_have n setting (item d ds) =
+    append _ _ (begun n _ (block_has setting 24 [] d)) (transactions_have (n + 1) setting ds)
+
+document_shape_has : (d : Data) → HaveCodes (document_shape_asked d)
+unfolding HaveCodes HasCode document_shape_asked
+document_shape_has d = (omega arith, (omega arith, (omega arith, (omega arith, (omega arith, (omega arith, tt))))))
 
 document_has : (d : Data) → HaveCodes (asked d)
-unfolding HaveCodes HasCode asked document_shape_asked
+unfolding asked
 document_has d =
-    let transactions = transactions_asked 1 (setting_in d) (transactions_in d) in
-    append (document_shape_asked d) (objects_asked [] (objects_in d) ++ transactions) (omega arith, (omega arith, (omega arith, (omega arith, (omega arith, (omega arith, tt))))))
-    (append (objects_asked [] (objects_in d)) transactions (objects_have [] (objects_in d)) (transactions_have 1 (setting_in d) (transactions_in d)))
+    append _ _ (append _ _ (document_shape_has d) (objects_have (version_in d) [] (objects_in d))) (transactions_have 1 (setting_in d) (transactions_in d))
 
 -- ---- their first fault
 
@@ -103,7 +307,9 @@ test_answers false c fault small = small
 one_answers : (c : Counts) (d : Demand) → HasCode d → IfErr (check_one c d) IsSmall
 unfolding HasCode IsSmall
 one_answers c (holds b code) small = test_answers b c _ small
-one_answers c one_more_operation small = test_answers (nat_lt c.operations 100000) _ _ (omega arith)
+one_answers c one_more_start small = test_answers (nat_lt c.starts 100000) _ _ (omega arith)
+one_answers c (one_more_operation version) small = test_answers (nat_lt c.operations (most_operations version)) _ _ (omega arith)
+one_answers c one_more_node small = test_answers (nat_lt c.nodes 100000) _ _ (omega arith)
 one_answers c (in_transaction n) small = tt
 
 rest_answers : (r : Result Counts Fault) (ds : List Demand) → IfErr r IsSmall → ((c : Counts) → IfErr (check c ds) IsSmall)

@@ -1,8 +1,13 @@
 pub mod Members
 pub mod TableLemmas
+pub mod LabelLemmas
 pub mod Checks
 pub mod AmountLemmas
 pub mod ListLemmas
+pub mod BlockLemmas
 pub mod MetLemmas
+pub mod DocumentLemmas
+pub mod Bound
 pub mod Faultless
+pub mod FaultlessBatch
 pub mod CodeLemmas

@@ -1,13 +1,14 @@
 -- Texts by number, as the keys of a set.
-use Rattle.std.proofs.Common.{◌≡◌, ℕ, suc, Bool, true, false, cond, List, [], ◌∷◌, ◌++◌, String, Global, string_bytes, refl, ap, sym, ◌∙◌}
-use Rattle.std.specs.Prelude.{position, length, slice_get, option_map}
+use Rattle.std.proofs.Common.{◌≡◌, ◌<◌, ◌+◌, ◌||◌, ℕ, suc, Bool, true, false, not, cond, List, [], ◌∷◌, ◌++◌, Some, None, String, Global, string_bytes, refl, ap, sym, ◌∙◌, arith}
+use Rattle.std.proofs.lemmas.Bool.{ltb-true}
+use Rattle.std.specs.Prelude.{nat_lt, position, length, slice_get, option_map}
 use Rattle.std.specs.List.{list_any, position_or_len}
 use Rattle.std.specs.Str.{bytes_eq}
 use Rattle.std.proofs.lemmas.Option.{slice_get-map}
 use Rattle.objects.specs.Objects.{kind_of_value}
 use Rattle.meaning.specs.Entries.{State, kinds}
 use Rattle.batch.specs.Names.{texts_of}
-use Rattle.lang.specs.Setting.{place_of, is_listed}
+use Rattle.lang.specs.Scope.{Table, place_of, is_listed}
 
 first_of_keys : (text : List ℕ) (keys : List (String Global)) → position_or_len (bytes_eq text) (texts_of keys) ≡ position_or_len (λ k. bytes_eq text (string_bytes k)) keys
 first_of_keys text [] = refl
@@ -39,6 +40,30 @@ pub new_text : (text : List ℕ) (keys : List (String Global)) (k : String Globa
     → texts_of (cond (list_any (λ l. bytes_eq (string_bytes k) (string_bytes l)) keys) keys (keys ++ k ∷ [])) ≡ texts_of keys ++ text ∷ []
 new_text text keys k is new =
     goes_last _ keys k (sym (is_listed-keys (string_bytes k) keys) ∙ ap (λ t. is_listed t (texts_of keys)) is ∙ new) ∙ ap (λ t. texts_of keys ++ t ∷ []) is
+
+listed_there : (text : List ℕ) (table : Table) → position_or_len (bytes_eq text) table < length table → is_listed text table ≡ true
+listed_there text [] h = absurd (omega arith)
+listed_there text (t ∷ table) h = by (bytes_eq text t) (listed_there text table) h
+  where
+    by : (b : Bool) → (position_or_len (bytes_eq text) table < length table → is_listed text table ≡ true) → cond (not b) (1 + position_or_len (bytes_eq text) table) 0 < length (t ∷ table) → (b || is_listed text table) ≡ true
+    by true later h = refl
+    by false later h = later (omega arith)
+
+-- a text that stands in the table adds nothing, and has its place
+pub listed_text : (text : List ℕ) (table : Table) (i : ℕ) → place_of text table ≡ Some i → (i ≡ position_or_len (bytes_eq text) table) × (is_listed text table ≡ true)
+listed_text text table i at = by (nat_lt (position_or_len (bytes_eq text) table) (length table)) refl at
+  where
+    by : (b : Bool) → nat_lt (position_or_len (bytes_eq text) table) (length table) ≡ b → cond b (Some (position_or_len (bytes_eq text) table)) None ≡ Some i → (i ≡ position_or_len (bytes_eq text) table) × (is_listed text table ≡ true)
+    by true lt e = (cc, listed_there text table (ltb-true _ _ lt))
+    by false lt e = cc
+
+pub unlisted_text : (text : List ℕ) (table : Table) → is_listed text table ≡ false → position_or_len (bytes_eq text) table ≡ length table
+unlisted_text text [] h = refl
+unlisted_text text (t ∷ table) h = by (bytes_eq text t) (unlisted_text text table) h
+  where
+    by : (b : Bool) → (is_listed text table ≡ false → position_or_len (bytes_eq text) table ≡ length table) → (b || is_listed text table) ≡ false → cond (not b) (1 + position_or_len (bytes_eq text) table) 0 ≡ length (t ∷ table)
+    by true later h = cc
+    by false later h = omega (arith, later h)
 
 -- for attributes to cite
 pub ruleset places = (place_of-keys, is_listed-keys)

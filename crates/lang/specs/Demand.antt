@@ -1,5 +1,5 @@
 -- What is asked of a document, as one flat list in reading order, and the first fault of such a list.
-use Rattle.std.specs.Prelude.{ℕ, ◌+◌, Bool, List, [], ◌∷◌, Option, None, Some, Result, Ok, Err, nat_lt, if◌then◌else◌}
+use Rattle.std.specs.Prelude.{ℕ, ◌+◌, Bool, List, [], ◌∷◌, Option, None, Some, Result, Ok, Err, nat_le, nat_lt, if◌then◌else◌}
 use Rattle.lang.specs.declared.fault.Code.{Code}
 use Rattle.lang.specs.declared.fault.Code.TheVariants.{TooMany}
 use Rattle.lang.specs.declared.fault.Fault.{Fault}
@@ -9,11 +9,18 @@ use Rattle.lang.specs.declared.counts.Counts.{Counts}
 -- Behind `in_transaction n` stands what is asked of transaction n.
 pub data Demand : Type 0 where
   holds : Bool → Code → Demand
-  one_more_operation : Demand
+  one_more_start : Demand
+  -- in a document of a version
+  one_more_operation : ℕ → Demand
+  one_more_node : Demand
   in_transaction : ℕ → Demand
 
 abbrev pub fault_at : Code → Counts → Fault
 fault_at code c = record { code = code; transaction = c.transaction }
+
+-- the operations that a document of a version may have
+abbrev pub most_operations : ℕ → ℕ
+most_operations version = if nat_le 4 version then 1000000 else 100000
 
 abbrev pub limited : Bool → Counts → Counts → Result Counts Fault
 limited within c next = if within then Ok next else Err (fault_at TooMany c)
@@ -21,7 +28,9 @@ limited within c next = if within then Ok next else Err (fault_at TooMany c)
 -- the counts after one demand, or its fault
 abbrev pub check_one : Counts → Demand → Result Counts Fault
 check_one c (holds b code) = if b then Ok c else Err (fault_at code c)
-check_one c one_more_operation = limited (nat_lt c.operations 100000) c (record c { operations = c.operations + 1 })
+check_one c one_more_start = limited (nat_lt c.starts 100000) c (record c { starts = c.starts + 1 })
+check_one c (one_more_operation version) = limited (nat_lt c.operations (most_operations version)) c (record c { operations = c.operations + 1 })
+check_one c one_more_node = limited (nat_lt c.nodes 100000) c (record c { nodes = c.nodes + 1 })
 check_one c (in_transaction n) = Ok (record c { transaction = n })
 
 abbrev pub and_then : {A : Type 0} → Result A Fault → (A → Result A Fault) → Result A Fault
@@ -35,7 +44,7 @@ check c (d ∷ ds) = and_then (check_one c d) (λ next. check next ds)
 
 -- before anything is read
 abbrev pub no_counts : Counts
-no_counts = record { transaction = 0; operations = 0 }
+no_counts = record { transaction = 0; operations = 0; nodes = 0; starts = 0 }
 
 abbrev pub fault_of : Result Counts Fault → Option Fault
 fault_of (Ok c) = None

@@ -1,9 +1,9 @@
 pub mod Faults
 pub mod Demand
+pub mod Amounts
 pub mod Words
 pub mod Look
-pub mod Amounts
-pub mod Setting
+pub mod Scope
 pub mod Asked
 pub mod Spelled
 pub mod Answer

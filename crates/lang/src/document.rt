@@ -3,21 +3,23 @@ ghost use Rattle.std.specs.Prelude.{◌≡◌, ◌≢◌, ◌≤◌, [], map, co
 ghost use Rattle.serde_json.specs.View.{items_view, view};
 ghost use Rattle.batch.specs.Views.{block_view};
 ghost use Rattle.lang.specs.Answer.{IsFirst, IsMet};
-ghost use Rattle.lang.specs.Asked.{asked, document_shape_asked, is_version_one, names_of, objects_in, setting_in, transactions_in};
+ghost use Rattle.lang.specs.Asked.{asked, document_shape_asked, names_of, objects_in, setting_in, transactions_in, version_in, version_of};
 ghost use Rattle.lang.specs.Demand.{first_fault};
 ghost use Rattle.lang.specs.Faults.{fault_outside, memory_fault, number_of};
 ghost use Rattle.lang.specs.Reading.{document_of, reading, value_of};
-ghost use Rattle.lang.specs.Spelled.{blocks_of, document_in, starts_of};
+ghost use Rattle.lang.specs.Spelled.{document_in, parts_in, spelled};
 ghost use Rattle.batch.specs.Names.{texts_of};
+ghost use Rattle.lang.specs.Scope.{numbers_of, scope_of};
 
 use crate::counts::Counts;
 use crate::declared::Declared;
 use crate::fault::{Code, Fault};
 use crate::look::{has_only, list_member, whole_member};
 use crate::starts::read_objects;
+use crate::state::{Numbering, State};
 use crate::steps::read_transactions;
 use batch::{Batch, Block, Names};
-use indexmap::IndexSet;
+use indexmap::{IndexMap, IndexSet};
 use serde_json::Value;
 use std::alloc::Global;
 
@@ -30,16 +32,17 @@ const MAX_TRANSACTIONS: usize = 10_000;
 /// The parts of a document.
 #[derive(Clone, Copy, Drop)]
 struct Shape<'v> {
+    version: u8,
     objects: &'v Vec<Value>,
     transactions: &'v Vec<Value>,
 }
 
-fn is_version_one(value: &Value) -> bool
-    ensures { result ≡ is_version_one (view value.now) }
+fn version_of(value: &Value) -> Option<u8>
+    ensures { result ≡ version_of (view value.now) }
 {
     match whole_member(value, "ordtx") {
-        Some(version) if 1 <= version && version <= 1 => true,
-        _ => false,
+        Some(version) if 1 <= version && version <= 4 => Some(version as u8),
+        _ => None,
     }
 }
 
@@ -47,6 +50,7 @@ fn is_version_one(value: &Value) -> bool
 fn shape_of<'v>(value: &'v Value, counts: &Counts) -> Result<Shape<'v>, Fault>
     ensures met { OnOk result (IsMet counts.now (document_shape_asked (view value.now)) counts.now) }
     ensures first { IfErr result (IsFirst counts.now (document_shape_asked (view value.now))) }
+    ensures version { IfOk result (λ shape. shape.version ≡ version_in (view value.now)) }
     ensures objects { IfOk result (λ shape. items_view shape.objects.now.items ≡ objects_in (view value.now)) }
     ensures transactions { IfOk result (λ shape. items_view shape.transactions.now.items ≡ transactions_in (view value.now)) }
     ensures few_objects { IfOk result (λ shape. length shape.objects.now.items ≤ 1000) }
@@ -56,7 +60,9 @@ fn shape_of<'v>(value: &'v Value, counts: &Counts) -> Result<Shape<'v>, Fault>
         has_only(value, &["ordtx", "objects", "transactions"]),
         Code::Shape,
     )?;
-    counts.demand(is_version_one(value), Code::Shape)?;
+    let Some(version) = version_of(value) else {
+        return Err(counts.fault(Code::Shape));
+    };
     let Some(objects) = list_member(value, "objects") else {
         return Err(counts.fault(Code::Shape));
     };
@@ -66,6 +72,7 @@ fn shape_of<'v>(value: &'v Value, counts: &Counts) -> Result<Shape<'v>, Fault>
     counts.demand(objects.len() <= MAX_OBJECTS, Code::TooMany)?;
     counts.demand(transactions.len() <= MAX_TRANSACTIONS, Code::TooMany)?;
     Ok(Shape {
+        version,
         objects,
         transactions,
     })
@@ -79,17 +86,23 @@ struct Parts {
 }
 
 #[tactic(auto, using(crate::proofs::Checks::parts), unfolding(crate::specs::Asked::asked))]
-fn read_parts(alloc: Global, value: &Value, counts: &mut Counts) -> Result<Parts, Fault>
-    ensures met { OnOk result (IsMet counts.old (asked (view value.now)) counts.new) }
-    ensures first { IfErr result (IsFirst counts.old (asked (view value.now))) }
+fn read_parts(alloc: Global, value: &Value, state: &mut State) -> Result<Parts, Fault>
+    requires { scope_of state.old.labels.entries ≡ [] }
+    ensures met { OnOk result (IsMet state.old.counts (asked (view value.now)) state.new.counts) }
+    ensures first { IfErr result (IsFirst state.old.counts (asked (view value.now))) }
     ensures names { IfOk result (λ parts. texts_of parts.declared.names.keys ≡ names_of (objects_in (view value.now))) }
-    ensures objects { IfOk result (λ parts. parts.declared.objects ≡ starts_of (objects_in (view value.now))) }
-    ensures transactions { IfOk result (λ parts. map block_view parts.transactions.items
-        ≡ blocks_of (setting_in (view value.now)) (transactions_in (view value.now))) }
+    ensures value { IfOk result (λ parts. spelled parts.declared.objects (map block_view parts.transactions.items) (numbers_of state.new.numbering)
+        ≡ parts_in (numbers_of state.old.numbering) (view value.now)) }
 {
-    let shape = shape_of(value, counts)?;
-    let declared = read_objects(alloc, shape.objects, counts)?;
-    let transactions = read_transactions(alloc, shape.transactions, &declared, counts)?;
+    let shape = shape_of(value, &state.counts)?;
+    let declared = read_objects(
+        alloc,
+        shape.objects,
+        shape.version,
+        &mut state.counts,
+        &mut state.numbering,
+    )?;
+    let transactions = read_transactions(alloc, shape.transactions, &declared, state)?;
     Ok(Parts {
         declared,
         transactions,
@@ -104,15 +117,30 @@ fn read_document(alloc: Global, value: &Value) -> Result<Batch, Fault>
         → first_fault (asked (view value.now)) ≡ Some fault) }
     ensures code { IfErr result (λ fault. number_of fault.code ≤ 20) }
 {
-    let mut counts = Counts {
-        transaction: 0,
-        operations: 0,
+    let mut state = State {
+        counts: Counts {
+            transaction: 0,
+            operations: 0,
+            nodes: 0,
+            starts: 0,
+        },
+        numbering: Numbering {
+            items: IndexSet::new(alloc),
+            reasons: IndexSet::new(alloc),
+        },
+        labels: IndexMap::new(alloc),
     };
-    let parts = read_parts(alloc, value, &mut counts)?;
-    let items = IndexSet::new(alloc);
-    let reasons = IndexSet::new(alloc);
-    let names = Names::new(parts.declared.names, items, reasons);
-    Ok(Batch::new(parts.declared.objects, names, parts.transactions))
+    let parts = read_parts(alloc, value, &mut state)?;
+    let names = Names::new(
+        parts.declared.names,
+        state.numbering.items,
+        state.numbering.reasons,
+    );
+    Ok(Batch::new(
+        parts.declared.objects,
+        names,
+        parts.transactions,
+    ))
 }
 
 /// The value that the bytes write.

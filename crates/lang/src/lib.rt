@@ -1,13 +1,16 @@
 //! The reader of documents: the batch that a document's bytes spell, or the first fault.
 #![tactic(auto)]
 
+mod conditions;
 mod counts;
 mod declared;
 mod document;
 mod fault;
+mod labels;
 mod look;
 mod operations;
 mod starts;
+mod state;
 mod steps;
 mod words;
 

@@ -1,23 +1,29 @@
 //! Reads an operation.
 ghost use Rattle.std.specs.Prelude.{◌≡◌, codes, is_some, option_map, true, false, None, Some, IfErr, IfOk, MatchResult, OnOk};
 ghost use Rattle.serde_json.specs.View.{view};
-ghost use Rattle.batch.specs.Views.{step_view};
-ghost use Rattle.lang.specs.Answer.{IsFirst, IsMet};
-ghost use Rattle.lang.specs.Asked.{amount_asked, amount_item, arguments_asked, call_named, object_of, operation_asked, operation_shape_asked, operation_verb, part, target_asked};
-ghost use Rattle.lang.specs.Amounts.{amount_of};
-ghost use Rattle.lang.specs.Look.{or_empty, text_item};
-ghost use Rattle.lang.specs.Setting.{is_listed, kind_named, place_of, setting_of};
 ghost use Rattle.batch.specs.Names.{texts_of};
-ghost use Rattle.lang.specs.Spelled.{call_of, or_zero, step_of, target_of};
+ghost use Rattle.batch.specs.Views.{step_view};
+ghost use Rattle.lang.specs.Amounts.{amount_of};
+ghost use Rattle.lang.specs.Answer.{IsFirst, IsMet};
+ghost use Rattle.lang.specs.Asked.{amount_asked, amount_item, arguments_asked, call_named, item_asked, label_in, name_item, object_of, operation_asked, operation_shape_asked, operation_verb, part, target_asked, verb_in};
+ghost use Rattle.lang.specs.Faults.{memory_fault};
+ghost use Rattle.lang.specs.Look.{text_item};
+ghost use Rattle.lang.specs.Scope.{is_listed, kind_named, numbers_of, place_of, scope_of, setting_of, with_item, with_label};
+ghost use Rattle.lang.specs.Spelled.{call_of, item_of, operation_of, or_zero, target_of};
+ghost use Rattle.lang.specs.Words.{amount_call, item_call, lone_call, pair_call};
 
 use crate::counts::Counts;
 use crate::declared::Declared;
 use crate::fault::{Code, Fault};
+use crate::labels::{add_label, check_label, label_of};
 use crate::look::{count, has_only, text_item, whole_item};
-use crate::words::{Verb, verb_of};
-use batch::{Call, Kind, Step};
-use objects::{AccountCall, Amount};
+use crate::state::{Numbering, State, number_of};
+use crate::words::{AmountVerb, ItemVerb, LoneVerb, PairVerb, Subject, Verb, is_name, verb_of};
+use batch::{Call, Item, Kind, Step};
+use indexmap::IndexMap;
+use objects::{AccountCall, Amount, CounterCall, DirectoryCall, MaxCall, QueueCall, SetCall};
 use serde_json::Value;
+use std::alloc::Global;
 
 /// The parts of an operation.
 #[derive(Clone, Copy, Drop)]
@@ -25,6 +31,7 @@ pub(crate) struct Shape<'v> {
     op: &'v Value,
     object: &'v str,
     call: &'v str,
+    label: Option<&'v str>,
 }
 
 #[tactic(auto, unfolding(crate::specs::Asked::operation_shape_asked))]
@@ -34,8 +41,9 @@ fn shape_of<'v>(step: &'v Value, counts: &Counts) -> Result<Shape<'v>, Fault>
     ensures op { IfOk result (λ shape. view shape.op.now ≡ part (codes "op") (view step.now)) }
     ensures object { IfOk result (λ shape. shape.object.now ≡ object_of (part (codes "op") (view step.now))) }
     ensures call { IfOk result (λ shape. shape.call.now ≡ call_named (part (codes "op") (view step.now))) }
+    ensures label { IfOk result (λ shape. option_map (λ text. text.now) shape.label ≡ label_in (view step.now)) }
 {
-    counts.demand(has_only(step, &["op"]), Code::Shape)?;
+    counts.demand(has_only(step, &["op", "as"]), Code::Shape)?;
     let Some(op) = step.get("op") else {
         return Err(counts.fault(Code::Shape));
     };
@@ -45,8 +53,16 @@ fn shape_of<'v>(step: &'v Value, counts: &Counts) -> Result<Shape<'v>, Fault>
     let Some(call) = text_item(op, 1) else {
         return Err(counts.fault(Code::Shape));
     };
-    Ok(Shape { op, object, call })
+    let label = label_of(step, counts)?;
+    Ok(Shape {
+        op,
+        object,
+        call,
+        label,
+    })
 }
+
+// ---- arguments
 
 /// The amount at a place of an operation's array.
 fn amount_item(op: &Value, index: usize) -> Option<Amount>
@@ -59,6 +75,7 @@ fn amount_item(op: &Value, index: usize) -> Option<Amount>
 }
 
 /// The amount that a call takes.
+#[tactic(auto, unfolding(crate::specs::Asked::amount_asked))]
 fn amount_of(op: &Value, counts: &Counts) -> Result<Amount, Fault>
     ensures met { OnOk result (IsMet counts.now (amount_asked (view op.now)) counts.now) }
     ensures first { IfErr result (IsFirst counts.now (amount_asked (view op.now))) }
@@ -71,21 +88,119 @@ fn amount_of(op: &Value, counts: &Counts) -> Result<Amount, Fault>
     }
 }
 
-#[tactic(auto, unfolding(crate::specs::Asked::arguments_asked, crate::specs::Spelled::call_of))]
-fn read_call(verb: Verb, op: &Value, counts: &Counts) -> Result<Call, Fault>
-    ensures met { OnOk result (IsMet counts.now (arguments_asked verb (view op.now)) counts.now) }
-    ensures first { IfErr result (IsFirst counts.now (arguments_asked verb (view op.now))) }
-    ensures value { IfOk result (λ call. call ≡ call_of verb (view op.now)) }
+/// The name of the item at a place of an operation's array.
+#[tactic(auto, unfolding(crate::specs::Asked::item_asked))]
+fn name_at<'v>(op: &'v Value, index: usize, counts: &Counts) -> Result<&'v str, Fault>
+    ensures met { OnOk result (IsMet counts.now (item_asked index (view op.now)) counts.now) }
+    ensures first { IfErr result (IsFirst counts.now (item_asked index (view op.now))) }
+    ensures value { IfOk result (λ name. name.now ≡ name_item index (view op.now)) }
+{
+    let Some(name) = text_item(op, index) else {
+        return Err(counts.fault(Code::Argument));
+    };
+    counts.demand(is_name(name), Code::Name)?;
+    Ok(name)
+}
+
+/// The item of a name, which joins the others if it is new.
+pub(crate) fn item_of(
+    alloc: Global,
+    name: &str,
+    numbering: &mut Numbering,
+) -> Result<Item, Fault>
+    ensures value { IfOk result (λ item. item ≡ item_of name.now (numbers_of numbering.old)) }
+    ensures numbers { OnOk result (numbers_of numbering.new ≡ with_item name.now (numbers_of numbering.old)) }
+    ensures err { IfErr result (λ fault. fault ≡ memory_fault) }
+{
+    Ok(Item(number_of(alloc, &mut numbering.items, name)?))
+}
+
+fn amount_call(verb: AmountVerb, amount: Amount) -> Call
+    ensures { result ≡ amount_call verb amount }
 {
     match verb {
-        Verb::Deposit => Ok(Call::Account(AccountCall::Deposit(amount_of(op, counts)?))),
-        Verb::Withdraw => Ok(Call::Account(AccountCall::Withdraw(amount_of(op, counts)?))),
-        Verb::Balance => {
+        AmountVerb::Deposit => Call::Account(AccountCall::Deposit(amount)),
+        AmountVerb::Withdraw => Call::Account(AccountCall::Withdraw(amount)),
+        AmountVerb::Add => Call::Counter(CounterCall::Add(amount)),
+        AmountVerb::Sub => Call::Counter(CounterCall::Sub(amount)),
+        AmountVerb::Raise => Call::Max(MaxCall::Raise(amount)),
+    }
+}
+
+fn item_call(verb: ItemVerb, item: Item) -> Call
+    ensures { result ≡ item_call verb item }
+{
+    match verb {
+        ItemVerb::Insert => Call::Set(SetCall::Insert(item)),
+        ItemVerb::Remove => Call::Set(SetCall::Remove(item)),
+        ItemVerb::Has => Call::Set(SetCall::Has(item)),
+        ItemVerb::Enq => Call::Queue(QueueCall::Enq(item)),
+        ItemVerb::Unbind => Call::Directory(DirectoryCall::Unbind(item)),
+        ItemVerb::Lookup => Call::Directory(DirectoryCall::Lookup(item)),
+    }
+}
+
+fn pair_call(verb: PairVerb, key: Item, item: Item) -> Call
+    ensures { result ≡ pair_call verb key item }
+{
+    match verb {
+        PairVerb::Bind => Call::Directory(DirectoryCall::Bind(key, item)),
+        PairVerb::Put => Call::Directory(DirectoryCall::Put(key, item)),
+    }
+}
+
+fn lone_call(verb: LoneVerb) -> Call
+    ensures { result ≡ lone_call verb }
+{
+    match verb {
+        LoneVerb::Balance => Call::Account(AccountCall::Balance),
+        LoneVerb::Read => Call::Counter(CounterCall::Read),
+        LoneVerb::Size => Call::Set(SetCall::Size),
+        LoneVerb::Deq => Call::Queue(QueueCall::Deq),
+        LoneVerb::Length => Call::Queue(QueueCall::Length),
+        LoneVerb::Top => Call::Max(MaxCall::Top),
+    }
+}
+
+#[tactic(auto, using(crate::proofs::Checks::parts), unfolding(crate::specs::Asked::arguments_asked, crate::specs::Spelled::call_of))]
+fn read_call(
+    alloc: Global,
+    verb: Verb,
+    op: &Value,
+    counts: &Counts,
+    numbering: &mut Numbering,
+) -> Result<Call, Fault>
+    ensures met { OnOk result (IsMet counts.now (arguments_asked verb (view op.now)) counts.now) }
+    ensures first { IfErr result (IsFirst counts.now (arguments_asked verb (view op.now))) }
+    ensures value { IfOk result (λ call. (call, numbers_of numbering.new) ≡ call_of verb (numbers_of numbering.old) (view op.now)) }
+{
+    match verb {
+        Verb::OfAmount(verb) => {
+            let amount = amount_of(op, counts)?;
+            Ok(amount_call(verb, amount))
+        }
+        Verb::OfItem(verb) => {
+            counts.demand(count(op) == Some(3), Code::Argument)?;
+            let name = name_at(op, 2, counts)?;
+            let item = item_of(alloc, name, numbering)?;
+            Ok(item_call(verb, item))
+        }
+        Verb::OfPair(verb) => {
+            counts.demand(count(op) == Some(4), Code::Argument)?;
+            let key_name = name_at(op, 2, counts)?;
+            let name = name_at(op, 3, counts)?;
+            let key = item_of(alloc, key_name, numbering)?;
+            let item = item_of(alloc, name, numbering)?;
+            Ok(pair_call(verb, key, item))
+        }
+        Verb::Alone(verb) => {
             counts.demand(count(op) == Some(2), Code::Argument)?;
-            Ok(Call::Account(AccountCall::Balance))
+            Ok(lone_call(verb))
         }
     }
 }
+
+// ---- the operation
 
 /// The place and the kind of the object of that name.
 #[tactic(auto, using(crate::proofs::TableLemmas::targets))]
@@ -115,29 +230,39 @@ fn target_of(
     let Some((place, kind)) = find(object, declared) else {
         return Err(counts.fault(Code::UnknownObject));
     };
-    let Some(verb) = verb_of(kind, call) else {
+    let Some(verb) = verb_of(declared.version, kind, call) else {
         return Err(counts.fault(Code::UnknownOperation));
     };
     Ok((place, verb))
 }
 
-#[tactic(auto, using(crate::proofs::Checks::parts), unfolding(crate::specs::Asked::operation_asked, crate::specs::Spelled::step_of))]
+#[tactic(auto, using(crate::proofs::Checks::parts), unfolding(crate::specs::Asked::operation_asked, crate::specs::Spelled::operation_of))]
 pub(crate) fn read_operation(
+    alloc: Global,
     step: &Value,
     declared: &Declared,
-    counts: &mut Counts,
+    state: &mut State,
 ) -> Result<Step, Fault>
-    ensures met { OnOk result (IsMet counts.old (operation_asked (setting_of declared.now) (view step.now)) counts.new) }
-    ensures first { IfErr result (IsFirst counts.old (operation_asked (setting_of declared.now) (view step.now))) }
-    ensures value { IfOk result (λ read. step_view read ≡ step_of (setting_of declared.now) (view step.now)) }
+    ensures met { OnOk result (IsMet state.old.counts (operation_asked (setting_of declared.now)
+        (scope_of state.old.labels.entries) (view step.now)) state.new.counts) }
+    ensures first { IfErr result (IsFirst state.old.counts (operation_asked (setting_of declared.now)
+        (scope_of state.old.labels.entries) (view step.now))) }
+    ensures value { IfOk result (λ read. (step_view read, numbers_of state.new.numbering)
+        ≡ operation_of (setting_of declared.now) (numbers_of state.old.numbering) (view step.now)) }
+    ensures labels { OnOk result (scope_of state.new.labels.entries
+        ≡ with_label (label_in (view step.now)) (Subject.Reply (verb_in (setting_of declared.now) (part (codes "op") (view step.now))))
+        (scope_of state.old.labels.entries)) }
 {
-    let shape = shape_of(step, counts)?;
-    counts.one_more_operation()?;
-    let (object, verb) = target_of(shape.object, shape.call, declared, counts)?;
-    let call = read_call(verb, shape.op, counts)?;
+    let shape = shape_of(step, &state.counts)?;
+    state.counts.one_more_operation(declared.version)?;
+    let (object, verb) = target_of(shape.object, shape.call, declared, &state.counts)?;
+    let call = read_call(alloc, verb, shape.op, &state.counts, &mut state.numbering)?;
+    let none = IndexMap::new(alloc);
+    check_label(shape.label, &state.labels, &none, &state.counts)?;
+    add_label(alloc, shape.label, Subject::Reply(verb), &mut state.labels)?;
     Ok(Step::Op {
         object,
         call,
-        labelled: false,
+        labelled: shape.label.is_some(),
     })
 }

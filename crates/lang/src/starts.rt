@@ -1,41 +1,246 @@
 //! Reads the objects.
-ghost use Rattle.std.specs.Prelude.{◌≡◌, ◌≤◌, ◌++◌, ◌∷◌, [], codes, length, Some, unwrap_or, IfErr, IfOk, OnOk};
+ghost use Rattle.std.specs.FinMap as finite_map;
+ghost use Rattle.std.specs.FinSet as finite_set;
+ghost use Rattle.std.specs.Prelude.{◌≡◌, ◌≤◌, ◌++◌, ◌∷◌, [], codes, length, Some, IfErr, IfOk, OnOk};
+ghost use Rattle.serde_json.specs.Find.{as_array};
 ghost use Rattle.serde_json.specs.View.{items_view, view};
 ghost use Rattle.batch.specs.Names.{texts_of};
 ghost use Rattle.lang.specs.Answer.{IsFirst, IsMet};
-ghost use Rattle.lang.specs.Asked.{declared_by, names_of, object_asked, object_kind, object_name, object_name_asked, object_shape_asked, objects_asked, part, start_asked};
-ghost use Rattle.lang.specs.Look.{or_empty};
-ghost use Rattle.lang.specs.Setting.{is_listed, setting_of};
-ghost use Rattle.lang.specs.Spelled.{start_of, starts_of};
+ghost use Rattle.lang.specs.Asked.{declared_by, element_asked, elements_asked, entries_asked, entry_asked, key_of, kind_in, names_of, number_start, object_asked, object_kind, object_name, object_name_asked, object_shape_asked, objects_asked, pair_asked, pairs_asked, part, signed_start, start_asked, text_of, value_of};
+ghost use Rattle.lang.specs.Scope.{numbers_of, setting_of, with_item, with_text};
+ghost use Rattle.lang.specs.Spelled.{bind_all, entries_of, item_of, pair_of, pairs_of, put_all, spelled_map, start_of, starts_of};
 
 use crate::counts::Counts;
 use crate::declared::Declared;
 use crate::fault::{Code, Fault};
-use crate::look::{has_only, text_member};
+use crate::look::{count, has_only, text_item, text_member};
+use crate::operations::item_of;
+use crate::state::{Numbering, is_listed, number_of};
 use crate::words::{is_name, kind_of};
-use batch::{Kind, Objects, Value as ObjectValue};
+use batch::{Item, Kind, Objects, Value as ObjectValue};
 use indexmap::IndexSet;
+use objects::{Directory, ItemSet, Queue};
 use serde_json::Value;
 use std::alloc::Global;
 
-const MAX_BALANCE: i64 = 1_000_000_000_000_000;
+const MAX_NUMBER: i64 = 1_000_000_000_000_000;
 
-#[tactic(auto, unfolding(crate::specs::Asked::start_asked, crate::specs::Spelled::start_of))]
-fn read_start(kind: Kind, value: &Value, counts: &Counts) -> Result<ObjectValue, Fault>
-    ensures met { OnOk result (IsMet counts.now (start_asked kind (view value.now)) counts.now) }
-    ensures first { IfErr result (IsFirst counts.now (start_asked kind (view value.now))) }
-    ensures value { IfOk result (λ start. start ≡ start_of kind (view value.now)) }
+// ---- starts
+
+/// A number that an account or a maximum register may start with.
+fn number_start(value: &Value) -> Option<u64>
+    ensures { result ≡ number_start (view value.now) }
 {
-    match kind {
-        Kind::Account => match value.as_i64() {
-            Some(balance) if 0 <= balance && balance <= MAX_BALANCE => {
-                Ok(ObjectValue::Account(balance as u64))
-            }
-            _ => Err(counts.fault(Code::Start)),
-        },
-        _ => Err(counts.fault(Code::Start)),
+    match value.as_i64() {
+        Some(number) if 0 <= number && number <= MAX_NUMBER => Some(number as u64),
+        _ => None,
     }
 }
+
+/// A number that a counter may start with.
+fn signed_start(value: &Value) -> Option<i64>
+    ensures { result ≡ signed_start (view value.now) }
+{
+    match value.as_i64() {
+        Some(number) if -MAX_NUMBER <= number && number <= MAX_NUMBER => Some(number),
+        _ => None,
+    }
+}
+
+/// An item of a queue.
+#[tactic(auto, unfolding(crate::specs::Asked::entry_asked))]
+fn read_entry(
+    alloc: Global,
+    value: &Value,
+    counts: &mut Counts,
+    numbering: &mut Numbering,
+) -> Result<Item, Fault>
+    ensures met { OnOk result (IsMet counts.old (entry_asked (view value.now)) counts.new) }
+    ensures first { IfErr result (IsFirst counts.old (entry_asked (view value.now))) }
+    ensures item { IfOk result (λ item. item ≡ item_of (text_of (view value.now)) (numbers_of numbering.old)) }
+    ensures numbers { OnOk result (numbers_of numbering.new ≡ with_item (text_of (view value.now)) (numbers_of numbering.old)) }
+{
+    let Some(name) = value.as_str() else {
+        return Err(counts.fault(Code::Start));
+    };
+    counts.demand(is_name(name), Code::Name)?;
+    counts.one_more_start()?;
+    item_of(alloc, name, numbering)
+}
+
+fn read_queue(
+    alloc: Global,
+    list: &Vec<Value>,
+    counts: &mut Counts,
+    numbering: &mut Numbering,
+) -> Result<Queue, Fault>
+    ensures met { OnOk result (IsMet counts.old (entries_asked (items_view list.now.items)) counts.new) }
+    ensures first { IfErr result (IsFirst counts.old (entries_asked (items_view list.now.items))) }
+    ensures value { IfOk result (λ queue. (queue, numbers_of numbering.new) ≡ entries_of (numbers_of numbering.old) (items_view list.now.items)) }
+{
+    let mut queue = Queue::new(alloc);
+    for entry in list {
+        let item = read_entry(alloc, entry, counts, numbering)?;
+        queue.push_back(item)?;
+    }
+    Ok(queue)
+}
+
+/// An item of a set, which differs from the earlier ones and joins them.
+#[tactic(auto, unfolding(crate::specs::Asked::element_asked))]
+fn read_element(
+    alloc: Global,
+    value: &Value,
+    earlier: &mut IndexSet<String>,
+    counts: &mut Counts,
+    numbering: &mut Numbering,
+) -> Result<Item, Fault>
+    ensures met { OnOk result (IsMet counts.old (element_asked (texts_of earlier.old.keys) (view value.now)) counts.new) }
+    ensures first { IfErr result (IsFirst counts.old (element_asked (texts_of earlier.old.keys) (view value.now))) }
+    ensures item { IfOk result (λ item. item ≡ item_of (text_of (view value.now)) (numbers_of numbering.old)) }
+    ensures numbers { OnOk result (numbers_of numbering.new ≡ with_item (text_of (view value.now)) (numbers_of numbering.old)) }
+    ensures earlier { OnOk result (texts_of earlier.new.keys ≡ with_text (text_of (view value.now)) (texts_of earlier.old.keys)) }
+{
+    let Some(name) = value.as_str() else {
+        return Err(counts.fault(Code::Start));
+    };
+    counts.demand(is_name(name), Code::Name)?;
+    counts.demand(!is_listed(earlier, name), Code::Start)?;
+    counts.one_more_start()?;
+    number_of(alloc, earlier, name)?;
+    item_of(alloc, name, numbering)
+}
+
+fn read_set(
+    alloc: Global,
+    list: &Vec<Value>,
+    counts: &mut Counts,
+    numbering: &mut Numbering,
+) -> Result<ItemSet, Fault>
+    ensures met { OnOk result (IsMet counts.old (elements_asked [] (items_view list.now.items)) counts.new) }
+    ensures first { IfErr result (IsFirst counts.old (elements_asked [] (items_view list.now.items))) }
+    ensures value { IfOk result (λ set. (set, numbers_of numbering.new) ≡ spelled_map (put_all finite_set.empty) (entries_of (numbers_of numbering.old) (items_view list.now.items))) }
+{
+    let mut set = ItemSet::new(alloc);
+    let mut earlier = IndexSet::with_capacity(alloc, list.len())?;
+    for element in list {
+        let item = read_element(alloc, element, &mut earlier, counts, numbering)?;
+        set.insert(item)?;
+    }
+    Ok(set)
+}
+
+/// The names of a key and its item, whose key differs from the earlier ones.
+#[tactic(auto, unfolding(crate::specs::Asked::pair_asked))]
+fn check_pair<'v>(
+    value: &'v Value,
+    earlier: &IndexSet<String>,
+    counts: &mut Counts,
+) -> Result<(&'v str, &'v str), Fault>
+    ensures met { OnOk result (IsMet counts.old (pair_asked (texts_of earlier.now.keys) (view value.now)) counts.new) }
+    ensures first { IfErr result (IsFirst counts.old (pair_asked (texts_of earlier.now.keys) (view value.now))) }
+    ensures key { IfOk result (λ pair. pair.0.now ≡ key_of (view value.now)) }
+    ensures value { IfOk result (λ pair. pair.1.now ≡ value_of (view value.now)) }
+{
+    counts.demand(count(value) == Some(2), Code::Start)?;
+    let Some(key) = text_item(value, 0) else {
+        return Err(counts.fault(Code::Start));
+    };
+    let Some(bound) = text_item(value, 1) else {
+        return Err(counts.fault(Code::Start));
+    };
+    counts.demand(is_name(key), Code::Name)?;
+    counts.demand(is_name(bound), Code::Name)?;
+    counts.demand(!is_listed(earlier, key), Code::Start)?;
+    counts.one_more_start()?;
+    Ok((key, bound))
+}
+
+/// A key and its item.
+fn read_pair(
+    alloc: Global,
+    value: &Value,
+    earlier: &mut IndexSet<String>,
+    counts: &mut Counts,
+    numbering: &mut Numbering,
+) -> Result<(Item, Item), Fault>
+    ensures met { OnOk result (IsMet counts.old (pair_asked (texts_of earlier.old.keys) (view value.now)) counts.new) }
+    ensures first { IfErr result (IsFirst counts.old (pair_asked (texts_of earlier.old.keys) (view value.now))) }
+    ensures pair { IfOk result (λ pair. (pair, numbers_of numbering.new) ≡ pair_of (numbers_of numbering.old) (view value.now)) }
+    ensures earlier { OnOk result (texts_of earlier.new.keys ≡ with_text (key_of (view value.now)) (texts_of earlier.old.keys)) }
+{
+    let (key_name, name) = check_pair(value, earlier, counts)?;
+    number_of(alloc, earlier, key_name)?;
+    let key = item_of(alloc, key_name, numbering)?;
+    let item = item_of(alloc, name, numbering)?;
+    Ok((key, item))
+}
+
+fn read_directory(
+    alloc: Global,
+    list: &Vec<Value>,
+    counts: &mut Counts,
+    numbering: &mut Numbering,
+) -> Result<Directory, Fault>
+    ensures met { OnOk result (IsMet counts.old (pairs_asked [] (items_view list.now.items)) counts.new) }
+    ensures first { IfErr result (IsFirst counts.old (pairs_asked [] (items_view list.now.items))) }
+    ensures value { IfOk result (λ directory. (directory, numbers_of numbering.new) ≡ spelled_map (bind_all finite_map.empty) (pairs_of (numbers_of numbering.old) (items_view list.now.items))) }
+{
+    let mut directory = Directory::new(alloc);
+    let mut earlier = IndexSet::with_capacity(alloc, list.len())?;
+    for pair in list {
+        let (key, item) = read_pair(alloc, pair, &mut earlier, counts, numbering)?;
+        directory.put(key, item)?;
+    }
+    Ok(directory)
+}
+
+#[tactic(auto, unfolding(crate::specs::Asked::start_asked, crate::specs::Asked::array_start_asked, crate::specs::Spelled::start_of))]
+fn read_start(
+    alloc: Global,
+    kind: Kind,
+    value: &Value,
+    counts: &mut Counts,
+    numbering: &mut Numbering,
+) -> Result<ObjectValue, Fault>
+    ensures met { OnOk result (IsMet counts.old (start_asked kind (view value.now)) counts.new) }
+    ensures first { IfErr result (IsFirst counts.old (start_asked kind (view value.now))) }
+    ensures value { IfOk result (λ start. (start, numbers_of numbering.new) ≡ start_of kind (numbers_of numbering.old) (view value.now)) }
+{
+    match kind {
+        Kind::Account => match number_start(value) {
+            Some(number) => Ok(ObjectValue::Account(number)),
+            None => Err(counts.fault(Code::Start)),
+        },
+        Kind::Counter => match signed_start(value) {
+            Some(number) => Ok(ObjectValue::Counter(number)),
+            None => Err(counts.fault(Code::Start)),
+        },
+        Kind::Max => match number_start(value) {
+            Some(number) => Ok(ObjectValue::Max(number)),
+            None => Err(counts.fault(Code::Start)),
+        },
+        Kind::Set => match value.as_array() {
+            Some(list) => Ok(ObjectValue::Set(read_set(alloc, list, counts, numbering)?)),
+            None => Err(counts.fault(Code::Start)),
+        },
+        Kind::Queue => match value.as_array() {
+            Some(list) => Ok(ObjectValue::Queue(read_queue(alloc, list, counts, numbering)?)),
+            None => Err(counts.fault(Code::Start)),
+        },
+        Kind::Directory => match value.as_array() {
+            Some(list) => Ok(ObjectValue::Directory(read_directory(
+                alloc,
+                list,
+                counts,
+                numbering,
+            )?)),
+            None => Err(counts.fault(Code::Start)),
+        },
+    }
+}
+
+// ---- an object
 
 /// The parts of an object.
 #[derive(Clone, Copy, Drop)]
@@ -46,18 +251,18 @@ struct Shape<'v> {
 }
 
 #[tactic(auto, unfolding(crate::specs::Asked::object_shape_asked))]
-fn shape_of<'v>(value: &'v Value, counts: &Counts) -> Result<Shape<'v>, Fault>
-    ensures met { OnOk result (IsMet counts.now (object_shape_asked (view value.now)) counts.now) }
-    ensures first { IfErr result (IsFirst counts.now (object_shape_asked (view value.now))) }
+fn shape_of<'v>(value: &'v Value, version: u8, counts: &Counts) -> Result<Shape<'v>, Fault>
+    ensures met { OnOk result (IsMet counts.now (object_shape_asked version (view value.now)) counts.now) }
+    ensures first { IfErr result (IsFirst counts.now (object_shape_asked version (view value.now))) }
     ensures name { IfOk result (λ shape. shape.name.now ≡ object_name (view value.now)) }
-    ensures kind { IfOk result (λ shape. Some shape.kind ≡ object_kind (view value.now)) }
+    ensures kind { IfOk result (λ shape. shape.kind ≡ kind_in version (view value.now)) }
     ensures start { IfOk result (λ shape. view shape.start.now ≡ part (codes "start") (view value.now)) }
 {
     counts.demand(has_only(value, &["name", "kind", "start"]), Code::Shape)?;
     let Some(name) = text_member(value, "name") else {
         return Err(counts.fault(Code::Shape));
     };
-    let Some(kind) = kind_member(value) else {
+    let Some(kind) = kind_member(value, version) else {
         return Err(counts.fault(Code::Shape));
     };
     let Some(start) = value.get("start") else {
@@ -66,18 +271,10 @@ fn shape_of<'v>(value: &'v Value, counts: &Counts) -> Result<Shape<'v>, Fault>
     Ok(Shape { name, kind, start })
 }
 
-fn kind_member(value: &Value) -> Option<Kind>
-    ensures { result ≡ object_kind (view value.now) }
+fn kind_member(value: &Value, version: u8) -> Option<Kind>
+    ensures { result ≡ object_kind version (view value.now) }
 {
-    kind_of(text_member(value, "kind")?)
-}
-
-/// Whether an earlier object has the name.
-#[tactic(auto, using(crate::proofs::TableLemmas::places))]
-fn is_taken(names: &IndexSet<String>, name: &str) -> bool
-    ensures { result ≡ is_listed name.now (texts_of names.now.keys) }
-{
-    names.get_index_of(name).is_some()
+    kind_of(version, text_member(value, "kind")?)
 }
 
 /// Adds an object's name to the others.
@@ -93,7 +290,7 @@ fn add_name(
     ensures names { OnOk result (texts_of names.new.keys ≡ texts_of names.old.keys ++ name.now ∷ []) }
 {
     counts.demand(is_name(name), Code::Name)?;
-    counts.demand(!is_taken(names, name), Code::DuplicateObject)?;
+    counts.demand(!is_listed(names, name), Code::DuplicateObject)?;
     names.insert(String::from_str(alloc, name)?)?;
     Ok(())
 }
@@ -102,37 +299,45 @@ fn add_name(
 fn read_object(
     alloc: Global,
     value: &Value,
+    version: u8,
     names: &mut IndexSet<String>,
-    counts: &Counts,
+    counts: &mut Counts,
+    numbering: &mut Numbering,
 ) -> Result<ObjectValue, Fault>
-    ensures met { OnOk result (IsMet counts.now (object_asked (texts_of names.old.keys) (view value.now)) counts.now) }
-    ensures first { IfErr result (IsFirst counts.now (object_asked (texts_of names.old.keys) (view value.now))) }
-    ensures value { IfOk result (λ start. start ≡ start_of (unwrap_or (object_kind (view value.now)) Kind.Account) (part (codes "start") (view value.now))) }
+    ensures met { OnOk result (IsMet counts.old (object_asked version (texts_of names.old.keys) (view value.now)) counts.new) }
+    ensures first { IfErr result (IsFirst counts.old (object_asked version (texts_of names.old.keys) (view value.now))) }
+    ensures value { IfOk result (λ start. (start, numbers_of numbering.new) ≡ start_of (kind_in version (view value.now)) (numbers_of numbering.old) (part (codes "start") (view value.now))) }
     ensures names { OnOk result (texts_of names.new.keys ≡ texts_of names.old.keys ++ object_name (view value.now) ∷ []) }
 {
-    let shape = shape_of(value, counts)?;
+    let shape = shape_of(value, version, counts)?;
     add_name(alloc, shape.name, names, counts)?;
-    let start = read_start(shape.kind, shape.start, counts)?;
+    let start = read_start(alloc, shape.kind, shape.start, counts, numbering)?;
     Ok(start)
 }
 
 pub(crate) fn read_objects(
     alloc: Global,
     list: &Vec<Value>,
-    counts: &Counts,
+    version: u8,
+    counts: &mut Counts,
+    numbering: &mut Numbering,
 ) -> Result<Declared, Fault>
     requires few { length list.now.items ≤ 1000 }
-    ensures met { OnOk result (IsMet counts.now (objects_asked [] (items_view list.now.items)) counts.now) }
-    ensures first { IfErr result (IsFirst counts.now (objects_asked [] (items_view list.now.items))) }
+    ensures met { OnOk result (IsMet counts.old (objects_asked version [] (items_view list.now.items)) counts.new) }
+    ensures first { IfErr result (IsFirst counts.old (objects_asked version [] (items_view list.now.items))) }
     ensures names { IfOk result (λ declared. texts_of declared.names.keys ≡ names_of (items_view list.now.items)) }
-    ensures setting { IfOk result (λ declared. setting_of declared ≡ declared_by (items_view list.now.items)) }
-    ensures objects { IfOk result (λ declared. declared.objects ≡ starts_of (items_view list.now.items)) }
+    ensures setting { IfOk result (λ declared. setting_of declared ≡ declared_by version (items_view list.now.items)) }
+    ensures objects { IfOk result (λ declared. (declared.objects, numbers_of numbering.new) ≡ starts_of version (numbers_of numbering.old) (items_view list.now.items)) }
 {
     let mut names = IndexSet::with_capacity(alloc, list.len())?;
     let mut objects = Objects::new(alloc);
     for object in list {
-        let value = read_object(alloc, object, &mut names, counts)?;
+        let value = read_object(alloc, object, version, &mut names, counts, numbering)?;
         objects.push(value)?;
     }
-    Ok(Declared { names, objects })
+    Ok(Declared {
+        version,
+        names,
+        objects,
+    })
 }

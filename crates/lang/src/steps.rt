@@ -1,86 +1,583 @@
-//! Reads the transactions.
-ghost use Rattle.std.specs.Prelude.{◌≡◌, ◌≤◌, length, map, IfErr, IfOk, OnOk};
-ghost use Rattle.serde_json.specs.View.{items_view, view};
-ghost use Rattle.batch.specs.Views.{block_view, steps_view};
+//! Reads the steps of a transaction.
+ghost use Rattle.std.specs.Prelude.{◌≡◌, ◌≤◌, [], length, map, codes, option_map, true, false, None, Some, IfErr, IfOk, MatchResult, OnOk};
+ghost use Rattle.serde_json.specs.Find.{as_str};
+ghost use Rattle.serde_json.specs.View.{items_view, members_view, view};
+ghost use Rattle.batch.specs.Views.{block_view, handler_view, step_view, subaction_view};
 ghost use Rattle.lang.specs.Answer.{IsFirst, IsMet};
-ghost use Rattle.lang.specs.Asked.{block_asked, steps_asked, transaction_asked, transactions_asked};
-ghost use Rattle.lang.specs.Setting.{setting_of};
-ghost use Rattle.lang.specs.Spelled.{block_of, blocks_of, steps_of};
+ghost use Rattle.lang.specs.Asked.{abort_asked, abort_shape_asked, block_asked, block_asked_if, children_asked, children_in, handlers_are_members, handlers_asked, handlers_in, if_asked, is_abort, label_in, labels_of, member_asked, members_asked, parallel_asked, parallel_shape_asked, part, reason_asked, scope_after, sort_of, step_asked, steps_asked, sub_asked, sub_shape_asked, transaction_asked, transactions_asked};
+ghost use Rattle.lang.specs.Demand.{fault_at};
+ghost use Rattle.lang.specs.Scope.{Extends, numbers_of, scope_of, setting_of, with_label, with_labels};
+ghost use Rattle.lang.specs.Spelled.{abort_of, block_of, block_of_if, blocks_of, children_spelled, handlers_spelled, if_of, member_of, members_of, parallel_of, reason_of, spelled_map, step_of, steps_spelled, sub_of, sub_step};
 
+use crate::conditions::{if_shape_of, read_test};
 use crate::counts::Counts;
 use crate::declared::Declared;
 use crate::fault::{Code, Fault};
+use crate::labels::{add_label, add_labels, check_label, label_of, seen_label};
+use crate::look::{has, has_only, list_member, text_member};
 use crate::operations::read_operation;
-use batch::{Block, Step};
-use serde_json::Value;
+use crate::state::{State, number_of};
+use crate::words::{Subject, is_name};
+use batch::{Block, Handler, Step, Subaction};
+use indexmap::IndexMap;
+use serde_json::{Map, Value};
 use std::alloc::Global;
 
+/// How deep blocks may stand in one another.
+const MAX_DEPTH: usize = 24;
+
+/// What a step is, by the one member that says so.
+#[derive(Clone, Copy, Drop)]
+pub(crate) enum Sort {
+    Operation,
+    If,
+    Sub,
+    Abort,
+    Parallel,
+}
+
+#[tactic(auto, unfolding(crate::specs::Asked::sort_of))]
+fn sort_of(step: &Value) -> Option<Sort>
+    ensures { result ≡ sort_of (view step.now) }
+{
+    let op = has(step, "op");
+    let condition = has(step, "if");
+    let sub = has(step, "sub");
+    let abort = has(step, "abort");
+    let parallel = has(step, "parallel");
+    match (op, condition, sub, abort, parallel) {
+        (true, false, false, false, false) => Some(Sort::Operation),
+        (false, true, false, false, false) => Some(Sort::If),
+        (false, false, true, false, false) => Some(Sort::Sub),
+        (false, false, false, true, false) => Some(Sort::Abort),
+        (false, false, false, false, true) => Some(Sort::Parallel),
+        _ => None,
+    }
+}
+
+// ---- abort
+
+/// Whether the value is `true`, or a reason where the version has them.
+fn is_abort(version: u8, value: &Value) -> bool
+    ensures { result ≡ is_abort version (view value.now) }
+{
+    value.as_bool() == Some(true) || version >= 3 && value.is_string()
+}
+
+/// The reason's number, where there is a reason.
+#[tactic(auto, unfolding(crate::specs::Asked::reason_asked, crate::specs::Spelled::reason_of))]
+fn read_reason(alloc: Global, reason: Option<&str>, state: &mut State) -> Result<Option<u32>, Fault>
+    ensures met { OnOk result (IsMet state.old.counts (reason_asked (option_map (λ text. text.now) reason.entry)) state.new.counts) }
+    ensures first { IfErr result (IsFirst state.old.counts (reason_asked (option_map (λ text. text.now) reason.entry))) }
+    ensures value { IfOk result (λ number. (number, numbers_of state.new.numbering)
+        ≡ reason_of (numbers_of state.old.numbering) (option_map (λ text. text.now) reason.entry)) }
+    ensures labels { OnOk result (scope_of state.new.labels.entries ≡ scope_of state.old.labels.entries) }
+{
+    let Some(name) = reason else {
+        return Ok(None);
+    };
+    state.counts.demand(is_name(name), Code::Name)?;
+    let number = number_of(alloc, &mut state.numbering.reasons, name)?;
+    Ok(Some(number))
+}
+
+#[tactic(auto, using(crate::proofs::Checks::parts), unfolding(crate::specs::Asked::abort_shape_asked))]
+fn abort_of<'v>(step: &'v Value, version: u8, counts: &mut Counts) -> Result<Option<&'v str>, Fault>
+    ensures met { OnOk result (IsMet counts.old (abort_shape_asked version (view step.now)) counts.new) }
+    ensures first { IfErr result (IsFirst counts.old (abort_shape_asked version (view step.now))) }
+    ensures reason { IfOk result (λ reason. option_map (λ text. text.now) reason ≡ as_str (part (codes "abort") (view step.now))) }
+{
+    counts.demand(has_only(step, &["abort"]), Code::Shape)?;
+    let Some(value) = step.get("abort") else {
+        return Err(counts.fault(Code::Shape));
+    };
+    counts.demand(is_abort(version, value), Code::Shape)?;
+    counts.one_more_node()?;
+    Ok(value.as_str())
+}
+
+#[tactic(auto, using(crate::proofs::Checks::parts), unfolding(crate::specs::Asked::abort_asked, crate::specs::Spelled::abort_of))]
+fn read_abort(
+    alloc: Global,
+    step: &Value,
+    version: u8,
+    state: &mut State,
+) -> Result<Step, Fault>
+    ensures met { OnOk result (IsMet state.old.counts (abort_asked version (view step.now)) state.new.counts) }
+    ensures first { IfErr result (IsFirst state.old.counts (abort_asked version (view step.now))) }
+    ensures value { IfOk result (λ read. (step_view read, numbers_of state.new.numbering) ≡ abort_of (numbers_of state.old.numbering) (view step.now)) }
+    ensures labels { OnOk result (scope_of state.new.labels.entries ≡ scope_of state.old.labels.entries) }
+{
+    let reason = abort_of(step, version, &mut state.counts)?;
+    let number = read_reason(alloc, reason, state)?;
+    Ok(Step::Abort(number))
+}
+
+// ---- the steps that hold blocks
+
+#[cycle(steps)]
+#[tactic(auto, using(crate::proofs::Checks::parts), unfolding(crate::specs::Asked::if_asked, crate::specs::Spelled::if_of))]
+fn read_if(
+    alloc: Global,
+    step: &Value,
+    levels: usize,
+    declared: &Declared,
+    state: &mut State,
+) -> Result<Step, Fault>
+    ensures met { OnOk result (IsMet state.old.counts (if_asked (block_asked (setting_of declared.now) levels)
+        (scope_of state.old.labels.entries) (view step.now)) state.new.counts) }
+    ensures first { IfErr result (IsFirst state.old.counts (if_asked (block_asked (setting_of declared.now) levels)
+        (scope_of state.old.labels.entries) (view step.now))) }
+    ensures value { IfOk result (λ read. (step_view read, numbers_of state.new.numbering)
+        ≡ if_of (block_of (setting_of declared.now) levels) (scope_of state.old.labels.entries)
+        (numbers_of state.old.numbering) (view step.now)) }
+    ensures labels { OnOk result (scope_of state.new.labels.entries ≡ scope_of state.old.labels.entries) }
+{
+    let shape = if_shape_of(step, &state.counts)?;
+    state.counts.one_more_node()?;
+    let (label, subject) = seen_label(shape.label, &state.labels, &state.counts)?;
+    let test = read_test(alloc, subject, step, &state.counts, &mut state.numbering)?;
+    let then = read_block(alloc, shape.then, levels, declared, state)?;
+    let otherwise = read_block_if(alloc, step.get("else"), levels, declared, state)?;
+    Ok(Step::If {
+        label,
+        test,
+        then,
+        otherwise: otherwise.unwrap_or(Block {
+            steps: Vec::new(alloc),
+        }),
+    })
+}
+
+/// The parts of a subaction.
+#[derive(Clone, Copy, Drop)]
+struct SubShape<'v> {
+    body: &'v Value,
+    label: Option<&'v str>,
+    handlers: Option<&'v Map<String, Value>>,
+}
+
+/// Handlers by reason, which a version may have.
+fn handlers_of<'v>(
+    step: &'v Value,
+    version: u8,
+    counts: &Counts,
+) -> Result<Option<&'v Map<String, Value>>, Fault>
+    ensures { MatchResult result
+        (λ handlers. (handlers_are_members version (view step.now) ≡ true)
+        × (option_map (λ members. members_view members.now.entries) handlers ≡ handlers_in (view step.now)))
+        (λ fault. (handlers_are_members version (view step.now) ≡ false)
+        × (fault ≡ fault_at Code.Shape counts.now)) }
+{
+    let Some(handlers) = step.get("handlers") else {
+        return Ok(None);
+    };
+    if version < 3 {
+        return Err(counts.fault(Code::Shape));
+    }
+    match handlers.as_object() {
+        Some(members) => Ok(Some(members)),
+        None => Err(counts.fault(Code::Shape)),
+    }
+}
+
+#[tactic(auto, unfolding(crate::specs::Asked::sub_shape_asked))]
+fn sub_shape_of<'v>(
+    step: &'v Value,
+    version: u8,
+    counts: &Counts,
+) -> Result<SubShape<'v>, Fault>
+    ensures met { OnOk result (IsMet counts.now (sub_shape_asked version (view step.now)) counts.now) }
+    ensures first { IfErr result (IsFirst counts.now (sub_shape_asked version (view step.now))) }
+    ensures body { IfOk result (λ shape. view shape.body.now ≡ part (codes "sub") (view step.now)) }
+    ensures label { IfOk result (λ shape. option_map (λ text. text.now) shape.label ≡ label_in (view step.now)) }
+    ensures handlers { IfOk result (λ shape. option_map (λ members. members_view members.now.entries) shape.handlers
+        ≡ handlers_in (view step.now)) }
+{
+    counts.demand(
+        has_only(step, &["sub", "handler", "handlers", "as"]),
+        Code::Shape,
+    )?;
+    let Some(body) = step.get("sub") else {
+        return Err(counts.fault(Code::Shape));
+    };
+    let label = label_of(step, counts)?;
+    let handlers = handlers_of(step, version, counts)?;
+    Ok(SubShape {
+        body,
+        label,
+        handlers,
+    })
+}
+
+/// A handler by reason.
+#[cycle(steps)]
+#[tactic(auto, using(crate::proofs::Checks::parts))]
+fn read_handler(
+    alloc: Global,
+    reason: &str,
+    value: &Value,
+    levels: usize,
+    declared: &Declared,
+    state: &mut State,
+) -> Result<Handler, Fault>
+    ensures met { OnOk result (IsMet state.old.counts (member_asked (block_asked (setting_of declared.now) levels)
+        (scope_of state.old.labels.entries) reason.now (view value.now)) state.new.counts) }
+    ensures first { IfErr result (IsFirst state.old.counts (member_asked (block_asked (setting_of declared.now) levels)
+        (scope_of state.old.labels.entries) reason.now (view value.now))) }
+    ensures value { IfOk result (λ read. (handler_view read, numbers_of state.new.numbering)
+        ≡ member_of (block_of (setting_of declared.now) levels) (scope_of state.old.labels.entries)
+        (numbers_of state.old.numbering) reason.now (view value.now)) }
+    ensures labels { OnOk result (scope_of state.new.labels.entries ≡ scope_of state.old.labels.entries) }
+{
+    state.counts.demand(is_name(reason), Code::Name)?;
+    let number = number_of(alloc, &mut state.numbering.reasons, reason)?;
+    let block = read_block(alloc, value, levels, declared, state)?;
+    Ok(Handler {
+        reason: number,
+        block,
+    })
+}
+
+/// The handlers by reason, in the order of the reasons' bytes.
+#[cycle(steps)]
+fn read_members(
+    alloc: Global,
+    members: &Map<String, Value>,
+    levels: usize,
+    declared: &Declared,
+    state: &mut State,
+) -> Result<Vec<Handler>, Fault>
+    ensures met { OnOk result (IsMet state.old.counts (members_asked (block_asked (setting_of declared.now) levels)
+        (scope_of state.old.labels.entries) (members_view members.now.entries)) state.new.counts) }
+    ensures first { IfErr result (IsFirst state.old.counts (members_asked (block_asked (setting_of declared.now) levels)
+        (scope_of state.old.labels.entries) (members_view members.now.entries))) }
+    ensures value { IfOk result (λ read. (map handler_view read.items, numbers_of state.new.numbering)
+        ≡ members_of (block_of (setting_of declared.now) levels) (scope_of state.old.labels.entries)
+        (numbers_of state.old.numbering) (members_view members.now.entries)) }
+    ensures labels { OnOk result (scope_of state.new.labels.entries ≡ scope_of state.old.labels.entries) }
+{
+    let mut handlers = Vec::with_capacity(alloc, members.len())?;
+    for (reason, value) in members {
+        handlers.push(read_handler(
+            alloc,
+            reason.as_str(),
+            value,
+            levels,
+            declared,
+            state,
+        )?)?;
+    }
+    Ok(handlers)
+}
+
+#[cycle(steps)]
+#[tactic(auto, unfolding(crate::specs::Asked::handlers_asked, crate::specs::Spelled::handlers_spelled))]
+fn read_handlers(
+    alloc: Global,
+    handlers: Option<&Map<String, Value>>,
+    levels: usize,
+    declared: &Declared,
+    state: &mut State,
+) -> Result<Option<Vec<Handler>>, Fault>
+    ensures met { OnOk result (IsMet state.old.counts (handlers_asked (block_asked (setting_of declared.now) levels)
+        (scope_of state.old.labels.entries) (option_map (λ members. members_view members.now.entries) handlers.entry)) state.new.counts) }
+    ensures first { IfErr result (IsFirst state.old.counts (handlers_asked (block_asked (setting_of declared.now) levels)
+        (scope_of state.old.labels.entries) (option_map (λ members. members_view members.now.entries) handlers.entry))) }
+    ensures value { IfOk result (λ read. (option_map (λ list. map handler_view list.items) read, numbers_of state.new.numbering)
+        ≡ handlers_spelled (block_of (setting_of declared.now) levels) (scope_of state.old.labels.entries)
+        (numbers_of state.old.numbering) (option_map (λ members. members_view members.now.entries) handlers.entry)) }
+    ensures labels { OnOk result (scope_of state.new.labels.entries ≡ scope_of state.old.labels.entries) }
+{
+    match handlers {
+        Some(members) => {
+            let read = read_members(alloc, members, levels, declared, state)?;
+            Ok(Some(read))
+        }
+        None => Ok(None),
+    }
+}
+
+/// A subaction, or a child whose elder siblings have these labels. Its own label is not yet seen.
+#[cycle(steps)]
+#[tactic(auto, using(crate::proofs::Checks::parts), unfolding(crate::specs::Asked::sub_asked, crate::specs::Spelled::sub_of))]
+fn read_sub(
+    alloc: Global,
+    step: &Value,
+    levels: usize,
+    declared: &Declared,
+    elder: &IndexMap<String, Subject>,
+    state: &mut State,
+) -> Result<Subaction, Fault>
+    ensures met { OnOk result (IsMet state.old.counts (sub_asked declared.now.version (block_asked (setting_of declared.now) levels)
+        (scope_of state.old.labels.entries) (scope_of elder.now.entries) (view step.now)) state.new.counts) }
+    ensures first { IfErr result (IsFirst state.old.counts (sub_asked declared.now.version (block_asked (setting_of declared.now) levels)
+        (scope_of state.old.labels.entries) (scope_of elder.now.entries) (view step.now))) }
+    ensures value { IfOk result (λ read. (subaction_view read, numbers_of state.new.numbering)
+        ≡ sub_of (block_of (setting_of declared.now) levels) (scope_of state.old.labels.entries)
+        (numbers_of state.old.numbering) (view step.now)) }
+    ensures labels { OnOk result (scope_of state.new.labels.entries ≡ scope_of state.old.labels.entries) }
+{
+    let shape = sub_shape_of(step, declared.version, &state.counts)?;
+    state.counts.one_more_node()?;
+    check_label(shape.label, &state.labels, elder, &state.counts)?;
+    let body = read_block(alloc, shape.body, levels, declared, state)?;
+    let handlers = read_handlers(alloc, shape.handlers, levels, declared, state)?;
+    let handler = read_block_if(alloc, step.get("handler"), levels, declared, state)?;
+    Ok(Subaction {
+        body,
+        handlers,
+        handler,
+        labelled: shape.label.is_some(),
+    })
+}
+
+#[cycle(steps)]
+fn read_sub_step(
+    alloc: Global,
+    step: &Value,
+    levels: usize,
+    declared: &Declared,
+    state: &mut State,
+) -> Result<Step, Fault>
+    ensures met { OnOk result (IsMet state.old.counts (sub_asked declared.now.version (block_asked (setting_of declared.now) levels)
+        (scope_of state.old.labels.entries) [] (view step.now)) state.new.counts) }
+    ensures first { IfErr result (IsFirst state.old.counts (sub_asked declared.now.version (block_asked (setting_of declared.now) levels)
+        (scope_of state.old.labels.entries) [] (view step.now))) }
+    ensures value { IfOk result (λ read. (step_view read, numbers_of state.new.numbering)
+        ≡ spelled_map sub_step (sub_of (block_of (setting_of declared.now) levels) (scope_of state.old.labels.entries)
+        (numbers_of state.old.numbering) (view step.now))) }
+    ensures labels { OnOk result (scope_of state.new.labels.entries
+        ≡ with_label (label_in (view step.now)) Subject.Outcome (scope_of state.old.labels.entries)) }
+{
+    let none = IndexMap::new(alloc);
+    let child = read_sub(alloc, step, levels, declared, &none, state)?;
+    let label = text_member(step, "as");
+    add_label(alloc, label, Subject::Outcome, &mut state.labels)?;
+    Ok(Step::Sub(child))
+}
+
+/// The children, with their labels, which none of them sees.
+#[cycle(steps)]
+fn read_children(
+    alloc: Global,
+    list: &Vec<Value>,
+    levels: usize,
+    declared: &Declared,
+    elder: &mut IndexMap<String, Subject>,
+    state: &mut State,
+) -> Result<Vec<Subaction>, Fault>
+    ensures met { OnOk result (IsMet state.old.counts (children_asked declared.now.version (block_asked (setting_of declared.now) levels)
+        (scope_of state.old.labels.entries) (scope_of elder.old.entries) (items_view list.now.items)) state.new.counts) }
+    ensures first { IfErr result (IsFirst state.old.counts (children_asked declared.now.version (block_asked (setting_of declared.now) levels)
+        (scope_of state.old.labels.entries) (scope_of elder.old.entries) (items_view list.now.items))) }
+    ensures value { IfOk result (λ read. (map subaction_view read.items, numbers_of state.new.numbering)
+        ≡ children_spelled (block_of (setting_of declared.now) levels) (scope_of state.old.labels.entries)
+        (numbers_of state.old.numbering) (items_view list.now.items)) }
+    ensures elder { OnOk result (scope_of elder.new.entries ≡ labels_of (scope_of elder.old.entries) (items_view list.now.items)) }
+    ensures labels { OnOk result (scope_of state.new.labels.entries ≡ scope_of state.old.labels.entries) }
+{
+    let mut children = Vec::with_capacity(alloc, list.len())?;
+    for child in list {
+        children.push(read_sub(alloc, child, levels, declared, elder, state)?)?;
+        add_label(alloc, text_member(child, "as"), Subject::Outcome, elder)?;
+    }
+    Ok(children)
+}
+
+#[tactic(auto, unfolding(crate::specs::Asked::parallel_shape_asked))]
+fn children_of<'v>(step: &'v Value, counts: &Counts) -> Result<&'v Vec<Value>, Fault>
+    ensures met { OnOk result (IsMet counts.now (parallel_shape_asked (view step.now)) counts.now) }
+    ensures first { IfErr result (IsFirst counts.now (parallel_shape_asked (view step.now))) }
+    ensures children { IfOk result (λ list. items_view list.now.items ≡ children_in (view step.now)) }
+{
+    counts.demand(has_only(step, &["parallel"]), Code::Shape)?;
+    let Some(list) = list_member(step, "parallel") else {
+        return Err(counts.fault(Code::Shape));
+    };
+    Ok(list)
+}
+
+#[cycle(steps)]
+#[tactic(auto, using(crate::proofs::Checks::parts), unfolding(crate::specs::Asked::parallel_asked))]
+fn read_parallel(
+    alloc: Global,
+    step: &Value,
+    levels: usize,
+    declared: &Declared,
+    state: &mut State,
+) -> Result<Step, Fault>
+    ensures met { OnOk result (IsMet state.old.counts (parallel_asked declared.now.version (block_asked (setting_of declared.now) levels)
+        (scope_of state.old.labels.entries) (view step.now)) state.new.counts) }
+    ensures first { IfErr result (IsFirst state.old.counts (parallel_asked declared.now.version (block_asked (setting_of declared.now) levels)
+        (scope_of state.old.labels.entries) (view step.now))) }
+    ensures value { IfOk result (λ read. (step_view read, numbers_of state.new.numbering)
+        ≡ parallel_of (block_of (setting_of declared.now) levels) (scope_of state.old.labels.entries)
+        (numbers_of state.old.numbering) (view step.now)) }
+    ensures labels { OnOk result (scope_of state.new.labels.entries
+        ≡ with_labels (labels_of [] (children_in (view step.now))) (scope_of state.old.labels.entries)) }
+{
+    let list = children_of(step, &state.counts)?;
+    state.counts.one_more_node()?;
+    let mut elder = IndexMap::new(alloc);
+    let children = read_children(alloc, list, levels, declared, &mut elder, state)?;
+    add_labels(alloc, &elder, &mut state.labels)?;
+    Ok(Step::Parallel(children))
+}
+
+// ---- blocks
+
+/// A block that a step may have.
+#[cycle(steps)]
+#[tactic(auto, unfolding(crate::specs::Asked::block_asked_if, crate::specs::Spelled::block_of_if))]
+fn read_block_if(
+    alloc: Global,
+    value: Option<&Value>,
+    levels: usize,
+    declared: &Declared,
+    state: &mut State,
+) -> Result<Option<Block>, Fault>
+    ensures met { OnOk result (IsMet state.old.counts (block_asked_if (block_asked (setting_of declared.now) levels)
+        (scope_of state.old.labels.entries) (option_map (λ v. view v.now) value.entry)) state.new.counts) }
+    ensures first { IfErr result (IsFirst state.old.counts (block_asked_if (block_asked (setting_of declared.now) levels)
+        (scope_of state.old.labels.entries) (option_map (λ v. view v.now) value.entry))) }
+    ensures value { IfOk result (λ block. (option_map block_view block, numbers_of state.new.numbering)
+        ≡ block_of_if (block_of (setting_of declared.now) levels) (scope_of state.old.labels.entries)
+        (numbers_of state.old.numbering) (option_map (λ v. view v.now) value.entry)) }
+    ensures labels { OnOk result (scope_of state.new.labels.entries ≡ scope_of state.old.labels.entries) }
+{
+    match value {
+        Some(value) => {
+            let block = read_block(alloc, value, levels, declared, state)?;
+            Ok(Some(block))
+        }
+        None => Ok(None),
+    }
+}
+
+#[cycle(steps)]
+#[tactic(auto, unfolding(crate::specs::Asked::step_asked, crate::specs::Asked::scope_after, crate::specs::Spelled::step_of))]
+fn read_step(
+    alloc: Global,
+    step: &Value,
+    levels: usize,
+    declared: &Declared,
+    state: &mut State,
+) -> Result<Step, Fault>
+    ensures met { OnOk result (IsMet state.old.counts (step_asked (block_asked (setting_of declared.now) levels)
+        (setting_of declared.now) (scope_of state.old.labels.entries) (view step.now)) state.new.counts) }
+    ensures first { IfErr result (IsFirst state.old.counts (step_asked (block_asked (setting_of declared.now) levels)
+        (setting_of declared.now) (scope_of state.old.labels.entries) (view step.now))) }
+    ensures value { IfOk result (λ read. (step_view read, numbers_of state.new.numbering)
+        ≡ step_of (block_of (setting_of declared.now) levels) (setting_of declared.now)
+        (scope_of state.old.labels.entries) (numbers_of state.old.numbering) (view step.now)) }
+    ensures labels { OnOk result (scope_of state.new.labels.entries
+        ≡ scope_after (setting_of declared.now) (scope_of state.old.labels.entries) (view step.now)) }
+{
+    match sort_of(step) {
+        Some(Sort::Operation) => read_operation(alloc, step, declared, state),
+        Some(Sort::If) => read_if(alloc, step, levels, declared, state),
+        Some(Sort::Sub) => read_sub_step(alloc, step, levels, declared, state),
+        Some(Sort::Abort) => read_abort(alloc, step, declared.version, state),
+        Some(Sort::Parallel) => read_parallel(alloc, step, levels, declared, state),
+        None => Err(state.counts.fault(Code::Shape)),
+    }
+}
+
+/// The steps of a block, each of which sees the labels of those before it.
+#[cycle(steps)]
 fn read_steps(
     alloc: Global,
     list: &Vec<Value>,
+    levels: usize,
     declared: &Declared,
-    counts: &mut Counts,
+    state: &mut State,
 ) -> Result<Vec<Step>, Fault>
-    ensures met { OnOk result (IsMet counts.old (steps_asked (setting_of declared.now) (items_view list.now.items)) counts.new) }
-    ensures first { IfErr result (IsFirst counts.old (steps_asked (setting_of declared.now) (items_view list.now.items))) }
-    ensures value { IfOk result (λ steps. steps_view steps.items ≡ steps_of (setting_of declared.now) (items_view list.now.items)) }
+    ensures met { OnOk result (IsMet state.old.counts (steps_asked (block_asked (setting_of declared.now) levels)
+        (setting_of declared.now) (scope_of state.old.labels.entries) (items_view list.now.items)) state.new.counts) }
+    ensures first { IfErr result (IsFirst state.old.counts (steps_asked (block_asked (setting_of declared.now) levels)
+        (setting_of declared.now) (scope_of state.old.labels.entries) (items_view list.now.items))) }
+    ensures value { IfOk result (λ read. (map step_view read.items, numbers_of state.new.numbering)
+        ≡ steps_spelled (block_of (setting_of declared.now) levels) (setting_of declared.now)
+        (scope_of state.old.labels.entries) (numbers_of state.old.numbering) (items_view list.now.items)) }
+    ensures labels { OnOk result (Extends (scope_of state.old.labels.entries) (scope_of state.new.labels.entries)) }
 {
     let mut steps = Vec::with_capacity(alloc, list.len())?;
     for step in list {
-        steps.push(read_operation(step, declared, counts)?)?;
+        steps.push(read_step(alloc, step, levels, declared, state)?)?;
     }
     Ok(steps)
 }
 
-#[tactic(auto, unfolding(crate::specs::Asked::block_asked, crate::specs::Spelled::block_of))]
+/// A block within so many more levels. Its labels are seen no more behind it.
+#[cycle(steps)]
 fn read_block(
     alloc: Global,
     value: &Value,
+    levels: usize,
     declared: &Declared,
-    counts: &mut Counts,
+    state: &mut State,
 ) -> Result<Block, Fault>
-    ensures met { OnOk result (IsMet counts.old (block_asked (setting_of declared.now) (view value.now)) counts.new) }
-    ensures first { IfErr result (IsFirst counts.old (block_asked (setting_of declared.now) (view value.now))) }
-    ensures value { IfOk result (λ block. block_view block ≡ block_of (setting_of declared.now) (view value.now)) }
+    ensures met { OnOk result (IsMet state.old.counts (block_asked (setting_of declared.now) levels
+        (scope_of state.old.labels.entries) (view value.now)) state.new.counts) }
+    ensures first { IfErr result (IsFirst state.old.counts (block_asked (setting_of declared.now) levels
+        (scope_of state.old.labels.entries) (view value.now))) }
+    ensures value { IfOk result (λ block. (block_view block, numbers_of state.new.numbering)
+        ≡ block_of (setting_of declared.now) levels (scope_of state.old.labels.entries)
+        (numbers_of state.old.numbering) (view value.now)) }
+    ensures labels { OnOk result (scope_of state.new.labels.entries ≡ scope_of state.old.labels.entries) }
 {
     let Some(list) = value.as_array() else {
-        return Err(counts.fault(Code::Shape));
+        return Err(state.counts.fault(Code::Shape));
     };
-    let steps = read_steps(alloc, list, declared, counts)?;
+    if levels == 0 {
+        return Err(state.counts.fault(Code::Depth));
+    }
+    let seen = state.labels.len();
+    let steps = read_steps(alloc, list, levels - 1, declared, state)?;
+    state.labels.truncate(seen);
     Ok(Block { steps })
 }
+
+// ---- transactions
 
 fn read_transaction(
     alloc: Global,
     value: &Value,
     number: u32,
     declared: &Declared,
-    counts: &mut Counts,
+    state: &mut State,
 ) -> Result<Block, Fault>
-    ensures met { OnOk result (IsMet counts.old (transaction_asked number (setting_of declared.now) (view value.now)) counts.new) }
-    ensures first { IfErr result (IsFirst counts.old (transaction_asked number (setting_of declared.now) (view value.now))) }
-    ensures value { IfOk result (λ block. block_view block ≡ block_of (setting_of declared.now) (view value.now)) }
+    requires { scope_of state.old.labels.entries ≡ [] }
+    ensures met { OnOk result (IsMet state.old.counts (transaction_asked number (setting_of declared.now) (view value.now)) state.new.counts) }
+    ensures first { IfErr result (IsFirst state.old.counts (transaction_asked number (setting_of declared.now) (view value.now))) }
+    ensures value { IfOk result (λ block. (block_view block, numbers_of state.new.numbering)
+        ≡ block_of (setting_of declared.now) 24 [] (numbers_of state.old.numbering) (view value.now)) }
+    ensures labels { OnOk result (scope_of state.new.labels.entries ≡ []) }
 {
-    counts.transaction = number;
-    read_block(alloc, value, declared, counts)
+    state.counts.transaction = number;
+    read_block(alloc, value, MAX_DEPTH, declared, state)
 }
 
 pub(crate) fn read_transactions(
     alloc: Global,
     list: &Vec<Value>,
     declared: &Declared,
-    counts: &mut Counts,
+    state: &mut State,
 ) -> Result<Vec<Block>, Fault>
     requires transactions { length list.now.items ≤ 10000 }
-    ensures met { OnOk result (IsMet counts.old (transactions_asked 1 (setting_of declared.now) (items_view list.now.items)) counts.new) }
-    ensures first { IfErr result (IsFirst counts.old (transactions_asked 1 (setting_of declared.now) (items_view list.now.items))) }
-    ensures value { IfOk result (λ blocks. map block_view blocks.items ≡ blocks_of (setting_of declared.now) (items_view list.now.items)) }
+    requires labels { scope_of state.old.labels.entries ≡ [] }
+    ensures met { OnOk result (IsMet state.old.counts (transactions_asked 1 (setting_of declared.now) (items_view list.now.items)) state.new.counts) }
+    ensures first { IfErr result (IsFirst state.old.counts (transactions_asked 1 (setting_of declared.now) (items_view list.now.items))) }
+    ensures value { IfOk result (λ blocks. (map block_view blocks.items, numbers_of state.new.numbering)
+        ≡ blocks_of (setting_of declared.now) (numbers_of state.old.numbering) (items_view list.now.items)) }
 {
     let mut blocks = Vec::with_capacity(alloc, list.len())?;
     let mut number = 0;
     for transaction in list {
         number += 1;
-        blocks.push(read_transaction(alloc, transaction, number, declared, counts)?)?;
+        let block = read_transaction(alloc, transaction, number, declared, state)?;
+        blocks.push(block)?;
     }
     Ok(blocks)
 }

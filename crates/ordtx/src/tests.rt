@@ -5,9 +5,11 @@ use crate::{
 };
 use std::test::Fail;
 
-const DOCUMENT: &[u8] = b"{\"ordtx\":1,\"objects\":[{\"name\":\"a\",\"kind\":\"account\",\"start\":100}],\"transactions\":[[{\"op\":[\"a\",\"withdraw\",10]}],[{\"op\":[\"a\",\"withdraw\",95]}]]}";
+const DOCUMENT: &[u8] =
+    b"{\"ordtx\":1,\"objects\":[{\"name\":\"a\",\"kind\":\"account\",\"start\":100}],\"transactions\":[[{\"op\":[\"a\",\"withdraw\",10]}],[{\"op\":[\"a\",\"withdraw\",95]}]]}";
 
-const REPORT: &[u8] = b"T 1 committed\nO 1.1 a withdraw 10 = ok\nT 2 committed\nO 2.1 a withdraw 95 = no\n= a account 90\nrounds 2\n";
+const REPORT: &[u8] =
+    b"T 1 committed\nO 1.1 a withdraw 10 = ok\nT 2 committed\nO 2.1 a withdraw 95 = no\n= a account 90\nrounds 2\n";
 
 const ALWAYS: usize = usize::MAX;
 
@@ -51,7 +53,10 @@ fn fails_to_read(rt: HostRuntime) -> Result<(), Fail> {
 fn writes_nothing_for_a_fault(rt: HostRuntime) -> Result<(), Fail> {
     let documents: [(&[u8], Code); 3] = [
         (b"", Code::NotJson),
-        (b"{\"ordtx\":1,\"objects\":[],\"transactions\":[", Code::NotJson),
+        (
+            b"{\"ordtx\":1,\"objects\":[],\"transactions\":[",
+            Code::NotJson,
+        ),
         (b"{\"ordtx\":1}", Code::Shape),
     ];
     for (document, code) in documents {

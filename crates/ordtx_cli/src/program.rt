@@ -67,14 +67,7 @@ fn answer_source<T: Threads + Sync, R: Source>(
 {
     let mut sink = Marked::new(rt.stdout());
     match line.command {
-        Command::Run => run_stream(
-            threads,
-            rt.alloc(),
-            source,
-            &mut sink,
-            line.plan,
-            &NoGate,
-        ),
+        Command::Run => run_stream(threads, rt.alloc(), source, &mut sink, line.plan, &NoGate),
     }
 }
 

@@ -197,8 +197,7 @@ round_commits batch b rounds passed state old new first_of prefix_of was counts 
     let prefix : nets_of (take ((b + passed) - b) (drop b prefix_of)) ≡ nets_of (take passed (drop b new)) = ap (λ k. nets_of (take k (drop b prefix_of))) count ∙ ap (λ rs. nets_of (take passed (drop b rs))) prefix_is in
     let one_thread = prefix ∙ left (start_of batch) (blocks_of batch) b (drop b new) passed (alone_from batch b rounds state new counts fresh) conflict in
     let legal = (batch_leads (start_of batch) (blocks_of batch) b passed).0 in
-    let room = nets_have_room batch b at.within passed legal in
-    (
+    let room = nets_have_room batch b at.within passed legal in (
       subst (λ s. AllEntriesLegal s (nets_of (take ((b + passed) - b) (drop b prefix_of)))) (sym at.reached) (subst (AllEntriesLegal (state_at (start_of batch) (blocks_of batch) b)) (sym one_thread) legal),
       subst (λ s. AllHaveRoom s (nets_of (take ((b + passed) - b) (drop b prefix_of)))) (sym at.reached) (subst (AllHaveRoom (state_at (start_of batch) (blocks_of batch) b)) (sym one_thread) room),
     )

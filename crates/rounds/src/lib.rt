@@ -12,6 +12,5 @@ pub use passes::first_conflict;
 pub use plan::Plan;
 pub use speculate::{Entry, Gate, NoGate, NoMemory, Objects, Run};
 
-
 #[cfg(test)]
 mod tests;

@@ -41,13 +41,19 @@ fn the_first_conflict_is_found(rt: HostRuntime) -> Result<(), Fail> {
         run_of(alloc, &[withdraw])?,
         run_of(alloc, &[deposit])?,
     ];
-    assert_eq!(rt; first_conflict(&rt, alloc, apart.as_slice(), 4, &NoGate)?, 3);
+    assert_eq!(rt;
+        first_conflict(&rt, alloc, apart.as_slice(), 4, &NoGate)?,
+        3
+    );
     let at_odds = [
         run_of(alloc, &[withdraw])?,
         run_of(alloc, &[deposit])?,
         run_of(alloc, &[withdraw])?,
     ];
-    assert_eq!(rt; first_conflict(&rt, alloc, at_odds.as_slice(), 1, &NoGate)?, 2);
+    assert_eq!(rt;
+        first_conflict(&rt, alloc, at_odds.as_slice(), 1, &NoGate)?,
+        2
+    );
     Ok(())
 }
 

@@ -162,9 +162,11 @@ none_first : (held : List Held) (reason : Option ℕ) (state : State) (x : Handl
     → (found ≡ None → NoneLeft held reason state by_reason last) → cond takes (Some here) found ≡ None → NoneLeft held reason state (x ∷ by_reason) last
 none_first held reason state x by_reason last true here found is others at = absurd cc
 none_first held reason state x by_reason last false here found is others at =
-    let rest : NoneLeft held reason state by_reason last = others at in
-    (one_handler-first (handler_view x).0 (handler_view x).1 (handlers_from by_reason last) held reason state
-    ∙ ap (λ b. choose_handler b (one (handler_view x).1 held) (one_handler (handlers_from by_reason last) held reason) state) (ap (λ p. is_for p.0 reason) (handler_view-is x) ∙ is) ∙ rest.0, rest.1)
+    let rest : NoneLeft held reason state by_reason last = others at in (
+      one_handler-first (handler_view x).0 (handler_view x).1 (handlers_from by_reason last) held reason state
+          ∙ ap (λ b. choose_handler b (one (handler_view x).1 held) (one_handler (handlers_from by_reason last) held reason) state) (ap (λ p. is_for p.0 reason) (handler_view-is x) ∙ is) ∙ rest.0,
+      rest.1,
+    )
 
 none_takes : (held : List Held) (reason : Option ℕ) (state : State) (by_reason : List Handler) (last : Option Block) (i : ℕ) → position_from (λ (h : Handler). is_for h.reason reason) i by_reason ≡ None
     → CanHandleHere (handlers_from by_reason last) held state → NoneLeft held reason state by_reason last

@@ -9,5 +9,5 @@ is_new false h = refl
 
 pub returns-clause-names : goal.returns-clause-names
 returns-clause-names c =
-    let new = sym c.is_taken.ensures ∙ is_new c.is_taken.result c.in_ok-demand-2.ensures in
+    let new = sym c.is_listed.ensures ∙ is_new c.is_listed.result c.in_ok-demand-2.ensures in
     ap texts_of c.in_ok-insert.ensures.keys ∙ new_text c.args.name.now c.args.names.now.keys c.in_ok-from_str.field-0 c.in_ok-from_str.ensures.ok new

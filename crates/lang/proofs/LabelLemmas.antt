@@ -1,0 +1,108 @@
+-- Labels, as the entries of a map.
+use Rattle.std.proofs.Common.{◌≡◌, ◌+◌, ◌<◌, ℕ, Bool, true, false, cond, List, [], ◌∷◌, ◌++◌, take, drop, length, get_or, Option, Some, None, String, Global, string_bytes, is_some, add-one, append_assoc, refl, sym, ap, ap₂, ◌∙◌}
+use Rattle.std.specs.Prelude.{slice_get}
+use Rattle.std.proofs.Math.Seq.{drop-cons}
+use Rattle.std.proofs.lemmas.List.{append-nil}
+use Rattle.std.proofs.lemmas.Option.{slice_get-get_or, slice_get_within}
+use Rattle.serde_json.specs.Data.{Data}
+use Rattle.lang.specs.declared.steps.Sort.{Sort}
+use Rattle.lang.specs.declared.steps.Sort.TheVariants.{Operation, If, Sub, Abort, Parallel}
+use Rattle.lang.specs.Asked.{children_in, labels_of, scope_after, scope_after_by, sort_of}
+use Rattle.lang.specs.Scope.{Extends, Scope, Setting, is_named, named, label_number, scope_of, with_label, with_labels, fit}
+use Rattle.std.specs.List.{position_or_len}
+use Rattle.std.specs.Map.{lookup, keys_of}
+use Rattle.std.specs.Str.{bytes_eq}
+use Rattle.std.specs.String.{string_eq}
+use Rattle.indexmap.specs.IndexMap.{IndexMap, insert_entry}
+use Rattle.indexmap.proofs.CallerLemmas.{insert_entry-new}
+use Rattle.lang.specs.declared.words.Subject.{Subject}
+
+-- what a label is of, from the entries of a map
+pub named_view : (name : List ℕ) (es : List (String Global × Subject)) → named name (scope_of es) ≡ lookup (λ k. bytes_eq name (string_bytes k)) es
+named_view name [] = refl
+named_view name (e ∷ es) = simp (named_view name es)
+
+place_view : (name : List ℕ) (es : List (String Global × Subject)) → position_or_len (bytes_eq name) (keys_of (scope_of es)) ≡ position_or_len (λ k. bytes_eq name (string_bytes k)) (keys_of es)
+place_view name [] = refl
+place_view name (e ∷ es) = simp (place_view name es)
+
+-- how many labels stand before a label, from the entries of a map
+pub number_view : (name : List ℕ) (es : List (String Global × Subject)) → label_number name (scope_of es) ≡ fit (position_or_len (λ k. bytes_eq name (string_bytes k)) (keys_of es))
+number_view name es = ap fit (place_view name es)
+
+is_absent : (o : Option Subject) → is_some o ≡ false → o ≡ None
+is_absent None h = refl
+is_absent (Some x) h = cc
+
+scope_of-append : (es : List (String Global × Subject)) (k : String Global) (a : Subject) → scope_of (es ++ (k, a) ∷ []) ≡ scope_of es ++ (string_bytes k, a) ∷ []
+scope_of-append [] k a = refl
+scope_of-append (e ∷ es) k a = ap (λ rest. (string_bytes e.0, e.1) ∷ rest) (scope_of-append es k a)
+
+-- a label that is new goes last
+pub scope_of-insert_new : {S : Type 0} (m : IndexMap (String Global) Subject S) (k : String Global) (a : Subject) → is_named (string_bytes k) (scope_of m.entries) ≡ false
+    → scope_of (insert_entry string_eq m.entries k a) ≡ scope_of m.entries ++ (string_bytes k, a) ∷ []
+scope_of-insert_new m k a h =
+    let none : lookup (λ l. bytes_eq (string_bytes k) (string_bytes l)) m.entries ≡ None = sym (named_view (string_bytes k) m.entries) ∙ is_absent _ h in
+    ap scope_of (insert_entry-new string_eq m k a none) ∙ scope_of-append m.entries k a
+
+-- a label that was not seen is seen behind the others
+pub scope_of-insert : {S : Type 0} (m : IndexMap (String Global) Subject S) (k : String Global) (a : Subject) (name : List ℕ) → string_bytes k ≡ name → is_named name (scope_of m.entries) ≡ false
+    → scope_of (insert_entry string_eq m.entries k a) ≡ with_label (Some name) a (scope_of m.entries)
+scope_of-insert m k a name is new =
+    scope_of-insert_new m k a (ap (λ n. is_named n (scope_of m.entries)) is ∙ new) ∙ ap (λ n. scope_of m.entries ++ (n, a) ∷ []) is
+    ∙ ap (λ b. cond b (scope_of m.entries) (scope_of m.entries ++ (name, a) ∷ [])) (sym new)
+
+-- cut back to its first entries, a map shows what it showed
+pub cut_back : (old new : List (String Global × Subject)) (more : Scope) → scope_of new ≡ scope_of old ++ more → scope_of (take (length old) new) ≡ scope_of old
+cut_back [] new more e = refl
+cut_back (o ∷ old) [] more e = cc
+cut_back (o ∷ old) (n ∷ new) more e =
+    let head : (string_bytes n.0, n.1) ≡ (string_bytes o.0, o.1) = cc in
+    let tail : scope_of new ≡ scope_of old ++ more = cc in
+    ap₂ (λ x xs. x ∷ xs) head (cut_back old new more tail)
+
+-- the labels from a place on, by the one at the place
+pub labels_from : (es : List (String Global × Subject)) (i : ℕ) (e : String Global × Subject) → Some e ≡ slice_get es i → drop i es ≡ e ∷ drop (i + 1) es
+labels_from es i e at =
+    let within : i < length es = slice_get_within es i e (sym at) in
+    let is : get_or es i e ≡ e = let same = slice_get-get_or es i e within in cc in
+    let here : drop i es ≡ get_or es i e ∷ drop (i + 1) es = rw (add-one, drop-cons es i e) refl in
+    here ∙ ap (λ x. x ∷ drop (i + 1) es) is
+
+scope_after_append : (scope : Scope) → Extends scope scope
+scope_after_append scope = ([], sym (append-nil scope))
+
+pub with_label_extends : (label : Option (List ℕ)) (subject : Subject) (scope : Scope) → Extends scope (with_label label subject scope)
+with_label_extends None subject scope = scope_after_append scope
+with_label_extends (Some name) subject scope = by (is_named name scope)
+  where
+    by : (b : Bool) → Extends scope (cond b scope (scope ++ (name, subject) ∷ []))
+    by true = scope_after_append scope
+    by false = ((name, subject) ∷ [], refl)
+
+pub extends_twice : (a b c : Scope) → Extends a b → Extends b c → Extends a c
+extends_twice a b c first second = (first.0 ++ second.0, second.1 ∙ ap (λ s. s ++ second.0) first.1 ∙ append_assoc a first.0 second.0)
+
+with_labels_extends : (labels : Scope) (scope : Scope) → Extends scope (with_labels labels scope)
+with_labels_extends [] scope = scope_after_append scope
+with_labels_extends (label ∷ labels) scope =
+    let one = with_label (Some label.0) label.1 scope in
+    extends_twice scope one (with_labels labels one) (with_label_extends (Some label.0) label.1 scope) (with_labels_extends labels one)
+
+by_sort : (sort : Option Sort) (setting : Setting) (scope : Scope) (d : Data) → Extends scope (scope_after_by sort setting scope d)
+by_sort None setting scope d = scope_after_append scope
+by_sort (Some Operation) setting scope d = with_label_extends _ _ scope
+by_sort (Some If) setting scope d = scope_after_append scope
+by_sort (Some Sub) setting scope d = with_label_extends _ _ scope
+by_sort (Some Abort) setting scope d = scope_after_append scope
+by_sort (Some Parallel) setting scope d = with_labels_extends (labels_of [] (children_in d)) scope
+
+-- a step adds labels only behind those that are seen
+pub scope_after_extends : (setting : Setting) (scope : Scope) (d : Data) → Extends scope (scope_after setting scope d)
+unfolding scope_after
+scope_after_extends setting scope d = by_sort (sort_of d) setting scope d
+
+-- for attributes to cite
+pub ruleset named_labels = named_view
+
+pub ruleset all_labels = (named_view, number_view)
