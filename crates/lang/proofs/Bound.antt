@@ -304,4 +304,3 @@ bound name scope labels test subject seen few is fitting =
     let number : label_number name scope ≡ i = fit_same i (omega arith) in
     let fits_here : test_fits test label.0 ≡ true = test_fits_label test label.0 ∙ ap (fits test) label.2 ∙ fitting in
     rw (number, label.1) fits_here
-

@@ -27,7 +27,6 @@ use Rattle.lang.specs.Asked
 use Rattle.lang.specs.Asked.{part, label_in, object_of, call_named, verb_at, verb_in, target_asked, operation_asked, operation_shape_asked, arguments_asked, amount_asked, item_asked, label_asked, amount_item, name_item}
 use Rattle.lang.specs.Spelled.{call_of, operation_of}
 use Rattle.lang.proofs.MetLemmas.{AllMet, What, count, count-append, first_met, rest_met}
-
 use Rattle.std.proofs.lemmas.List.{append-nil, map-append, length-append}
 use Rattle.std.proofs.Common.{append_assoc}
 use Rattle.meaning.specs.Trees.{Abort, If, NoStep, Operation, Parallel, Steps, Subaction}
@@ -241,7 +240,6 @@ fitted subject (Some v) w e = by (fits_word subject v) refl e
 module _ (setting : Setting) (paired : length setting.names ≡ length setting.kinds) (n : ℕ) (asks : Scope → Data → List Demand) (block : Scope → Numbers → Data → tree.Block × Numbers)
     (inner : (scope : Scope) (numbers : Numbers) (d : Data) (labels : List Label) → AreSeen scope labels → length scope + counted (asks scope d) < most_labels → AllMet (asks scope d)
     → GoodBlock setting.kinds (block scope numbers d).0 labels n (count What.operations (asks scope d)) (count What.nodes (asks scope d))) where
-
   block_if_good : (scope : Scope) (numbers : Numbers) (o : Option Data) (labels : List Label) → AreSeen scope labels → length scope + counted (block_asked_if asks scope o) < most_labels → AllMet (block_asked_if asks scope o)
       → GoodIf setting.kinds (block_of_if block scope numbers o).0 labels n (count What.operations (block_asked_if asks scope o)) (count What.nodes (block_asked_if asks scope o))
   unfolding block_asked_if block_of_if GoodIf

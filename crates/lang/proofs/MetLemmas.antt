@@ -76,16 +76,26 @@ passed_none c next e =
     let b = ap (λ (n : Counts). n.operations) same in
     let d = ap (λ (n : Counts). n.nodes) same in
     record {
-      met = tt; starts = omega (arith, a); operations = omega (arith, b); nodes = omega (arith, d);
-      few_starts = λ h. omega (arith, a); few_operations = λ h. omega (arith, b); few_nodes = λ h. omega (arith, d);
+      met = tt;
+      starts = omega (arith, a);
+      operations = omega (arith, b);
+      nodes = omega (arith, d);
+      few_starts = λ h. omega (arith, a);
+      few_operations = λ h. omega (arith, b);
+      few_nodes = λ h. omega (arith, d);
     }
 
 passed_test : (b : Bool) (code : Code) (ds : List Demand) (c next : Counts) → ((c' : Counts) → check c' ds ≡ Ok next → Passed c' next ds) → and_then (check_one c (holds b code)) (λ n. check n ds) ≡ Ok next → Passed c next (holds b code ∷ ds)
 passed_test true code ds c next later e =
     let p = later c e in
     record {
-      met = (refl, p.met); starts = omega (arith, p.starts); operations = omega (arith, p.operations); nodes = omega (arith, p.nodes);
-      few_starts = p.few_starts; few_operations = p.few_operations; few_nodes = p.few_nodes;
+      met = (refl, p.met);
+      starts = omega (arith, p.starts);
+      operations = omega (arith, p.operations);
+      nodes = omega (arith, p.nodes);
+      few_starts = p.few_starts;
+      few_operations = p.few_operations;
+      few_nodes = p.few_nodes;
     }
 passed_test false code ds c next later e = cc
 
@@ -102,8 +112,13 @@ passed_start true ds c next lt later e =
     let p = later (record c { starts = c.starts + 1 }) e in
     let below = ltb-true c.starts 100000 lt in
     record {
-      met = p.met; starts = omega (arith, p.starts); operations = omega (arith, p.operations); nodes = omega (arith, p.nodes);
-      few_starts = λ h. p.few_starts (omega (arith, below)); few_operations = p.few_operations; few_nodes = p.few_nodes;
+      met = p.met;
+      starts = omega (arith, p.starts);
+      operations = omega (arith, p.operations);
+      nodes = omega (arith, p.nodes);
+      few_starts = λ h. p.few_starts (omega (arith, below));
+      few_operations = p.few_operations;
+      few_nodes = p.few_nodes;
     }
 passed_start false ds c next lt later e = cc
 
@@ -114,8 +129,13 @@ passed_operation true version ds c next lt later e =
     let below = ltb-true c.operations (most_operations version) lt in
     let limit = most version in
     record {
-      met = p.met; starts = omega (arith, p.starts); operations = omega (arith, p.operations); nodes = omega (arith, p.nodes);
-      few_starts = p.few_starts; few_operations = λ h. p.few_operations (omega (arith, below, limit)); few_nodes = p.few_nodes;
+      met = p.met;
+      starts = omega (arith, p.starts);
+      operations = omega (arith, p.operations);
+      nodes = omega (arith, p.nodes);
+      few_starts = p.few_starts;
+      few_operations = λ h. p.few_operations (omega (arith, below, limit));
+      few_nodes = p.few_nodes;
     }
 passed_operation false version ds c next lt later e = cc
 
@@ -125,15 +145,25 @@ passed_node true ds c next lt later e =
     let p = later (record c { nodes = c.nodes + 1 }) e in
     let below = ltb-true c.nodes 100000 lt in
     record {
-      met = p.met; starts = omega (arith, p.starts); operations = omega (arith, p.operations); nodes = omega (arith, p.nodes);
-      few_starts = p.few_starts; few_operations = p.few_operations; few_nodes = λ h. p.few_nodes (omega (arith, below));
+      met = p.met;
+      starts = omega (arith, p.starts);
+      operations = omega (arith, p.operations);
+      nodes = omega (arith, p.nodes);
+      few_starts = p.few_starts;
+      few_operations = p.few_operations;
+      few_nodes = λ h. p.few_nodes (omega (arith, below));
     }
 passed_node false ds c next lt later e = cc
 
 passed_on_to : (n : ℕ) (ds : List Demand) (c next : Counts) → Passed (record c { transaction = n }) next ds → Passed c next (in_transaction n ∷ ds)
 passed_on_to n ds c next p = record {
-  met = p.met; starts = omega (arith, p.starts); operations = omega (arith, p.operations); nodes = omega (arith, p.nodes);
-  few_starts = p.few_starts; few_operations = p.few_operations; few_nodes = p.few_nodes;
+  met = p.met;
+  starts = omega (arith, p.starts);
+  operations = omega (arith, p.operations);
+  nodes = omega (arith, p.nodes);
+  few_starts = p.few_starts;
+  few_operations = p.few_operations;
+  few_nodes = p.few_nodes;
 }
 
 pub passed : (ds : List Demand) (c next : Counts) → check c ds ≡ Ok next → Passed c next ds

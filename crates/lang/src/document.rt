@@ -136,11 +136,7 @@ fn read_document(alloc: Global, value: &Value) -> Result<Batch, Fault>
         state.numbering.items,
         state.numbering.reasons,
     );
-    Ok(Batch::new(
-        parts.declared.objects,
-        names,
-        parts.transactions,
-    ))
+    Ok(Batch::new(parts.declared.objects, names, parts.transactions))
 }
 
 /// The value that the bytes write.

@@ -103,11 +103,7 @@ fn name_at<'v>(op: &'v Value, index: usize, counts: &Counts) -> Result<&'v str, 
 }
 
 /// The item of a name, which joins the others if it is new.
-pub(crate) fn item_of(
-    alloc: Global,
-    name: &str,
-    numbering: &mut Numbering,
-) -> Result<Item, Fault>
+pub(crate) fn item_of(alloc: Global, name: &str, numbering: &mut Numbering) -> Result<Item, Fault>
     ensures value { IfOk result (λ item. item ≡ item_of name.now (numbers_of numbering.old)) }
     ensures numbers { OnOk result (numbers_of numbering.new ≡ with_item name.now (numbers_of numbering.old)) }
     ensures err { IfErr result (λ fault. fault ≡ memory_fault) }

@@ -230,10 +230,7 @@ fn read_start(
         },
         Kind::Directory => match value.as_array() {
             Some(list) => Ok(ObjectValue::Directory(read_directory(
-                alloc,
-                list,
-                counts,
-                numbering,
+                alloc, list, counts, numbering,
             )?)),
             None => Err(counts.fault(Code::Start)),
         },

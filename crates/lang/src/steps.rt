@@ -97,12 +97,7 @@ fn abort_of<'v>(step: &'v Value, version: u8, counts: &mut Counts) -> Result<Opt
 }
 
 #[tactic(auto, using(crate::proofs::Checks::parts), unfolding(crate::specs::Asked::abort_asked, crate::specs::Spelled::abort_of))]
-fn read_abort(
-    alloc: Global,
-    step: &Value,
-    version: u8,
-    state: &mut State,
-) -> Result<Step, Fault>
+fn read_abort(alloc: Global, step: &Value, version: u8, state: &mut State) -> Result<Step, Fault>
     ensures met { OnOk result (IsMet state.old.counts (abort_asked version (view step.now)) state.new.counts) }
     ensures first { IfErr result (IsFirst state.old.counts (abort_asked version (view step.now))) }
     ensures value { IfOk result (λ read. (step_view read, numbers_of state.new.numbering) ≡ abort_of (numbers_of state.old.numbering) (view step.now)) }
@@ -182,11 +177,7 @@ fn handlers_of<'v>(
 }
 
 #[tactic(auto, unfolding(crate::specs::Asked::sub_shape_asked))]
-fn sub_shape_of<'v>(
-    step: &'v Value,
-    version: u8,
-    counts: &Counts,
-) -> Result<SubShape<'v>, Fault>
+fn sub_shape_of<'v>(step: &'v Value, version: u8, counts: &Counts) -> Result<SubShape<'v>, Fault>
     ensures met { OnOk result (IsMet counts.now (sub_shape_asked version (view step.now)) counts.now) }
     ensures first { IfErr result (IsFirst counts.now (sub_shape_asked version (view step.now))) }
     ensures body { IfOk result (λ shape. view shape.body.now ≡ part (codes "sub") (view step.now)) }
@@ -259,14 +250,7 @@ fn read_members(
 {
     let mut handlers = Vec::with_capacity(alloc, members.len())?;
     for (reason, value) in members {
-        handlers.push(read_handler(
-            alloc,
-            reason.as_str(),
-            value,
-            levels,
-            declared,
-            state,
-        )?)?;
+        handlers.push(read_handler(alloc, reason.as_str(), value, levels, declared, state)?)?;
     }
     Ok(handlers)
 }

@@ -11,31 +11,104 @@ fn refusal(rt: &HostRuntime, text: &str) -> Result<String, Fail> {
     }
 }
 
-/// A document of version 1 of these objects and transactions.
-fn document(rt: &HostRuntime, objects: &str, transactions: &str) -> Result<String, Fail> {
+/// A document of a version, of these objects and transactions.
+fn document(
+    rt: &HostRuntime,
+    version: u32,
+    objects: &str,
+    transactions: &str,
+) -> Result<String, Fail> {
     Ok(format!(in rt.alloc();
-        "{{\"ordtx\":1,\"objects\":[{objects}],\"transactions\":[{transactions}]}}"
+        "{{\"ordtx\":{version},\"objects\":[{objects}],\"transactions\":[{transactions}]}}"
     )?)
+}
+
+/// Blocks of one step, each in the one before it, the innermost empty.
+fn nested(rt: &HostRuntime, levels: u32, open: &str, close: &str) -> Result<String, Fail> {
+    let mut text = String::new(rt.alloc());
+    for _ in 0..levels {
+        text.push_str("[")?;
+        text.push_str(open)?;
+    }
+    text.push_str("[]")?;
+    for _ in 0..levels {
+        text.push_str(close)?;
+        text.push_str("]")?;
+    }
+    Ok(text)
 }
 
 const ACCOUNT: &str = "{\"name\":\"a\",\"kind\":\"account\",\"start\":100}";
 
+const SIX: &str =
+    "{\"name\":\"a\",\"kind\":\"account\",\"start\":5},{\"name\":\"c\",\"kind\":\"counter\",\"start\":-3},{\"name\":\"s\",\"kind\":\"set\",\"start\":[\"x\",\"y\"]},{\"name\":\"q\",\"kind\":\"queue\",\"start\":[\"x\",\"x\"]},{\"name\":\"d\",\"kind\":\"directory\",\"start\":[[\"k\",\"v\"],[\"x\",\"k\"]]},{\"name\":\"m\",\"kind\":\"max\",\"start\":7}";
+
+const ALL_STEPS: &str =
+    "[{\"op\":[\"d\",\"put\",\"new\",\"w\"],\"as\":\"l\"},{\"if\":\"l\",\"is\":\"ok\",\"then\":[{\"op\":[\"q\",\"enq\",\"t\"]}],\"else\":[{\"op\":[\"q\",\"enq\",\"e\"]}]},{\"sub\":[{\"abort\":\"late\"}],\"handlers\":{\"z\":[],\"early\":[{\"op\":[\"s\",\"insert\",\"h\"]}]},\"handler\":[{\"abort\":true}],\"as\":\"o\"},{\"parallel\":[{\"sub\":[{\"op\":[\"q\",\"deq\"],\"as\":\"g\"},{\"if\":\"g\",\"item\":\"p\",\"then\":[]}],\"as\":\"g\"},{\"sub\":[{\"abort\":\"early\"}]}]},{\"if\":\"g\",\"is\":\"committed\",\"then\":[]}]";
+
 #[test]
 fn a_document_is_read(rt: HostRuntime) -> Result<(), Fail> {
-    let text = document(
-        &rt,
-        ACCOUNT,
-        "[{\"op\":[\"a\",\"deposit\",10]}],[{\"op\":[\"a\",\"withdraw\",1000000000000]},{\"op\":[\"a\",\"balance\"]}]",
-    )?;
+    let text = document(&rt, 4, SIX, ALL_STEPS)?;
     let batch = read(rt.alloc(), text.as_bytes())?;
-    assert_eq!(rt; batch.objects.len(), 1);
-    assert!(rt; matches!(batch.objects.value(0), Some(Value::Account(100))));
-    assert_eq!(rt; batch.names.object(0), Some("a"));
-    assert_eq!(rt; batch.names.object(1), None);
-    assert_eq!(rt; batch.transactions.len(), 2);
-    assert_eq!(rt; batch.transactions[0].steps.len(), 1);
-    assert_eq!(rt; batch.transactions[1].steps.len(), 2);
-    assert!(rt; matches!(batch.transactions[1].steps[0], Step::Op { object: 0, .. }));
+    assert_eq!(rt; batch.objects.len(), 6);
+    assert!(rt; matches!(batch.objects.value(0), Some(Value::Account(5))));
+    assert!(rt; matches!(batch.objects.value(1), Some(Value::Counter(-3))));
+    assert!(rt; matches!(batch.objects.value(5), Some(Value::Max(7))));
+    match batch.objects.value(2) {
+        Some(Value::Set(set)) => assert_eq!(rt; set.len(), 2),
+        _ => assert!(rt; false),
+    }
+    match batch.objects.value(3) {
+        Some(Value::Queue(queue)) => assert_eq!(rt; queue.items().len(), 2),
+        _ => assert!(rt; false),
+    }
+    match batch.objects.value(4) {
+        Some(Value::Directory(directory)) => assert_eq!(rt; directory.get(Item(0)), Some(Item(2))),
+        _ => assert!(rt; false),
+    }
+    assert_eq!(rt; batch.names.object(5), Some("m"));
+    assert_eq!(rt; batch.transactions.len(), 1);
+    let steps = &batch.transactions[0].steps;
+    assert_eq!(rt; steps.len(), 5);
+    assert!(rt;
+        matches!(
+            steps[0],
+            Step::Op {
+                object: 4,
+                labelled: true,
+                ..
+            }
+        )
+    );
+    assert!(rt; matches!(steps[1], Step::If { label: 0, .. }));
+    assert!(rt; matches!(steps[4], Step::If { label: 2, .. }));
+    Ok(())
+}
+
+#[test]
+fn texts_are_numbered_by_first_appearance(rt: HostRuntime) -> Result<(), Fail> {
+    let text = document(&rt, 4, SIX, ALL_STEPS)?;
+    let batch = read(rt.alloc(), text.as_bytes())?;
+    let items = [
+        (0, "x"),
+        (1, "y"),
+        (2, "k"),
+        (3, "v"),
+        (4, "new"),
+        (5, "w"),
+        (6, "t"),
+        (7, "e"),
+        (8, "h"),
+        (9, "p"),
+    ];
+    for (number, item) in items {
+        assert_eq!(rt; batch.names.item(Item(number)), Some(item));
+    }
+    assert_eq!(rt; batch.names.item(Item(10)), None);
+    assert_eq!(rt; batch.names.reason(0), Some("late"));
+    assert_eq!(rt; batch.names.reason(1), Some("early"));
+    assert_eq!(rt; batch.names.reason(2), Some("z"));
+    assert_eq!(rt; batch.names.reason(3), None);
     Ok(())
 }
 
@@ -43,10 +116,20 @@ fn a_document_is_read(rt: HostRuntime) -> Result<(), Fail> {
 fn documents_are_refused(rt: HostRuntime) -> Result<(), Fail> {
     assert_eq!(rt; refusal(&rt, "")?.as_str(), "fault 1 transaction 0");
     assert_eq!(rt; refusal(&rt, "[]")?.as_str(), "fault 2 transaction 0");
-    let other = "{\"ordtx\":1.0,\"objects\":[],\"transactions\":[]}";
-    assert_eq!(rt; refusal(&rt, other)?.as_str(), "fault 2 transaction 0");
-    let none = document(&rt, "", "")?;
-    assert_eq!(rt; refusal(&rt, none.as_str())?.as_str(), "");
+    let fraction = "{\"ordtx\":1.0,\"objects\":[],\"transactions\":[]}";
+    assert_eq!(rt; refusal(&rt, fraction)?.as_str(), "fault 2 transaction 0");
+    let rows = [
+        (0, "fault 2 transaction 0"),
+        (1, ""),
+        (2, ""),
+        (3, ""),
+        (4, ""),
+        (5, "fault 2 transaction 0"),
+    ];
+    for (version, answer) in rows {
+        let text = document(&rt, version, "", "")?;
+        assert_eq!(rt; refusal(&rt, text.as_str())?.as_str(), answer);
+    }
     Ok(())
 }
 
@@ -54,43 +137,86 @@ fn documents_are_refused(rt: HostRuntime) -> Result<(), Fail> {
 fn objects_are_refused(rt: HostRuntime) -> Result<(), Fail> {
     let rows = [
         (
+            1,
             "{\"name\":\"a\",\"kind\":\"account\"}",
             "fault 2 transaction 0",
         ),
         (
+            1,
+            "{\"name\":\"m\",\"kind\":\"max\",\"start\":5}",
+            "fault 2 transaction 0",
+        ),
+        (2, "{\"name\":\"m\",\"kind\":\"max\",\"start\":5}", ""),
+        (
+            1,
             "{\"name\":\"a b\",\"kind\":\"account\",\"start\":-1}",
             "fault 3 transaction 0",
         ),
         (
+            1,
             "{\"name\":\"a\",\"kind\":\"account\",\"start\":0},{\"name\":\"a\",\"kind\":\"account\",\"start\":-1}",
             "fault 4 transaction 0",
         ),
         (
+            1,
             "{\"name\":\"a\",\"kind\":\"account\",\"start\":-1}",
             "fault 13 transaction 0",
         ),
         (
+            1,
             "{\"name\":\"a\",\"kind\":\"account\",\"start\":1000000000000001}",
             "fault 13 transaction 0",
         ),
         (
+            1,
+            "{\"name\":\"c\",\"kind\":\"counter\",\"start\":-1000000000000000}",
+            "",
+        ),
+        (
+            1,
+            "{\"name\":\"c\",\"kind\":\"counter\",\"start\":-1000000000000001}",
+            "fault 13 transaction 0",
+        ),
+        (
+            1,
             "{\"name\":\"abcdefghijklmnopqrstuvwxyz012345\",\"kind\":\"account\",\"start\":1000000000000000}",
             "",
         ),
         (
+            1,
             "{\"name\":\"abcdefghijklmnopqrstuvwxyz0123456\",\"kind\":\"account\",\"start\":0}",
             "fault 3 transaction 0",
         ),
+        (
+            1,
+            "{\"name\":\"s\",\"kind\":\"set\",\"start\":[\"x\",\"x\"]}",
+            "fault 13 transaction 0",
+        ),
+        (
+            1,
+            "{\"name\":\"q\",\"kind\":\"queue\",\"start\":[\"\"]}",
+            "fault 3 transaction 0",
+        ),
+        (
+            1,
+            "{\"name\":\"d\",\"kind\":\"directory\",\"start\":[[\"k\",\"v\"],[\"k\",\"w\"]]}",
+            "fault 13 transaction 0",
+        ),
+        (
+            1,
+            "{\"name\":\"d\",\"kind\":\"directory\",\"start\":[[\"k\"]]}",
+            "fault 13 transaction 0",
+        ),
     ];
-    for (objects, answer) in rows {
-        let text = document(&rt, objects, "")?;
+    for (version, objects, answer) in rows {
+        let text = document(&rt, version, objects, "")?;
         assert_eq!(rt; refusal(&rt, text.as_str())?.as_str(), answer);
     }
     Ok(())
 }
 
 #[test]
-fn transactions_are_refused(rt: HostRuntime) -> Result<(), Fail> {
+fn operations_are_refused(rt: HostRuntime) -> Result<(), Fail> {
     let rows = [
         ("[],{}", "fault 2 transaction 2"),
         ("[{\"op\":[\"a\"]}]", "fault 2 transaction 1"),
@@ -105,32 +231,184 @@ fn transactions_are_refused(rt: HostRuntime) -> Result<(), Fail> {
         ),
         ("[{\"op\":[\"a\",\"deposit\",0]}]", "fault 7 transaction 1"),
         (
-            "[{\"op\":[\"a\",\"deposit\",1000000000001]}]",
+            "[{\"op\":[\"a\",\"deposit\",1000000000000001]}]",
             "fault 7 transaction 1",
         ),
-        ("[{\"op\":[\"a\",\"balance\",1]}]", "fault 7 transaction 1"),
+        (
+            "[{\"op\":[\"a\",\"balance\"],\"as\":\"n\"},{\"op\":[\"a\",\"balance\"],\"as\":\"n\"}]",
+            "fault 9 transaction 1",
+        ),
+        (
+            "[{\"op\":[\"a\",\"balance\"],\"as\":\"\"}]",
+            "fault 3 transaction 1",
+        ),
     ];
     for (transactions, answer) in rows {
-        let text = document(&rt, ACCOUNT, transactions)?;
+        let text = document(&rt, 1, ACCOUNT, transactions)?;
         assert_eq!(rt; refusal(&rt, text.as_str())?.as_str(), answer);
     }
     Ok(())
 }
 
 #[test]
-fn operations_are_counted(rt: HostRuntime) -> Result<(), Fail> {
-    let mut steps = String::from_str(rt.alloc(), "{\"op\":[\"a\",\"balance\"]}")?;
-    for _ in 1..100_000 {
-        steps.push_str(",{\"op\":[\"a\",\"balance\"]}")?;
+fn labels_and_tests_are_refused(rt: HostRuntime) -> Result<(), Fail> {
+    let rows = [
+        (
+            "[{\"sub\":[{\"op\":[\"a\",\"balance\"],\"as\":\"n\"}]},{\"if\":\"n\",\"atleast\":1,\"then\":[]}]",
+            "fault 8 transaction 1",
+        ),
+        (
+            "[{\"op\":[\"a\",\"balance\"],\"as\":\"n\"},{\"if\":\"n\",\"is\":\"ok\",\"then\":[]}]",
+            "fault 10 transaction 1",
+        ),
+        (
+            "[{\"op\":[\"a\",\"balance\"],\"as\":\"n\"},{\"if\":\"n\",\"atleast\":1.0,\"then\":[]}]",
+            "fault 10 transaction 1",
+        ),
+        (
+            "[{\"op\":[\"a\",\"balance\"],\"as\":\"n\"},{\"if\":\"n\",\"atleast\":1,\"is\":\"ok\",\"then\":[]}]",
+            "fault 2 transaction 1",
+        ),
+        (
+            "[{\"sub\":[],\"as\":\"n\"},{\"sub\":[{\"op\":[\"a\",\"balance\"],\"as\":\"n\"}]}]",
+            "fault 9 transaction 1",
+        ),
+        (
+            "[{\"sub\":[{\"op\":[\"a\",\"balance\"],\"as\":\"n\"}],\"as\":\"n\"},{\"if\":\"n\",\"is\":\"aborted\",\"then\":[]}]",
+            "",
+        ),
+        (
+            "[{\"parallel\":[{\"sub\":[],\"as\":\"n\"},{\"sub\":[],\"as\":\"n\"}]}]",
+            "fault 9 transaction 1",
+        ),
+        (
+            "[{\"sub\":[],\"as\":\"n\"},{\"parallel\":[{\"sub\":[],\"as\":\"n\"}]}]",
+            "fault 9 transaction 1",
+        ),
+        (
+            "[{\"parallel\":[{\"sub\":[],\"as\":\"n\"},{\"sub\":[{\"sub\":[],\"as\":\"n\"}]}]}]",
+            "",
+        ),
+        (
+            "[{\"parallel\":[{\"sub\":[],\"as\":\"n\"},{\"sub\":[{\"if\":\"n\",\"is\":\"aborted\",\"then\":[]}]}]}]",
+            "fault 8 transaction 1",
+        ),
+    ];
+    for (transactions, answer) in rows {
+        let text = document(&rt, 1, ACCOUNT, transactions)?;
+        assert_eq!(rt; refusal(&rt, text.as_str())?.as_str(), answer);
     }
-    let within = format!(in rt.alloc(); "[{steps}],[]")?;
-    let text = document(&rt, ACCOUNT, within.as_str())?;
-    assert_eq!(rt; refusal(&rt, text.as_str())?.as_str(), "");
-    let beyond = format!(in rt.alloc(); "[{steps}],[{{\"op\":[\"b\",\"balance\"]}}]")?;
-    let text = document(&rt, ACCOUNT, beyond.as_str())?;
+    Ok(())
+}
+
+#[test]
+fn versions_have_their_words(rt: HostRuntime) -> Result<(), Fail> {
+    let rows = [
+        (2, "[{\"abort\":\"x\"}]", "fault 2 transaction 1"),
+        (3, "[{\"abort\":\"x\"}]", ""),
+        (3, "[{\"abort\":\"\"}]", "fault 3 transaction 1"),
+        (1, "[{\"abort\":false}]", "fault 2 transaction 1"),
+        (2, "[{\"sub\":[],\"handlers\":{}}]", "fault 2 transaction 1"),
+        (3, "[{\"sub\":[],\"handlers\":{}}]", ""),
+        (3, "[{\"sub\":[],\"handlers\":[]}]", "fault 2 transaction 1"),
+        (
+            3,
+            "[{\"sub\":[],\"handlers\":{\"\":[]},\"handler\":{}}]",
+            "fault 3 transaction 1",
+        ),
+        (
+            3,
+            "[{\"sub\":[],\"handlers\":{\"x\":{}},\"handler\":[]}]",
+            "fault 2 transaction 1",
+        ),
+    ];
+    for (version, transactions, answer) in rows {
+        let text = document(&rt, version, ACCOUNT, transactions)?;
+        assert_eq!(rt; refusal(&rt, text.as_str())?.as_str(), answer);
+    }
+    let queue = "{\"name\":\"q\",\"kind\":\"queue\",\"start\":[]}";
+    let text = document(&rt, 1, queue, "[{\"op\":[\"q\",\"length\"]}]")?;
     assert_eq!(rt;
         refusal(&rt, text.as_str())?.as_str(),
-        "fault 12 transaction 2"
+        "fault 6 transaction 1"
     );
+    let text = document(&rt, 2, queue, "[{\"op\":[\"q\",\"length\"]}]")?;
+    assert_eq!(rt; refusal(&rt, text.as_str())?.as_str(), "");
+    Ok(())
+}
+
+#[test]
+fn blocks_nest_24_deep(rt: HostRuntime) -> Result<(), Fail> {
+    let rows = [
+        ("{\"sub\":", "}"),
+        ("{\"sub\":[],\"handler\":", "}"),
+        ("{\"sub\":[],\"handlers\":{\"x\":", "}}"),
+        ("{\"parallel\":[{\"sub\":", "}]}"),
+    ];
+    for (open, close) in rows {
+        let within = nested(&rt, 23, open, close)?;
+        let text = document(&rt, 3, ACCOUNT, within.as_str())?;
+        assert_eq!(rt; refusal(&rt, text.as_str())?.as_str(), "");
+        let beyond = nested(&rt, 24, open, close)?;
+        let text = document(&rt, 3, ACCOUNT, beyond.as_str())?;
+        assert_eq!(rt;
+            refusal(&rt, text.as_str())?.as_str(),
+            "fault 11 transaction 1"
+        );
+    }
+    let label = "{\"op\":[\"a\",\"balance\"],\"as\":\"n\"}";
+    for (levels, answer) in [(22, ""), (23, "fault 11 transaction 1")] {
+        let ifs = nested(&rt, levels, "{\"if\":\"n\",\"atleast\":0,\"then\":", "}")?;
+        let block = format!(in rt.alloc();
+            "[{label},{{\"if\":\"n\",\"atleast\":0,\"then\":{ifs}}}]"
+        )?;
+        let text = document(&rt, 1, ACCOUNT, block.as_str())?;
+        assert_eq!(rt; refusal(&rt, text.as_str())?.as_str(), answer);
+    }
+    Ok(())
+}
+
+/// So many of a step, and then a block of the last.
+fn counted(
+    rt: &HostRuntime,
+    version: u32,
+    number: u32,
+    step: &str,
+    last: &str,
+) -> Result<String, Fail> {
+    let mut steps = String::from_str(rt.alloc(), step)?;
+    for _ in 1..number {
+        steps.push_str(",")?;
+        steps.push_str(step)?;
+    }
+    let blocks = format!(in rt.alloc(); "[{steps}],[{last}]")?;
+    let text = document(rt, version, ACCOUNT, blocks.as_str())?;
+    refusal(rt, text.as_str())
+}
+
+#[test]
+fn operations_are_counted(rt: HostRuntime) -> Result<(), Fail> {
+    let step = "{\"op\":[\"a\",\"balance\"]}";
+    let last = "{\"op\":[\"b\",\"balance\"]}";
+    let beyond = counted(&rt, 1, 100_000, step, last)?;
+    assert_eq!(rt; beyond.as_str(), "fault 12 transaction 2");
+    let within = counted(&rt, 1, 99_999, step, step)?;
+    assert_eq!(rt; within.as_str(), "");
+    Ok(())
+}
+
+#[test]
+fn version_4_has_more_operations(rt: HostRuntime) -> Result<(), Fail> {
+    let step = "{\"op\":[\"a\",\"balance\"]}";
+    let within = counted(&rt, 4, 100_000, step, step)?;
+    assert_eq!(rt; within.as_str(), "");
+    Ok(())
+}
+
+#[test]
+fn other_nodes_are_counted(rt: HostRuntime) -> Result<(), Fail> {
+    let last = "{\"if\":\"n\",\"is\":\"ok\",\"then\":[]}";
+    let beyond = counted(&rt, 1, 100_000, "{\"abort\":true}", last)?;
+    assert_eq!(rt; beyond.as_str(), "fault 12 transaction 2");
     Ok(())
 }

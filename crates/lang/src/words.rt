@@ -91,13 +91,7 @@ pub(crate) fn kind_of(version: u8, text: &str) -> Option<Kind>
         "set" => Some(Kind::Set),
         "queue" => Some(Kind::Queue),
         "directory" => Some(Kind::Directory),
-        "max" => {
-            if version >= 2 {
-                Some(Kind::Max)
-            } else {
-                None
-            }
-        }
+        "max" => { if version >= 2 { Some(Kind::Max) } else { None } }
         _ => None,
     }
 }

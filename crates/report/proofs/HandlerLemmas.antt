@@ -4,8 +4,7 @@ use Rattle.std.proofs.lemmas.List.Quantifiers.{position-Some}
 use Rattle.std.specs.List.{position_from}
 use Rattle.std.proofs.lemmas.Iterator.Adapters.{position_from-zero}
 use Rattle.std.specs.Prelude.{option_map, codes}
-use Rattle.meaning.specs.Trees as meant
-use Rattle.meaning.specs.Trees.{Handlers, ForReason, Otherwise, GoOn, Pass, for_reasons, handlers_of}
+use Rattle.meaning.specs.Trees.{Handlers, ForReason, Otherwise, Pass, for_reasons, handlers_of}
 use Rattle.meaning.specs.Shown.{Shown}
 use Rattle.meaning.specs.Words.{Names}
 use Rattle.meaning.specs.Texts.{steps_text, handler_path, handler_block, pick}

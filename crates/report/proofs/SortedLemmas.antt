@@ -4,7 +4,7 @@ use Rattle.std.specs.Ordering.{is_lt, eq_by_cmp}
 use Rattle.std.specs.Cmp.{IsTotalOrder}
 use Rattle.std.specs.List.{AllByRecursion, list_any}
 use Rattle.std.specs.List.Sorted.{IsStrictlySortedBy}
-use Rattle.std.specs.FinMap.{FinMap, IsAntisymmetric, entries, keys, from_entries, from_sorted, find, is_sorted, same_map, get-from_entries, get-from_sorted, entries-from_sorted}
+use Rattle.std.specs.FinMap.{IsAntisymmetric, entries, keys, from_entries, from_sorted, find, is_sorted, same_map, get-from_entries, get-from_sorted, entries-from_sorted}
 use Rattle.std.specs.FinMap.Entries.{below_all}
 use Rattle.std.specs.FinSet as finite_set
 use Rattle.atoms.specs.Item.{item_cmp, items_total, items_antisymmetric}

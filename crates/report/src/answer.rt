@@ -89,7 +89,7 @@ fn write_transactions(
     Ok(())
 }
 
-fn write_transaction(
+pub(crate) fn write_transaction(
     alloc: Global,
     out: &mut String,
     names: &Names,

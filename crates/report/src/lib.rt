@@ -10,3 +10,6 @@ mod words;
 
 pub use answer::{render, render_audit, render_plain};
 pub use batch::{Batch, NoMemory, Outcome, Plain};
+
+#[cfg(test)]
+mod tests;

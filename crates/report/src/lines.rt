@@ -1,6 +1,6 @@
 //! The lines of a record.
-ghost use Rattle.std.specs.Prelude.{◌≡◌, ◌++◌, OnOk, codes, string_bytes};
-ghost use Rattle.meaning.specs.Texts.{line, reason_text, outcome_text, choice_text, operation_line, steps_text, step_text, child_text, children_text, handler_path, handler_block, reason_of};
+ghost use Rattle.std.specs.Prelude.{◌≡◌, ◌++◌, IfOk, OnOk, codes, string_bytes};
+ghost use Rattle.meaning.specs.Texts.{line, reason_text, outcome_text, choice_text, operation_line, steps_text, step_text, child_text, children_text, handler_path, handler_block, part, reason_of};
 ghost use Rattle.meaning.specs.OneThread.{is_for};
 ghost use Rattle.batch.specs.Names.{names_of};
 ghost use Rattle.batch.specs.Views.{block_view, record_view, step_view, taken_view, subaction_view, tried_view, children_view, all_tried_view};
@@ -31,8 +31,7 @@ pub(crate) fn write_block(
             return Ok(());
         }
         let step = &block.steps[index];
-        let number = index + 1;
-        let step_path = format!(in alloc; "{path}.{number}")?;
+        let step_path = part_path(alloc, path, index + 1)?;
         write_step(alloc, out, names, step_path.as_str(), step, taken)?;
     }
     Ok(())
@@ -183,19 +182,18 @@ fn write_children(
             return Ok(());
         }
         let child = &children[index];
-        let number = index + 1;
-        let child_path = format!(in alloc; "{path}.{number}")?;
-        write_child(
-            alloc,
-            out,
-            names,
-            child_path.as_str(),
-            child,
-            &tried.0,
-            &tried.1,
-        )?;
+        let child_path = part_path(alloc, path, index + 1)?;
+        let (body, handler) = tried;
+        write_child(alloc, out, names, child_path.as_str(), child, body, handler)?;
     }
     Ok(())
+}
+
+// The path of the part of this number.
+fn part_path(alloc: Global, path: &str, number: usize) -> Result<String, NoMemory>
+    ensures { IfOk result (λ t. string_bytes t ≡ part path.now number) }
+{
+    Ok(format!(in alloc; "{path}.{number}")?)
 }
 
 fn write_operation(

@@ -105,12 +105,7 @@ fn write_amount(out: &mut String, word: &str, amount: Amount) -> Result<(), NoMe
     Ok(())
 }
 
-pub(crate) fn write_item(
-    out: &mut String,
-    names: &Names,
-    word: &str,
-    item: Item,
-) -> Result<(), NoMemory>
+fn write_item(out: &mut String, names: &Names, word: &str, item: Item) -> Result<(), NoMemory>
     ensures { OnOk result (string_bytes out.new ≡ string_bytes out.old ++ word.now ++ (names_of names.now).item item) }
 {
     let name = item_name(names, item);

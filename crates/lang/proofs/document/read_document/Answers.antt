@@ -33,4 +33,4 @@ returns-clause-value c =
 pub returns-in_err-parts-clause-code : goal.returns-in_err-parts-clause-code
 returns-in_err-parts-clause-code c =
     passed_on c.from_residual.result (λ fault. number_of fault.code ≤ 20) _ c.from_residual.ensures.1
-      (memory_or _ (λ other. first_fault_code (view c.args.value.now) _ (ap fault_of (c.in_err-parts.ensures.first other))))
+    (memory_or _ (λ other. first_fault_code (view c.args.value.now) _ (ap fault_of (c.in_err-parts.ensures.first other))))

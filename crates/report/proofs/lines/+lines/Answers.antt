@@ -1,13 +1,12 @@
 use Rattle.std.proofs.Common.{◌≡◌, ◌<◌, ◌≤◌, ◌+◌, ◌++◌, length, refl, sym, ap, ◌∙◌, arith, append-nil, append_assoc, string_bytes}
 use Rattle.std.specs.Prelude.{codes}
-use Rattle.std.specs.Fmt.{decimal}
 use Rattle.meaning.specs.Texts.{part, reason_of}
 use Rattle.batch.specs.Names.{names_of}
 use Rattle.batch.specs.Views.{record_view, subaction_view}
 use Rattle.batch.proofs.ViewLemmas.{block_view-is, record_view-is, step_view-Parallel, taken_view-Parallel}
 use Rattle.batch.proofs.SizeLemmas.{handler-is_smaller}
-use Rattle.report.proofs.TextLemmas.{rest_text-start, rest_text-more, rest_text-no_step, rest_text-end, rest_children_text-start, rest_children_text-more, rest_children_text-no_child, rest_children_text-end, no_text, after_text, after_two, body_lines, child_text-body, child_text-handler}
-use Rattle.report.proofs.HandlerLemmas.{handled_text, place-within, handled_text-found, handled_text-none_found, handled_text-plain}
+use Rattle.report.proofs.TextLemmas.{rest_text-start, rest_text-more, rest_text-no_step, rest_text-end, rest_children_text-start, rest_children_text-more, rest_children_text-no_child, rest_children_text-end, after_text, after_two, body_lines, child_text-body, child_text-handler}
+use Rattle.report.proofs.HandlerLemmas.{handled_text, place-within, handled_text-found, handled_text-none_found}
 use Rattle.report.proofs.lines.+lines.Goals as goal
 
 -- ---- steps one after the other
@@ -21,7 +20,7 @@ write_block-loop-index-preserved t c =
     let lt : c.loop-index.index < length c.args.done.now.taken.items = rw c.deref-taken-items.ensures.value at c.loop-index-test.true in
     let is = rw c.deref-taken-items.ensures.value at c.taken-item.is in
     let lt' : c.loop-index.index < length steps.items = omega (arith, c.if-index-len.false, c.len.ensures, steps.ok.0) in
-    let path : c.as_str.result.now ≡ part c.args.path.now (c.loop-index.index + 1) = c.as_str.ensures.value ∙ c.in_ok-step_path.ensures.ok ∙ sym (append_assoc c.args.path.now (codes ".") (decimal (c.loop-index.index + 1))) in
+    let path : c.as_str.result.now ≡ part c.args.path.now (c.loop-index.index + 1) = c.as_str.ensures.value ∙ c.in_ok-step_path.ensures in
     let splits = rest_text-more _ c.args.path.now c.loop-index.index steps.items _ c.args.done.now.outcome _ _ lt' c.index-step.ensures lt is in
     after_text _ _ _ _ _ _ c.loop-index.invariant (rw path at c.in_ok-write_step.ensures) splits
 
@@ -43,7 +42,7 @@ write_children-loop-index-init t c = rw rest_children_text-start refl
 
 pub write_children-loop-index-preserved : goal.write_children-loop-index-preserved
 write_children-loop-index-preserved t c =
-    let path : c.as_str.result.now ≡ part c.args.path.now (c.loop-index.index + 1) = c.as_str.ensures.value ∙ c.in_ok-child_path.ensures.ok ∙ sym (append_assoc c.args.path.now (codes ".") (decimal (c.loop-index.index + 1))) in
+    let path : c.as_str.result.now ≡ part c.args.path.now (c.loop-index.index + 1) = c.as_str.ensures.value ∙ c.in_ok-child_path.ensures in
     let splits = rest_children_text-more _ c.args.path.now c.loop-index.index _ _ _ _ c.if-index-children.false c.index-children-index.is c.loop-index-test.true c.index-all_tried-index.is in
     after_text _ _ _ _ _ _ c.loop-index.invariant (rw path at c.in_ok-write_child.ensures) splits
 

@@ -1,4 +1,4 @@
-use Rattle.std.proofs.Common.{[], ◌∷◌, ◌≡◌, ◌++◌, map, ap, refl, sym, append_assoc, ◌∙◌, string_bytes}
+use Rattle.std.proofs.Common.{[], ◌∷◌, ◌++◌, map, ap, refl, sym, append_assoc, ◌∙◌, string_bytes}
 use Rattle.std.specs.FinMap as finite_map
 use Rattle.std.specs.Prelude.{codes}
 use Rattle.meaning.specs.Words.{spaced, binding_text}

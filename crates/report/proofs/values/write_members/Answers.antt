@@ -1,4 +1,4 @@
-use Rattle.std.proofs.Common.{[], ◌∷◌, ◌≡◌, ◌++◌, map, ap, refl, sym, ◌∙◌, string_bytes}
+use Rattle.std.proofs.Common.{[], ◌∷◌, ◌++◌, map, ap, refl, sym, ◌∙◌, string_bytes}
 use Rattle.meaning.specs.Words.{spaced, members}
 use Rattle.batch.specs.Names.{names_of}
 use Rattle.report.proofs.SortedLemmas.{members-sorted}

@@ -1,4 +1,4 @@
-use Rattle.std.proofs.Common.{[], ◌∷◌, ◌≡◌, ◌++◌, map, ap, refl, sym, ◌∙◌, string_bytes}
+use Rattle.std.proofs.Common.{[], ◌∷◌, ◌++◌, map, ap, refl, ◌∙◌, string_bytes}
 use Rattle.std.specs.VecDeque.Iter.{deque_iter_rest}
 use Rattle.meaning.specs.Words.{spaced}
 use Rattle.batch.specs.Names.{names_of}
