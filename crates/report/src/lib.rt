@@ -10,6 +10,3 @@ mod words;
 
 pub use answer::{render, render_audit, render_plain};
 pub use batch::{Batch, NoMemory, Outcome, Plain};
-
-#[cfg(test)]
-mod tests;
