@@ -2,3 +2,4 @@ pub mod Names
 pub mod Views
 pub mod Limits
 pub mod LimitsProps
+pub mod Counting

@@ -4,6 +4,7 @@
 
 mod answer;
 mod batch;
+mod counting;
 mod names;
 mod record;
 mod tree;

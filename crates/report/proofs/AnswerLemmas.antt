@@ -1,5 +1,5 @@
 -- The lines of the transactions, objects and run counts that are left to write.
-use Rattle.std.proofs.Common.{◌≡◌, ℕ, ◌+◌, ◌<◌, ◌≤◌, List, [], ◌∷◌, ◌++◌, length, get_or, drop, map, Some, refl, sym, ap, ◌∙◌}
+use Rattle.std.proofs.Common.{◌≡◌, ℕ, ◌+◌, ◌<◌, ◌≤◌, List, [], ◌∷◌, ◌++◌, length, get_or, drop, map, Some, refl, sym, ap, ◌∙◌, append_assoc}
 use Rattle.std.specs.Prelude.{codes, slice_get}
 use Rattle.std.specs.Fmt.{decimal}
 use Rattle.std.proofs.Math.ListN.{drop_of_length-le}
@@ -9,7 +9,7 @@ use Rattle.objects.specs.declared.value.Value.{Value}
 use Rattle.meaning.specs.Trees as meant
 use Rattle.meaning.specs.Shown.{Shown}
 use Rattle.meaning.specs.Words.{Names, kind_text, value_text}
-use Rattle.meaning.specs.Texts.{line, outcome_text, steps_text, transactions_text, objects_text, counts_text}
+use Rattle.meaning.specs.Texts.{line, outcome_text, steps_text, transactions_text, objects_text, counts_text, check_text}
 use Rattle.batch.specs.Views.{block_view, record_view}
 use Rattle.batch.specs.declared.tree.Block.{Block}
 use Rattle.batch.specs.declared.record.Record.{Record}
@@ -66,3 +66,17 @@ counts_text-more i counts count lt is = ap (counts_text (i + 1)) (left counts i 
 
 pub counts_text-end : (i : ℕ) (counts : List ℕ) → length counts ≤ i → counts_text (i + 1) (drop i counts) ≡ []
 counts_text-end i counts le = ap (counts_text (i + 1)) (drop_of_length-le counts le)
+
+-- the line of what a document holds
+counted_line : (objects transactions operations : ℕ) → check_text objects transactions operations
+    ≡ codes "ok objects " ++ (decimal objects ++ (codes " transactions " ++ (decimal transactions ++ (codes " operations " ++ (decimal operations ++ codes "\n")))))
+counted_line objects transactions operations =
+    let a = codes "ok objects " in let b = decimal objects in let c = codes " transactions " in let d = decimal transactions in let e = codes " operations " in let f = decimal operations in let g = codes "\n" in
+    append_assoc (a ++ b ++ c ++ d ++ e) f g ∙ append_assoc (a ++ b ++ c ++ d) e (f ++ g) ∙ append_assoc (a ++ b ++ c) d (e ++ (f ++ g))
+    ∙ append_assoc (a ++ b) c (d ++ (e ++ (f ++ g))) ∙ append_assoc a b (c ++ (d ++ (e ++ (f ++ g))))
+
+pub counted_text : (text : List ℕ) (objects transactions operations o t p : ℕ)
+    → text ≡ codes "ok objects " ++ (decimal o ++ (codes " transactions " ++ (decimal t ++ (codes " operations " ++ (decimal p ++ codes "\n")))))
+    → o ≡ objects → t ≡ transactions → p ≡ operations → text ≡ check_text objects transactions operations
+counted_text text objects transactions operations o t p wrote is_o is_t is_p =
+    wrote ∙ sym (counted_line o t p) ∙ ap (λ n. check_text n t p) is_o ∙ ap (λ n. check_text objects n p) is_t ∙ ap (check_text objects transactions) is_p

@@ -2,8 +2,9 @@
 ghost use Rattle.std.specs.Prelude.{◌≡◌, ◌++◌, ◌^◌, ◌<◌, OnOk, IfOk, codes, length, map, string_bytes};
 ghost use Rattle.std.specs.Fmt.{decimal};
 ghost use Rattle.objects.specs.Objects.{kind_of_value};
+ghost use Rattle.meaning.specs.Running.{all_operations};
 ghost use Rattle.meaning.specs.Words.{kind_text, value_text};
-ghost use Rattle.meaning.specs.Texts.{line, outcome_text, steps_text, transactions_text, objects_text, counts_text, plain_text, text, audit_text};
+ghost use Rattle.meaning.specs.Texts.{line, outcome_text, steps_text, transactions_text, objects_text, counts_text, plain_text, text, audit_text, check_text};
 ghost use Rattle.batch.specs.Names.{names_of};
 ghost use Rattle.batch.specs.Views.{block_view, record_view};
 
@@ -54,6 +55,22 @@ pub fn render_audit(alloc: Global, batch: &Batch, outcome: &Outcome) -> Result<S
     let mut out = render(alloc, batch, outcome)?;
     write_counts(&mut out, &outcome.runs)?;
     Ok(out)
+}
+
+/// The line `ok objects COUNT transactions COUNT operations COUNT` of a batch: how much it holds. The
+/// operations of branches and handlers count, too.
+///
+/// `NoMemory` is answered where a growth of memory was refused.
+pub fn render_check(alloc: Global, batch: &Batch) -> Result<String, NoMemory>
+    ensures { IfOk result (λ t. string_bytes t ≡ check_text (length batch.now.objects) (length batch.now.transactions.items) (all_operations (map block_view batch.now.transactions.items))) }
+{
+    let objects = batch.objects.len();
+    let transactions = batch.transactions.len();
+    let operations = batch.operations();
+    let text = format!(in alloc;
+        "ok objects {objects} transactions {transactions} operations {operations}\n"
+    )?;
+    Ok(text)
 }
 
 fn render_parts(

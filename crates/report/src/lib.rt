@@ -8,5 +8,5 @@ mod names;
 mod values;
 mod words;
 
-pub use answer::{render, render_audit, render_plain};
+pub use answer::{render, render_audit, render_check, render_plain};
 pub use batch::{Batch, NoMemory, Outcome, Plain};

@@ -2,6 +2,7 @@
 //! that stand are committed in order of number.
 #![tactic(auto)]
 
+pub mod laws;
 mod openings;
 mod passes;
 mod plan;

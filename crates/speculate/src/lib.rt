@@ -4,6 +4,7 @@
 mod executor;
 mod gate;
 mod labels;
+pub mod laws;
 mod speculated;
 mod transaction;
 

@@ -1,0 +1,119 @@
+-- How many operations the parts of a list have that are left.
+use Rattle.std.proofs.Common.{◌≡◌, ℕ, suc, ◌+◌, ◌<◌, ◌≤◌, List, [], ◌∷◌, length, get_or, drop, map, Option, Some, None, Vec, Global, refl, sym, ap, ◌∙◌, arith, add-one, drop-cons}
+use Rattle.std.proofs.Math.ListN.{drop_of_length-le}
+use Rattle.std.specs.Prelude.{option_map}
+use Rattle.meaning.specs.Trees as meant
+use Rattle.meaning.specs.Trees.{Handlers, Otherwise, GoOn, Pass, for_reasons, handlers_of}
+use Rattle.meaning.specs.Running.{all_operations}
+use Rattle.meaning.specs.WellFormed.{operations, operations_of_step, operations_of_handlers, operations_of_children}
+use Rattle.batch.specs.Counting.{operations_of}
+use Rattle.batch.specs.Views.{block_view, step_view, steps_view, handler_view, subaction_view, children_view}
+use Rattle.batch.specs.declared.tree.Block.{Block}
+use Rattle.batch.specs.declared.tree.Step.{Step}
+use Rattle.batch.specs.declared.tree.Handler.{Handler}
+use Rattle.batch.specs.declared.tree.Subaction.{Subaction, out-Subaction}
+use Rattle.batch.proofs.ViewLemmas.{handler_view-is, subaction_view-body, subaction_view-handlers}
+
+-- one element of a list that is left
+left : {X : Type 0} (xs : List X) (i : ℕ) (x : X) → i < length xs → x ≡ get_or xs i x → drop i xs ≡ x ∷ drop (i + 1) xs
+left xs i x lt e = drop-cons xs i x lt ∙ ap (λ y. y ∷ drop (suc i) xs) (sym e) ∙ rw add-one refl
+
+-- the transactions from the i-th on
+pub rest_of_blocks : ℕ → List Block → ℕ
+rest_of_blocks i blocks = all_operations (map block_view (drop i blocks))
+
+pub rest_of_blocks-start : (blocks : List Block) → rest_of_blocks 0 blocks ≡ all_operations (map block_view blocks)
+unfolding rest_of_blocks
+rest_of_blocks-start blocks = refl
+
+pub rest_of_blocks-more : (i : ℕ) (blocks : List Block) (x : Block) → i < length blocks → x ≡ get_or blocks i x → rest_of_blocks i blocks ≡ operations (block_view x) + rest_of_blocks (i + 1) blocks
+unfolding rest_of_blocks
+rest_of_blocks-more i blocks x lt is = ap (λ bs. all_operations (map block_view bs)) (left blocks i x lt is)
+
+pub rest_of_blocks-end : (i : ℕ) (blocks : List Block) → length blocks ≤ i → rest_of_blocks i blocks ≡ 0
+unfolding rest_of_blocks
+rest_of_blocks-end i blocks le = ap (λ bs. all_operations (map block_view bs)) (drop_of_length-le blocks le)
+
+-- the steps from the i-th on
+pub rest_of_steps : ℕ → List Step → ℕ
+rest_of_steps i steps = operations (steps_view (drop i steps))
+
+pub rest_of_steps-start : (steps : List Step) → rest_of_steps 0 steps ≡ operations (steps_view steps)
+unfolding rest_of_steps
+rest_of_steps-start steps = refl
+
+pub rest_of_steps-more : (i : ℕ) (steps : List Step) (x : Step) → i < length steps → x ≡ get_or steps i x → rest_of_steps i steps ≡ operations_of_step (step_view x) + rest_of_steps (i + 1) steps
+unfolding rest_of_steps
+rest_of_steps-more i steps x lt is = ap (λ ss. operations (steps_view ss)) (left steps i x lt is)
+
+pub rest_of_steps-end : (i : ℕ) (steps : List Step) → length steps ≤ i → rest_of_steps i steps ≡ 0
+unfolding rest_of_steps
+rest_of_steps-end i steps le = ap (λ ss. operations (steps_view ss)) (drop_of_length-le steps le)
+
+-- the children from the i-th on
+pub rest_of_children : ℕ → List Subaction → ℕ
+rest_of_children i children = operations_of_children (children_view (drop i children))
+
+pub rest_of_children-start : (children : List Subaction) → rest_of_children 0 children ≡ operations_of_children (children_view children)
+unfolding rest_of_children
+rest_of_children-start children = refl
+
+pub rest_of_children-more : (i : ℕ) (children : List Subaction) (x : Subaction) → i < length children → x ≡ get_or children i x → rest_of_children i children ≡ operations_of (subaction_view x) + rest_of_children (i + 1) children
+unfolding rest_of_children
+rest_of_children-more i children x lt is = ap (λ cs. operations_of_children (children_view cs)) (left children i x lt is)
+
+pub rest_of_children-end : (i : ℕ) (children : List Subaction) → length children ≤ i → rest_of_children i children ≡ 0
+unfolding rest_of_children
+rest_of_children-end i children le = ap (λ cs. operations_of_children (children_view cs)) (drop_of_length-le children le)
+
+-- the handlers by reason from the i-th on, and then the last one
+abbrev pub last_operations : Option Block → ℕ
+last_operations None = 0
+last_operations (Some block) = operations (block_view block)
+
+pub rest_of_handlers : ℕ → List Handler → ℕ
+rest_of_handlers i handlers = operations_of_handlers (for_reasons (map handler_view (drop i handlers)) Pass)
+
+pub rest_of_handlers-start : (handlers : List Handler) → rest_of_handlers 0 handlers ≡ operations_of_handlers (for_reasons (map handler_view handlers) Pass)
+unfolding rest_of_handlers
+rest_of_handlers-start handlers = refl
+
+pub rest_of_handlers-more : (i : ℕ) (handlers : List Handler) (x : Handler) → i < length handlers → x ≡ get_or handlers i x → rest_of_handlers i handlers ≡ operations (block_view x.block) + rest_of_handlers (i + 1) handlers
+unfolding rest_of_handlers
+rest_of_handlers-more i handlers x lt is =
+    ap (λ hs. operations_of_handlers (for_reasons (map handler_view hs) Pass)) (left handlers i x lt is)
+    ∙ ap (λ h. operations_of_handlers (for_reasons (h ∷ map handler_view (drop (i + 1) handlers)) Pass)) (handler_view-is x)
+
+pub rest_of_handlers-end : (i : ℕ) (handlers : List Handler) → length handlers ≤ i → rest_of_handlers i handlers ≡ 0
+unfolding rest_of_handlers
+rest_of_handlers-end i handlers le = ap (λ hs. operations_of_handlers (for_reasons (map handler_view hs) Pass)) (drop_of_length-le handlers le)
+
+-- handlers by reason, and then others
+before_others : (by_reason : List (ℕ × meant.Block)) (others : Handlers) → operations_of_handlers (for_reasons by_reason others) ≡ operations_of_handlers (for_reasons by_reason Pass) + operations_of_handlers others
+before_others [] others = omega arith
+before_others (first ∷ by_reason) others = let rest = before_others by_reason others in omega (arith, rest)
+
+-- a subaction: its body, its handlers by reason, and the last one
+abbrev pub by_reason_operations : Option (Vec Handler Global) → ℕ
+by_reason_operations None = 0
+by_reason_operations (Some by_reason) = rest_of_handlers 0 by_reason.items
+
+pub all_of : (seen : List Handler) (handlers : Option (Vec Handler Global)) (by_reason : Vec Handler Global) → seen ≡ by_reason.items → handlers ≡ Some by_reason
+    → operations_of_handlers (for_reasons (map handler_view seen) Pass) ≡ by_reason_operations handlers
+unfolding rest_of_handlers
+all_of seen handlers by_reason same is = ap (λ hs. operations_of_handlers (for_reasons (map handler_view hs) Pass)) same ∙ sym (ap by_reason_operations is)
+
+parts-of_handlers : (by_reason : Option (Vec Handler Global)) (last : Option Block)
+    → operations_of_handlers (handlers_of (option_map (λ hs. map handler_view hs.items) by_reason) (option_map block_view last)) ≡ by_reason_operations by_reason + last_operations last
+unfolding rest_of_handlers
+parts-of_handlers None None = refl
+parts-of_handlers None (Some block) = omega arith
+parts-of_handlers (Some by_reason) None = omega arith
+parts-of_handlers (Some by_reason) (Some block) = before_others (map handler_view by_reason.items) (Otherwise (block_view block))
+
+pub operations_of-parts : (child : Subaction) → operations_of (subaction_view child)
+    ≡ operations (block_view (out-Subaction child).body) + by_reason_operations (out-Subaction child).handlers + last_operations (out-Subaction child).handler
+operations_of-parts child =
+    let handlers = ap operations_of_handlers (subaction_view-handlers child) ∙ parts-of_handlers (out-Subaction child).handlers (out-Subaction child).handler in
+    let body = ap operations (subaction_view-body child) in
+    omega (arith, handlers, body)

@@ -1,0 +1,103 @@
+//! How many operations the transactions of a batch have.
+ghost use Rattle.std.specs.Prelude.{◌≡◌, ◌≤◌, map};
+ghost use Rattle.meaning.specs.Running.{all_operations};
+ghost use Rattle.meaning.specs.WellFormed.{operations, operations_of_children, operations_of_handlers, operations_of_step};
+ghost use Rattle.meaning.specs.Trees.{Pass, for_reasons};
+ghost use Rattle.batch.specs.Counting.{operations_of};
+ghost use Rattle.batch.specs.Views.{block_view, children_view, handler_view, step_view, steps_view, subaction_view};
+
+use crate::batch::Batch;
+use crate::tree::{Block, Handler, Step, Subaction};
+
+impl Batch {
+    /// How many operations stand in the transactions, in branches and handlers too, which a run may
+    /// not take: at most 1,000,000.
+    pub fn operations(&self) -> u32
+        ensures { result ≡ all_operations (map block_view self.now.transactions.items) }
+    {
+        let mut count = 0;
+        for block in &self.transactions {
+            count += operations_in(block);
+        }
+        count
+    }
+}
+
+#[cycle(count)]
+fn operations_in(block: &Block) -> u32
+    requires { operations (block_view block.now) ≤ 1_000_000 }
+    ensures { result ≡ operations (block_view block.now) }
+{
+    operations_in_steps(&block.steps)
+}
+
+#[cycle(count)]
+fn operations_in_steps(steps: &[Step]) -> u32
+    requires { operations (steps_view steps.now) ≤ 1_000_000 }
+    ensures { result ≡ operations (steps_view steps.now) }
+{
+    let mut count = 0;
+    for step in steps {
+        count += operations_in_step(step);
+    }
+    count
+}
+
+#[cycle(count)]
+fn operations_in_step(step: &Step) -> u32
+    requires { operations_of_step (step_view step.now) ≤ 1_000_000 }
+    ensures { result ≡ operations_of_step (step_view step.now) }
+{
+    match step {
+        Step::Op { .. } => 1,
+        Step::If {
+            then,
+            otherwise,
+            ..
+        } => operations_in(then) + operations_in(otherwise),
+        Step::Sub(child) => operations_in_subaction(child),
+        Step::Abort(_) => 0,
+        Step::Parallel(children) => operations_in_children(children),
+    }
+}
+
+#[cycle(count)]
+fn operations_in_children(children: &[Subaction]) -> u32
+    requires { operations_of_children (children_view children.now) ≤ 1_000_000 }
+    ensures { result ≡ operations_of_children (children_view children.now) }
+{
+    let mut count = 0;
+    for child in children {
+        count += operations_in_subaction(child);
+    }
+    count
+}
+
+#[cycle(count)]
+fn operations_in_subaction(child: &Subaction) -> u32
+    requires { operations_of (subaction_view child.now) ≤ 1_000_000 }
+    ensures { result ≡ operations_of (subaction_view child.now) }
+{
+    let body = operations_in(&child.body);
+    let by_reason = match &child.handlers {
+        Some(handlers) => operations_in_handlers(handlers),
+        None => 0,
+    };
+    let last = match &child.handler {
+        Some(block) => operations_in(block),
+        None => 0,
+    };
+    body + by_reason + last
+}
+
+#[cycle(count)]
+fn operations_in_handlers(handlers: &[Handler]) -> u32
+    requires { operations_of_handlers (for_reasons (map handler_view handlers.now) Pass) ≤ 1_000_000 }
+    ensures { result ≡ operations_of_handlers (for_reasons (map handler_view handlers.now) Pass) }
+{
+    let mut count = 0;
+    for handler in handlers {
+        count += operations_in(&handler.block);
+    }
+    count
+}
