@@ -1,2 +1,5 @@
 pub mod ViewLemmas
 pub mod SizeLemmas
+pub mod CanRun
+pub mod TakenLemmas
+pub mod Handling
