@@ -1,5 +1,5 @@
 -- Where the parts of a tree can be run, so can theirs.
-use Rattle.std.proofs.Common.{◌≡◌, ℕ, ◌+◌, ◌<◌, ◌≤◌, Bool, List, [], ◌∷◌, ◌++◌, map, length, get_or, sym, ap, subst, ◌∙◌, arith, append_assoc, Vec, Global, zero, suc}
+use Rattle.std.proofs.Common.{◌≡◌, ℕ, ◌+◌, ◌<◌, ◌≤◌, Bool, List, [], ◌∷◌, ◌++◌, map, length, get_or, take, sym, ap, subst, ◌∙◌, arith, append_assoc, Vec, Global, zero, suc}
 use Rattle.std.proofs.lemmas.List.{append-nil, get_or-map}
 use Rattle.std.proofs.lemmas.Option.{slice_get_within, get_or_from_slice_get}
 use Rattle.objects.specs.declared.call.Call.{Call}
@@ -7,18 +7,19 @@ use Rattle.objects.specs.declared.kind.Kind.{Kind}
 use Rattle.meaning.specs.declared.end.End.TheVariants.{Ended}
 use Rattle.meaning.specs.declared.held.Held.{Held}
 use Rattle.meaning.specs.declared.test.Test.{Test}
-use Rattle.meaning.specs.Entries.{State}
+use Rattle.meaning.specs.Entries.{State, kinds}
 use Rattle.meaning.specs.Labels.{holds, holds_of, if_there}
 use Rattle.meaning.specs.Trees as meant
 use Rattle.meaning.specs.Trees.{Handlers, Children, NoStep, Child}
 use Rattle.meaning.specs.OneThread.{outcome_of, labels_of, state_of, one, one_step, one_handler}
-use Rattle.meaning.specs.Batch.{block_at}
+use Rattle.meaning.specs.Batch.{block_at, state_at}
 use Rattle.meaning.specs.WellFormed.{IsWellFormed, AreWellFormed, added_by, operations, operations_of_handlers}
 use Rattle.meaning.specs.Running.{CanPerform, IsBound, Keeps, all_operations}
 use Rattle.meaning.proofs.HeldLabels.{more_labels, step_labels, test}
-use Rattle.meaning.proofs.Keeping.{perform, step_keeps, block_keeps, handlers_keep, act_keeps}
+use Rattle.meaning.proofs.Keeping.{perform, step_keeps, block_keeps, handlers_keep, act_keeps, limit, batch_keeps}
 use Rattle.batch.specs.Views.{Tried, block_view, step_view, subaction_view, children_view}
-use Rattle.batch.specs.Limits.{AllWellFormed}
+use Rattle.batch.specs.Names.{Texts}
+use Rattle.batch.specs.Limits.{AllWellFormed, IsBatch}
 use Rattle.batch.specs.Running.{CanRunHere, CanStepHere, CanHandleHere, CanTryHere, CanRunAllHere, StillSeen, acted}
 use Rattle.batch.specs.declared.tree.Block.{Block}
 use Rattle.batch.specs.declared.tree.Step.{Step, Op, If, Sub, Parallel}
@@ -146,3 +147,22 @@ operations_at (block ∷ blocks) (suc i) = let rest = operations_at blocks i in 
 -- the block at a place, seen as a tree
 pub block_at_view : (blocks : List Block) (i : ℕ) (x : Block) → i < length blocks → x ≡ get_or blocks i x → block_view x ≡ block_at (map block_view blocks) i
 block_at_view blocks i x lt is = ap block_view is ∙ sym (get_or-map block_view blocks i x NoStep lt)
+
+-- a transaction and those before it have no more operations than all
+operations_upto : (blocks : List meant.Block) (i : ℕ) → all_operations (take i blocks) + operations (block_at blocks i) ≤ all_operations blocks
+operations_upto [] zero = omega arith
+operations_upto [] (suc i) = omega arith
+operations_upto (block ∷ blocks) zero = omega arith
+operations_upto (block ∷ blocks) (suc i) = let rest = operations_upto blocks i in omega arith
+
+-- each transaction can be run where those before it led
+pub transaction_can_run : (start : State) (texts : Texts) (blocks : List meant.Block) (i : ℕ) → IsBatch start texts blocks → i < length blocks → CanRunHere (block_at blocks i) [] (state_at start blocks i)
+transaction_can_run start texts blocks i is lt =
+    let keeps = batch_keeps start blocks i (omega arith) in
+    let few = operations_upto blocks i in
+    record {
+      labels = [];
+      held_by = tt;
+      well_formed = subst (IsWellFormed (block_at blocks i) []) (sym keeps.same_kinds) (well_formed_at blocks (kinds start) i is.well_formed lt);
+      room = limit (state_at start blocks i) (all_operations (take i blocks)) (operations (block_at blocks i)) (omega (arith, keeps.growth, is.small)) (omega (arith, is.few_operations));
+    }

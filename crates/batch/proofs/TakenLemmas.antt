@@ -24,7 +24,7 @@ next_step steps i x lt e =
     ap steps_view (drop-cons steps i x lt) ∙ ap (λ y. meant.Steps (step_view y) (steps_view (drop (suc i) steps))) (sym e) ∙ rw add-one refl
 
 -- the record of these steps, and then of others
-pub record_after : List TakenStep → record_tree.Taken → record_tree.Taken
+unfoldable pub record_after : List TakenStep → record_tree.Taken → record_tree.Taken
 record_after [] rest = rest
 record_after (step ∷ steps) rest = Took step (record_after steps rest)
 
@@ -59,7 +59,7 @@ next_child children i x lt e =
     ap children_view (drop-cons children i x lt) ∙ ap (λ y. children_from (subaction_view y) (children_view (drop (suc i) children))) (sym e) ∙ rw add-one refl
 
 -- the records of these children, and then of others
-pub children_after : List TakenChild → TakenChildren → TakenChildren
+unfoldable pub children_after : List TakenChild → TakenChildren → TakenChildren
 children_after [] younger = younger
 children_after (child ∷ children) younger = TakenChildren.Child child (children_after children younger)
 
