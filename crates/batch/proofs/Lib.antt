@@ -1,3 +1,6 @@
 pub mod ViewLemmas
 pub mod SizeLemmas
 pub mod CountLemmas
+pub mod CanRun
+pub mod TakenLemmas
+pub mod Handling

@@ -3,3 +3,5 @@ pub mod Views
 pub mod Limits
 pub mod LimitsProps
 pub mod Counting
+pub mod Running
+pub mod Parts

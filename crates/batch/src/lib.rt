@@ -5,12 +5,16 @@
 mod answer;
 mod batch;
 mod counting;
+mod handlers;
+mod labels;
 mod names;
 mod record;
 mod tree;
 
 pub use answer::{Outcome, Plain};
 pub use batch::Batch;
+pub use handlers::handler_for;
+pub use labels::{add_label, test_holds};
 pub use meaning::{End, Test, Word};
 pub use names::Names;
 pub use objects::{Call, Entry, Item, Kind, NoMemory, Objects, Reply, Value};

@@ -12,5 +12,6 @@ pub use batch::{Batch, Block, Names, Outcome, Plain, Record, Step, Subaction, Ta
 pub use gate::{Gate, NoGate};
 pub use intentions::{Entry, NoMemory, Objects};
 pub use meaning::End;
+pub use one_thread::plain;
 pub use speculated::Run;
 pub use transaction::run;

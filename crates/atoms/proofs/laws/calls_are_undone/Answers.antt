@@ -1,0 +1,20 @@
+use Rattle.atoms.proofs.Undoings.{account_takes_back, counter_takes_back, max_takes_back, set_takes_back, queue_takes_back, directory_takes_back}
+use Rattle.atoms.proofs.laws.calls_are_undone.Goals as goal
+
+pub returns-clause-account : goal.returns-clause-account
+returns-clause-account c = account_takes_back
+
+pub returns-clause-counter : goal.returns-clause-counter
+returns-clause-counter c = counter_takes_back
+
+pub returns-clause-set : goal.returns-clause-set
+returns-clause-set c = set_takes_back
+
+pub returns-clause-queue : goal.returns-clause-queue
+returns-clause-queue c = queue_takes_back
+
+pub returns-clause-directory : goal.returns-clause-directory
+returns-clause-directory c = directory_takes_back
+
+pub returns-clause-max : goal.returns-clause-max
+returns-clause-max c = max_takes_back

@@ -1,0 +1,19 @@
+//! Laws of the six types.
+ghost use Rattle.atoms.specs.Undo.{TakesBack};
+ghost use Rattle.atoms.specs.Changes.{account_undoing, counter_undoing, max_undoing, set_undoing, queue_undoing, directory_undoing};
+ghost use Rattle.atoms.specs.Account.{account};
+ghost use Rattle.atoms.specs.Counter.{counter};
+ghost use Rattle.atoms.specs.ItemSet.{item_set};
+ghost use Rattle.atoms.specs.Queue.{queue};
+ghost use Rattle.atoms.specs.Directory.{directory};
+ghost use Rattle.atoms.specs.MaxRegister.{max_register};
+
+/// Where what a call changed is undone, the value before the call is left.
+pub fn calls_are_undone()
+    ensures account { TakesBack account account_undoing }
+    ensures counter { TakesBack counter counter_undoing }
+    ensures set { TakesBack item_set set_undoing }
+    ensures queue { TakesBack queue queue_undoing }
+    ensures directory { TakesBack directory directory_undoing }
+    ensures max { TakesBack max_register max_undoing }
+{}

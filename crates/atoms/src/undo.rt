@@ -1,0 +1,192 @@
+//! Calls that are taken back: what each changed, and how the value before it is had again.
+ghost use Rattle.std.specs.Prelude.{◌≡◌, Option, OnOk, OnErr};
+ghost use Rattle.atoms.specs.Undo.{Undoing};
+ghost use Rattle.atoms.specs.Changes.{account_undoing, counter_undoing, max_undoing, set_undoing, queue_undoing, directory_undoing};
+
+use crate::{
+    Account, AccountCall, Counter, CounterCall, Directory, DirectoryCall, Item, ItemSet, MaxCall,
+    MaxRegister, Queue, QueueCall, SetCall,
+};
+use serial::{Atom, NoMemory};
+
+/// A type of objects whose calls can be taken back: where what a call changed is undone, the value
+/// before the call is left (`laws::calls_are_undone`).
+pub trait Undo: Atom {
+    /// What a call changed.
+    type Change;
+
+    /// What each call changes at a value, and the value that is left where a change is taken back.
+    ghost undoing: { Undoing Self.Value Self.Call Self.Change };
+
+    /// What the call will change at this value, or none where it will change nothing.
+    fn change(value: &Self::Value, call: &Self::Call) -> Option<Self::Change>
+        ensures { result ≡ undoing.change value.now call.now };
+
+    /// Takes a change back. On `NoMemory` the value is as before.
+    fn undo(value: &mut Self::Value, change: &Self::Change) -> Result<(), NoMemory>
+        ensures ok { OnOk result (value.new ≡ undoing.undone value.old change.now) }
+        ensures err { OnErr result (value.new ≡ value.old) };
+}
+
+/// The item that came into a set or went from it.
+#[derive(Clone, Copy, Debug, PartialEq, Eq)]
+pub enum SetChange {
+    Added(Item),
+    Removed(Item),
+}
+
+/// An item more at a queue's end, or the item that went from its front.
+#[derive(Clone, Copy, Debug, PartialEq, Eq)]
+pub enum QueueChange {
+    Enqueued,
+    Dequeued(Item),
+}
+
+/// A key of a directory, and what it was bound to.
+#[derive(Clone, Copy, Debug, PartialEq, Eq)]
+pub struct DirectoryChange {
+    pub key: Item,
+    pub before: Option<Item>,
+}
+
+impl Undo for Account {
+    /// The number before.
+    type Change = u64;
+
+    ghost undoing = { account_undoing };
+
+    fn change(value: &u64, call: &AccountCall) -> Option<u64> {
+        match call {
+            AccountCall::Deposit(_) => Some(*value),
+            AccountCall::Withdraw(amount) if amount.get() <= *value => Some(*value),
+            _ => None,
+        }
+    }
+
+    fn undo(value: &mut u64, change: &u64) -> Result<(), NoMemory> {
+        *value = *change;
+        Ok(())
+    }
+}
+
+impl Undo for Counter {
+    /// The number before.
+    type Change = i64;
+
+    ghost undoing = { counter_undoing };
+
+    fn change(value: &i64, call: &CounterCall) -> Option<i64> {
+        match call {
+            CounterCall::Add(_) | CounterCall::Sub(_) => Some(*value),
+            CounterCall::Read => None,
+        }
+    }
+
+    fn undo(value: &mut i64, change: &i64) -> Result<(), NoMemory> {
+        *value = *change;
+        Ok(())
+    }
+}
+
+impl Undo for MaxRegister {
+    /// The number before.
+    type Change = u64;
+
+    ghost undoing = { max_undoing };
+
+    fn change(value: &u64, call: &MaxCall) -> Option<u64> {
+        match call {
+            MaxCall::Raise(amount) if amount.get() > *value => Some(*value),
+            _ => None,
+        }
+    }
+
+    fn undo(value: &mut u64, change: &u64) -> Result<(), NoMemory> {
+        *value = *change;
+        Ok(())
+    }
+}
+
+impl Undo for ItemSet {
+    type Change = SetChange;
+
+    ghost undoing = { set_undoing };
+
+    fn change(value: &ItemSet, call: &SetCall) -> Option<SetChange> {
+        match call {
+            SetCall::Insert(item) if !value.contains(*item) => Some(SetChange::Added(*item)),
+            SetCall::Remove(item) if value.contains(*item) => Some(SetChange::Removed(*item)),
+            _ => None,
+        }
+    }
+
+    fn undo(value: &mut ItemSet, change: &SetChange) -> Result<(), NoMemory> {
+        match change {
+            SetChange::Added(item) => {
+                value.remove(*item);
+            }
+            SetChange::Removed(item) => {
+                value.insert(*item)?;
+            }
+        }
+        Ok(())
+    }
+}
+
+impl Undo for Queue {
+    type Change = QueueChange;
+
+    ghost undoing = { queue_undoing };
+
+    fn change(value: &Queue, call: &QueueCall) -> Option<QueueChange> {
+        match call {
+            QueueCall::Enq(_) => Some(QueueChange::Enqueued),
+            QueueCall::Deq => match value.front() {
+                Some(item) => Some(QueueChange::Dequeued(item)),
+                None => None,
+            },
+            QueueCall::Length => None,
+        }
+    }
+
+    fn undo(value: &mut Queue, change: &QueueChange) -> Result<(), NoMemory> {
+        match change {
+            QueueChange::Enqueued => value.drop_back(),
+            QueueChange::Dequeued(item) => value.push_front(*item)?,
+        }
+        Ok(())
+    }
+}
+
+impl Undo for Directory {
+    type Change = DirectoryChange;
+
+    ghost undoing = { directory_undoing };
+
+    fn change(value: &Directory, call: &DirectoryCall) -> Option<DirectoryChange> {
+        let (key, changes) = match call {
+            DirectoryCall::Bind(key, _) => (*key, value.get(*key).is_none()),
+            DirectoryCall::Put(key, _) => (*key, true),
+            DirectoryCall::Unbind(key) => (*key, value.get(*key).is_some()),
+            DirectoryCall::Lookup(key) => (*key, false),
+        };
+        if changes {
+            Some(DirectoryChange {
+                key,
+                before: value.get(key),
+            })
+        } else {
+            None
+        }
+    }
+
+    fn undo(value: &mut Directory, change: &DirectoryChange) -> Result<(), NoMemory> {
+        match change.before {
+            Some(bound) => value.put(change.key, bound)?,
+            None => {
+                value.unbind(change.key);
+            }
+        }
+        Ok(())
+    }
+}

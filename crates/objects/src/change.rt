@@ -1,0 +1,65 @@
+//! What calls change at values of any kind.
+ghost use Rattle.std.specs.Prelude.{◌≡◌, OnOk, OnErr};
+ghost use Rattle.objects.specs.Changes.{value_change, value_undone};
+
+use crate::{Call, Value};
+use atoms::{
+    Account, Counter, Directory, DirectoryChange, ItemSet, MaxRegister, Queue, QueueChange,
+    SetChange, Undo,
+};
+use serial::NoMemory;
+
+/// What a call changed at a value: of a number, the number before.
+#[derive(Clone, Copy, Debug, PartialEq, Eq)]
+pub enum Change {
+    Account(u64),
+    Counter(i64),
+    Set(SetChange),
+    Queue(QueueChange),
+    Directory(DirectoryChange),
+    Max(u64),
+}
+
+impl Value {
+    /// What the call will change, or none where it will change nothing or is of another kind.
+    pub fn change(&self, call: &Call) -> Option<Change>
+        ensures { result ≡ value_change self.now call.now }
+    {
+        match (self, call) {
+            (Value::Account(value), Call::Account(call)) => {
+                Some(Change::Account(Account::change(value, call)?))
+            }
+            (Value::Counter(value), Call::Counter(call)) => {
+                Some(Change::Counter(Counter::change(value, call)?))
+            }
+            (Value::Set(value), Call::Set(call)) => Some(Change::Set(ItemSet::change(value, call)?)),
+            (Value::Queue(value), Call::Queue(call)) => {
+                Some(Change::Queue(Queue::change(value, call)?))
+            }
+            (Value::Directory(value), Call::Directory(call)) => {
+                Some(Change::Directory(Directory::change(value, call)?))
+            }
+            (Value::Max(value), Call::Max(call)) => {
+                Some(Change::Max(MaxRegister::change(value, call)?))
+            }
+            _ => None,
+        }
+    }
+
+    /// Takes a change back; one of another kind leaves the value. On `NoMemory` the value is as
+    /// before.
+    pub fn undo(&mut self, change: &Change) -> Result<(), NoMemory>
+        ensures ok { OnOk result (self.new ≡ value_undone self.old change.now) }
+        ensures err { OnErr result (self.new ≡ self.old) }
+    {
+        match (self, change) {
+            (Value::Account(value), Change::Account(before)) => Account::undo(value, before),
+            (Value::Counter(value), Change::Counter(before)) => Counter::undo(value, before),
+            (Value::Set(value), Change::Set(change)) => ItemSet::undo(value, change),
+            (Value::Queue(value), Change::Queue(change)) => Queue::undo(value, change),
+            (Value::Directory(value), Change::Directory(change)) => Directory::undo(value, change),
+            (Value::Max(value), Change::Max(before)) => MaxRegister::undo(value, before),
+            _ => Ok(()),
+        }
+    }
+}
