@@ -1,7 +1,8 @@
--- The report of a document, and its fault.
-use Rattle.std.specs.Prelude.{◌≡◌, ℕ, ◌≤◌, List, length, Ok, Err}
-use Rattle.meaning.specs.Rounds.{Rounds}
-use Rattle.meaning.specs.Texts.{report}
+-- What is written for a document, and its fault.
+use Rattle.std.specs.Prelude.{◌≡◌, ℕ, ◌<◌, ◌≤◌, List, length, slice_index_or, Ok, Err}
+use Rattle.meaning.specs.Rounds.{Rounds, Count}
+use Rattle.meaning.specs.Running.{all_operations}
+use Rattle.meaning.specs.Texts.{report, plain_report, audit_report, check_text}
 use Rattle.batch.specs.Names.{names_of}
 use Rattle.lang.specs.Reading.{Document, reading}
 use Rattle.lang.specs.declared.fault.Fault.{Fault}
@@ -15,6 +16,30 @@ pub record IsReportOf (bytes text : List ℕ) : Type 0 where
   pub counted : Rounds document.start document.transactions rounds
   pub few : rounds ≤ length document.transactions
   pub is : text ≡ report (names_of document.texts) document.start document.transactions rounds
+
+-- So is the text, and behind it stands how often each transaction is run, as it is defined.
+pub record IsAuditOf (bytes text : List ℕ) : Type 0 where
+  pub document : Document
+  pub reads : reading bytes ≡ Ok document
+  pub rounds : ℕ
+  pub counted : Rounds document.start document.transactions rounds
+  pub few : rounds ≤ length document.transactions
+  pub counts : List ℕ
+  pub all : length counts ≡ length document.transactions
+  pub each : (i : ℕ) → i < length document.transactions → Count document.start document.transactions i (slice_index_or counts i 0)
+  pub is : text ≡ audit_report (names_of document.texts) document.start document.transactions rounds counts
+
+-- The bytes spell a document, and the text is that report without its rounds.
+pub record IsPlainReportOf (bytes text : List ℕ) : Type 0 where
+  pub document : Document
+  pub reads : reading bytes ≡ Ok document
+  pub is : text ≡ plain_report (names_of document.texts) document.start document.transactions
+
+-- The bytes spell a document, and the text says how many objects, transactions and operations it has.
+pub record IsCheckOf (bytes text : List ℕ) : Type 0 where
+  pub document : Document
+  pub reads : reading bytes ≡ Ok document
+  pub is : text ≡ check_text (length document.start) (length document.transactions) (all_operations document.transactions)
 
 -- the first fault of what the bytes spell
 abbrev pub IsFaultOf : List ℕ → Fault → Type 0

@@ -1,12 +1,12 @@
 //! The command line.
-ghost use Rattle.std.specs.Prelude.{◌≡◌, map, option_map, IfOk, IfSome, IsErr, false, string_bytes};
-ghost use Rattle.clap.specs.Words.{app_of, first_of, found_of, rows_of};
+ghost use Rattle.std.specs.Prelude.{◌≡◌, ◌↔◌, Some, None, codes, map, option_map, IfOk, IfSome, IsErr, IsTrue, false, string_bytes};
+ghost use Rattle.clap.specs.Words.{app_of, first_of, found_of, new_app, one_of, rows_of, rule_of};
 ghost use Rattle.clap.specs.declared.builder.command.Command.TheViews.{out-Command};
-ghost use Rattle.ordtx.specs.CommandLine.{HoldsLine, IsLineOf, command_name, file_app, ordtx_app};
+ghost use Rattle.ordtx.specs.CommandLine.{HoldsLine, HoldsNumber, IsLineOf, audit_rule, command_name, file_app, file_rule, number_rule, ordtx_app, run_app};
 
 use crate::asked::{Command, Line, Refused};
 use clap::error::ErrorKind;
-use clap::{Arg, ArgMatches};
+use clap::{Arg, ArgAction, ArgMatches, value_parser};
 use rounds::Plan;
 use std::alloc::{AllocError, Global};
 
@@ -16,10 +16,34 @@ const DEFAULT_WORKERS: u32 = 4;
 /// How many transactions a piece of their work has where the words don't say.
 const DEFAULT_CUT: u32 = 16;
 
+const ABOUT: &str = "Runs numbered transactions over typed objects on several threads, with the \
+answer of running them by number on one";
+
+const HELP: &str =
+    "The document is JSON: objects (account, counter, set, queue, directory, max), and
+transactions, which are lists of steps. Two deposits on an account of 100:
+
+  {\"ordtx\":1,
+   \"objects\":[{\"name\":\"a\",\"kind\":\"account\",\"start\":100}],
+   \"transactions\":[[{\"op\":[\"a\",\"deposit\",10]}],[{\"op\":[\"a\",\"deposit\",20]}]]}
+
+Their report, by `ordtx run FILE`:
+
+  T 1 committed
+  O 1.1 a deposit 10 = ok
+  T 2 committed
+  O 2.1 a deposit 20 = ok
+  = a account 130
+  rounds 1
+
+Exit status: 0 where all was written; 1 for a fault, with the line `fault NUMBER
+transaction NUMBER` on standard error; 2 where the command line is refused.";
+
 /// What the words ask for, of which the first is the program's name, as `clap` reads them.
 ///
 /// `Refused::Memory` is answered where a growth of memory was refused, `Help` where help or the
-/// version was asked for, and `Words` for every other refusal, with what is to be printed.
+/// version was asked for, and `Words` for every other refusal, with what is to be printed: no
+/// command, one that there is not, or a number of workers or a cut that is out of range.
 pub fn line<'a>(alloc: Global, words: &'a [&'a str]) -> Result<Line, Refused>
     ensures { IfOk result (IsLineOf (map (λ word. word.now) words.entry.now)) }
 {
@@ -40,13 +64,19 @@ fn line_of(alloc: Global, name: &str, held: &ArgMatches<'_>) -> Result<Line, Ref
         return refuse(alloc, "there is no such command");
     };
     let file = held_text(alloc, held, "file")?;
-    let Some(plan) = Plan::new(DEFAULT_WORKERS, DEFAULT_CUT) else {
-        unreachable!()
+    let workers = held_number(held, "workers", DEFAULT_WORKERS);
+    let cut = held_number(held, "cut", DEFAULT_CUT);
+    let (Some(workers), Some(cut)) = (workers, cut) else {
+        return refuse(alloc, "--workers and --cut take a number");
+    };
+    let Some(plan) = Plan::new(workers, cut) else {
+        return refuse(alloc, "--workers takes 1 to 64, and --cut 1 to 1000");
     };
     Ok(Line {
         command,
         file,
         plan,
+        audit: is_held(held, "audit"),
     })
 }
 
@@ -55,6 +85,8 @@ fn command_named(name: &str) -> Option<Command>
 {
     match name {
         "run" => Some(Command::Run),
+        "serial" => Some(Command::Serial),
+        "check" => Some(Command::Check),
         _ => None,
     }
 }
@@ -65,6 +97,27 @@ fn held_text(alloc: Global, held: &ArgMatches<'_>, id: &str) -> Result<Option<St
     match held.get_str(id) {
         Some(text) => Ok(Some(String::from_str(alloc, text)?)),
         None => Ok(None),
+    }
+}
+
+// The number that is held, or the default where there is none; None where no number is held.
+fn held_number(held: &ArgMatches<'_>, id: &str, default: u32) -> Option<u32>
+    ensures { IfSome result (HoldsNumber (one_of id.now (rows_of (found_of held.now))) default) }
+{
+    match held.try_get_one::<u32>(id) {
+        Ok(Some(number)) => Some(number),
+        Ok(None) => Some(default),
+        Err(_) => None,
+    }
+}
+
+// Whether a flag is held as given.
+fn is_held(held: &ArgMatches<'_>, id: &str) -> bool
+    ensures { IsTrue result ↔ first_of id.now (rows_of (found_of held.now)) ≡ Some (codes "true") }
+{
+    match held.get_str(id) {
+        Some(text) => text == "true",
+        None => false,
     }
 }
 
@@ -93,16 +146,55 @@ fn refusal(alloc: Global, error: &clap::Error) -> Refused {
 fn ordtx_command<'a>(alloc: Global) -> Result<clap::Command<'a>, AllocError>
     ensures { IfOk result (λ command. app_of command ≡ ordtx_app) }
 {
-    let run = file_command(
+    let run = run_command(alloc)?;
+    let serial = file_command(
         alloc,
-        "run",
-        "Runs the transactions of a document, and prints the report",
+        "serial",
+        "Runs the transactions by number on one thread, and prints the report without the rounds",
+    )?;
+    let check = file_command(
+        alloc,
+        "check",
+        "Reads a document, and prints how many objects, transactions and operations it has",
     )?;
     clap::Command::new(alloc, "ordtx")
-        .about("Runs numbered transactions with the answer of running them by number on one thread")
+        .about(ABOUT)
+        .after_help(HELP)
         .version("0.1.0")
         .subcommand_required(true)
-        .subcommand(run)
+        .subcommand(run)?
+        .subcommand(serial)?
+        .subcommand(check)
+}
+
+fn run_command<'a>(alloc: Global) -> Result<clap::Command<'a>, AllocError>
+    ensures app { IfOk result (λ command. app_of command ≡ run_app) }
+    ensures local { IfOk result (λ command. (out-Command command).has_globals ≡ false) }
+{
+    let workers = number_argument(
+        alloc,
+        "workers",
+        "N",
+        "How many workers there are, 1 to 64 [default: 4]",
+    );
+    let cut = number_argument(
+        alloc,
+        "cut",
+        "K",
+        "How many transactions a worker takes at a time at most, 1 to 1000 [default: 16]",
+    );
+    let audit = Arg::new(alloc, "audit")
+        .long("audit")
+        .action(ArgAction::SetTrue)
+        .help("Print also how often each transaction was run");
+    file_command(
+        alloc,
+        "run",
+        "Runs the transactions of a document on workers, and prints the report",
+    )?
+    .arg(workers)?
+    .arg(cut)?
+    .arg(audit)
 }
 
 // A command that takes a file.
@@ -118,4 +210,15 @@ fn file_command<'a>(
         .value_name("FILE")
         .help("The document; standard input where no file is given");
     clap::Command::new(alloc, name).about(about).arg(file)
+}
+
+fn number_argument<'a>(alloc: Global, name: &'a str, value: &'a str, help: &'a str) -> Arg<'a>
+    ensures rule { rule_of result ≡ number_rule name.entry.now }
+    ensures local { result.global ≡ false }
+{
+    Arg::new(alloc, name)
+        .long(name)
+        .value_name(value)
+        .value_parser(value_parser!(u32))
+        .help(help)
 }

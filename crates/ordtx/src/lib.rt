@@ -10,6 +10,7 @@ mod output;
 mod sink;
 mod source;
 mod streams;
+mod texts;
 
 pub use asked::{Command, Line, Refused};
 pub use command_line::line;
@@ -20,7 +21,7 @@ pub use rounds::Plan;
 pub use sink::Sink;
 pub use source::{Failed, Source};
 pub use speculate::{Gate, NoGate};
-pub use streams::run_stream;
+pub use streams::{audit_stream, check_stream, run_stream, serial_stream};
 
 #[cfg(test)]
 mod tests;

@@ -1,16 +1,16 @@
 //! Whole calls, from a source to a sink.
 ghost use Rattle.std.specs.Prelude.{◌≡◌, ◌≢◌, ◌↔◌, true, false, Err, OnOk, IfErr, IfOk, ◌≤◌, string_bytes};
-ghost use Rattle.lang.specs.Faults.{input_fault, memory_fault, number_of, output_fault};
-ghost use Rattle.ordtx.specs.Answers.{IsFaultOf, IsReportOf};
+ghost use Rattle.lang.specs.Faults.{input_fault, memory_fault, output_fault};
+ghost use Rattle.ordtx.specs.Answers.{IsAuditOf, IsCheckOf, IsFaultOf, IsPlainReportOf, IsReportOf};
 ghost use Rattle.ordtx.specs.Streams.{IsRead, WritesAnswer, WritesBeginning, ReadsFault};
 
 use crate::input::read_input;
 use crate::output::write_text;
 use crate::sink::Sink;
 use crate::source::Source;
-use lang::{Fault, read};
-use report::render;
-use rounds::{Plan, execute};
+use crate::texts::{audit_of, check_of, plain_report_of, report_of};
+use lang::Fault;
+use rounds::Plan;
 use speculate::Gate;
 use std::alloc::Global;
 use std::thread::Threads;
@@ -42,7 +42,7 @@ pub fn run_stream<T: Threads + Sync, R: Source, W: Sink, G: Gate>(
     ensures output { W.has_failed sink.new ≡ true ↔ result ≡ Err output_fault }
     // After any fault but that of the output nothing was written.
     ensures untouched { IfErr result (λ fault. fault ≢ output_fault → sink.new ≡ sink.old) }
-    // After that of the output a beginning of the answer was written.
+    // After that of the output a beginning of it was written.
     ensures beginning { result ≡ Err output_fault
         → WritesBeginning IsReportOf (R.remaining source.old) (W.taken sink.old) (W.taken sink.new) }
 {
@@ -51,20 +51,97 @@ pub fn run_stream<T: Threads + Sync, R: Source, W: Sink, G: Gate>(
     write_text(sink, text.as_bytes())
 }
 
-// The report of a document.
-fn report_of<T: Threads + Sync, G: Gate>(
+/// Does as [`run_stream`], and writes behind the report how often each transaction was run.
+///
+/// The faults are those of [`run_stream`].
+pub fn audit_stream<T: Threads + Sync, R: Source, W: Sink, G: Gate>(
     threads: &T,
     alloc: Global,
-    document: &[u8],
+    source: &mut R,
+    sink: &mut W,
     plan: Plan,
     gate: &G,
-) -> Result<String, Fault>
-    ensures report { IfOk result (λ text. IsReportOf document.now (string_bytes text)) }
-    ensures fault { IfErr result (λ fault. fault ≢ memory_fault → IsFaultOf document.now fault) }
-    ensures code { IfErr result (λ fault. number_of fault.code ≤ 20) }
+) -> Result<(), Fault>
+    requires unread { R.has_failed source.old ≡ false }
+    requires unwritten { W.has_failed sink.old ≡ false }
+    // All bytes are read, but at most 67,108,865.
+    ensures read { OnOk result (IsRead (R.remaining source.old) (R.remaining source.new)) }
+    // Exactly the report with the run counts of what was read was written.
+    ensures written { OnOk result (WritesAnswer IsAuditOf (R.remaining source.old) (W.taken sink.old) (W.taken sink.new)) }
+    // A fault of the document is that of what was read.
+    ensures fault { IfErr result (λ fault. fault ≢ memory_fault → fault ≢ input_fault → fault ≢ output_fault
+        → ReadsFault IsFaultOf (R.remaining source.old) fault) }
+    ensures input { R.has_failed source.new ≡ true ↔ result ≡ Err input_fault }
+    ensures output { W.has_failed sink.new ≡ true ↔ result ≡ Err output_fault }
+    // After any fault but that of the output nothing was written.
+    ensures untouched { IfErr result (λ fault. fault ≢ output_fault → sink.new ≡ sink.old) }
+    // After that of the output a beginning of it was written.
+    ensures beginning { result ≡ Err output_fault
+        → WritesBeginning IsAuditOf (R.remaining source.old) (W.taken sink.old) (W.taken sink.new) }
 {
-    let batch = read(alloc, document)?;
-    let outcome = execute(threads, alloc, &batch, plan, gate)?;
-    let text = render(alloc, &batch, &outcome)?;
-    Ok(text)
+    let document = read_input(alloc, source)?;
+    let text = audit_of(threads, alloc, document.as_slice(), plan, gate)?;
+    write_text(sink, text.as_bytes())
+}
+
+/// Reads a document from the source, runs its transactions by number on one thread, and writes the
+/// report without the number of rounds to the sink.
+///
+/// The faults are those of [`run_stream`].
+pub fn serial_stream<R: Source, W: Sink>(
+    alloc: Global,
+    source: &mut R,
+    sink: &mut W,
+) -> Result<(), Fault>
+    requires unread { R.has_failed source.old ≡ false }
+    requires unwritten { W.has_failed sink.old ≡ false }
+    // All bytes are read, but at most 67,108,865.
+    ensures read { OnOk result (IsRead (R.remaining source.old) (R.remaining source.new)) }
+    // Exactly the report of one thread of what was read was written.
+    ensures written { OnOk result (WritesAnswer IsPlainReportOf (R.remaining source.old) (W.taken sink.old) (W.taken sink.new)) }
+    // A fault of the document is that of what was read.
+    ensures fault { IfErr result (λ fault. fault ≢ memory_fault → fault ≢ input_fault → fault ≢ output_fault
+        → ReadsFault IsFaultOf (R.remaining source.old) fault) }
+    ensures input { R.has_failed source.new ≡ true ↔ result ≡ Err input_fault }
+    ensures output { W.has_failed sink.new ≡ true ↔ result ≡ Err output_fault }
+    // After any fault but that of the output nothing was written.
+    ensures untouched { IfErr result (λ fault. fault ≢ output_fault → sink.new ≡ sink.old) }
+    // After that of the output a beginning of it was written.
+    ensures beginning { result ≡ Err output_fault
+        → WritesBeginning IsPlainReportOf (R.remaining source.old) (W.taken sink.old) (W.taken sink.new) }
+{
+    let document = read_input(alloc, source)?;
+    let text = plain_report_of(alloc, document.as_slice())?;
+    write_text(sink, text.as_bytes())
+}
+
+/// Reads a document from the source, and writes how many objects, transactions and operations it has
+/// to the sink. Nothing is run.
+///
+/// The faults are those of [`run_stream`].
+pub fn check_stream<R: Source, W: Sink>(
+    alloc: Global,
+    source: &mut R,
+    sink: &mut W,
+) -> Result<(), Fault>
+    requires unread { R.has_failed source.old ≡ false }
+    requires unwritten { W.has_failed sink.old ≡ false }
+    // All bytes are read, but at most 67,108,865.
+    ensures read { OnOk result (IsRead (R.remaining source.old) (R.remaining source.new)) }
+    // Exactly the line of counts of what was read was written.
+    ensures written { OnOk result (WritesAnswer IsCheckOf (R.remaining source.old) (W.taken sink.old) (W.taken sink.new)) }
+    // A fault of the document is that of what was read.
+    ensures fault { IfErr result (λ fault. fault ≢ memory_fault → fault ≢ input_fault → fault ≢ output_fault
+        → ReadsFault IsFaultOf (R.remaining source.old) fault) }
+    ensures input { R.has_failed source.new ≡ true ↔ result ≡ Err input_fault }
+    ensures output { W.has_failed sink.new ≡ true ↔ result ≡ Err output_fault }
+    // After any fault but that of the output nothing was written.
+    ensures untouched { IfErr result (λ fault. fault ≢ output_fault → sink.new ≡ sink.old) }
+    // After that of the output a beginning of it was written.
+    ensures beginning { result ≡ Err output_fault
+        → WritesBeginning IsCheckOf (R.remaining source.old) (W.taken sink.old) (W.taken sink.new) }
+{
+    let document = read_input(alloc, source)?;
+    let text = check_of(alloc, document.as_slice())?;
+    write_text(sink, text.as_bytes())
 }

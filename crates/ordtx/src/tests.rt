@@ -1,7 +1,7 @@
 //! Streams that give and take a few bytes a call, and that fail; whole batches; the command line.
 use crate::{
-    Code, Command, Marked, NoGate, Plan, Refused, Sink, Source, TestSink, TestSource, line,
-    run_stream,
+    Code, Command, Marked, NoGate, Plan, Refused, Sink, Source, TestSink, TestSource, audit_stream,
+    check_stream, line, run_stream, serial_stream,
 };
 use std::test::Fail;
 
@@ -10,6 +10,14 @@ const DOCUMENT: &[u8] =
 
 const REPORT: &[u8] =
     b"T 1 committed\nO 1.1 a withdraw 10 = ok\nT 2 committed\nO 2.1 a withdraw 95 = no\n= a account 90\nrounds 2\n";
+
+// What `run` writes for the same transactions with their run counts, `serial`, and `check`.
+const COUNTS: &[u8] = b"runs 1 1\nruns 2 2\n";
+
+const PLAIN: &[u8] =
+    b"T 1 committed\nO 1.1 a withdraw 10 = ok\nT 2 committed\nO 2.1 a withdraw 95 = no\n= a account 90\n";
+
+const HELD: &[u8] = b"ok objects 1 transactions 2 operations 2\n";
 
 const ALWAYS: usize = usize::MAX;
 
@@ -23,6 +31,27 @@ fn moves_a_byte_a_call(rt: HostRuntime) -> Result<(), Fail> {
     let mut sink = TestSink::new(Vec::with_capacity(rt.alloc(), 200)?, 1, ALWAYS);
     assert!(rt; run_stream(&rt, rt.alloc(), &mut source, &mut sink, plan()?, &NoGate).is_ok());
     assert!(rt; sink.taken() == REPORT);
+    Ok(())
+}
+
+#[test]
+fn writes_run_counts(rt: HostRuntime) -> Result<(), Fail> {
+    let mut source = Marked::new(DOCUMENT);
+    let mut sink = TestSink::new(Vec::with_capacity(rt.alloc(), 200)?, 9, ALWAYS);
+    assert!(rt; audit_stream(&rt, rt.alloc(), &mut source, &mut sink, plan()?, &NoGate).is_ok());
+    assert!(rt; sink.taken().starts_with(REPORT) && sink.taken().ends_with(COUNTS));
+    assert_eq!(rt; sink.taken().len(), REPORT.len() + COUNTS.len());
+    Ok(())
+}
+
+#[test]
+fn answers_on_one_thread(rt: HostRuntime) -> Result<(), Fail> {
+    let mut sink = TestSink::new(Vec::with_capacity(rt.alloc(), 200)?, ALWAYS, ALWAYS);
+    assert!(rt; serial_stream(rt.alloc(), &mut Marked::new(DOCUMENT), &mut sink).is_ok());
+    assert!(rt; sink.taken() == PLAIN);
+    let mut sink = TestSink::new(Vec::with_capacity(rt.alloc(), 200)?, ALWAYS, ALWAYS);
+    assert!(rt; check_stream(rt.alloc(), &mut Marked::new(DOCUMENT), &mut sink).is_ok());
+    assert!(rt; sink.taken() == HELD);
     Ok(())
 }
 
@@ -83,21 +112,33 @@ fn takes_no_byte(rt: HostRuntime) -> Result<(), Fail> {
 #[test]
 fn reads_lines(rt: HostRuntime) -> Result<(), Fail> {
     let given = line(rt.alloc(), &["ordtx", "run", "f"])?;
-    assert!(rt; given.command == Command::Run);
+    assert!(rt; given.command == Command::Run && !given.audit);
     assert!(rt; given.file.as_ref().map(|file| file.as_str()) == Some("f"));
-    let given = line(rt.alloc(), &["ordtx", "run"])?;
-    assert!(rt; given.command == Command::Run && given.file.is_none());
     assert!(rt; given.plan == plan()?);
+    let given = line(rt.alloc(), &["ordtx", "serial"])?;
+    assert!(rt; given.command == Command::Serial && given.file.is_none());
+    let given = line(rt.alloc(), &["ordtx", "check", "f"])?;
+    assert!(rt; given.command == Command::Check);
+    let words = ["ordtx", "run", "f", "--workers", "64", "--cut", "1000"];
+    let given = line(rt.alloc(), &words)?;
+    assert!(rt; given.plan.workers == 64 && given.plan.cut == 1000);
+    assert!(rt; line(rt.alloc(), &["ordtx", "run", "--audit"])?.audit);
     Ok(())
 }
 
 #[test]
 fn refuses_lines(rt: HostRuntime) {
-    let refused: [&[&str]; 4] = [
+    let refused: [&[&str]; 10] = [
         &["ordtx"],
-        &["ordtx", "serial"],
-        &["ordtx", "run", "--workers", "4"],
+        &["ordtx", "go"],
+        &["ordtx", "serial", "--workers", "4"],
+        &["ordtx", "check", "--audit"],
         &["ordtx", "run", "f", "g"],
+        &["ordtx", "run", "--workers", "0"],
+        &["ordtx", "run", "--workers", "65"],
+        &["ordtx", "run", "--cut", "1001"],
+        &["ordtx", "run", "--cut", "x"],
+        &["ordtx", "run", "--cut", "1", "--cut", "1"],
     ];
     for words in refused {
         assert!(rt; matches!(line(rt.alloc(), words), Err(Refused::Words(_))));

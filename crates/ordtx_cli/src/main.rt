@@ -1,4 +1,5 @@
-//! `ordtx run [FILE]`: the report of a document, from a file or standard input to standard output.
+//! `ordtx run`, `ordtx serial` and `ordtx check`: a document from a file or standard input, and what
+//! answers it to standard output.
 #![tactic(auto)]
 
 mod program;

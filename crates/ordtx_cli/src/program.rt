@@ -1,7 +1,10 @@
 // What the program does with its words, and how it ends.
 ghost use Rattle.std.specs.Prelude.{◌≡◌, false};
 
-use ordtx::{Code, Command, Fault, Line, Marked, NoGate, Refused, Source, line, run_stream};
+use ordtx::{
+    Code, Command, Fault, Line, Marked, NoGate, Refused, Source, audit_stream, check_stream, line,
+    run_stream, serial_stream,
+};
 use std::alloc::{AllocError, Global};
 use std::fs::File;
 use std::io::ErrorKind;
@@ -65,9 +68,15 @@ fn answer_source<T: Threads + Sync, R: Source>(
 ) -> Result<(), Fault>
     requires { R.has_failed source.old ≡ false }
 {
+    let alloc = rt.alloc();
     let mut sink = Marked::new(rt.stdout());
     match line.command {
-        Command::Run => run_stream(threads, rt.alloc(), source, &mut sink, line.plan, &NoGate),
+        Command::Run if line.audit => {
+            audit_stream(threads, alloc, source, &mut sink, line.plan, &NoGate)
+        }
+        Command::Run => run_stream(threads, alloc, source, &mut sink, line.plan, &NoGate),
+        Command::Serial => serial_stream(alloc, source, &mut sink),
+        Command::Check => check_stream(alloc, source, &mut sink),
     }
 }
 

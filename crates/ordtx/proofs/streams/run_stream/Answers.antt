@@ -1,6 +1,5 @@
-use Rattle.std.proofs.Common.{◌≡◌, rules}
+use Rattle.std.proofs.Common.{rules}
 use Rattle.std.proofs.lemmas.Result.{IfOk-weaker}
-use Rattle.std.specs.Prelude.{OnErr}
 use Rattle.ordtx.specs.Answers.{IsReportOf}
 use Rattle.ordtx.proofs.Known.{writes_answer, writes_beginning}
 use Rattle.ordtx.proofs.streams.run_stream.Goals as goal

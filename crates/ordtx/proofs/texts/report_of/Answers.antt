@@ -3,7 +3,7 @@ use Rattle.lang.specs.Faults.{memory_fault, number_of}
 use Rattle.lang.proofs.Checks.{passed_on}
 use Rattle.ordtx.specs.Answers.{IsFaultOf}
 use Rattle.ordtx.proofs.Answering.{few_objects}
-use Rattle.ordtx.proofs.streams.report_of.Goals as goal
+use Rattle.ordtx.proofs.texts.report_of.Goals as goal
 
 pub returns-in_err-text-clause-fault : goal.returns-in_err-text-clause-fault
 returns-in_err-text-clause-fault g c =

@@ -1,0 +1,70 @@
+//! The texts that answer a document.
+ghost use Rattle.std.specs.Prelude.{◌≡◌, ◌≢◌, ◌≤◌, IfErr, IfOk, string_bytes};
+ghost use Rattle.lang.specs.Faults.{memory_fault, number_of};
+ghost use Rattle.ordtx.specs.Answers.{IsAuditOf, IsCheckOf, IsFaultOf, IsPlainReportOf, IsReportOf};
+
+use lang::{Fault, read};
+use report::{render, render_audit, render_check, render_plain};
+use rounds::{Plan, execute};
+use speculate::{Gate, plain};
+use std::alloc::Global;
+use std::thread::Threads;
+
+// The report of a document.
+pub(crate) fn report_of<T: Threads + Sync, G: Gate>(
+    threads: &T,
+    alloc: Global,
+    document: &[u8],
+    plan: Plan,
+    gate: &G,
+) -> Result<String, Fault>
+    ensures text { IfOk result (λ text. IsReportOf document.now (string_bytes text)) }
+    ensures fault { IfErr result (λ fault. fault ≢ memory_fault → IsFaultOf document.now fault) }
+    ensures code { IfErr result (λ fault. number_of fault.code ≤ 20) }
+{
+    let batch = read(alloc, document)?;
+    let outcome = execute(threads, alloc, &batch, plan, gate)?;
+    let text = render(alloc, &batch, &outcome)?;
+    Ok(text)
+}
+
+// The report, and how often each transaction was run.
+pub(crate) fn audit_of<T: Threads + Sync, G: Gate>(
+    threads: &T,
+    alloc: Global,
+    document: &[u8],
+    plan: Plan,
+    gate: &G,
+) -> Result<String, Fault>
+    ensures text { IfOk result (λ text. IsAuditOf document.now (string_bytes text)) }
+    ensures fault { IfErr result (λ fault. fault ≢ memory_fault → IsFaultOf document.now fault) }
+    ensures code { IfErr result (λ fault. number_of fault.code ≤ 20) }
+{
+    let batch = read(alloc, document)?;
+    let outcome = execute(threads, alloc, &batch, plan, gate)?;
+    let text = render_audit(alloc, &batch, &outcome)?;
+    Ok(text)
+}
+
+// The report of one thread.
+pub(crate) fn plain_report_of(alloc: Global, document: &[u8]) -> Result<String, Fault>
+    ensures text { IfOk result (λ text. IsPlainReportOf document.now (string_bytes text)) }
+    ensures fault { IfErr result (λ fault. fault ≢ memory_fault → IsFaultOf document.now fault) }
+    ensures code { IfErr result (λ fault. number_of fault.code ≤ 20) }
+{
+    let batch = read(alloc, document)?;
+    let answer = plain(alloc, &batch)?;
+    let text = render_plain(alloc, &batch, &answer)?;
+    Ok(text)
+}
+
+// How much a document holds.
+pub(crate) fn check_of(alloc: Global, document: &[u8]) -> Result<String, Fault>
+    ensures text { IfOk result (λ text. IsCheckOf document.now (string_bytes text)) }
+    ensures fault { IfErr result (λ fault. fault ≢ memory_fault → IsFaultOf document.now fault) }
+    ensures code { IfErr result (λ fault. number_of fault.code ≤ 20) }
+{
+    let batch = read(alloc, document)?;
+    let text = render_check(alloc, &batch)?;
+    Ok(text)
+}
