@@ -1,14 +1,15 @@
 # make          builds bin/ordtx (the first time it proves every crate that the program stands on)
 # make run      runs the example of a day's ledger
-# make test     the gate: every proof from nothing, the must-fail edits, the tests, the programs
+# make test     the gate: every proof from nothing, the must-fail edits, the tests, the programs; then `make try`
+# make try      tries the built program: documents, command lines, failing devices, refused memory
 # make bench    prints the figures of bench/
-# make install  puts the program into PREFIX/bin
+# make install  puts the program and its page into PREFIX/bin and PREFIX/share/man/man1
 RT ?= rt
 PREFIX ?= /usr/local
 PROGRAM := crates/ordtx_cli
 SOURCES := crates.txt $(shell find crates \( -name '*.rt' -o -name '*.antt' \) -not -path '*/out/*')
 
-.PHONY: all run test bench install clean
+.PHONY: all run test try bench install clean
 
 all: bin/ordtx
 
@@ -25,6 +26,11 @@ run: bin/ordtx
 test:
 	@echo "Proving every crate from nothing, with its must-fail edits, tests and programs."
 	$(RT) ci
+	$(MAKE) try
+
+try: bin/ordtx
+	@echo "Trying the program: documents, command lines, failing devices, refused memory."
+	tests/run bin/ordtx
 
 bench:
 	RT=$(RT) bench/claims
@@ -32,6 +38,8 @@ bench:
 install: bin/ordtx
 	install -d $(DESTDIR)$(PREFIX)/bin
 	install -m 755 bin/ordtx $(DESTDIR)$(PREFIX)/bin/ordtx
+	install -d $(DESTDIR)$(PREFIX)/share/man/man1
+	install -m 644 docs/ordtx.1 $(DESTDIR)$(PREFIX)/share/man/man1/ordtx.1
 
 clean:
 	rm -rf bin crates/*/out

@@ -1,0 +1,84 @@
+"""Input and output that give and take little, or fail."""
+
+import os
+import subprocess
+import tempfile
+
+NO_INPUT = b"fault 21 transaction 0\n"
+NO_OUTPUT = b"fault 22 transaction 0\n"
+
+
+def try_slow_input(program, document, report):
+    child = subprocess.Popen([program.path, "run"], stdin=subprocess.PIPE,
+                             stdout=subprocess.PIPE, stderr=subprocess.PIPE)
+    for place in range(len(document)):
+        child.stdin.write(document[place:place + 1])
+        child.stdin.flush()
+    out, err = child.communicate(timeout=60)
+    program.compare("a byte at a time", ["run"], (out, child.returncode, err),
+                    (report, 0, b""))
+
+
+def try_failing_input(program):
+    with tempfile.TemporaryDirectory() as folder:
+        for name, file in (("an absent file", os.path.join(folder, "absent")),
+                           ("a folder", folder)):
+            for command in ("run", "serial", "check"):
+                program.expect(name, [command, file], b"", b"", 1, NO_INPUT)
+        if os.geteuid() != 0:
+            file = os.path.join(folder, "unreadable")
+            with open(file, "wb"):
+                os.chmod(file, 0)
+            program.expect("an unreadable file", ["run", file], b"", b"", 1,
+                           NO_INPUT)
+    with open(os.devnull, "wb") as unreadable:
+        done = subprocess.run([program.path, "run"], stdin=unreadable,
+                              stdout=subprocess.PIPE, stderr=subprocess.PIPE)
+        program.compare("input that can't be read", ["run"],
+                        (done.stdout, done.returncode, done.stderr),
+                        (b"", 1, NO_INPUT))
+
+
+def try_failing_output(program, document):
+    for command in ("run", "serial", "check"):
+        with open("/dev/full", "wb") as full:
+            done = subprocess.run([program.path, command], input=document,
+                                  stdout=full, stderr=subprocess.PIPE)
+        program.compare("a full device", [command],
+                        (done.returncode, done.stderr), (1, NO_OUTPUT))
+        done = subprocess.run([program.path, command], input=document,
+                              stderr=subprocess.PIPE,
+                              preexec_fn=lambda: os.close(1))
+        program.compare("a closed output", [command],
+                        (done.returncode, done.stderr), (1, NO_OUTPUT))
+
+
+def try_limited_output(program, document, report):
+    """A file that takes so many bytes and no more."""
+    import resource
+    import signal
+
+    def limit(size):
+        def begin():
+            signal.signal(signal.SIGXFSZ, signal.SIG_IGN)
+            resource.setrlimit(resource.RLIMIT_FSIZE, (size, size))
+        return begin
+
+    for size in range(len(report)):
+        with tempfile.TemporaryFile() as out:
+            done = subprocess.run([program.path, "run"], input=document,
+                                  stdout=out, stderr=subprocess.PIPE,
+                                  preexec_fn=limit(size))
+            out.seek(0)
+            program.compare("output that takes %d bytes" % size, ["run"],
+                            (out.read(), done.returncode, done.stderr),
+                            (report[:size], 1, NO_OUTPUT))
+
+
+def try_all(program, case):
+    document = case.with_suffix(".json").read_bytes()
+    report = case.with_suffix(".report").read_bytes()
+    try_slow_input(program, document, report)
+    try_failing_input(program)
+    try_failing_output(program, document)
+    try_limited_output(program, document, report)

@@ -1,0 +1,161 @@
+"""Documents that are too long to keep, and what is answered to them."""
+
+ACCOUNT = '{"name":"a","kind":"account","start":0}'
+
+
+def document(objects, transactions, version=1):
+    return ('{"ordtx":%d,"objects":[%s],"transactions":[%s]}'
+            % (version, ",".join(objects), ",".join(transactions))).encode()
+
+
+def lines(texts):
+    return "".join(text + "\n" for text in texts).encode()
+
+
+def nested(levels, open_step, close_step, innermost="[]"):
+    """Blocks of one step, each in the step of the one around it."""
+    return "[%s" % open_step * levels + innermost + "%s]" % close_step * levels
+
+
+def operations(*counts, version=1):
+    """Transactions of so many deposits each."""
+    step = '{"op":["a","deposit",1]}'
+    blocks = ["[%s]" % ",".join([step] * count) for count in counts]
+    return document([ACCOUNT], blocks, version)
+
+
+def try_nesting(program):
+    subactions = ["T 1 committed"] + [
+        "S 1%s committed" % (".1.b" * level + ".1") for level in range(23)]
+    program.expect_report(
+        "23 subactions, each in another",
+        document([ACCOUNT], [nested(23, '{"sub":', "}")]),
+        lines(subactions + ["= a account 0", "rounds 1"]))
+    program.expect_fault_everywhere(
+        "24 subactions, each in another",
+        document([ACCOUNT], [nested(24, '{"sub":', "}")]), 11, 1)
+
+    siblings = ["T 1 committed"] + [
+        "S 1%s committed" % (".1.1.b" * level + ".1.1") for level in range(23)]
+    program.expect_report(
+        "23 parallel steps, each in another",
+        document([], [nested(23, '{"parallel":[{"sub":', "}]}")]),
+        lines(siblings + ["rounds 1"]))
+    program.expect_fault_everywhere(
+        "24 parallel steps, each in another",
+        document([], [nested(24, '{"parallel":[{"sub":', "}]}")]), 11, 1)
+
+    balance = '[{"op":["a","balance"],"as":"n"},'
+    if_step = '{"if":"n","atleast":0,"then":'
+    branches = ["T 1 committed", "O 1.1 a balance = 0"] + [
+        "I 1.2%s then" % (".t.1" * level) for level in range(23)]
+    program.expect_report(
+        "23 ifs, each in another",
+        document([ACCOUNT], [balance + nested(23, if_step, "}")[1:]]),
+        lines(branches + ["= a account 0", "rounds 1"]))
+    program.expect_fault_everywhere(
+        "24 ifs, each in another",
+        document([ACCOUNT], [balance + nested(24, if_step, "}")[1:]]), 11, 1)
+
+    aborted = '{"parallel":[{"sub":[{"abort":"r"}],"handlers":{"r":'
+    handlers = ["T 1 committed"]
+    for level in range(23):
+        path = "1" + ".1.1.h:r" * level + ".1.1"
+        handlers += ["S %s aborted r" % path, "A %s.b.1 r" % path]
+    program.expect_report(
+        "23 handlers, each in another",
+        document([], [nested(23, aborted, "}}]}")], 3),
+        lines(handlers + ["rounds 1"]))
+
+
+def try_limits(program):
+    program.expect(
+        "10,000 transactions", ["run"], document([], ["[]"] * 10_000),
+        lines(["T %d committed" % n for n in range(1, 10_001)] + ["rounds 1"]))
+    program.expect_fault_everywhere(
+        "10,001 transactions", document([], ["[]"] * 10_001), 12, 0)
+
+    named = ['{"name":"o%d","kind":"counter","start":0}' % n
+             for n in range(1001)]
+    program.expect(
+        "1,000 objects", ["check"], document(named[:1000], []),
+        b"ok objects 1000 transactions 0 operations 0\n")
+    program.expect_fault_everywhere(
+        "1,001 objects", document(named, []), 12, 0)
+
+    program.expect(
+        "100,000 operations", ["check"], operations(50_000, 50_000),
+        b"ok objects 1 transactions 2 operations 100000\n")
+    program.expect_fault_everywhere(
+        "100,001 operations", operations(50_000, 50_001), 12, 2)
+    program.expect(
+        "1,000,000 operations", ["check"],
+        operations(500_000, 500_000, version=4),
+        b"ok objects 1 transactions 2 operations 1000000\n")
+    program.expect_fault(
+        "1,000,001 operations", ["check"],
+        operations(500_000, 500_001, version=4), 12, 2)
+
+    aborts = '{"abort":true}'
+    for count, fault in ((100_000, None), (100_001, 12)):
+        given = document([], ["[%s]" % ",".join([aborts] * count)])
+        if fault is None:
+            program.expect("100,000 other nodes", ["check"], given,
+                           b"ok objects 0 transactions 1 operations 0\n")
+        else:
+            program.expect_fault_everywhere("100,001 other nodes", given, 12, 1)
+
+    for count, fault in ((100_000, None), (100_001, 12)):
+        start = '{"name":"q","kind":"queue","start":[%s]}' % ",".join(
+            ['"x"'] * count)
+        given = document([start], [])
+        if fault is None:
+            program.expect("100,000 starting entries", ["check"], given,
+                           b"ok objects 1 transactions 0 operations 0\n")
+        else:
+            program.expect_fault_everywhere(
+                "100,001 starting entries", given, 12, 0)
+
+    for length, fault in ((32, None), (33, 3)):
+        given = document(
+            ['{"name":"%s","kind":"account","start":0}' % ("n" * length)], [])
+        if fault is None:
+            program.expect("a name of 32 bytes", ["check"], given,
+                           b"ok objects 1 transactions 0 operations 0\n")
+        else:
+            program.expect_fault_everywhere("a name of 33 bytes", given, 3, 0)
+
+
+def try_bytes(program, whole):
+    for length in range(len(whole)):
+        program.expect_fault("a document's first %d bytes" % length, ["check"],
+                             whole[:length], 1, 0)
+    program.expect_fault_everywhere("200 brackets", b"[" * 200, 1, 0)
+    program.expect_fault_everywhere("a byte that is no text", b"\xff", 1, 0)
+    program.expect_fault("64 MiB of spaces", ["check"], b" " * 67_108_864, 1, 0)
+    program.expect_fault("a byte more", ["check"], b" " * 67_108_865, 12, 0)
+    padded = document([], [])
+    padded += b" " * (67_108_864 - len(padded))
+    program.expect("a document of 64 MiB", ["run"], padded, b"rounds 0\n")
+
+
+def try_withdrawals(program):
+    count = 100
+    given = document(['{"name":"a","kind":"account","start":100}'],
+                     ['[{"op":["a","withdraw",1]}]'] * count)
+    report = []
+    for number in range(1, count + 1):
+        report += ["T %d committed" % number,
+                   "O %d.1 a withdraw 1 = ok" % number]
+    report += ["= a account 0", "rounds %d" % count]
+    program.expect_report("100 withdrawals", given, lines(report))
+    counts = ["runs %d %d" % (n, n) for n in range(1, count + 1)]
+    program.expect("100 withdrawals", ["run", "--audit"], given,
+                   lines(report + counts))
+
+
+def try_all(program, whole):
+    try_nesting(program)
+    try_limits(program)
+    try_bytes(program, whole)
+    try_withdrawals(program)

@@ -1,0 +1,49 @@
+"""Each request for memory refused in turn, until a run meets no refusal."""
+
+import os
+import pathlib
+import subprocess
+import tempfile
+
+FAULT = (b"", 1, b"fault 20 transaction 0\n")
+
+
+def refuse(library, number, words, path, document):
+    """What a run answers whose Nth request is refused, and how many it made."""
+    reading, writing = os.pipe()
+    environment = dict(os.environ, LD_PRELOAD=library, REFUSE=str(number),
+                       COUNT=str(writing))
+    done = subprocess.run([path, *words], input=document,
+                          stdout=subprocess.PIPE, stderr=subprocess.PIPE,
+                          pass_fds=(writing,), env=environment, timeout=60)
+    os.close(writing)
+    with os.fdopen(reading) as told:
+        made = int(told.read())
+    return (done.stdout, done.returncode, done.stderr), made
+
+
+def try_case(program, library, words, case):
+    document = case.with_suffix(".json").read_bytes()
+    report = case.with_suffix(".report").read_bytes()
+    number, made = 0, 1
+    while number <= made:
+        number += 1
+        got, made = refuse(library, number, words, program.path, document)
+        whole = (report, 0, b"")
+        name = "%s, request %d refused" % (case.name, number)
+        program.compare(name, words, got, FAULT if got[1] == 1 else whole)
+    program.compare("%s, no request refused" % case.name, words, got,
+                    (report, 0, b""))
+
+
+def try_all(program, cases):
+    source = pathlib.Path(__file__).with_name("refuse.c")
+    with tempfile.TemporaryDirectory() as folder:
+        library = os.path.join(folder, "refuse.so")
+        compiler = os.environ.get("CC", "cc")
+        subprocess.run([compiler, "-O2", "-shared", "-fPIC", "-o", library,
+                        str(source)], check=True)
+        for case in cases:
+            for workers in ("1", "4"):
+                words = ["run", "--workers", workers, "--cut", "1"]
+                try_case(program, library, words, case)
