@@ -1,0 +1,101 @@
+"""Documents for the figures, made by seed."""
+
+import random
+
+
+def document(objects, transactions, version=4):
+    return ('{"ordtx":%d,"objects":[%s],"transactions":[%s]}'
+            % (version, ",".join(objects), ",".join(transactions))).encode()
+
+
+def account(name, start):
+    return '{"name":"%s","kind":"account","start":%d}' % (name, start)
+
+
+def operation(*words):
+    return '{"op":[%s]}' % ",".join(
+        str(word) if isinstance(word, int) else '"%s"' % word for word in words)
+
+
+def block(steps):
+    return "[%s]" % ",".join(steps)
+
+
+def deposits(count=1_000_000):
+    """So many deposits on one account, in two transactions."""
+    half = block([operation("a", "deposit", 1)] * (count // 2))
+    return document([account("a", 0)], [half, half])
+
+
+def withdrawals(count=1_000):
+    """Transactions that each withdraw from one account: the worst case, of count rounds."""
+    return document([account("a", count)],
+                    [block([operation("a", "withdraw", 1)])] * count)
+
+
+def spread(count=10_000, operations=20, objects=1_000, seed=1):
+    """Transactions of some operations over many accounts, nearly all deposits."""
+    chosen = random.Random(seed)
+    blocks = []
+    for _ in range(count):
+        steps = []
+        for _ in range(operations):
+            name = "a%d" % chosen.randrange(objects)
+            call = "withdraw" if chosen.random() < 0.001 else "deposit"
+            steps.append(operation(name, call, chosen.randrange(1, 100)))
+        blocks.append(block(steps))
+    return document([account("a%d" % n, 1_000_000) for n in range(objects)],
+                    blocks)
+
+
+def collections(size=100_000, count=5_000, seed=2):
+    """Transactions that each touch one item of a set, a queue and a directory of so many items."""
+    chosen = random.Random(seed)
+    third = size // 3
+    names = ["x%d" % n for n in range(third)]
+    items = ",".join('"%s"' % name for name in names)
+    pairs = ",".join('["%s","v"]' % name for name in names)
+    objects = ['{"name":"s","kind":"set","start":[%s]}' % items,
+               '{"name":"q","kind":"queue","start":[%s]}' % items,
+               '{"name":"d","kind":"directory","start":[%s]}' % pairs]
+    blocks = []
+    for n in range(count):
+        name = names[chosen.randrange(third)]
+        blocks.append(block([operation("s", "has", name),
+                             operation("s", "insert", "n%d" % n),
+                             operation("d", "put", "n%d" % n, "w"),
+                             operation("q", "enq", "e")]))
+    return document(objects, blocks)
+
+
+def transfers(count=10_000, accounts=2_000, seed=3):
+    """A ledger of transfers, each a subaction with a handler that books a failure."""
+    chosen = random.Random(seed)
+    objects = [account("a%d" % n, 1_000) for n in range(accounts)]
+    objects.append('{"name":"failed","kind":"counter","start":0}')
+    objects = objects[:999] + objects[-1:]
+    blocks = []
+    for _ in range(count):
+        source, target = chosen.sample(range(999), 2)
+        amount = chosen.randrange(1, 200)
+        blocks.append(
+            '[{"sub":[{"op":["a%d","withdraw",%d],"as":"w"},'
+            '{"if":"w","is":"no","then":[{"abort":"short"}]},'
+            '{"op":["a%d","deposit",%d]}],'
+            '"handlers":{"short":[{"op":["failed","add",1]}]}}]'
+            % (source, amount, target, amount))
+    return document(objects, blocks)
+
+
+def wide(children=200, operations=100):
+    """Four transactions of a parallel step whose children touch objects of their own."""
+    objects = [account("a%d" % n, 0) for n in range(4 * children)]
+    blocks = []
+    for number in range(4):
+        parts = []
+        for child in range(children):
+            name = "a%d" % (number * children + child)
+            parts.append('{"sub":%s}' % block(
+                [operation(name, "deposit", 1)] * operations))
+        blocks.append('[{"parallel":[%s]}]' % ",".join(parts))
+    return document(objects, blocks)
