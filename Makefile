@@ -28,12 +28,18 @@ test:
 	$(RT) ci
 	$(MAKE) try
 
-try: bin/ordtx
+try: bin/ordtx bin/refusals
 	@echo "Trying the program: documents, command lines, failing devices, refused memory."
-	tests/run bin/ordtx
+	tests/run bin/ordtx bin/refusals
 
-bench:
+bin/refusals: $(SOURCES)
+	cd crates/refusals && $(RT) run > /dev/null
+	mkdir -p bin
+	cp crates/refusals/out/refusals bin/refusals
+
+bench: bin/ordtx
 	RT=$(RT) bench/claims
+	bench/run bin/ordtx
 
 install: bin/ordtx
 	install -d $(DESTDIR)$(PREFIX)/bin

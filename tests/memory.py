@@ -22,6 +22,17 @@ def refuse(library, number, words, path, document):
     return (done.stdout, done.returncode, done.stderr), made
 
 
+def try_loops(program, library, path):
+    """The loops over objects, views and lists: what a refused call leaves is unchanged."""
+    number, made = 0, 1
+    while number <= made:
+        number += 1
+        got, made = refuse(library, number, [], path, b"")
+        word = b"unchanged" if number <= made else b"whole"
+        program.compare("loops, request %d refused" % number, [], got,
+                        (word, 0, b""))
+
+
 def try_case(program, library, words, case):
     document = case.with_suffix(".json").read_bytes()
     report = case.with_suffix(".report").read_bytes()
@@ -36,13 +47,14 @@ def try_case(program, library, words, case):
                     (report, 0, b""))
 
 
-def try_all(program, cases):
+def try_all(program, loops, cases):
     source = pathlib.Path(__file__).with_name("refuse.c")
     with tempfile.TemporaryDirectory() as folder:
         library = os.path.join(folder, "refuse.so")
         compiler = os.environ.get("CC", "cc")
         subprocess.run([compiler, "-O2", "-shared", "-fPIC", "-o", library,
                         str(source)], check=True)
+        try_loops(program, library, loops)
         for case in cases:
             for workers in ("1", "4"):
                 words = ["run", "--workers", workers, "--cut", "1"]

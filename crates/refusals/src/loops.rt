@@ -1,0 +1,179 @@
+//! Calls that may be refused memory, one after the other.
+use crate::seen::{Seen, Sizes, item, refused};
+use intentions::{Committed, View};
+use objects::{
+    AccountCall, Amount, Call, Directory, DirectoryCall, Entry, ItemSet, NoMemory, Objects, Queue,
+    QueueCall, SetCall, Value,
+};
+use std::alloc::Global;
+
+/// How many calls of each kind are made.
+const TURNS: u32 = 20;
+
+/// All loops, up to the first refusal.
+pub(crate) fn try_all(alloc: Global) -> Seen {
+    let mut objects = Objects::new(alloc);
+    let seen = fill(alloc, &mut objects);
+    if seen != Seen::Whole {
+        return seen;
+    }
+    let seen = try_objects(&mut objects);
+    if seen != Seen::Whole {
+        return seen;
+    }
+    try_view(alloc, &objects)
+}
+
+fn fill(alloc: Global, objects: &mut Objects) -> Seen {
+    let values = [
+        Value::Account(100),
+        Value::Set(ItemSet::new(alloc)),
+        Value::Queue(Queue::new(alloc)),
+        Value::Directory(Directory::new(alloc)),
+    ];
+    for value in values {
+        let before = objects.len();
+        if objects.push(value).is_err() {
+            return refused(objects.len() == before);
+        }
+    }
+    Seen::Whole
+}
+
+/// The call of a turn, on the object of that place among the four.
+fn call_of(turn: u32) -> Call {
+    match turn % 4 {
+        0 => match Amount::new(5) {
+            Some(amount) => Call::Account(AccountCall::Deposit(amount)),
+            None => Call::Account(AccountCall::Balance),
+        },
+        1 => Call::Set(SetCall::Insert(item(turn))),
+        2 => Call::Queue(QueueCall::Enq(item(turn))),
+        _ => Call::Directory(DirectoryCall::Put(item(turn), item(0))),
+    }
+}
+
+/// Calls on objects, on copies of them and of their values.
+fn try_objects(objects: &mut Objects) -> Seen {
+    for turn in 0..TURNS {
+        let object = turn % 4;
+        let call = call_of(turn);
+        let before = Sizes::of(objects);
+        if objects.fits(object, &call) && objects.has_room(object, &call) {
+            if objects.perform(object, &call).is_err() {
+                return refused(Sizes::of(objects) == before);
+            }
+        }
+        let before = Sizes::of(objects);
+        match objects.copy() {
+            Ok(copied) => {
+                if Sizes::of(&copied) != before {
+                    return Seen::Changed;
+                }
+            }
+            Err(NoMemory) => return refused(Sizes::of(objects) == before),
+        }
+        if let Some(value) = objects.value(object) {
+            let seen = try_value(value, &call);
+            if seen != Seen::Whole {
+                return seen;
+            }
+        }
+    }
+    Seen::Whole
+}
+
+/// A call on a copy of a value, which stays as it was where the call is refused.
+fn try_value(value: &Value, call: &Call) -> Seen {
+    let Ok(mut copied) = value.copy() else {
+        return Seen::Unchanged;
+    };
+    let before = size(&copied);
+    if copied.fits(call) && copied.has_room(call) {
+        if copied.perform(call).is_err() {
+            return refused(size(&copied) == before);
+        }
+    }
+    Seen::Whole
+}
+
+fn size(value: &Value) -> usize {
+    match value {
+        Value::Set(set) => set.len(),
+        Value::Queue(queue) => queue.items().len(),
+        Value::Directory(directory) => directory.entries().len(),
+        _ => 0,
+    }
+}
+
+/// Levels of a view, with a call in each, of which every third is aborted; then its entries are taken in by another view
+/// and by a committed list.
+fn try_view(alloc: Global, objects: &Objects) -> Seen {
+    let Ok(mut view) = View::open(alloc, objects) else {
+        return Seen::Changed;
+    };
+    for turn in 0..TURNS {
+        let before = (view.depth(), view.entries().len());
+        if view.begin().is_err() {
+            return refused(is_as(&view, objects, before));
+        }
+        let before = (view.depth(), view.entries().len());
+        match perform_turn(&mut view, turn) {
+            Ok(()) => {}
+            Err(NoMemory) => return refused(is_as(&view, objects, before)),
+        }
+        if view.depth() > 0 {
+            if turn % 3 == 0 {
+                view.abort();
+            } else if view.commit().is_err() {
+                return Seen::Changed;
+            }
+        }
+    }
+    match view.state() {
+        Ok(_) => try_entries(alloc, objects, view.entries()),
+        Err(NoMemory) => refused(is_as(&view, objects, (0, TURNS as usize))),
+    }
+}
+
+/// The call of a turn.
+fn perform_turn(view: &mut View<'_>, turn: u32) -> Result<(), NoMemory> {
+    let object = turn % 4;
+    let call = call_of(turn);
+    if view.fits(object, &call) && view.has_room(object, &call)? {
+        view.perform(object, &call)?;
+    }
+    Ok(())
+}
+
+/// Whether a view has this depth and so many entries still, and can show its state.
+fn is_as(view: &View<'_>, objects: &Objects, before: (usize, usize)) -> bool {
+    match view.state() {
+        Ok(state) => {
+            state.len() == objects.len() && (view.depth(), view.entries().len()) == before
+        }
+        Err(NoMemory) => false,
+    }
+}
+
+/// Entries that another view takes in, and that are committed.
+fn try_entries(alloc: Global, objects: &Objects, entries: &[Entry]) -> Seen {
+    let Ok(mut view) = View::open(alloc, objects) else {
+        return Seen::Changed;
+    };
+    let mut committed = Committed::new(alloc);
+    let none: [Entry; 0] = [];
+    for _ in 0..TURNS {
+        let before = (view.depth(), view.entries().len());
+        let absorbed = view.absorb(entries, none.as_slice());
+        if absorbed.is_err() {
+            return refused(is_as(&view, objects, before));
+        }
+        let before = committed.len();
+        let appended = committed.append(entries);
+        if appended.is_err() {
+            return refused(committed.len() == before);
+        }
+    }
+    Seen::Whole
+}
