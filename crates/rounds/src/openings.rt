@@ -11,7 +11,9 @@ ghost use Rattle.rounds.specs.Views.{start_of, blocks_of};
 ghost use Rattle.rounds.specs.Passes.{CanBeMade, nets_of, times, AreRenewed};
 ghost use Rattle.rounds.specs.Openings.{AreCounts};
 
-use crate::passes::{Made, first_conflict, keep_all, make_all};
+use crate::check::first_conflict;
+use crate::keep::keep_all;
+use crate::make::{Made, make_all};
 use crate::plan::Plan;
 use batch::{Batch, Outcome, Record};
 use intentions::{Committed, perform_each};
@@ -34,7 +36,7 @@ fn renew<R: Threads + Sync, G: Gate>(
 ) -> Result<(), NoMemory>
     requires every { length runs.old.items ≡ length batch.now.transactions.items }
     requires counted { length counts.old.items ≡ length batch.now.transactions.items }
-    requires few { length batch.now.transactions.items ≤ 10000 }
+    requires few { (length batch.now.transactions.items ≤ 10000) × (length stale.now ≤ 10000) }
     requires numbers { (i : ℕ) → 0 < times i stale.now → i < length batch.now.transactions.items }
     requires made { All (λ n. CanBeMade batch.now objects.now n) stale.now }
     requires same_kinds { kinds objects.now ≡ kinds batch.now.objects }
@@ -84,6 +86,7 @@ fn blank_runs(alloc: Global, count: usize) -> Result<Vec<Run>, NoMemory>
 }
 
 fn all_numbers(alloc: Global, count: usize) -> Result<Vec<usize>, NoMemory>
+    ensures all { IfOk result (λ numbers. length numbers.items ≡ count) }
     ensures below { IfOk result (λ numbers. (i : ℕ) → i < count → times i numbers.items ≡ 1) }
     ensures beyond { IfOk result (λ numbers. (i : ℕ) → count ≤ i → times i numbers.items ≡ 0) }
 {

@@ -2,13 +2,17 @@
 use Rattle.std.proofs.Common.{◌≡◌, ℕ, zero, suc, ◌<◌, ◌||◌, Bool, true, false, true≢false, List, [], ◌∷◌, ◌++◌, length, map, sym, refl, ap, ◌∙◌, subst, append_assoc, append-nil, arith}
 use Rattle.std.proofs.lemmas.List.{length-map}
 use Rattle.std.specs.List.{All, list_any, flat_map}
-use Rattle.std.specs.Prelude.{Result, Ok, Err, OnOk, is_err}
+use Rattle.std.specs.declared.vec.Vec.{Vec}
+use Rattle.std.specs.declared.alloc.Global.{Global}
+use Rattle.serial.specs.declared.NoMemory.{NoMemory}
+use Rattle.std.specs.Prelude.{Result, Ok, Err, IfOk, OnOk, is_err}
+use Rattle.std.proofs.lemmas.Result.{IfOk-weaker}
 use Rattle.claims.specs.Views.{is_over, HoldsEachBelow, all_drawn}
 use Rattle.claims.specs.declared.view.View.{View}
 use Rattle.claims.specs.Steps.{with_piece}
 use Rattle.claims.specs.Seated.{Seated, Opened, IsSeatOf, views_of}
 use Rattle.workers.specs.declared.work.Worked.{Worked}
-use Rattle.workers.specs.Working.{AreGiven, AreGivenOnce, HasWorked}
+use Rattle.workers.specs.Working.{Gives, AreGiven, AreGivenOnce, HasWorked}
 use Rattle.workers.proofs.Boards.{all_rest, all_pieces}
 
 or_none : (a b : Bool) → (a || b) ≡ false → a ≡ false
@@ -46,7 +50,7 @@ module _ {X : Type 0} (giving : ℕ → List X → Type 0) where
   each_seat P (w ∷ all) each (suc k) d lt = each_seat P all (all_rest (λ u. P u.seat) w all each) k d (omega arith)
 
   pub all_own : (board : Opened) (all : List (Worked X)) → All (HasWorked giving board) all → All (IsSeatOf board) (seats_of all)
-  all_own board all each = each_seat (IsSeatOf board) all (λ k d lt. (each k d lt).0)
+  all_own board all each = each_seat (IsSeatOf board) all (λ k d lt. (each k d lt).own)
 
   -- their items are those of all pieces that they drew
   all_given : (all : List (Worked X)) → All (λ w. AreGiven giving w.seat.view.drawn w.items.items) all → AreGiven giving (all_drawn (views_of (seats_of all))) (flat_map (λ w. w.items.items) all)
@@ -61,20 +65,45 @@ module _ {X : Type 0} (giving : ℕ → List X → Type 0) where
       → All (λ s. s.view.stopped ≡ true → stopped ≡ true) seats → AreGivenOnce giving board.pieces items
   given_once board all seats items drawn stopped of_seats of_items each some quiet raised once done told =
       let calm : All (λ w. w.seat.view.raised ≡ false) all = none_raised all (ap (λ ss. list_any (λ v. v.raised) (views_of ss)) (sym of_seats) ∙ sym raised ∙ quiet) in
-      let over : All (λ s. is_over s.view ≡ true) seats = subst (All (λ s. is_over s.view ≡ true)) (sym of_seats) (each_seat (λ s. is_over s.view ≡ true) all (λ k d lt. ((each k d lt).1 (calm k d lt)).0)) in
+      let over : All (λ s. is_over s.view ≡ true) seats = subst (All (λ s. is_over s.view ≡ true)) (sym of_seats) (each_seat (λ s. is_over s.view ≡ true) all (λ k d lt. (each k d lt).over)) in
       let seated : 0 < length seats = omega (arith, some, ap length of_seats ∙ length-map all (λ w. w.seat)) in
-      let whole = all_pieces board.pieces drawn stopped seats seated over quiet done told in (
-        all_drawn (views_of seats),
-        subst (λ n. HoldsEachBelow n (all_drawn (views_of seats))) whole once,
-        subst (λ ss. AreGiven giving (all_drawn (views_of ss)) items) (sym of_seats) (subst (AreGiven giving (all_drawn (views_of (seats_of all)))) (sym of_items) (all_given all (λ k d lt. ((each k d lt).1 (calm k d lt)).1))),
-      )
+      let whole = all_pieces board.pieces drawn stopped seats seated over quiet done told in
+      record {
+        order = all_drawn (views_of seats);
+        once = subst (λ n. HoldsEachBelow n (all_drawn (views_of seats))) whole once;
+        given = subst (λ ss. AreGiven giving (all_drawn (views_of ss)) items) (sym of_seats) (subst (AreGiven giving (all_drawn (views_of (seats_of all)))) (sym of_items) (all_given all (λ k d lt. (each k d lt).given (calm k d lt))));
+      }
 
 -- what a call says that was no error
 pub at_ok : {T E P : Type 0} (r : Result T E) → is_err r ≡ false → OnOk r P → P
 at_ok (Ok x) calm h = h
 at_ok (Err e) calm h = absurd (true≢false calm)
 
+-- the items of a seat, unless it raised
+abbrev pub SeatGave : {X : Type 0} → (ℕ → List X → Type 0) → View → List X → Type 0
+SeatGave giving v items = v.raised ≡ false → AreGiven giving v.drawn items
+
 -- the piece that the seat drew was done
-pub given_next : {X : Type 0} (giving : ℕ → List X → Type 0) (v w : View) (k : ℕ) (xs ys : List X) → w ≡ with_piece v k → AreGiven giving v.drawn xs → (own : List X) × (ys ≡ xs ++ own) × giving k own → AreGiven giving w.drawn ys
-given_next giving v w k xs ys drew given (own, is, here) =
-    subst (λ ks. AreGiven giving ks ys) (sym (ap (λ u. u.drawn) drew)) (subst (AreGiven giving (v.drawn ++ k ∷ [])) (sym is) (given_push giving v.drawn k xs own given here))
+pub given_next : {X : Type 0} (giving : ℕ → List X → Type 0) (v w : View) (k : ℕ) (xs ys : List X) → w ≡ with_piece v k → SeatGave giving v xs → (own : List X) × (ys ≡ xs ++ own) × giving k own → SeatGave giving w ys
+given_next giving v w k xs ys drew given (own, is, here) calm =
+    let before = given (sym (ap (λ u. u.raised) drew) ∙ calm) in
+    subst (λ ks. AreGiven giving ks ys) (sym (ap (λ u. u.drawn) drew)) (subst (AreGiven giving (v.drawn ++ k ∷ [])) (sym is) (given_push giving v.drawn k xs own before here))
+
+-- the seat was told that it is over
+pub given_same : {X : Type 0} (giving : ℕ → List X → Type 0) (v w : View) (xs : List X) → w.drawn ≡ v.drawn → w.raised ≡ v.raised → SeatGave giving v xs → SeatGave giving w xs
+given_same giving v w xs drawn raised given calm = subst (λ ks. AreGiven giving ks xs) (sym drawn) (given (sym raised ∙ calm))
+
+-- items of pieces, of which more is known
+pub given_weaker : {X : Type 0} (giving more : ℕ → List X → Type 0) → ((k : ℕ) (own : List X) → giving k own → more k own) → (ks : List ℕ) (items : List X) → AreGiven giving ks items → AreGiven more ks items
+given_weaker giving more each [] items none = none
+given_weaker giving more each (k ∷ ks) items (own, rest, is, here, others) = (own, rest, is, each k own here, given_weaker giving more each ks rest others)
+
+-- what is known of each result of doing a piece is known of what all pieces give
+pub given_by : {X E : Type 0} (done : ℕ → Result (Vec X Global) NoMemory → Type 0) (n : ℕ) (more : ℕ → List X → Type 0) (r : Result (Vec X Global) E) → IfOk r (λ items. AreGivenOnce (Gives done) n items.items)
+    → ((k : ℕ) (own : Vec X Global) → done k (Ok own) → more k own.items) → IfOk r (λ items. AreGivenOnce more n items.items)
+given_by done n more r all each = IfOk-weaker r _ _
+    (λ items given. record {
+      order = given.order;
+      once = given.once;
+      given = given_weaker (Gives done) more (λ k own here. subst (more k) here.is (each k here.own here.made)) given.order items.items given.given;
+    }) all

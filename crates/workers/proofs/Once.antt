@@ -10,7 +10,7 @@ use Rattle.std.proofs.lemmas.List.Sorted.{IsPermutation-refl, IsPermutation-sym,
 use Rattle.std.specs.List.{All, range_with_len, sum_by}
 use Rattle.std.specs.List.Sorted.{IsPermutation}
 use Rattle.claims.specs.Views.{bit, times, once_below, HoldsEachBelow}
-use Rattle.claims.proofs.Lists.{times-append, once_below_next}
+use Rattle.claims.proofs.Lists.{below_of_once, times-append, once_below_next}
 use Rattle.workers.specs.Working.{AreGiven, AreGivenOnce}
 use Rattle.workers.proofs.Boards.{once_some, once_here}
 
@@ -79,7 +79,7 @@ module _ {X : Type 0} (giving : ℕ → List X → Type 0) where
   few_given of_piece (k ∷ ks) items (own, rest, is, here, more) = omega (arith, ap length is, length-append own rest, of_piece k own here, few_given of_piece ks rest more)
 
   pub few_given_once : ((k : ℕ) (own : List X) → giving k own → length own ≤ 1) → (n : ℕ) (items : List X) → AreGivenOnce giving n items → length items ≤ n
-  few_given_once of_piece n items (ks, once, given) = omega (arith, few_given of_piece ks items given, count_once n ks once)
+  few_given_once of_piece n items all = omega (arith, few_given of_piece all.order items all.given, count_once n all.order all.once)
 
   -- a number of each list that adds up
   module _ (m : List X → ℕ) (empty : m [] ≡ 0) (sums : (xs ys : List X) → m (xs ++ ys) ≡ m xs + m ys) where
@@ -90,26 +90,28 @@ module _ {X : Type 0} (giving : ℕ → List X → Type 0) where
 
     -- of all items it is the sum over the pieces
     pub sum_given_once : (f : ℕ → ℕ) → ((k : ℕ) (own : List X) → giving k own → m own ≡ f k) → (n : ℕ) (items : List X) → AreGivenOnce giving n items → m items ≡ sum_by f (range_with_len 0 n)
-    sum_given_once f of_piece n items (ks, once, given) = sum_given f of_piece ks items given ∙ sum_by-IsPermutation f (range_with_len 0 n) ks (some_order n ks once)
+    sum_given_once f of_piece n items all = sum_given f of_piece all.order items all.given ∙ sum_by-IsPermutation f (range_with_len 0 n) all.order (some_order n all.order all.once)
 
-    -- where other pieces give none of it, it is what one piece gives
-    none_elsewhere : (k : ℕ) → ((j : ℕ) (own : List X) → j ≢ k → giving j own → m own ≡ 0) → (ks : List ℕ) (items : List X) → times k ks ≡ 0 → AreGiven giving ks items → m items ≡ 0
-    none_elsewhere k apart [] items none is = ap m is ∙ empty
-    none_elsewhere k apart (j ∷ ks) items none (own, rest, is, here, more) = elim (ℕ_discrete j k) [
-      | yes same ↦ absurd (omega (arith, same_once k, subst (λ i. bit (eqb i k) + times k ks ≡ 0) same none))
-      | no other ↦ omega (arith, ap m is, sums own rest, apart j own other here, none_elsewhere k apart ks rest (omega arith) more)
-    ]
+    -- where no piece gives any of it, there is none
+    none_given : (ks : List ℕ) (items : List X) → ((j : ℕ) (own : List X) → 0 < times j ks → giving j own → m own ≡ 0) → AreGiven giving ks items → m items ≡ 0
+    none_given [] items none is = ap m is ∙ empty
+    none_given (k ∷ ks) items none (own, rest, is, here, more) =
+        omega (arith, ap m is, sums own rest, none k own (omega (arith, same_once k)) here, none_given ks rest (λ j other in_rest. none j other (omega arith)) more)
 
+    pub given_nowhere : (n : ℕ) (items : List X) → ((j : ℕ) (own : List X) → j < n → giving j own → m own ≡ 0) → AreGivenOnce giving n items → m items ≡ 0
+    given_nowhere n items none all = none_given all.order items (λ j own some. none j own (below_of_once j n (omega (arith, all.once j)))) all.given
+
+    -- where no other piece gives any of it, it is what one piece gives
     only_here : (k : ℕ) → ((j : ℕ) (own : List X) → j ≢ k → giving j own → m own ≡ 0) → (ks : List ℕ) (items : List X) → times k ks ≡ 1 → AreGiven giving ks items → (own : List X) × giving k own × (m items ≡ m own)
     only_here k apart [] items once is = absurd (omega arith)
     only_here k apart (j ∷ ks) items once (own, rest, is, here, more) = elim (ℕ_discrete j k) [
       | yes same ↦
           let none : times k ks ≡ 0 = omega (arith, same_once k, subst (λ i. bit (eqb i k) + times k ks ≡ 1) same once) in
-          (own, subst (λ i. giving i own) same here, omega (arith, ap m is, sums own rest, none_elsewhere k apart ks rest none more))
+          (own, subst (λ i. giving i own) same here, omega (arith, ap m is, sums own rest, none_given ks rest (λ i other some. apart i other (λ e. absurd (omega (arith, none, subst (λ x. 0 < times x ks) e some)))) more))
       | no other ↦
           let later = only_here k apart ks rest (omega (arith, bit_other k j other)) more in
           (later.0, later.1, omega (arith, ap m is, sums own rest, apart j own other here, later.2))
     ]
 
     pub given_here : (k n : ℕ) → k < n → ((j : ℕ) (own : List X) → j ≢ k → giving j own → m own ≡ 0) → (items : List X) → AreGivenOnce giving n items → (own : List X) × giving k own × (m items ≡ m own)
-    given_here k n lt apart items (ks, once, given) = only_here k apart ks items (once k ∙ once_here k n lt) given
+    given_here k n lt apart items all = only_here k apart all.order items (all.once k ∙ once_here k n lt) all.given

@@ -12,4 +12,4 @@ mod work;
 
 pub use serial::NoMemory;
 pub use test::{Test, first_failing};
-pub use work::{Work, give_all};
+pub use work::give_all;

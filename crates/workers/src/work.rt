@@ -1,33 +1,14 @@
 // What all pieces of a work give.
-ghost use Rattle.std.specs.Prelude.{◌≡◌, ℕ, ◌<◌, ◌≤◌, length, map, IfOk};
+ghost use Rattle.std.specs.Prelude.{◌≡◌, ℕ, ◌<◌, ◌≤◌, ◌++◌, List, length, map, IfOk, OnOk};
 ghost use Rattle.std.specs.List.{All, flat_map};
 ghost use Rattle.claims.specs.Views.{most_pieces, most_seats, fresh};
 ghost use Rattle.claims.specs.Seated.{IsSeatOf};
-ghost use Rattle.workers.specs.Working.{HasWorked, AreGivenOnce};
+ghost use Rattle.workers.specs.Working.{Gives, HasWorked, AreGivenOnce};
 
 use crate::seats::seats_for;
 use claims::{Board, Claim, NoMemory, Seat};
 use std::alloc::{AllocError, Global};
 use std::thread::{Threads, map_vec};
-
-/// Work in numbered pieces, which workers share. Each piece gives items.
-pub trait Work: Sync {
-    ghost use Rattle.std.specs.Prelude.{◌≡◌, ℕ, ◌++◌, List, OnOk};
-
-    type Item: Send + Drop;
-
-    // the piece can be done
-    ghost can_give: { Self → ℕ → Type 0 };
-
-    // the piece gives these items
-    ghost giving: { Self → ℕ → List Self.Item → Type 0 };
-
-    /// Does the piece, and adds the items that it gives at the end of the list. After `NoMemory`
-    /// the list is of no use.
-    fn give(&self, piece: u32, items: &mut Vec<Self::Item>) -> Result<(), NoMemory>
-        requires { can_give self.now piece }
-        ensures { OnOk result ((own : List Self.Item) × (items.new.items ≡ items.old.items ++ own) × giving self.now piece own) };
-}
 
 /// What a worker brings back: its seat, and the items of its pieces.
 #[derive(Drop)]
@@ -36,44 +17,67 @@ pub(crate) struct Worked<X> {
     pub(crate) items: Vec<X>,
 }
 
-// Claims and does pieces until the seat is over. A worker that finds no memory raises.
-fn work_one<W: Work>(alloc: Global, board: &Board, work: &W, mut seat: Seat) -> Worked<W::Item>
+// Does a piece, and adds what it gives.
+fn give_one<X: Drop, F: Fn(u32) -> Result<Vec<X>, NoMemory>>(
+    give: &F,
+    piece: u32,
+    items: &mut Vec<X>,
+) -> Result<(), NoMemory>
+    requires { F.pre give.now piece }
+    ensures { OnOk result ((own : List X) × (items.new.items ≡ items.old.items ++ own) × Gives (F.post give.now) piece own) }
+{
+    let mut own = give(piece)?;
+    items.append(&mut own)?;
+    Ok(())
+}
+
+// Claims and does pieces until the seat is over. A worker that finds no memory raises,
+// and so is told `Stopped` by its next claim.
+fn work_one<X: Drop, F: Fn(u32) -> Result<Vec<X>, NoMemory>>(
+    alloc: Global,
+    board: &Board,
+    give: &F,
+    mut seat: Seat,
+) -> Worked<X>
     requires own { IsSeatOf board.now seat }
     requires new { seat.view ≡ fresh 1 board.now.pieces }
-    requires can { (k : ℕ) → k < board.now.pieces → W.can_give work.now k }
-    ensures { HasWorked (W.giving work.now) board.now result }
+    requires can { (k : ℕ) → k < board.now.pieces → F.pre give.now k }
+    ensures { HasWorked (Gives (F.post give.now)) board.now result }
 {
     let mut items = Vec::new(alloc);
     'claiming: while !seat.is_over() {
-        if let Claim::Piece(piece) = board.claim(&mut seat) {
-            if work.give(piece, &mut items).is_err() {
-                board.raise(&mut seat);
-                break;
+        match board.claim(&mut seat) {
+            Claim::Piece(piece) => {
+                if give_one(give, piece, &mut items).is_err() {
+                    board.raise(&mut seat);
+                }
             }
+            Claim::Done => {}
+            Claim::Stopped => {}
         }
     }
     Worked { seat, items }
 }
 
 // Each seat works, in a thread of its own where one can be made.
-fn work_all<R: Threads + Sync, W: Work>(
+fn work_all<R: Threads + Sync, X: Send + Drop, F: Fn(u32) -> Result<Vec<X>, NoMemory> + Sync>(
     threads: &R,
     alloc: Global,
     board: &Board,
-    work: &W,
+    give: &F,
     seats: Vec<Seat>,
-) -> Result<Vec<Worked<W::Item>>, AllocError>
+) -> Result<Vec<Worked<X>>, AllocError>
     requires seats { All (λ s. IsSeatOf board.now s × (s.view ≡ fresh 1 board.now.pieces)) seats.items }
-    requires can { (k : ℕ) → k < board.now.pieces → W.can_give work.now k }
-    ensures { IfOk result (λ all. (length all.items ≡ length seats.items) × All (HasWorked (W.giving work.now) board.now) all.items) }
+    requires can { (k : ℕ) → k < board.now.pieces → F.pre give.now k }
+    ensures { IfOk result (λ all. (length all.items ≡ length seats.items) × All (HasWorked (Gives (F.post give.now)) board.now) all.items) }
 {
     map_vec(
         threads,
         seats,
-        &|seat: Seat| -> Worked<W::Item>
-            requires { IsSeatOf board.now seat × (seat.view ≡ fresh 1 board.now.pieces) × ((k : ℕ) → k < board.now.pieces → W.can_give work.now k) }
-            ensures { HasWorked (W.giving work.entry.now) board.entry.now result }
-        { work_one(alloc, board, work, seat) },
+        &|seat: Seat| -> Worked<X>
+            requires { IsSeatOf board.now seat × (seat.view ≡ fresh 1 board.now.pieces) × ((k : ℕ) → k < board.now.pieces → F.pre give.now k) }
+            ensures { HasWorked (Gives (F.post give.entry.now)) board.entry.now result }
+        { work_one(alloc, board, give, seat) },
     )
 }
 
@@ -96,24 +100,25 @@ fn part<X: Drop>(alloc: Global, all: Vec<Worked<X>>) -> Result<(Vec<Seat>, Vec<X
 }
 
 /// What all pieces give: the items of each piece side by side, the pieces in any order, each once.
+/// `give` does a piece, and answers its items.
 ///
 /// `NoMemory` is answered where the board, its seats or a list found no memory, and where a piece
 /// answered it: the worker that met it raises, and the others stop at their next claim. Nothing is
 /// given out then.
-pub fn give_all<R: Threads + Sync, W: Work>(
+pub fn give_all<R: Threads + Sync, X: Send + Drop, F: Fn(u32) -> Result<Vec<X>, NoMemory> + Sync>(
     threads: &R,
     alloc: Global,
-    work: &W,
     pieces: u32,
     workers: u32,
-) -> Result<Vec<W::Item>, NoMemory>
+    give: &F,
+) -> Result<Vec<X>, NoMemory>
     requires pieces { pieces ≤ most_pieces }
     requires workers { (1 ≤ workers) × (workers ≤ most_seats) }
-    requires can { (k : ℕ) → k < pieces → W.can_give work.now k }
-    ensures { IfOk result (λ items. AreGivenOnce (W.giving work.now) pieces items.items) }
+    requires can { (k : ℕ) → k < pieces → F.pre give.now k }
+    ensures { IfOk result (λ items. AreGivenOnce (Gives (F.post give.now)) pieces items.items) }
 {
     let (board, seats) = Board::open(alloc, pieces, seats_for(pieces, workers))?;
-    let all = work_all(threads, alloc, &board, work, seats)?;
+    let all = work_all(threads, alloc, &board, give, seats)?;
     let (seats, items) = part(alloc, all)?;
     let tally = board.gather(seats);
     if tally.stopped {
