@@ -2,14 +2,14 @@
 use Rattle.std.proofs.Common.{◌≡◌, ℕ, ◌+◌, ◌<◌, ◌≤◌, List, [], ◌∷◌, ◌++◌, length, get_or, take, drop, ◌-◌, arith, refl, sym, ap, ◌∙◌, subst, append_assoc, append-nil}
 use Rattle.std.specs.Prelude.{slice_range, IsTrue, ◌↔◌, Bool}
 use Rattle.std.proofs.Math.ListN.{length-drop}
-use Rattle.std.proofs.lemmas.List.{take_more, get_or_default, get_or_read, take_all, take-append-drop, length-append}
+use Rattle.std.proofs.lemmas.List.{take_more, get_or_default, take_all, take-append-drop, length-append}
 use Rattle.std.proofs.Math.Seq.{take-append_seam, get_or-append_seam}
 use Rattle.std.proofs.Math.ListN.{get_or-append}
 use native.Mathlib.Decide.{dec_le}
 use Rattle.meaning.specs.Entries.{AllCommute}
 use Rattle.objects.specs.declared.entry.Entry.{Entry}
 use Rattle.speculate.specs.declared.speculated.Run.{Run}
-use Rattle.rounds.specs.Passes.{nets_of, StandsPast, StandsAt, AreStarts}
+use Rattle.rounds.specs.Passes.{nets_of, StandsPast, StandsAt, IsFirstConflict}
 
 nets_append : (xs ys : List Run) → nets_of (xs ++ ys) ≡ nets_of xs ++ nets_of ys
 nets_append [] ys = refl
@@ -34,9 +34,6 @@ starts_more runs i starts more nets pushed all so_far each k lt = elim (dec_le i
   | no less ↦ ap (λ xs. get_or xs k 0) pushed ∙ (get_or-append starts (length nets ∷ []) 0 k (omega arith) ∙ each k (omega arith))
 ]
 
-pub start_read : (runs : List Run) (starts : List ℕ) (i n : ℕ) → AreStarts runs starts → i < length runs → n ≡ get_or starts i n → n ≡ length (nets_of (take i runs))
-start_read runs starts i n are lt read = let size = are.all in get_or_read starts i n (omega arith) read 0 ∙ are.each i lt
-
 -- the nets of all runs begin with those of the first ones
 first_nets : (runs : List Run) (i : ℕ) → nets_of runs ≡ nets_of (take i runs) ++ nets_of (drop i runs)
 first_nets runs i = ap nets_of (sym (take-append-drop i runs)) ∙ nets_append (take i runs) (drop i runs)
@@ -59,3 +56,11 @@ stands_there runs i run entries before told lt these so_far test =
 -- a list from one place to its end
 pub range_to_end : (xs : List Entry) (from end_at : ℕ) → end_at ≡ length xs → slice_range xs from end_at ≡ drop from xs
 range_to_end xs from end_at is = let size = length-drop from xs in take_all (end_at - from) (drop from xs) (omega arith)
+
+-- a run at which the first ones end and that doesn't stand itself
+pub first_found : (runs : List Run) (first : ℕ) → first ≤ length runs → ((k : ℕ) → k < first → StandsAt runs k) → (first < length runs → ¬ StandsAt runs first) → IsFirstConflict runs first
+first_found runs first within clear fails = record {
+  within = within;
+  clear = clear;
+  conflict = λ d lt past. fails lt (λ e. subst (StandsPast (nets_of (take first runs))) (get_or_default runs first d e lt) past);
+}

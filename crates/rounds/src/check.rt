@@ -1,38 +1,12 @@
 //! The first run that doesn't stand past those before it, which ends its round.
-ghost use Rattle.std.specs.Prelude.{◌≡◌, ◌≤◌, IfOk, length};
-ghost use Rattle.rounds.specs.Passes.{nets_of, IsFirstConflict, AreStarts};
+ghost use Rattle.std.specs.Prelude.{◌≡◌, ◌↔◌, ◌<◌, ◌≤◌, IfOk, IsTrue, length};
+ghost use Rattle.rounds.specs.Passes.{nets_of, StandsAt, IsFirstConflict, AreStarts};
 
 use intentions::Committed;
 use speculate::{Gate, NoMemory, Run};
 use std::alloc::Global;
 use std::thread::Threads;
-use workers::{Test, first_failing};
-
-// The checks of runs, each against the nets of the runs before it.
-#[derive(Drop)]
-struct Checks<'a, G> {
-    runs: &'a [Run],
-    // The nets of all runs, one after the other, and for each run where its own begins.
-    nets: Committed,
-    starts: Vec<usize>,
-    gate: &'a G,
-}
-
-impl<G: Gate> Test for Checks<'_, G> {
-    ghost use Rattle.std.specs.Prelude.{◌≡◌, ℕ, ◌<◌, ◌≤◌, length};
-    ghost use Rattle.rounds.specs.Passes.{nets_of, StandsAt, AreStarts};
-
-    ghost can_test = { λ checks place. (place < length checks.runs.now) × (length checks.runs.now ≤ 10000) × (checks.nets ≡ nets_of checks.runs.now) × AreStarts checks.runs.now checks.starts.items };
-
-    ghost passing = { λ checks. StandsAt checks.runs.now };
-
-    fn passes(&self, piece: u32) -> bool {
-        let place = piece as usize;
-        self.gate.pass(0, piece + 1);
-        let run = &self.runs[place];
-        self.nets.stands(&run.entries, 0, self.starts[place])
-    }
-}
+use workers::first_failing;
 
 // The nets of all runs, one after the other, and for each run how many entries come before its
 // net.
@@ -47,6 +21,16 @@ fn list_nets(alloc: Global, runs: &[Run]) -> Result<(Committed, Vec<usize>), NoM
         nets.append(&run.net)?;
     }
     Ok((nets, starts))
+}
+
+// Whether a run stands past the nets of those before it.
+fn stands_at(runs: &[Run], place: usize, nets: &Committed, starts: &[usize]) -> bool
+    requires place { place < length runs.now }
+    requires nets { nets.now ≡ nets_of runs.now }
+    requires starts { AreStarts runs.now starts.now }
+    ensures { IsTrue result ↔ StandsAt runs.now place }
+{
+    nets.stands(&runs[place].entries, 0, starts[place])
 }
 
 /// The least place (from 0) of a run of which some entry doesn't commute forward with some net
@@ -66,12 +50,18 @@ pub fn first_conflict<R: Threads + Sync, G: Gate>(
     ensures { IfOk result (λ first. IsFirstConflict runs.now first) }
 {
     let (nets, starts) = list_nets(alloc, runs)?;
-    let checks = Checks {
-        runs,
-        nets,
-        starts,
-        gate,
-    };
-    let first = first_failing(threads, alloc, &checks, runs.len() as u32, workers)?;
+    let first = first_failing(
+        threads,
+        alloc,
+        runs.len() as u32,
+        workers,
+        &|piece: u32| -> bool
+            requires { (piece < length runs.now) × (length runs.now ≤ 10000) × (nets ≡ nets_of runs.now) × AreStarts runs.now starts.items }
+            ensures { IsTrue result ↔ StandsAt runs.entry.now piece }
+        {
+            gate.pass(0, piece + 1);
+            stands_at(runs, piece as usize, &nets, &starts)
+        },
+    )?;
     Ok(first as usize)
 }

@@ -2,6 +2,7 @@
 ghost use Rattle.std.specs.Prelude.{ℕ, ◌+◌, ◌<◌, ◌≤◌, IfOk, length, drop};
 ghost use Rattle.rounds.specs.Passes.{AreRefuted, IsDecided};
 
+use crate::crew::Crew;
 use intentions::Committed;
 use speculate::{Gate, NoMemory, Run};
 use std::alloc::Global;
@@ -32,27 +33,29 @@ fn refuted_at(
 ///
 /// `NoMemory` is answered where a growth of memory was refused.
 pub(crate) fn keep_all<R: Threads + Sync, G: Gate>(
-    threads: &R,
-    alloc: Global,
+    crew: &Crew<R, G>,
     runs: &[Run],
     from: usize,
     committed: &Committed,
     since: usize,
-    workers: u32,
-    gate: &G,
 ) -> Result<Vec<usize>, NoMemory>
     requires few { length runs.now ≤ 10000 }
-    requires workers { (1 ≤ workers) × (workers ≤ 64) }
     requires from { from ≤ length runs.now }
     requires since { since ≤ length committed.now }
     ensures refuted { IfOk result (λ numbers. AreRefuted runs.now (drop since committed.now) from (length runs.now) numbers.items) }
     ensures few { IfOk result (λ numbers. length numbers.items ≤ 10000) }
 {
+    let Crew {
+        threads,
+        alloc,
+        plan,
+        gate,
+    } = *crew;
     give_all(
         threads,
         alloc,
         (runs.len() - from) as u32,
-        workers,
+        plan.workers,
         &|piece: u32| -> Result<Vec<usize>, NoMemory>
             requires { (from + piece < length runs.now) × (length runs.now ≤ 10000) × (since ≤ length committed.now) }
             ensures { IfOk result (λ told. IsDecided runs.entry.now (drop since committed.entry.now) (from + piece) told.items) }

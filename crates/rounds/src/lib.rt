@@ -3,6 +3,7 @@
 #![tactic(auto)]
 
 mod check;
+mod crew;
 mod keep;
 mod make;
 mod openings;

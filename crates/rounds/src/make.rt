@@ -5,7 +5,7 @@ ghost use Rattle.std.specs.List.{All};
 ghost use Rattle.meaning.specs.Entries.{kinds};
 ghost use Rattle.rounds.specs.Passes.{CanBeMade, AreMade};
 
-use crate::plan::Plan;
+use crate::crew::Crew;
 use batch::Batch;
 use speculate::{Gate, NoMemory, Objects, Run, run};
 use std::alloc::Global;
@@ -63,19 +63,22 @@ fn group_at(numbers: &[usize], cut: usize, piece: u32) -> &[usize]
 ///
 /// `NoMemory` is answered where a growth of memory was refused.
 pub(crate) fn make_all<R: Threads + Sync, G: Gate>(
-    threads: &R,
-    alloc: Global,
+    crew: &Crew<R, G>,
     batch: &Batch,
     objects: &Objects,
     numbers: &[usize],
-    plan: Plan,
-    gate: &G,
 ) -> Result<Vec<Made>, NoMemory>
     requires few { length numbers.now ≤ 10000 }
     requires within { All (λ n. CanBeMade batch.now objects.now n) numbers.now }
     requires same_kinds { kinds objects.now ≡ kinds batch.now.objects }
     ensures { IfOk result (λ made. AreMade batch.now objects.now numbers.now made.items) }
 {
+    let Crew {
+        threads,
+        alloc,
+        plan,
+        gate,
+    } = *crew;
     let cut = plan.cut as usize;
     let width = plan.width(numbers.len() as u32);
     give_all(

@@ -12,6 +12,7 @@ ghost use Rattle.rounds.specs.Passes.{CanBeMade, nets_of, times, AreRenewed};
 ghost use Rattle.rounds.specs.Openings.{AreCounts};
 
 use crate::check::first_conflict;
+use crate::crew::Crew;
 use crate::keep::keep_all;
 use crate::make::{Made, make_all};
 use crate::plan::Plan;
@@ -24,15 +25,12 @@ use std::thread::Threads;
 
 // Makes runs for the stale numbers, puts them in their places and counts them.
 fn renew<R: Threads + Sync, G: Gate>(
-    threads: &R,
-    alloc: Global,
+    crew: &Crew<R, G>,
     batch: &Batch,
     objects: &Objects,
     stale: &[usize],
     runs: &mut Vec<Run>,
     counts: &mut Vec<u32>,
-    plan: Plan,
-    gate: &G,
 ) -> Result<(), NoMemory>
     requires every { length runs.old.items ≡ length batch.now.transactions.items }
     requires counted { length counts.old.items ≡ length batch.now.transactions.items }
@@ -43,7 +41,7 @@ fn renew<R: Threads + Sync, G: Gate>(
     requires room { (i : ℕ) → slice_index_or counts.old.items i 0 + times i stale.now ≤ 10001 }
     ensures { IfOk result (λ _. AreRenewed batch.now objects.now stale.now runs.old.items runs.new.items counts.old.items counts.new.items) }
 {
-    let mut made = make_all(threads, alloc, batch, objects, stale, plan, gate)?;
+    let mut made = make_all(crew, batch, objects, stale)?;
     'putting: while let Some(next) = made.pop() {
         let Made { number, run } = next;
         runs[number] = run;
@@ -154,33 +152,20 @@ pub fn execute<R: Threads + Sync, G: Gate>(
     let mut committed = Committed::new(alloc);
     let mut opened: usize = 0;
     let mut rounds: u32 = 0;
+    let crew = Crew {
+        threads,
+        alloc,
+        plan,
+        gate,
+    };
     'opening: while opened < count {
-        renew(
-            threads,
-            alloc,
-            batch,
-            &objects,
-            &stale,
-            &mut runs,
-            &mut counts,
-            plan,
-            gate,
-        )?;
+        renew(&crew, batch, &objects, &stale, &mut runs, &mut counts)?;
         let since = committed.len();
         let passed = first_conflict(threads, alloc, &runs[opened..], plan.workers, gate)?;
         commit(&runs[opened..opened + passed], &mut objects, &mut committed)?;
         opened += passed;
         rounds += 1;
-        stale = keep_all(
-            threads,
-            alloc,
-            &runs,
-            opened,
-            &committed,
-            since,
-            plan.workers,
-            gate,
-        )?;
+        stale = keep_all(&crew, &runs, opened, &committed, since)?;
     }
     let records = records_of(alloc, runs)?;
     Ok(Outcome {

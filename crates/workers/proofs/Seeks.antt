@@ -9,8 +9,8 @@ use Rattle.claims.specs.Steps.{with_piece}
 use Rattle.workers.specs.Testing.{Judged, LowFails, Sought, LowAndTold}
 use Rattle.workers.proofs.Boards.{all_rest, none_raised, all_pieces, in_list, in_some, once_some}
 
-abbrev pub Back : (ℕ → Type 0) → Opened → List Seated → Type 0
-Back passing board seats = All (λ s. Sought passing board s × (is_over s.view ≡ true)) seats
+abbrev pub Back : (ℕ → Type 0) → (ℕ → Type 0) → Opened → List Seated → Type 0
+Back passing failing board seats = All (λ s. Sought passing failing board s × (is_over s.view ≡ true)) seats
 
 min_either : (Q : ℕ → Type 0) (m n : ℕ) → Q m → Q n → Q (min m n)
 min_either Q m n left right = elim (dec_le m n) [
@@ -29,12 +29,12 @@ least_below pieces [] k d lt = absurd (omega arith)
 least_below pieces (s ∷ seats) zero d lt = omega arith
 least_below pieces (s ∷ seats) (suc k) d lt = omega (arith, least_below pieces seats k d (omega arith))
 
-module _ (passing : ℕ → Type 0) (board : Opened) (seats : List Seated) (first : ℕ) (each : Back passing board seats) (is : first ≡ least (λ v. v.low) board.pieces (views_of seats)) where
+module _ (passing failing : ℕ → Type 0) (board : Opened) (seats : List Seated) (first : ℕ) (each : Back passing failing board seats) (is : first ≡ least (λ v. v.low) board.pieces (views_of seats)) where
   -- the least number that a seat lowered to fails
-  pub found : first < board.pieces → ¬ passing first
+  pub found : first < board.pieces → failing first
   found lt =
-      let Q : ℕ → Type 0 = λ n. (n ≡ board.pieces) ⊎ ((n < board.pieces) × (¬ passing n)) in
-      ⊎_elim (λ (e : first ≡ board.pieces). absurd (omega arith)) (λ (e : (first < board.pieces) × (¬ passing first)). e.1)
+      let Q : ℕ → Type 0 = λ n. (n ≡ board.pieces) ⊎ ((n < board.pieces) × failing n) in
+      ⊎_elim (λ (e : first ≡ board.pieces). absurd (omega arith)) (λ (e : (first < board.pieces) × failing first). e.1)
       (subst Q (sym is) (attained Q board.pieces seats (inl refl) (λ k d below. (each k d below).0.low)))
 
   -- each piece below it passes: it was judged by the seat that drew it, and no seat lowered to, or was told, a number at or below it
@@ -57,22 +57,22 @@ all_push Q (x ∷ xs) k each here zero d lt = each 0 x (omega arith)
 all_push Q (x ∷ xs) k each here (suc i) d lt = all_push Q xs k (all_rest Q x xs each) here i d (omega arith)
 
 -- a piece more is drawn and judged
-pub sought_next : (passing : ℕ → Type 0) (board : Opened) (before mid after : Seated) (k : ℕ) → Sought passing board before → mid.view ≡ with_piece before.view k → IsSeatOf board after → LowAndTold mid.view after.view
-    → ((j : ℕ) → Judged passing mid.view j → Judged passing after.view j) → Judged passing after.view k → (LowFails passing board.pieces mid.view → LowFails passing board.pieces after.view) → Sought passing board after
-sought_next passing board before mid after k was drew own same kept judged low = record {
+pub sought_next : (passing failing : ℕ → Type 0) (board : Opened) (before mid after : Seated) (k : ℕ) → Sought passing failing board before → mid.view ≡ with_piece before.view k → IsSeatOf board after → LowAndTold mid.view after.view
+    → ((j : ℕ) → Judged passing mid.view j → Judged passing after.view j) → Judged passing after.view k → (LowFails failing board.pieces mid.view → LowFails failing board.pieces after.view) → Sought passing failing board after
+sought_next passing failing board before mid after k was drew own same kept judged low = record {
   own = own;
   judged = subst (All (Judged passing after.view)) (sym (ap (λ v. v.drawn) same ∙ ap (λ v. v.drawn) drew))
       (all_push (Judged passing after.view) before.view.drawn k (λ i d lt. kept (get_or before.view.drawn i d) (subst (λ v. Judged passing v (get_or before.view.drawn i d)) (sym drew) (was.judged i d lt))) judged);
-  low = low (subst (LowFails passing board.pieces) (sym drew) was.low);
+  low = low (subst (LowFails failing board.pieces) (sym drew) was.low);
   raised = ap (λ v. v.raised) same ∙ (ap (λ v. v.raised) drew ∙ was.raised);
 }
 
 -- a seat whose pieces and marks stay
-pub sought_same : (passing : ℕ → Type 0) (board : Opened) (before after : Seated) → Sought passing board before → IsSeatOf board after → after.view.drawn ≡ before.view.drawn → after.view.low ≡ before.view.low → after.view.told ≡ before.view.told → after.view.raised ≡ before.view.raised → Sought passing board after
-sought_same passing board before after was own drawn low told raised = record {
+pub sought_same : (passing failing : ℕ → Type 0) (board : Opened) (before after : Seated) → Sought passing failing board before → IsSeatOf board after → after.view.drawn ≡ before.view.drawn → after.view.low ≡ before.view.low → after.view.told ≡ before.view.told → after.view.raised ≡ before.view.raised → Sought passing failing board after
+sought_same passing failing board before after was own drawn low told raised = record {
   own = own;
   judged = subst (λ ds. All (Judged passing after.view) ds) (sym drawn) (subst (λ l. All (λ j. passing j ⊎ ((l ≤ j) ⊎ (after.view.told ≤ j))) before.view.drawn) (sym low) (subst (λ t. All (λ j. passing j ⊎ ((before.view.low ≤ j) ⊎ (t ≤ j))) before.view.drawn) (sym told) was.judged));
-  low = subst (λ l. (l ≡ board.pieces) ⊎ ((l < board.pieces) × (¬ passing l))) (sym low) was.low;
+  low = subst (λ l. (l ≡ board.pieces) ⊎ ((l < board.pieces) × failing l)) (sym low) was.low;
   raised = raised ∙ was.raised;
 }
 

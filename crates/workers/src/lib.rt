@@ -6,10 +6,10 @@
 //! and one worker alone is no thread of its own.
 #![tactic(auto)]
 
+mod least;
 mod seats;
-mod test;
 mod work;
 
+pub use least::first_failing;
 pub use serial::NoMemory;
-pub use test::{Test, first_failing};
 pub use work::give_all;
