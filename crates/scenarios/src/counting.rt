@@ -1,4 +1,6 @@
 // A gate that counts runs.
+ghost use Rattle.std.specs.Prelude.{◌<◌, IfSome};
+
 use batch::Taken;
 use objects::{AccountReply, Reply};
 use speculate::{Gate, Run};
@@ -50,7 +52,9 @@ fn counts(all: &[AtomicU32; COUNTED]) -> [u32; COUNTED] {
 }
 
 // The place of a transaction among those that are counted, if it is one.
-fn place(transaction: u32) -> Option<usize> {
+fn place(transaction: u32) -> Option<usize>
+    ensures { IfSome result (λ i. i < 3) }
+{
     match transaction {
         1..=3 => Some(transaction as usize - 1),
         _ => None,

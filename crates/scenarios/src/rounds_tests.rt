@@ -9,30 +9,36 @@ use rounds::{NoGate, Plan, execute, first_conflict};
 use speculate::{Gate, Run};
 use std::alloc::Global;
 use std::test::Fail;
+use std::thread::Threads;
 
 // Withdrawals from `a`, which has 100, and deposits on `b`, which has nothing.
-const HEAD: &str = "{\"ordtx\":1,\"objects\":[{\"name\":\"a\",\"kind\":\"account\",\"start\":100},{\"name\":\"b\",\"kind\":\"account\",\"start\":0},{\"name\":\"c\",\"kind\":\"account\",\"start\":0}],\"transactions\":[";
+const HEAD: &str =
+    "{\"ordtx\":1,\"objects\":[{\"name\":\"a\",\"kind\":\"account\",\"start\":100},{\"name\":\"b\",\"kind\":\"account\",\"start\":0},{\"name\":\"c\",\"kind\":\"account\",\"start\":0}],\"transactions\":[";
 
 /// Runs these transactions with two workers and pieces of one transaction.
-fn run_by_two<G: Gate>(rt: &HostRuntime, transactions: &str, gate: &G) -> Result<u32, Fail> {
-    let alloc = rt.alloc();
+fn run_by_two<R: Threads + Sync, G: Gate>(
+    threads: &R,
+    alloc: Global,
+    transactions: &str,
+    gate: &G,
+) -> Result<u32, Fail> {
     let document = format!(in alloc; "{HEAD}{transactions}]}}")?;
-    let Ok(batch) = read(alloc, document.as_bytes()) else {
-        panic!(rt; "a document")
-    };
+    let batch = read(alloc, document.as_bytes()).ok().ok_or("a batch")?;
     let plan = Plan::new(2, 1).ok_or("a plan")?;
-    let outcome = execute(rt, alloc, &batch, plan, gate)?;
+    let outcome = execute(threads, alloc, &batch, plan, gate)?;
     Ok(outcome.rounds)
 }
 
-fn meets(
-    rt: &HostRuntime,
+/// Whether the held call of `pass` met the other one.
+fn meets<R: Threads + Sync>(
+    threads: &R,
+    alloc: Global,
     transactions: &str,
     held: (u32, u32),
     other: (u32, u32),
 ) -> Result<bool, Fail> {
     let gate = Meeting::new(held, other);
-    run_by_two(rt, transactions, &gate)?;
+    run_by_two(threads, alloc, transactions, &gate)?;
     Ok(gate.has_met())
 }
 
@@ -43,26 +49,27 @@ const ON_THREE: &str =
 
 #[test]
 fn two_runs_meet(rt: HostRuntime) -> Result<(), Fail> {
-    assert!(rt; meets(&rt, ON_TWO, (1, 0), (2, 0))?);
+    assert!(rt; meets(&rt, rt.alloc(), ON_TWO, (1, 0), (2, 0))?);
     Ok(())
 }
 
 #[test]
 fn third_run_meets(rt: HostRuntime) -> Result<(), Fail> {
-    assert!(rt; meets(&rt, ON_THREE, (1, 0), (3, 0))?);
+    assert!(rt; meets(&rt, rt.alloc(), ON_THREE, (1, 0), (3, 0))?);
     Ok(())
 }
 
 #[test]
 fn two_checks_meet(rt: HostRuntime) -> Result<(), Fail> {
-    assert!(rt; meets(&rt, ON_TWO, (0, 1), (0, 2))?);
+    assert!(rt; meets(&rt, rt.alloc(), ON_TWO, (0, 1), (0, 2))?);
     Ok(())
 }
 
 #[test]
 fn two_keeps_meet(rt: HostRuntime) -> Result<(), Fail> {
-    let transactions = "[{\"op\":[\"a\",\"withdraw\",30]}],[{\"op\":[\"a\",\"withdraw\",50]}],[{\"op\":[\"a\",\"withdraw\",10]}],[{\"op\":[\"b\",\"deposit\",1]}]";
-    assert!(rt; meets(&rt, transactions, (0, 10001), (0, 10002))?);
+    let transactions =
+        "[{\"op\":[\"a\",\"withdraw\",30]}],[{\"op\":[\"a\",\"withdraw\",50]}],[{\"op\":[\"a\",\"withdraw\",10]}],[{\"op\":[\"b\",\"deposit\",1]}]";
+    assert!(rt; meets(&rt, rt.alloc(), transactions, (0, 10001), (0, 10002))?);
     Ok(())
 }
 
@@ -70,7 +77,7 @@ fn two_keeps_meet(rt: HostRuntime) -> Result<(), Fail> {
 fn runs_are_made(rt: HostRuntime) -> Result<(), Fail> {
     let transactions = "[{\"op\":[\"a\",\"withdraw\",80]}],[{\"op\":[\"a\",\"withdraw\",50]}]";
     let gate = Counting::new();
-    assert_eq!(rt; run_by_two(&rt, transactions, &gate)?, 2);
+    assert_eq!(rt; run_by_two(&rt, rt.alloc(), transactions, &gate)?, 2);
     assert_eq!(rt; gate.made(), [1, 2, 0]);
     assert_eq!(rt; gate.refused(), [0, 2, 0]);
     Ok(())
@@ -78,9 +85,10 @@ fn runs_are_made(rt: HostRuntime) -> Result<(), Fail> {
 
 #[test]
 fn a_run_that_still_stands_is_not_made_again(rt: HostRuntime) -> Result<(), Fail> {
-    let transactions = "[{\"op\":[\"a\",\"withdraw\",30]}],[{\"op\":[\"a\",\"withdraw\",50]}],[{\"op\":[\"b\",\"deposit\",1]}]";
+    let transactions =
+        "[{\"op\":[\"a\",\"withdraw\",30]}],[{\"op\":[\"a\",\"withdraw\",50]}],[{\"op\":[\"b\",\"deposit\",1]}]";
     let gate = Counting::new();
-    assert_eq!(rt; run_by_two(&rt, transactions, &gate)?, 2);
+    assert_eq!(rt; run_by_two(&rt, rt.alloc(), transactions, &gate)?, 2);
     assert_eq!(rt; gate.begun(), [1, 2, 1]);
     Ok(())
 }
@@ -112,14 +120,30 @@ fn the_first_conflict_is_the_same_for_any_workers(rt: HostRuntime) -> Result<(),
     let less = AccountCall::Withdraw(Amount::new(30).ok_or("an amount")?);
     let more = AccountCall::Withdraw(Amount::new(50).ok_or("an amount")?);
     let deposit = AccountCall::Deposit(Amount::new(1).ok_or("an amount")?);
-    let runs = [
+    let none = [];
+    let apart = [
+        run_of(alloc, 0, less)?,
+        run_of(alloc, 1, deposit)?,
+        run_of(alloc, 0, deposit)?,
+    ];
+    let at_odds = [
         run_of(alloc, 0, less)?,
         run_of(alloc, 0, more)?,
         run_of(alloc, 1, deposit)?,
     ];
     for workers in [1, 2, 64] {
-        let first = first_conflict(&rt, alloc, runs.as_slice(), workers, &NoGate)?;
-        assert_eq!(rt; first, 1);
+        assert_eq!(rt;
+            first_conflict(&rt, alloc, none.as_slice(), workers, &NoGate)?,
+            0
+        );
+        assert_eq!(rt;
+            first_conflict(&rt, alloc, apart.as_slice(), workers, &NoGate)?,
+            3
+        );
+        assert_eq!(rt;
+            first_conflict(&rt, alloc, at_odds.as_slice(), workers, &NoGate)?,
+            1
+        );
     }
     Ok(())
 }
