@@ -1,12 +1,15 @@
 -- The first run that doesn't stand is sought by one run after the other.
-use Rattle.std.proofs.Common.{◌≡◌, ℕ, ◌+◌, ◌<◌, List, [], ◌∷◌, ◌++◌, length, get_or, take, drop, ◌-◌, below_more, arith, refl, sym, ap, ◌∙◌, subst, append_assoc, append-nil}
-use Rattle.std.specs.Prelude.{slice_range}
+use Rattle.std.proofs.Common.{◌≡◌, ℕ, ◌+◌, ◌<◌, ◌≤◌, List, [], ◌∷◌, ◌++◌, length, get_or, take, drop, ◌-◌, arith, refl, sym, ap, ◌∙◌, subst, append_assoc, append-nil}
+use Rattle.std.specs.Prelude.{slice_range, IsTrue, ◌↔◌, Bool}
 use Rattle.std.proofs.Math.ListN.{length-drop}
-use Rattle.std.proofs.lemmas.List.{take_more, get_or_read, take_all}
+use Rattle.std.proofs.lemmas.List.{take_more, get_or_default, take_all, take-append-drop, length-append}
+use Rattle.std.proofs.Math.Seq.{take-append_seam, get_or-append_seam}
+use Rattle.std.proofs.Math.ListN.{get_or-append}
+use native.Mathlib.Decide.{dec_le}
 use Rattle.meaning.specs.Entries.{AllCommute}
 use Rattle.objects.specs.declared.entry.Entry.{Entry}
 use Rattle.speculate.specs.declared.speculated.Run.{Run}
-use Rattle.rounds.specs.Passes.{nets_of, StandsPast, StandsAt}
+use Rattle.rounds.specs.Passes.{nets_of, StandsPast, StandsAt, IsFirstConflict}
 
 nets_append : (xs ys : List Run) → nets_of (xs ++ ys) ≡ nets_of xs ++ nets_of ys
 nets_append [] ys = refl
@@ -22,11 +25,42 @@ pub nets_more : (runs : List Run) (i : ℕ) (run : Run) (before after net : List
 nets_more runs i run before after net lt is this all so_far =
     all ∙ (ap (λ es. es ++ net) so_far ∙ (ap (λ es. nets_of (take i runs) ++ es) this ∙ sym (next_nets runs i run lt is)))
 
-pub clear_more : (runs : List Run) (i : ℕ) (run : Run) (before entries : List Entry) → i < length runs → run ≡ get_or runs i run → entries ≡ run.entries.items → before ≡ nets_of (take i runs) → ((k : ℕ) → k < i → StandsAt runs k) → AllCommute entries before → (k : ℕ) → k < i + 1 → StandsAt runs k
-clear_more runs i run before entries lt is these so_far clear stands =
-    let past : StandsPast (nets_of (take i runs)) run = subst (λ ns. AllCommute run.entries.items ns) so_far (subst (λ es. AllCommute es before) these stands) in
-    below_more (StandsAt runs) i clear (λ d. subst (StandsPast (nets_of (take i runs))) (get_or_read runs i run lt is d) past)
+-- where the net of one run more begins
+pub starts_more : (runs : List Run) (i : ℕ) (starts more : List ℕ) (nets : List Entry) → more ≡ starts ++ length nets ∷ [] → length starts ≡ i → nets ≡ nets_of (take i runs)
+    → ((k : ℕ) → k < i → get_or starts k 0 ≡ length (nets_of (take k runs))) → (k : ℕ) → k < i + 1 → get_or more k 0 ≡ length (nets_of (take k runs))
+starts_more runs i starts more nets pushed all so_far each k lt = elim (dec_le i k) [
+  | yes le ↦ let last : length starts ≡ k = omega arith in let same : i ≡ k = omega arith in
+      ap (λ xs. get_or xs k 0) pushed ∙ (ap (λ n. get_or (starts ++ length nets ∷ []) n 0) (sym last) ∙ (get_or-append_seam starts (length nets) [] 0 ∙ (ap length so_far ∙ ap (λ n. length (nets_of (take n runs))) same)))
+  | no less ↦ ap (λ xs. get_or xs k 0) pushed ∙ (get_or-append starts (length nets ∷ []) 0 k (omega arith) ∙ each k (omega arith))
+]
+
+-- the nets of all runs begin with those of the first ones
+first_nets : (runs : List Run) (i : ℕ) → nets_of runs ≡ nets_of (take i runs) ++ nets_of (drop i runs)
+first_nets runs i = ap nets_of (sym (take-append-drop i runs)) ∙ nets_append (take i runs) (drop i runs)
+
+pub front_nets : (runs : List Run) (i n : ℕ) (nets : List Entry) → nets ≡ nets_of runs → n ≡ length (nets_of (take i runs)) → slice_range nets 0 n ≡ nets_of (take i runs)
+front_nets runs i n nets are size = let whole : n - 0 ≡ n = omega arith in ap (λ m. take m nets) whole ∙ (ap (take n) (are ∙ first_nets runs i) ∙ (ap (λ m. take m (nets_of (take i runs) ++ nets_of (drop i runs))) size ∙ take-append_seam (nets_of (take i runs)) (nets_of (drop i runs))))
+
+pub front_within : (runs : List Run) (i n : ℕ) (nets : List Entry) → nets ≡ nets_of runs → n ≡ length (nets_of (take i runs)) → n ≤ length nets
+front_within runs i n nets are size = omega (arith, ap length (are ∙ first_nets runs i), length-append (nets_of (take i runs)) (nets_of (drop i runs)))
+
+-- the test against the nets before a run is whether it stands
+pub stands_there : (runs : List Run) (i : ℕ) (run : Run) (entries before : List Entry) (told : Bool) → i < length runs → entries ≡ (get_or runs i run).entries.items → before ≡ nets_of (take i runs)
+    → (IsTrue told ↔ AllCommute entries before) → IsTrue told ↔ StandsAt runs i
+stands_there runs i run entries before told lt these so_far test =
+    let here : AllCommute entries before ≡ StandsPast (nets_of (take i runs)) (get_or runs i run) = ap (λ es. AllCommute es before) these ∙ ap (λ ns. StandsPast ns (get_or runs i run)) so_far in (
+      (λ told_so d. subst (StandsPast (nets_of (take i runs))) (get_or_default runs i run d lt) (subst (λ T. T) here (test.0 told_so))),
+      (λ stands. test.1 (subst (λ T. T) (sym here) (stands run))),
+    )
 
 -- a list from one place to its end
 pub range_to_end : (xs : List Entry) (from end_at : ℕ) → end_at ≡ length xs → slice_range xs from end_at ≡ drop from xs
 range_to_end xs from end_at is = let size = length-drop from xs in take_all (end_at - from) (drop from xs) (omega arith)
+
+-- a run at which the first ones end and that doesn't stand itself
+pub first_found : (runs : List Run) (first : ℕ) → first ≤ length runs → ((k : ℕ) → k < first → StandsAt runs k) → (first < length runs → ¬ StandsAt runs first) → IsFirstConflict runs first
+first_found runs first within clear fails = record {
+  within = within;
+  clear = clear;
+  conflict = λ d lt past. fails lt (λ e. subst (StandsPast (nets_of (take first runs))) (get_or_default runs first d e lt) past);
+}

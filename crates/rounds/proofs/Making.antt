@@ -1,17 +1,24 @@
 -- Runs are made one after the other, and put in their places in any order.
-use Rattle.std.proofs.Common.{◌≡◌, ℕ, zero, suc, ◌+◌, ◌<◌, ◌≤◌, List, [], ◌∷◌, ◌++◌, length, get_or, set, take, refl, sym, ap, ◌∙◌, subst, arith}
+use Rattle.std.proofs.Common.{◌≡◌, ℕ, zero, suc, ◌+◌, ◌<◌, ◌≤◌, List, [], ◌∷◌, ◌++◌, ◌==◌, map, length, get_or, set, take, refl, sym, ap, ◌∙◌, subst, arith}
 use Rattle.std.proofs.lemmas.List.{take_more, map-append, get_or-set_same, get_or-set_other, length-set}
 use Rattle.std.proofs.lemmas.List.Elements.{All-push, All-same}
-use Rattle.std.specs.List.{All}
+use Rattle.std.specs.List.{All, sum_by, range_with_len}
 use native.Mathlib.Decide.{ℕ_discrete}
 use Rattle.meaning.specs.Entries.{State}
 use Rattle.rounds.specs.Views.{meaning}
 use Rattle.speculate.specs.Runs.{IsRunOf}
 use Rattle.speculate.specs.declared.speculated.Run.{Run}
 use Rattle.batch.specs.declared.batch.Batch.{Batch}
-use Rattle.rounds.specs.declared.passes.Made.{Made}
-use Rattle.rounds.specs.Passes.{times, numbers_of, AreMade, AreRenewed}
-use Rattle.rounds.proofs.Times.{times_append, times_one, times_none}
+use Rattle.rounds.specs.declared.make.Made.{Made}
+use Rattle.rounds.specs.Passes.{bit, times, numbers_of, AreMade, AreRenewed}
+use Rattle.rounds.proofs.Times.{times_append, times_one, times_none, times_sum}
+use Rattle.std.specs.Fork.{slice_chunk}
+use Rattle.std.specs.Int.{div_ceil}
+use Rattle.std.proofs.lemmas.Slice.Chunks.{sum_by_chunks}
+use Rattle.std.proofs.lemmas.List.Sums.{sum-map}
+use Rattle.std.proofs.lemmas.List.FromFn.{length-map-range_with_len, get_or-map-range_with_len}
+use Rattle.workers.specs.Working.{AreGivenOnce}
+use Rattle.workers.proofs.Once.{each_given, sum_given_once}
 
 abbrev pub IsMade : Batch → State → Made → Type 0
 IsMade batch state m = IsRunOf (meaning batch m.number state) m.run
@@ -27,6 +34,26 @@ made_more batch state numbers i m made more lt is pushed so_far here = record {
       let right : times j (take (i + 1) numbers) ≡ times j (take i numbers) + times j (get_or numbers i 0 ∷ []) = ap (times j) (take_more numbers i 0 lt) ∙ times_append j (take i numbers) (get_or numbers i 0 ∷ []) in
       left ∙ (ap (λ n. n + times j (m.number ∷ [])) (so_far.dealt j) ∙ (ap (λ n. times j (take i numbers) + times j (n ∷ [])) is ∙ sym right));
 }
+
+times_numbers_append : (i : ℕ) (xs ys : List Made) → times i (numbers_of (xs ++ ys)) ≡ times i (numbers_of xs) + times i (numbers_of ys)
+times_numbers_append i xs ys = ap (times i) (map-append (λ (m : Made). m.number) xs ys) ∙ times_append i (numbers_of xs) (numbers_of ys)
+
+-- a number stands in the chunks of a list, put together, as often as in the list
+times_chunks : (i size count : ℕ) (numbers : List ℕ) → 0 < size → count ≡ div_ceil (length numbers) size → sum_by (λ k. times i (slice_chunk numbers size k)) (range_with_len 0 count) ≡ times i numbers
+times_chunks i size count numbers some are =
+    let f : ℕ → ℕ = λ k. times i (slice_chunk numbers size k) in
+    let rs = map f (range_with_len 0 count) in
+    let size_of : length rs ≡ count = length-map-range_with_len f 0 count in
+    sym (sum-map f (range_with_len 0 count))
+    ∙ (sum_by_chunks (λ y. bit (y == i)) size numbers rs (λ k lt. get_or-map-range_with_len f 0 count k k 0 (omega arith) (omega arith) ∙ times_sum i (slice_chunk numbers size k)) some (size_of ∙ are) ∙ sym (times_sum i numbers))
+
+-- the groups' runs, each group once, are a run for each of the numbers
+pub all_groups : (batch : Batch) (state : State) (numbers : List ℕ) (cut count : ℕ) (made : List Made) → 0 < cut → count ≡ div_ceil (length numbers) cut → AreGivenOnce (λ k. AreMade batch state (slice_chunk numbers cut k)) count made → AreMade batch state numbers made
+all_groups batch state numbers cut count made some are given =
+    let IsGroup : ℕ → List Made → Type 0 = λ k. AreMade batch state (slice_chunk numbers cut k) in record {
+      each = each_given IsGroup (IsMade batch state) (λ k own here. here.each) given.order made given.given;
+      dealt = λ i. sum_given_once IsGroup (λ ms. times i (numbers_of ms)) refl (times_numbers_append i) (λ k. times i (slice_chunk numbers cut k)) (λ k own here. here.dealt i) count made given ∙ times_chunks i cut count numbers some are;
+    }
 
 -- Some of the runs are in their places, and these are left.
 pub record ArePut (batch : Batch) (state : State) (numbers : List ℕ) (old runs : List Run) (was counts : List ℕ) (left : List Made) : Type 0 where

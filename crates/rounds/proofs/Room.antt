@@ -1,8 +1,6 @@
 -- There is room for every run and every commitment of a batch.
-use Rattle.std.proofs.Common.{◌≡◌, ℕ, zero, suc, ◌+◌, ◌-◌, ◌<◌, ◌≤◌, List, [], ◌∷◌, ◌++◌, map, length, take, drop, Some, refl, sym, ap, subst, ◌∙◌, arith, length-append}
+use Rattle.std.proofs.Common.{◌≡◌, ℕ, zero, suc, ◌+◌, ◌<◌, ◌≤◌, List, [], ◌∷◌, length, take, drop, Some, refl, ap, arith, length-append}
 use Rattle.std.proofs.lemmas.List.{length-map}
-use Rattle.objects.specs.Objects.{kind_of_value}
-use Rattle.objects.specs.declared.value.Value.{Value}
 use Rattle.objects.specs.declared.call.Call.{Call}
 use Rattle.objects.specs.declared.call.Reply.{Reply}
 use Rattle.objects.specs.declared.entry.Entry.{Entry}
@@ -13,17 +11,14 @@ use Rattle.meaning.specs.Trees.{Block}
 use Rattle.meaning.specs.Records.{Taken, Nothing, Took, TakenStep, Performed, Branched, Acted, InParallel, TakenChild, Committed, Undone, TakenHandler, NoHandler, Handled, TakenChildren, NoChild, Child, entries, entries_of_step, entries_of_child, entries_of_handler, entries_of_children, kept, kept_of_step, kept_of_child, kept_of_handler, kept_of_children, net}
 use Rattle.meaning.specs.OneThread.{record_of, outcome_of}
 use Rattle.meaning.specs.Batch.{block_at, state_at, answer, nets, net_of}
-use Rattle.meaning.specs.WellFormed.{CallFits, operations, largest, HasRoom}
-use Rattle.meaning.specs.Running.{all_operations, CanPerform}
+use Rattle.meaning.specs.WellFormed.{CallFits, operations, HasRoom}
+use Rattle.meaning.specs.Running.{all_operations}
 use Rattle.meaning.proofs.Keeping.{perform, limit, call_keeps, batch_keeps}
 use Rattle.meaning.proofs.Counting.{entries_count}
-use Rattle.batch.specs.Names.{Texts}
-use Rattle.batch.specs.Limits.{IsBatch}
 use Rattle.batch.specs.Views.{block_view}
 use Rattle.batch.specs.declared.batch.Batch.{Batch}
 use Rattle.intentions.specs.Levels.{AllHaveRoom}
 use Rattle.intentions.proofs.EntriesLemmas.{legal-fits}
-use Rattle.speculate.specs.Runs.{IsWithinOthers}
 use Rattle.speculate.proofs.Transactions.{operations_at}
 use Rattle.rounds.specs.Views.{start_of, blocks_of}
 use Rattle.rounds.specs.Passes.{CanBeMade}

@@ -1,6 +1,6 @@
 -- The loop of openings from one opening to the next.
 use Rattle.std.proofs.Common.{◌≡◌, ℕ, zero, suc, ◌+◌, ◌-◌, ◌<◌, ◌≤◌, ◌⊎◌, inl, inr, ⊎_elim, List, [], ◌∷◌, ◌++◌, length, get_or, take, drop, refl, sym, ap, ◌∙◌, subst, arith}
-use Rattle.std.proofs.lemmas.List.{get_or_past, get_or-drop, length-map, take_all, drop_at, drop-map}
+use Rattle.std.proofs.lemmas.List.{get_or_past, get_or-drop, take_all, drop_at}
 use Rattle.std.proofs.Math.ListN.{length-drop}
 use native.Mathlib.Decide.{dec_le}
 use Rattle.meaning.specs.Entries.{State}

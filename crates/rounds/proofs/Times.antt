@@ -1,7 +1,9 @@
 -- How often a number stands in a list.
-use Rattle.std.proofs.Common.{◌≡◌, ◌≢◌, ℕ, zero, suc, ◌+◌, ◌<◌, ◌≤◌, ◌==◌, List, [], ◌∷◌, ◌++◌, length, get_or, ap, ◌∙◌, arith}
+use Rattle.std.proofs.Common.{◌≡◌, ◌≢◌, ℕ, zero, suc, ◌+◌, ◌<◌, ◌≤◌, ◌==◌, List, [], ◌∷◌, ◌++◌, length, get_or, refl, ap, ◌∙◌, arith}
 use Rattle.std.proofs.lemmas.Bool.Decides.{nat_tests}
 use native.Mathlib.Decide.{ℕ_discrete}
+use Rattle.std.specs.List.{sum_by}
+use Rattle.std.proofs.lemmas.List.Sums.{sum_by-cons}
 use Rattle.rounds.specs.Passes.{bit, times}
 
 pub times_append : (x : ℕ) (ys zs : List ℕ) → times x (ys ++ zs) ≡ times x ys + times x zs
@@ -41,3 +43,7 @@ below_push i numbers more pushed below beyond j lt = elim (ℕ_discrete i j) [
 
 pub beyond_push : (i : ℕ) (numbers more : List ℕ) → more ≡ numbers ++ i ∷ [] → ((j : ℕ) → i ≤ j → times j numbers ≡ 0) → (j : ℕ) → i + 1 ≤ j → times j more ≡ 0
 beyond_push i numbers more pushed beyond j le = let other : i ≢ j = omega arith in ap (times j) pushed ∙ (times_push_other j i numbers other ∙ beyond j (omega arith))
+
+pub times_sum : (x : ℕ) (ys : List ℕ) → times x ys ≡ sum_by (λ y. bit (y == x)) ys
+times_sum x [] = refl
+times_sum x (y ∷ ys) = omega (arith, sum_by-cons (λ z. bit (z == x)) y ys, times_sum x ys)

@@ -1,5 +1,5 @@
 -- What the passes over pending runs answer: which run is the first that doesn't stand, which are to be made again, and those that were made.
-use Rattle.std.specs.Prelude.{◌≡◌, ℕ, ◌+◌, ◌<◌, ◌≤◌, ◌⊎◌, ◌==◌, Bool, cond, List, [], ◌∷◌, ◌++◌, length, map, take, slice_index_or}
+use Rattle.std.specs.Prelude.{◌≡◌, ◌≢◌, ℕ, ◌+◌, ◌<◌, ◌≤◌, ◌⊎◌, ◌==◌, Bool, cond, List, [], ◌∷◌, ◌++◌, length, map, take, slice_index_or}
 use Rattle.std.specs.List.{All}
 use Rattle.meaning.specs.Entries.{State, AllCommute}
 use Rattle.objects.specs.declared.entry.Entry.{Entry}
@@ -7,7 +7,7 @@ use Rattle.rounds.specs.Views.{blocks_of, meaning}
 use Rattle.speculate.specs.Runs.{IsRunOf, IsWithinOthers}
 use Rattle.speculate.specs.declared.speculated.Run.{Run}
 use Rattle.batch.specs.declared.batch.Batch.{Batch}
-use Rattle.rounds.specs.declared.passes.Made.{Made}
+use Rattle.rounds.specs.declared.make.Made.{Made}
 
 -- a transaction of the batch can be run on this state
 pub record CanBeMade (batch : Batch) (state : State) (number : ℕ) : Type 0 where
@@ -33,6 +33,11 @@ pub record IsFirstConflict (runs : List Run) (first : ℕ) : Type 0 where
   pub clear : (i : ℕ) → i < first → StandsAt runs i
   pub conflict : (d : Run) → first < length runs → ¬ StandsPast (nets_of (take first runs)) (slice_index_or runs first d)
 
+-- for each run, how many entries the runs before it leave
+pub record AreStarts (runs : List Run) (starts : List ℕ) : Type 0 where
+  pub all : length starts ≡ length runs
+  pub each : (i : ℕ) → i < length runs → slice_index_or starts i 0 ≡ length (nets_of (take i runs))
+
 abbrev pub bit : Bool → ℕ
 bit b = cond b 1 0
 
@@ -44,6 +49,12 @@ times x (y ∷ ys) = bit (y == x) + times x ys
 -- a run stands and isn't among the numbers, or doesn't and is there once
 abbrev pub Kept : List Entry → ℕ → Run → Type 0
 Kept since told run = (StandsPast since run × (told ≡ 0)) ⊎ ((¬ StandsPast since run) × (told ≡ 1))
+
+-- what is told of one place: its number where its run doesn't stand past these entries, and no other number
+pub record IsDecided (runs : List Run) (since : List Entry) (place : ℕ) (told : List ℕ) : Type 0 where
+  pub here : (d : Run) → Kept since (times place told) (slice_index_or runs place d)
+  pub elsewhere : (i : ℕ) → i ≢ place → times i told ≡ 0
+  pub few : length told ≤ 1
 
 -- the numbers, each once, of the runs from one place on and before another that don't stand past these entries
 pub record AreRefuted (runs : List Run) (since : List Entry) (from upto : ℕ) (numbers : List ℕ) : Type 0 where

@@ -2,14 +2,17 @@
 //! that stand are committed in order of number.
 #![tactic(auto)]
 
+mod check;
+mod crew;
+mod keep;
 pub mod laws;
+mod make;
 mod openings;
-mod passes;
 mod plan;
 
 pub use batch::{Batch, Outcome, Record};
+pub use check::first_conflict;
 pub use openings::execute;
-pub use passes::first_conflict;
 pub use plan::Plan;
 pub use speculate::{Entry, Gate, NoGate, NoMemory, Objects, Run};
 

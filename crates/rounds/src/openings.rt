@@ -11,7 +11,10 @@ ghost use Rattle.rounds.specs.Views.{start_of, blocks_of};
 ghost use Rattle.rounds.specs.Passes.{CanBeMade, nets_of, times, AreRenewed};
 ghost use Rattle.rounds.specs.Openings.{AreCounts};
 
-use crate::passes::{Made, first_conflict, keep_all, make_all};
+use crate::check::first_conflict;
+use crate::crew::Crew;
+use crate::keep::keep_all;
+use crate::make::{Made, make_all};
 use crate::plan::Plan;
 use batch::{Batch, Outcome, Record};
 use intentions::{Committed, perform_each};
@@ -22,26 +25,23 @@ use std::thread::Threads;
 
 // Makes runs for the stale numbers, puts them in their places and counts them.
 fn renew<R: Threads + Sync, G: Gate>(
-    threads: &R,
-    alloc: Global,
+    crew: &Crew<R, G>,
     batch: &Batch,
     objects: &Objects,
     stale: &[usize],
     runs: &mut Vec<Run>,
     counts: &mut Vec<u32>,
-    plan: Plan,
-    gate: &G,
 ) -> Result<(), NoMemory>
     requires every { length runs.old.items ≡ length batch.now.transactions.items }
     requires counted { length counts.old.items ≡ length batch.now.transactions.items }
-    requires few { length batch.now.transactions.items ≤ 10000 }
+    requires few { (length batch.now.transactions.items ≤ 10000) × (length stale.now ≤ 10000) }
     requires numbers { (i : ℕ) → 0 < times i stale.now → i < length batch.now.transactions.items }
     requires made { All (λ n. CanBeMade batch.now objects.now n) stale.now }
     requires same_kinds { kinds objects.now ≡ kinds batch.now.objects }
     requires room { (i : ℕ) → slice_index_or counts.old.items i 0 + times i stale.now ≤ 10001 }
     ensures { IfOk result (λ _. AreRenewed batch.now objects.now stale.now runs.old.items runs.new.items counts.old.items counts.new.items) }
 {
-    let mut made = make_all(threads, alloc, batch, objects, stale, plan, gate)?;
+    let mut made = make_all(crew, batch, objects, stale)?;
     'putting: while let Some(next) = made.pop() {
         let Made { number, run } = next;
         runs[number] = run;
@@ -84,6 +84,7 @@ fn blank_runs(alloc: Global, count: usize) -> Result<Vec<Run>, NoMemory>
 }
 
 fn all_numbers(alloc: Global, count: usize) -> Result<Vec<usize>, NoMemory>
+    ensures all { IfOk result (λ numbers. length numbers.items ≡ count) }
     ensures below { IfOk result (λ numbers. (i : ℕ) → i < count → times i numbers.items ≡ 1) }
     ensures beyond { IfOk result (λ numbers. (i : ℕ) → count ≤ i → times i numbers.items ≡ 0) }
 {
@@ -151,33 +152,20 @@ pub fn execute<R: Threads + Sync, G: Gate>(
     let mut committed = Committed::new(alloc);
     let mut opened: usize = 0;
     let mut rounds: u32 = 0;
+    let crew = Crew {
+        threads,
+        alloc,
+        plan,
+        gate,
+    };
     'opening: while opened < count {
-        renew(
-            threads,
-            alloc,
-            batch,
-            &objects,
-            &stale,
-            &mut runs,
-            &mut counts,
-            plan,
-            gate,
-        )?;
+        renew(&crew, batch, &objects, &stale, &mut runs, &mut counts)?;
         let since = committed.len();
         let passed = first_conflict(threads, alloc, &runs[opened..], plan.workers, gate)?;
         commit(&runs[opened..opened + passed], &mut objects, &mut committed)?;
         opened += passed;
         rounds += 1;
-        stale = keep_all(
-            threads,
-            alloc,
-            &runs,
-            opened,
-            &committed,
-            since,
-            plan.workers,
-            gate,
-        )?;
+        stale = keep_all(&crew, &runs, opened, &committed, since)?;
     }
     let records = records_of(alloc, runs)?;
     Ok(Outcome {

@@ -21,4 +21,12 @@ impl Plan {
         }
         Some(Plan { workers, cut })
     }
+
+    /// How many children of a parallel block each run may run at once, where so many transactions
+    /// need a run: the workers share them, so each has the same, at least 1.
+    pub(crate) fn width(self, runs: u32) -> u32
+        ensures { (1 ≤ result) × (result ≤ self.workers) }
+    {
+        self.workers / self.workers.min(runs).max(1)
+    }
 }

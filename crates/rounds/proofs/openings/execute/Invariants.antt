@@ -1,9 +1,12 @@
-use Rattle.std.proofs.Common.{◌-◌}
+use Rattle.std.proofs.Common.{◌-◌, ◌≤◌, length}
 use Rattle.rounds.specs.Openings.{AtOpening}
 use Rattle.rounds.proofs.openings.execute.Given as goal
 
 abbrev pub invariant-opening : goal.invariant-opening
-invariant-opening g l = AtOpening l.batch l.opened l.rounds (l.objects) l.runs.items l.counts.items l.stale.items
+invariant-opening g l = record {
+  at : AtOpening l.batch l.opened l.rounds l.objects l.runs.items l.counts.items l.stale.items;
+  few : length l.stale.items ≤ 10000;
+}
 
 abbrev pub decreases-opening : goal.decreases-opening
 decreases-opening g l = l.count - l.opened

@@ -1,6 +1,0 @@
-use Rattle.std.proofs.Common.{take}
-use Rattle.rounds.specs.Passes.{AreMade}
-use Rattle.rounds.proofs.passes.make_all.Given as goal
-
-abbrev pub invariant-loop-number : goal.invariant-loop-number
-invariant-loop-number g l = AreMade l.batch (l.objects) (take l.number-index l.numbers) l.all.items

@@ -1,0 +1,97 @@
+//! Runs of the transactions that need one.
+ghost use Rattle.std.specs.Prelude.{◌≡◌, ℕ, ◌*◌, ◌<◌, ◌≤◌, IfOk, length};
+ghost use Rattle.std.specs.Fork.{slice_chunk};
+ghost use Rattle.std.specs.List.{All};
+ghost use Rattle.meaning.specs.Entries.{kinds};
+ghost use Rattle.rounds.specs.Passes.{CanBeMade, AreMade};
+
+use crate::crew::Crew;
+use batch::Batch;
+use speculate::{Gate, NoMemory, Objects, Run, run};
+use std::alloc::Global;
+use std::thread::Threads;
+use workers::give_all;
+
+/// A run of the transaction with this number, counted from 0.
+#[derive(Drop)]
+pub(crate) struct Made {
+    pub(crate) number: usize,
+    pub(crate) run: Run,
+}
+
+// A run for each of the numbers of a group, one after the other.
+fn make_group<R: Threads + Sync, G: Gate>(
+    threads: &R,
+    alloc: Global,
+    batch: &Batch,
+    objects: &Objects,
+    group: &[usize],
+    width: u32,
+    gate: &G,
+) -> Result<Vec<Made>, NoMemory>
+    requires within { All (λ n. CanBeMade batch.now objects.now n) group.now }
+    requires same_kinds { kinds objects.now ≡ kinds batch.now.objects }
+    requires narrow { (1 ≤ width) × (width ≤ 64) }
+    ensures { IfOk result (λ made. AreMade batch.now objects.now group.now made.items) }
+{
+    let mut all = Vec::with_capacity(alloc, group.len())?;
+    for number in group {
+        let transaction = (*number + 1) as u32;
+        let run = run(threads, alloc, objects, batch, transaction, width, gate)?;
+        all.push(Made {
+            number: *number,
+            run,
+        })?;
+    }
+    Ok(all)
+}
+
+// The group that is this piece: at most `cut` of the numbers.
+fn group_at(numbers: &[usize], cut: usize, piece: u32) -> &[usize]
+    requires cut { cut ≤ 1000 }
+    requires piece { piece * cut < length numbers.now }
+    ensures { result.now ≡ slice_chunk numbers.now cut piece }
+{
+    let first = piece as usize * cut;
+    let end = numbers.len().min(first + cut);
+    &numbers[first..end]
+}
+
+/// A run for each of the numbers, in any order, made on these objects. A piece of the workers is a
+/// group of at most `cut` of the numbers, and the workers that are left over where there are fewer
+/// numbers share out the children of parallel blocks.
+///
+/// `NoMemory` is answered where a growth of memory was refused.
+pub(crate) fn make_all<R: Threads + Sync, G: Gate>(
+    crew: &Crew<R, G>,
+    batch: &Batch,
+    objects: &Objects,
+    numbers: &[usize],
+) -> Result<Vec<Made>, NoMemory>
+    requires few { length numbers.now ≤ 10000 }
+    requires within { All (λ n. CanBeMade batch.now objects.now n) numbers.now }
+    requires same_kinds { kinds objects.now ≡ kinds batch.now.objects }
+    ensures { IfOk result (λ made. AreMade batch.now objects.now numbers.now made.items) }
+{
+    let Crew {
+        threads,
+        alloc,
+        plan,
+        gate,
+    } = *crew;
+    let cut = plan.cut as usize;
+    let width = plan.width(numbers.len() as u32);
+    give_all(
+        threads,
+        alloc,
+        numbers.len().div_ceil(cut) as u32,
+        plan.workers,
+        &|piece: u32| -> Result<Vec<Made>, NoMemory>
+            requires { (cut ≤ 1000) × (piece * cut < length numbers.now) × (1 ≤ width) × (width ≤ 64) × (kinds objects.now ≡ kinds batch.now.objects) × All (λ n. CanBeMade batch.now objects.now n) numbers.now }
+            ensures { IfOk result (λ made. AreMade batch.entry.now objects.entry.now (slice_chunk numbers.entry.now cut piece) made.items) }
+        {
+            let group = group_at(numbers, cut, piece);
+            make_group(threads, alloc, batch, objects, group, width, gate)
+        },
+    )
+}

@@ -1,0 +1,81 @@
+// A gate that counts runs.
+ghost use Rattle.std.specs.Prelude.{◌<◌, IfSome};
+
+use batch::Taken;
+use objects::{AccountReply, Reply};
+use speculate::{Gate, Run};
+use std::sync::atomic::{AtomicU32, Ordering};
+
+/// How many transactions are counted.
+const COUNTED: usize = 3;
+
+/// Counts, for each of the first three transactions, the runs that began, and those that were made;
+/// and keeps the last run of a transaction whose first reply was `no`.
+#[derive(Drop)]
+pub struct Counting {
+    begun: [AtomicU32; COUNTED],
+    made: [AtomicU32; COUNTED],
+    refused: [AtomicU32; COUNTED],
+}
+
+impl Counting {
+    pub fn new() -> Counting {
+        Counting {
+            begun: [AtomicU32::new(0), AtomicU32::new(0), AtomicU32::new(0)],
+            made: [AtomicU32::new(0), AtomicU32::new(0), AtomicU32::new(0)],
+            refused: [AtomicU32::new(0), AtomicU32::new(0), AtomicU32::new(0)],
+        }
+    }
+
+    /// How many runs of each transaction began.
+    pub fn begun(&self) -> [u32; COUNTED] {
+        counts(&self.begun)
+    }
+
+    /// How many runs of each transaction were made.
+    pub fn made(&self) -> [u32; COUNTED] {
+        counts(&self.made)
+    }
+
+    /// Which run of each transaction, from 1, was the last whose first reply was `no`, or 0.
+    pub fn refused(&self) -> [u32; COUNTED] {
+        counts(&self.refused)
+    }
+}
+
+fn counts(all: &[AtomicU32; COUNTED]) -> [u32; COUNTED] {
+    [
+        all[0].load(Ordering::SeqCst),
+        all[1].load(Ordering::SeqCst),
+        all[2].load(Ordering::SeqCst),
+    ]
+}
+
+// The place of a transaction among those that are counted, if it is one.
+fn place(transaction: u32) -> Option<usize>
+    ensures { IfSome result (λ i. i < 3) }
+{
+    match transaction {
+        1..=3 => Some(transaction as usize - 1),
+        _ => None,
+    }
+}
+
+impl Gate for Counting {
+    fn pass(&self, transaction: u32, child: u32) {
+        if child != 0 {
+            return;
+        }
+        if let Some(i) = place(transaction) {
+            self.begun[i].fetch_add(1, Ordering::SeqCst);
+        }
+    }
+
+    fn made(&self, transaction: u32, run: &Run) {
+        let Some(i) = place(transaction) else { return };
+        let before = self.made[i].fetch_add(1, Ordering::SeqCst);
+        if let Some(Taken::Op(Reply::Account(AccountReply::No))) = run.tree.taken.first() {
+            self.refused[i].store(before.saturating_add(1), Ordering::SeqCst);
+        }
+    }
+}

@@ -1,0 +1,4 @@
+pub mod Boards
+pub mod Seeks
+pub mod Gives
+pub mod Once

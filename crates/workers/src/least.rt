@@ -1,0 +1,96 @@
+// The least piece that doesn't pass a test.
+ghost use Rattle.std.specs.Prelude.{◌≡◌, ℕ, ◌<◌, ◌≤◌, true, false, length, IfOk};
+ghost use Rattle.std.specs.List.{All};
+ghost use Rattle.claims.specs.Views.{most_pieces, most_seats, fresh, is_over};
+ghost use Rattle.claims.specs.Seated.{IsSeatOf};
+ghost use Rattle.workers.specs.Testing.{Passing, Failing, Judged, LowFails, Sought, LowAndTold};
+
+use crate::seats::seats_for;
+use claims::{Board, Claim, NoMemory, Seat};
+use std::alloc::{AllocError, Global};
+use std::thread::{Threads, map_vec};
+
+// Tests a piece that the seat drew, unless it is at or above the bound, and lowers the bound to
+// it where it doesn't pass.
+fn judge<F: Fn(u32) -> bool>(board: &Board, passes: &F, seat: &mut Seat, piece: u32)
+    requires own { IsSeatOf board.now seat.old }
+    requires piece { piece < board.now.pieces }
+    requires can { F.pre passes.now piece }
+    ensures own { IsSeatOf board.now seat.new }
+    ensures same { LowAndTold seat.old.view seat.new.view }
+    ensures kept { (j : ℕ) → Judged (Passing (F.post passes.now)) seat.old.view j → Judged (Passing (F.post passes.now)) seat.new.view j }
+    ensures judged { Judged (Passing (F.post passes.now)) seat.new.view piece }
+    ensures low { LowFails (Failing (F.post passes.now)) board.now.pieces seat.old.view → LowFails (Failing (F.post passes.now)) board.now.pieces seat.new.view }
+{
+    if board.bound(seat) <= piece {
+        return;
+    }
+    if !passes(piece) {
+        board.lower(seat, piece);
+    }
+}
+
+// Claims and judges until the seat is over.
+fn seek<F: Fn(u32) -> bool>(board: &Board, passes: &F, mut seat: Seat) -> Seat
+    requires own { IsSeatOf board.now seat }
+    requires new { seat.view ≡ fresh 1 board.now.pieces }
+    requires can { (k : ℕ) → k < board.now.pieces → F.pre passes.now k }
+    ensures sought { Sought (Passing (F.post passes.now)) (Failing (F.post passes.now)) board.now result }
+    ensures over { is_over result.view ≡ true }
+{
+    'claiming: while !seat.is_over() {
+        match board.claim(&mut seat) {
+            Claim::Piece(piece) => judge(board, passes, &mut seat, piece),
+            Claim::Done => {}
+            Claim::Stopped => {}
+        }
+    }
+    seat
+}
+
+// Each seat seeks, in a thread of its own where one can be made.
+fn seek_all<R: Threads + Sync, F: Fn(u32) -> bool + Sync>(
+    threads: &R,
+    board: &Board,
+    passes: &F,
+    seats: Vec<Seat>,
+) -> Result<Vec<Seat>, AllocError>
+    requires seats { All (λ s. IsSeatOf board.now s × (s.view ≡ fresh 1 board.now.pieces)) seats.items }
+    requires can { (k : ℕ) → k < board.now.pieces → F.pre passes.now k }
+    ensures { IfOk result (λ all. (length all.items ≡ length seats.items) × All (λ s. Sought (Passing (F.post passes.now)) (Failing (F.post passes.now)) board.now s × (is_over s.view ≡ true)) all.items) }
+{
+    map_vec(
+        threads,
+        seats,
+        &|seat: Seat| -> Seat
+            requires { IsSeatOf board.now seat × (seat.view ≡ fresh 1 board.now.pieces) × ((k : ℕ) → k < board.now.pieces → F.pre passes.now k) }
+            ensures { Sought (Passing (F.post passes.entry.now)) (Failing (F.post passes.entry.now)) board.entry.now result × (is_over result.view ≡ true) }
+        { seek(board, passes, seat) },
+    )
+}
+
+/// The least piece of which `passes` answers false, or the number of pieces where there is none.
+///
+/// Whatever the workers and the order of their tests, the answer is the same: a worker passes over
+/// a piece only at or above one that was found to fail.
+///
+/// `NoMemory` is answered where the board, its seats or the threads' lists found no memory.
+pub fn first_failing<R: Threads + Sync, F: Fn(u32) -> bool + Sync>(
+    threads: &R,
+    alloc: Global,
+    pieces: u32,
+    workers: u32,
+    passes: &F,
+) -> Result<u32, NoMemory>
+    requires pieces { pieces ≤ most_pieces }
+    requires workers { (1 ≤ workers) × (workers ≤ most_seats) }
+    requires can { (k : ℕ) → k < pieces → F.pre passes.now k }
+    ensures within { IfOk result (λ n. n ≤ pieces) }
+    ensures least { IfOk result (λ n. (k : ℕ) → k < n → F.post passes.now k true) }
+    ensures fails { IfOk result (λ n. n < pieces → F.post passes.now n false) }
+{
+    let (board, seats) = Board::open(alloc, pieces, seats_for(pieces, workers))?;
+    let seats = seek_all(threads, &board, passes, seats)?;
+    let tally = board.gather(seats);
+    Ok(tally.first)
+}

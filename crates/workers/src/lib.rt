@@ -1,0 +1,15 @@
+//! Workers that share a claim board: the least piece that doesn't pass a test, and what all pieces
+//! give.
+//!
+//! The pieces are the numbers below a bound. Each worker has a seat at one board (`claims`), and
+//! claims one piece after the other until there are none. There are never more workers than pieces,
+//! and one worker alone is no thread of its own.
+#![tactic(auto)]
+
+mod least;
+mod seats;
+mod work;
+
+pub use least::first_failing;
+pub use serial::NoMemory;
+pub use work::give_all;
