@@ -15,7 +15,7 @@ use Rattle.one_thread.proofs.executor.+run.Goals.{run_step-then-holds, run_step-
 -- ---- steps one after the other
 
 pub run_steps-loop-step-init : goal.run_steps-loop-step-init
-run_steps-loop-step-init t c = rw c.new-taken.ensures.items (part_run-start c.args.steps.now c.args.labels.now.items c.args.workspace.now c.requires)
+run_steps-loop-step-init t c = rw c.in_ok-taken.ensures.items (part_run-start c.args.steps.now c.args.labels.now.items c.args.workspace.now c.requires)
 
 pub run_steps-returns-in-Aborted-clause-shows : goal.run_steps-returns-in-Aborted-clause-shows
 run_steps-returns-in-Aborted-clause-shows t c =
@@ -66,7 +66,7 @@ run_step-returns-in_ok-append-in-Parallel-clause-shows t c =
 
 pub run_children-loop-child-init : goal.run_children-loop-child-init
 run_children-loop-child-init t c =
-    record { same = refl; part = rw (c.new-all.ensures.items, c.requires.none_yet) (part_tried-start c.args.children.now c.args.labels.now.items c.args.workspace.now c.requires.can) }
+    record { same = refl; part = rw (c.in_ok-all.ensures.items, c.requires.none_yet) (part_tried-start c.args.children.now c.args.labels.now.items c.args.workspace.now c.requires.can) }
 
 pub run_children-returns-in-Aborted-clause-shows : goal.run_children-returns-in-Aborted-clause-shows
 run_children-returns-in-Aborted-clause-shows t c =

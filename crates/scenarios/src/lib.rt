@@ -1,0 +1,5 @@
+//! Tests that go through several crates, and those that start threads.
+#![tactic(auto)]
+
+#[cfg(test)]
+mod plain_tests;
