@@ -141,10 +141,7 @@ impl Undo for Queue {
     fn change(value: &Queue, call: &QueueCall) -> Option<QueueChange> {
         match call {
             QueueCall::Enq(_) => Some(QueueChange::Enqueued),
-            QueueCall::Deq => match value.front() {
-                Some(item) => Some(QueueChange::Dequeued(item)),
-                None => None,
-            },
+            QueueCall::Deq => value.front().map(QueueChange::Dequeued),
             QueueCall::Length => None,
         }
     }
@@ -164,19 +161,20 @@ impl Undo for Directory {
     ghost undoing = { directory_undoing };
 
     fn change(value: &Directory, call: &DirectoryCall) -> Option<DirectoryChange> {
-        let (key, changes) = match call {
-            DirectoryCall::Bind(key, _) => (*key, value.get(*key).is_none()),
-            DirectoryCall::Put(key, _) => (*key, true),
-            DirectoryCall::Unbind(key) => (*key, value.get(*key).is_some()),
-            DirectoryCall::Lookup(key) => (*key, false),
-        };
-        if changes {
-            Some(DirectoryChange {
-                key,
-                before: value.get(key),
-            })
-        } else {
-            None
+        match call {
+            DirectoryCall::Bind(key, _) if value.get(*key).is_none() => Some(DirectoryChange {
+                key: *key,
+                before: None,
+            }),
+            DirectoryCall::Put(key, _) => Some(DirectoryChange {
+                key: *key,
+                before: value.get(*key),
+            }),
+            DirectoryCall::Unbind(key) => value.get(*key).map(|bound| DirectoryChange {
+                key: *key,
+                before: Some(bound),
+            }),
+            _ => None,
         }
     }
 

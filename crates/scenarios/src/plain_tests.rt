@@ -12,7 +12,9 @@ fn answer(rt: &HostRuntime, objects: &str, transactions: &str) -> Result<String,
     )?;
     let batch = read(alloc, document.as_bytes())?;
     let plain = plain(alloc, &batch)?;
-    assert!(rt; plain.objects.len() <= 1000);
+    if plain.objects.len() > 1000 {
+        return Err("a batch has no more objects")?;
+    }
     Ok(render_plain(alloc, &batch, &plain)?)
 }
 
