@@ -1,5 +1,5 @@
 //! Calls that are taken back: what each changed, and how the value before it is had again.
-ghost use Rattle.std.specs.Prelude.{◌≡◌, Option, OnOk, OnErr};
+ghost use Rattle.std.specs.Prelude.{◌≡◌, Option, IsOk, OnOk, OnErr};
 ghost use Rattle.atoms.specs.Undo.{Undoing};
 ghost use Rattle.atoms.specs.Changes.{account_undoing, counter_undoing, max_undoing, set_undoing, queue_undoing, directory_undoing};
 
@@ -63,7 +63,10 @@ impl Undo for Account {
         }
     }
 
-    fn undo(value: &mut u64, change: &u64) -> Result<(), NoMemory> {
+    fn undo(value: &mut u64, change: &u64) -> Result<(), NoMemory>
+        ensures ok { value.new ≡ account_undoing.undone value.old change.now }
+        ensures never_fails { IsOk result }
+    {
         *value = *change;
         Ok(())
     }
@@ -82,7 +85,10 @@ impl Undo for Counter {
         }
     }
 
-    fn undo(value: &mut i64, change: &i64) -> Result<(), NoMemory> {
+    fn undo(value: &mut i64, change: &i64) -> Result<(), NoMemory>
+        ensures ok { value.new ≡ counter_undoing.undone value.old change.now }
+        ensures never_fails { IsOk result }
+    {
         *value = *change;
         Ok(())
     }
@@ -101,7 +107,10 @@ impl Undo for MaxRegister {
         }
     }
 
-    fn undo(value: &mut u64, change: &u64) -> Result<(), NoMemory> {
+    fn undo(value: &mut u64, change: &u64) -> Result<(), NoMemory>
+        ensures ok { value.new ≡ max_undoing.undone value.old change.now }
+        ensures never_fails { IsOk result }
+    {
         *value = *change;
         Ok(())
     }
