@@ -3,7 +3,6 @@ use Rattle.std.specs.Prelude.{ℕ, ◌-◌, nat_le, ℤ, List, ◌∷◌, length
 use Rattle.std.specs.FinSet as set
 use Rattle.std.specs.FinMap as map
 use Rattle.atoms.specs.Undo.{Undoing}
-use Rattle.atoms.specs.Item.{item_cmp}
 use Rattle.atoms.specs.ItemSet.{Sets}
 use Rattle.atoms.specs.Directory.{Directories, put_at}
 use Rattle.atoms.specs.declared.item.Item.{Item}

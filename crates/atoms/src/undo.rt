@@ -1,5 +1,5 @@
 //! Calls that are taken back: what each changed, and how the value before it is had again.
-ghost use Rattle.std.specs.Prelude.{◌≡◌, Option, OnOk, OnErr};
+ghost use Rattle.std.specs.Prelude.{◌≡◌, Option, IsOk, OnOk, OnErr};
 ghost use Rattle.atoms.specs.Undo.{Undoing};
 ghost use Rattle.atoms.specs.Changes.{account_undoing, counter_undoing, max_undoing, set_undoing, queue_undoing, directory_undoing};
 
@@ -63,7 +63,10 @@ impl Undo for Account {
         }
     }
 
-    fn undo(value: &mut u64, change: &u64) -> Result<(), NoMemory> {
+    fn undo(value: &mut u64, change: &u64) -> Result<(), NoMemory>
+        ensures ok { value.new ≡ account_undoing.undone value.old change.now }
+        ensures never_fails { IsOk result }
+    {
         *value = *change;
         Ok(())
     }
@@ -82,7 +85,10 @@ impl Undo for Counter {
         }
     }
 
-    fn undo(value: &mut i64, change: &i64) -> Result<(), NoMemory> {
+    fn undo(value: &mut i64, change: &i64) -> Result<(), NoMemory>
+        ensures ok { value.new ≡ counter_undoing.undone value.old change.now }
+        ensures never_fails { IsOk result }
+    {
         *value = *change;
         Ok(())
     }
@@ -101,7 +107,10 @@ impl Undo for MaxRegister {
         }
     }
 
-    fn undo(value: &mut u64, change: &u64) -> Result<(), NoMemory> {
+    fn undo(value: &mut u64, change: &u64) -> Result<(), NoMemory>
+        ensures ok { value.new ≡ max_undoing.undone value.old change.now }
+        ensures never_fails { IsOk result }
+    {
         *value = *change;
         Ok(())
     }
@@ -141,10 +150,7 @@ impl Undo for Queue {
     fn change(value: &Queue, call: &QueueCall) -> Option<QueueChange> {
         match call {
             QueueCall::Enq(_) => Some(QueueChange::Enqueued),
-            QueueCall::Deq => match value.front() {
-                Some(item) => Some(QueueChange::Dequeued(item)),
-                None => None,
-            },
+            QueueCall::Deq => value.front().map(QueueChange::Dequeued),
             QueueCall::Length => None,
         }
     }
@@ -164,19 +170,20 @@ impl Undo for Directory {
     ghost undoing = { directory_undoing };
 
     fn change(value: &Directory, call: &DirectoryCall) -> Option<DirectoryChange> {
-        let (key, changes) = match call {
-            DirectoryCall::Bind(key, _) => (*key, value.get(*key).is_none()),
-            DirectoryCall::Put(key, _) => (*key, true),
-            DirectoryCall::Unbind(key) => (*key, value.get(*key).is_some()),
-            DirectoryCall::Lookup(key) => (*key, false),
-        };
-        if changes {
-            Some(DirectoryChange {
-                key,
-                before: value.get(key),
-            })
-        } else {
-            None
+        match call {
+            DirectoryCall::Bind(key, _) if value.get(*key).is_none() => Some(DirectoryChange {
+                key: *key,
+                before: None,
+            }),
+            DirectoryCall::Put(key, _) => Some(DirectoryChange {
+                key: *key,
+                before: value.get(*key),
+            }),
+            DirectoryCall::Unbind(key) => value.get(*key).map(|bound| DirectoryChange {
+                key: *key,
+                before: Some(bound),
+            }),
+            _ => None,
         }
     }
 

@@ -134,15 +134,10 @@ can_run_younger child younger held state h =
 
 -- ---- transactions
 
-pub well_formed_at : (blocks : List meant.Block) (ks : List Kind) (i : ℕ) → AllWellFormed blocks ks → i < length blocks → IsWellFormed (block_at blocks i) [] ks
+well_formed_at : (blocks : List meant.Block) (ks : List Kind) (i : ℕ) → AllWellFormed blocks ks → i < length blocks → IsWellFormed (block_at blocks i) [] ks
 well_formed_at [] ks i h lt = absurd (omega arith)
 well_formed_at (block ∷ blocks) ks zero h lt = h.0
 well_formed_at (block ∷ blocks) ks (suc i) h lt = well_formed_at blocks ks i h.1 (omega arith)
-
-pub operations_at : (blocks : List meant.Block) (i : ℕ) → operations (block_at blocks i) ≤ all_operations blocks
-operations_at [] i = omega arith
-operations_at (block ∷ blocks) zero = omega arith
-operations_at (block ∷ blocks) (suc i) = let rest = operations_at blocks i in omega arith
 
 -- the block at a place, seen as a tree
 pub block_at_view : (blocks : List Block) (i : ℕ) (x : Block) → i < length blocks → x ≡ get_or blocks i x → block_view x ≡ block_at (map block_view blocks) i

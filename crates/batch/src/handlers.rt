@@ -5,10 +5,10 @@ ghost use Rattle.batch.specs.Running.{place_for};
 
 use crate::tree::Handler;
 
-/// The place of the first handler that takes an abort for this reason, if one does (Moss 1981).
+/// The place of the first handler that takes an abort for this reason, if one does.
 #[tactic(auto, unfolding(crate::specs::Running::place_for))]
-pub fn handler_for(handlers: &Vec<Handler>, reason: Option<u32>) -> Option<usize>
-    ensures { result ≡ place_for handlers.now.items reason }
+pub fn handler_for(handlers: &[Handler], reason: Option<u32>) -> Option<usize>
+    ensures { result ≡ place_for handlers.now reason }
 {
     handlers
         .iter()

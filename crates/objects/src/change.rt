@@ -27,20 +27,20 @@ impl Value {
     {
         match (self, call) {
             (Value::Account(value), Call::Account(call)) => {
-                Some(Change::Account(Account::change(value, call)?))
+                Account::change(value, call).map(Change::Account)
             }
             (Value::Counter(value), Call::Counter(call)) => {
-                Some(Change::Counter(Counter::change(value, call)?))
+                Counter::change(value, call).map(Change::Counter)
             }
-            (Value::Set(value), Call::Set(call)) => Some(Change::Set(ItemSet::change(value, call)?)),
+            (Value::Set(value), Call::Set(call)) => ItemSet::change(value, call).map(Change::Set),
             (Value::Queue(value), Call::Queue(call)) => {
-                Some(Change::Queue(Queue::change(value, call)?))
+                Queue::change(value, call).map(Change::Queue)
             }
             (Value::Directory(value), Call::Directory(call)) => {
-                Some(Change::Directory(Directory::change(value, call)?))
+                Directory::change(value, call).map(Change::Directory)
             }
             (Value::Max(value), Call::Max(call)) => {
-                Some(Change::Max(MaxRegister::change(value, call)?))
+                MaxRegister::change(value, call).map(Change::Max)
             }
             _ => None,
         }

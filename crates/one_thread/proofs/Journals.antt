@@ -46,9 +46,6 @@ rewound-back before now h =
     ap (λ s. let j : Journaled = record { state = s; journal = take (length before.journal) now.journal } in j) state
     ∙ ap (λ js. let j : Journaled = record { state = before.state; journal = js } in j) kept
 
-pub grown-longer : (before now : Journaled) → LeadsBack before now → length before.journal ≤ length now.journal
-grown-longer before now h = let size = ap length h.grown ∙ length-append before.journal h.more in omega arith
-
 -- ---- a journal of which the newest changes are taken back
 
 pub record ArePartUndone (objects : State) (journal : List (ℕ × Change)) (mark : ℕ) (now : State) (rest : List (ℕ × Change)) : Type 0 where

@@ -49,7 +49,7 @@ fn run_steps(
         (λ r. ShowsRun (one (steps_view steps.now) labels.old.items workspace.old.state) r workspace.old workspace.new) }
     ensures labels { OnOk result (StillSeen labels.old.items labels.new.items) }
 {
-    let mut taken = Vec::new(alloc);
+    let mut taken = Vec::with_capacity(alloc, steps.len())?;
     for step in steps {
         let (done, end) = run_step(alloc, step, labels, workspace)?;
         taken.push(done)?;
@@ -197,7 +197,7 @@ fn run_children(
         (λ r. ShowsChildren (one_children (children_view children.now) labels.old.items workspace.old.state) r.0.items r.1 outcomes.new.items workspace.old workspace.new) }
     ensures labels { OnOk result (labels.new.items ≡ labels.old.items) }
 {
-    let mut all = Vec::new(alloc);
+    let mut all = Vec::with_capacity(alloc, children.len())?;
     for child in children {
         let tried = run_subaction(alloc, child, labels, workspace)?;
         add_label(outcomes, child.labelled, Held::Outcome(tried.body.outcome))?;

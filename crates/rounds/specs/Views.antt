@@ -1,19 +1,13 @@
 -- A batch as the meaning sees it.
-use Rattle.std.specs.Prelude.{◌≡◌, ℕ, List, [], map}
+use Rattle.std.specs.Prelude.{◌≡◌, ℕ, []}
 use Rattle.meaning.specs.Entries.{State}
-use Rattle.meaning.specs.Trees.{Block}
 use Rattle.meaning.specs.Records.{Taken}
 use Rattle.meaning.specs.OneThread.{Run, one}
 use Rattle.meaning.specs.Batch.{block_at, shown_of}
-use Rattle.batch.specs.Views.{block_view, record_view}
+pub use Rattle.batch.specs.Parts.{start_of, blocks_of}
+use Rattle.batch.specs.Views.{record_view}
 use Rattle.batch.specs.declared.batch.Batch.{Batch}
 use Rattle.batch.specs.declared.record.Record.{Record}
-
-abbrev pub start_of : Batch → State
-start_of batch = batch.objects
-
-abbrev pub blocks_of : Batch → List Block
-blocks_of batch = map block_view batch.transactions.items
 
 -- what one thread does with a transaction on a state
 abbrev pub meaning : Batch → ℕ → State → Run Taken

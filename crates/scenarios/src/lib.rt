@@ -1,4 +1,5 @@
-//! Tests that start threads, on whole batches: gates hold one call until another comes, and count.
+//! Tests on whole batches that go through several crates, and those that start threads: gates hold
+//! one call until another comes, and count.
 #![tactic(auto)]
 
 mod counting;
@@ -7,5 +8,7 @@ mod meeting;
 pub use counting::Counting;
 pub use meeting::Meeting;
 
+#[cfg(test)]
+mod plain_tests;
 #[cfg(test)]
 mod rounds_tests;

@@ -15,7 +15,7 @@ use Rattle.one_thread.proofs.executor.+run.Goals.{run_step-then-holds, run_step-
 -- ---- steps one after the other
 
 pub run_steps-loop-step-init : goal.run_steps-loop-step-init
-run_steps-loop-step-init t c = rw c.new-taken.ensures.items (part_run-start c.args.steps.now c.args.labels.now.items c.args.workspace.now c.requires)
+run_steps-loop-step-init t c = rw c.in_ok-taken.ensures.items (part_run-start c.args.steps.now c.args.labels.now.items c.args.workspace.now c.requires)
 
 pub run_steps-returns-in-Aborted-clause-shows : goal.run_steps-returns-in-Aborted-clause-shows
 run_steps-returns-in-Aborted-clause-shows t c =
@@ -66,7 +66,7 @@ run_step-returns-in_ok-append-in-Parallel-clause-shows t c =
 
 pub run_children-loop-child-init : goal.run_children-loop-child-init
 run_children-loop-child-init t c =
-    record { same = refl; part = rw (c.new-all.ensures.items, c.requires.none_yet) (part_tried-start c.args.children.now c.args.labels.now.items c.args.workspace.now c.requires.can) }
+    record { same = refl; part = rw (c.in_ok-all.ensures.items, c.requires.none_yet) (part_tried-start c.args.children.now c.args.labels.now.items c.args.workspace.now c.requires.can) }
 
 pub run_children-returns-in-Aborted-clause-shows : goal.run_children-returns-in-Aborted-clause-shows
 run_children-returns-in-Aborted-clause-shows t c =
@@ -85,7 +85,7 @@ run_children-returns-clause-shows t c = rw (← c.loop-child.invariant.same) (pa
 
 pub run_handler-run_block-requires : goal.run_handler-run_block-requires
 run_handler-run_block-requires t c =
-    let within = place-within c.in-Some.handlers.items c.args.reason c.in-Some-handler_for.place (sym c.handler_for.ensures ∙ c.in-Some-handler_for.is) in
+    let within = place-within c.in-Some.handlers.items c.args.reason c.in-Some-handler_for.place (sym (rw c.deref.ensures.value at c.handler_for.ensures) ∙ c.in-Some-handler_for.is) in
     let smaller = handler-is_smaller c.args.child.now c.in-Some.handlers c.in-Some-handler_for.place c.index.result.now c.in-Some.is within c.index.ensures in
     (omega (arith, smaller, c.decreases), each_can_run c.args.child.now c.args.labels.now.items _ c.in-Some.handlers c.in-Some-handler_for.place c.index.result.now c.requires c.in-Some.is within c.index.ensures)
 
@@ -97,16 +97,16 @@ run_handler-run_block-requires-in-Some-handler t c =
 pub run_handler-returns-in_ok-run_block-in-Some-handler_for-clause-shows : goal.run_handler-returns-in_ok-run_block-in-Some-handler_for-clause-shows
 run_handler-returns-in_ok-run_block-in-Some-handler_for-clause-shows t c =
     rw c.handled.ensures.handler (shows_handler _ _ c.in_ok-run_block-in-Some-handler_for.field-0 _ _ _ c.in_ok-run_block-in-Some-handler_for.ensures.shows c.handled.ensures.end
-    (found-runs c.args.child.now c.in-Some.handlers c.args.labels.now.items c.args.reason _ c.in-Some-handler_for.place c.index.result.now c.requires c.in-Some.is (sym c.handler_for.ensures ∙ c.in-Some-handler_for.is) c.index.ensures))
+    (found-runs c.args.child.now c.in-Some.handlers c.args.labels.now.items c.args.reason _ c.in-Some-handler_for.place c.index.result.now c.requires c.in-Some.is (sym (rw c.deref.ensures.value at c.handler_for.ensures) ∙ c.in-Some-handler_for.is) c.index.ensures))
 
 pub run_handler-returns-in_ok-run_block-in-Some-handler-clause-shows : goal.run_handler-returns-in_ok-run_block-in-Some-handler-clause-shows
 run_handler-returns-in_ok-run_block-in-Some-handler-clause-shows t c =
     rw c.handled-in-Some-handler.ensures.handler (shows_handler _ _ c.in_ok-run_block-in-Some-handler.field-0 _ _ _ c.in_ok-run_block-in-Some-handler.ensures.shows c.handled-in-Some-handler.ensures.end
-    (last-runs c.args.child.now c.in-Some.handlers c.args.labels.now.items c.args.reason _ c.in-Some-handler.block c.requires c.in-Some.is (sym c.handler_for.ensures ∙ c.in-None-handler_for.is) c.in-Some-handler.is))
+    (last-runs c.args.child.now c.in-Some.handlers c.args.labels.now.items c.args.reason _ c.in-Some-handler.block c.requires c.in-Some.is (sym (rw c.deref.ensures.value at c.handler_for.ensures) ∙ c.in-None-handler_for.is) c.in-Some-handler.is))
 
 pub run_handler-returns-in-None-handler-clause-shows : goal.run_handler-returns-in-None-handler-clause-shows
 run_handler-returns-in-None-handler-clause-shows t c =
-    rw (abort-passes c.args.child.now c.in-Some.handlers c.args.labels.now.items c.args.reason _ c.requires c.in-Some.is (sym c.handler_for.ensures ∙ c.in-None-handler_for.is) c.in-None-handler.is) (shows_pass c.args.labels.now.items c.args.reason c.args.workspace.now)
+    rw (abort-passes c.args.child.now c.in-Some.handlers c.args.labels.now.items c.args.reason _ c.requires c.in-Some.is (sym (rw c.deref.ensures.value at c.handler_for.ensures) ∙ c.in-None-handler_for.is) c.in-None-handler.is) (shows_pass c.args.labels.now.items c.args.reason c.args.workspace.now)
 
 pub run_handler-returns-in_ok-run_block-in-Some-handler-2-clause-shows : goal.run_handler-returns-in_ok-run_block-in-Some-handler-2-clause-shows
 run_handler-returns-in_ok-run_block-in-Some-handler-2-clause-shows t c =

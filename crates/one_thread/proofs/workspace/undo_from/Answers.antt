@@ -1,9 +1,6 @@
 use Rattle.std.proofs.Common.{arith}
-use Rattle.one_thread.proofs.Journals.{part_undone-start, part_undone-more, part_undone-all}
+use Rattle.one_thread.proofs.Journals.{part_undone-more, part_undone-all}
 use Rattle.one_thread.proofs.workspace.undo_from.Goals as goal
-
-pub loop-journal-init : goal.loop-journal-init
-loop-journal-init c = part_undone-start c.args.objects.now c.args.journal.now.items c.args.mark c.requires
 
 pub loop-journal-preserved-in-Continue-1 : goal.loop-journal-preserved-in-Continue-1
 loop-journal-preserved-in-Continue-1 c =
@@ -11,6 +8,3 @@ loop-journal-preserved-in-Continue-1 c =
 
 pub returns-clause-objects : goal.returns-clause-objects
 returns-clause-objects c = (part_undone-all _ _ _ _ _ c.loop-journal.invariant (omega arith)).0
-
-pub returns-clause-journal : goal.returns-clause-journal
-returns-clause-journal c = (part_undone-all _ _ _ _ _ c.loop-journal.invariant (omega arith)).1
