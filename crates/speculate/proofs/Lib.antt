@@ -3,5 +3,7 @@ pub mod Meant
 pub mod Steps
 pub mod Children
 pub mod Handling
+pub mod Room
+pub mod Siblings
 pub mod Stepping
 pub mod Transactions
