@@ -1,10 +1,11 @@
 //! Children of parallel steps, run at once.
 ghost use Rattle.std.specs.Prelude.{◌≤◌};
 
+use crate::counting::Counting;
 use crate::meeting::Meeting;
 use atoms::{CounterReply, Item, QueueReply};
 use lang::read;
-use objects::{Call, Entry, Reply};
+use objects::{Entry, Reply};
 use speculate::{End, Gate, NoGate, Run, Taken, run};
 use std::alloc::Global;
 use std::test::Fail;
@@ -15,6 +16,9 @@ const WIDTHS: [u32; 4] = [1, 2, 5, 64];
 const ACCOUNT: &str = "{\"name\":\"a\",\"kind\":\"account\",\"start\":100}";
 
 const COUNTER: &str = "{\"name\":\"c\",\"kind\":\"counter\",\"start\":0}";
+
+const TWO_DEQUEUES: &str =
+    "[{\"parallel\":[{\"sub\":[{\"op\":[\"q\",\"deq\"]}]},{\"sub\":[{\"op\":[\"q\",\"deq\"]}]}]}]";
 
 const QUEUE: &str = "{\"name\":\"q\",\"kind\":\"queue\",\"start\":[\"x\",\"y\"]}";
 
@@ -69,10 +73,8 @@ fn two_siblings_meet(rt: HostRuntime) -> Result<(), Fail> {
 
 #[test]
 fn a_child_is_run_again_after_its_elder(rt: HostRuntime) -> Result<(), Fail> {
-    let block =
-        "[{\"parallel\":[{\"sub\":[{\"op\":[\"q\",\"deq\"]}]},{\"sub\":[{\"op\":[\"q\",\"deq\"]}]}]}]";
     for width in WIDTHS {
-        let made = run_block(&rt, rt.alloc(), QUEUE, block, width, &NoGate)?;
+        let made = run_block(&rt, rt.alloc(), QUEUE, TWO_DEQUEUES, width, &NoGate)?;
         let got = replies(&rt, &made.entries)?;
         let wanted = [
             Reply::Queue(QueueReply::Got(Item(0))),
@@ -83,6 +85,16 @@ fn a_child_is_run_again_after_its_elder(rt: HostRuntime) -> Result<(), Fail> {
             made.net.as_slice() == made.entries.as_slice(),
             "width {width}"
         );
+    }
+    Ok(())
+}
+
+#[test]
+fn the_gate_sees_each_start(rt: HostRuntime) -> Result<(), Fail> {
+    for (width, starts) in [(1, 1), (2, 2), (64, 2)] {
+        let gate = Counting::new((1, 2));
+        let _made = run_block(&rt, rt.alloc(), QUEUE, TWO_DEQUEUES, width, &gate)?;
+        assert_eq!(rt; gate.count(), starts);
     }
     Ok(())
 }

@@ -93,8 +93,12 @@ module _ (child : Tried) (held : List Held) (since : List Entry) (state : State)
       (child_moves child held before.from since before.leads.0 (subst (λ es. AllCommute es since) entries stand))
 
   -- so its net is what it leaves here
-  pub net_here : run.net.items ≡ kept_of_child (record_of (acted child held state))
+  net_here : run.net.items ≡ kept_of_child (record_of (acted child held state))
   net_here = ap (λ (v : View). v.net) before.ahead.view ∙ ap kept_of_child (sym same_here.taken)
+
+  -- and that is what is added to the list of what siblings left
+  pub net_listed : (net later : List Entry) → net ≡ run.net.items → later ≡ since ++ net → later ≡ since ++ kept_of_child (record_of (acted child held state))
+  net_listed net later is more = more ∙ ap (λ es. since ++ es) (is ∙ net_here)
 
   entries_here : run.entries.items ≡ entries_of_child (record_of (acted child held state))
   entries_here = ap (λ (v : View). v.entries) before.ahead.view ∙ ap entries_of_child (sym same_here.taken)

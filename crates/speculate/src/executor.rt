@@ -27,6 +27,14 @@ pub(crate) struct Making<'a, T: Threads + Sync, G: Gate> {
     pub(crate) number: u32,
 }
 
+impl<T: Threads + Sync, G: Gate> Making<'_, T, G> {
+    // Tells the gate that the child at this place (from 0) of its step starts.
+    fn pass(&self, place: usize) {
+        let child = u32::try_from(place).unwrap_or(u32::MAX);
+        self.gate.pass(self.number, child.saturating_add(1));
+    }
+}
+
 /// What the children of a parallel step share that are run ahead: the labels and the state that
 /// their parent sees at the step.
 #[derive(Drop)]
@@ -421,14 +429,6 @@ fn run_alone<T: Threads + Sync, G: Gate>(
         entries,
         net,
     })
-}
-
-impl<T: Threads + Sync, G: Gate> Making<'_, T, G> {
-    // Tells the gate that the child at this place (from 0) of its step starts.
-    fn pass(&self, place: usize) {
-        let child = u32::try_from(place).unwrap_or(u32::MAX);
-        self.gate.pass(self.number, child.saturating_add(1));
-    }
 }
 
 // A handler that ran, and how the block goes on.

@@ -9,7 +9,7 @@ use Rattle.intentions.specs.Levels.{shown as state_of_view}
 use Rattle.speculate.proofs.Steps.{part_run-start, part_run-more, part_run-aborted, part_run-ended}
 use Rattle.speculate.proofs.Stepping.{op-can, op-shows, if-bound, if-shows_then, if-shows_else, sub-shows, abort-shows, parallel-shows}
 use Rattle.speculate.proofs.Children.{part_tried-start, part_tried-more, part_tried-aborted, part_tried-ended}
-use Rattle.speculate.proofs.Siblings.{stand, net_is_legal, net_has_room, taken_in, net_here, each_can_try, one_more, one_longer, halves, both_long, to_middle, left-start, left-more, added}
+use Rattle.speculate.proofs.Siblings.{stand, net_is_legal, net_has_room, taken_in, net_listed, each_can_try, one_more, one_longer, halves, both_long, to_middle, left-start, left-more, added}
 use Rattle.speculate.proofs.executor.+run.Goals as goal
 use Rattle.speculate.proofs.executor.+run.Goals.{run_step-then-holds, run_step-else-holds}
 
@@ -149,7 +149,8 @@ run_child-returns-then-stands-clause-shows g t c =
 pub run_child-returns-then-stands-clause-kept : goal.run_child-returns-then-stands-clause-kept
 run_child-returns-then-stands-clause-kept g t c =
     let stands = stand c.in-Some.run' c.args.kept.now c.deref.result.now c.len.result c.stands.result c.stands.ensures c.if-stands.true c.deref.ensures.value c.len.ensures in
-    λ run is. c.in_ok-append.ensures.ok ∙ ap (λ net. c.args.kept.now ++ net) (c.deref-then-stands-3.ensures.value ∙ net_here (subaction_view c.args.child.now) c.args.labels.now.items c.args.kept.now (state_of_view c.args.view.now) c.in-Some.run' (c.requires.ahead c.in-Some.run' c.in-Some.is) stands)
+    λ run is. net_listed (subaction_view c.args.child.now) c.args.labels.now.items c.args.kept.now (state_of_view c.args.view.now) c.in-Some.run' (c.requires.ahead c.in-Some.run' c.in-Some.is) stands
+    c.deref-then-stands-3.result.now c.append.new.self c.deref-then-stands-3.ensures.value c.in_ok-append.ensures.ok
 
 pub run_child-returns-clause-kept : goal.run_child-returns-clause-kept
 run_child-returns-clause-kept g t c = λ run is. c.in_ok-append-2.ensures.ok ∙ ap (λ net. c.args.kept.now ++ net) (rw (c.net.ensures, c.net-before.ensures) (added (subaction_view c.args.child.now) c.args.labels.now.items c.args.view.now c.run_subaction-2.new.view c.in_ok-tried.tried c.in_ok-tried.ensures.shows))
