@@ -23,6 +23,7 @@ use Rattle.batch.specs.declared.tree.Subaction.{Subaction}
 use Rattle.batch.specs.declared.record.Record.{Record}
 use Rattle.intentions.specs.Levels.{Intentions as View, shown as state_of_view, begun, committed, aborted, absorbed}
 use Rattle.speculate.specs.Running.{CanRunHere, CanHandleHere, CanTryHere, CanRunAllHere, ShowsRun, ShowsHandler, ShowsTried, ShowsChildren, shown_handler, acted}
+use Rattle.speculate.specs.Ahead.{Leads}
 use Rattle.speculate.specs.declared.executor.Tried as executed
 use Rattle.speculate.proofs.Absorbed.{absorbed-none, absorbed-then, shown-absorbed, shown-begun, committed-begun, aborted-begun, shown-aborted}
 use Rattle.speculate.proofs.Meant.{act-ended, act-aborted, one_children-NoChild, one_children-Child, GoesOn, go_on_children-ended, go_on_children-aborted}
@@ -193,12 +194,17 @@ pub part_tried-can_try : (children : List Subaction) (held : List Held) (before 
 part_tried-can_try children held before i tried outcomes now x h lt is =
     can_try (subaction_view x) (children_view (drop (i + 1) children)) held (state_of_view now) (subst (λ c. CanRunAllHere c held (state_of_view now)) (next_child children i x lt is) h.can)
 
+-- what a subaction keeps leads from where it began to where it came
+pub acted_leads : (child : Tried) (held : List Held) (state : State) → Leads state (kept_of_child (record_of (acted child held state))) (state_of (acted child held state))
+acted_leads child held state =
+    act_leads child.labelled (one child.body held state) (one_handler child.handlers held) state (block_leads child.body held state) (λ reason. handlers_lead child.handlers held reason state)
+
 -- what a view shows after a child is the state of the child's run
 shows_state : (child : Tried) (held : List Held) (now next : View)
     → next ≡ absorbed now (entries_of_child (record_of (acted child held (state_of_view now)))) (kept_of_child (record_of (acted child held (state_of_view now))))
     → state_of (acted child held (state_of_view now)) ≡ state_of_view next
 shows_state child held now next is =
-    (act_leads child.labelled (one child.body held (state_of_view now)) (one_handler child.handlers held) (state_of_view now) (block_leads child.body held (state_of_view now)) (λ reason. handlers_lead child.handlers held reason (state_of_view now))).1
+    (acted_leads child held (state_of_view now)).1
     ∙ sym (shown-absorbed now (entries_of_child (record_of (acted child held (state_of_view now)))) (kept_of_child (record_of (acted child held (state_of_view now))))) ∙ ap state_of_view (sym is)
 
 -- the trees of the children so far, and of one more

@@ -35,7 +35,7 @@ legal_has_room state (p ∷ ps) (suc count) legal few room =
 -- ---- what is kept of a run is no more than its entries
 
 mutual
-  kept-le : (taken : Taken) → length (kept taken) ≤ length (entries taken)
+  pub kept-le : (taken : Taken) → length (kept taken) ≤ length (entries taken)
   kept-le Nothing = omega arith
   kept-le (Took step rest) = omega (arith, kept_of_step-le step, kept-le rest, length-append (kept_of_step step) (kept rest), length-append (entries_of_step step) (entries rest))
 
@@ -46,7 +46,7 @@ mutual
   kept_of_step-le TakenStep.Abort = omega arith
   kept_of_step-le (InParallel children) = kept_of_children-le children
 
-  pub kept_of_child-le : (child : TakenChild) → length (kept_of_child child) ≤ length (entries_of_child child)
+  kept_of_child-le : (child : TakenChild) → length (kept_of_child child) ≤ length (entries_of_child child)
   kept_of_child-le (Committed body) = kept-le body
   kept_of_child-le (Undone body reason handler) = omega (arith, kept_of_handler-le handler, length-append (entries body) (entries_of_handler handler))
 

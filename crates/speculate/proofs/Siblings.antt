@@ -1,5 +1,5 @@
 -- Runs of children that were made ahead, and what keeping them shows.
-use Rattle.std.proofs.Common.{◌≡◌, ℕ, zero, suc, ◌+◌, ◌-◌, ◌*◌, ◌<◌, ◌≤◌, List, [], ◌∷◌, ◌++◌, length, get_or, take, drop, refl, sym, ap, subst, ◌∙◌, arith, add-one, drop-cons, drop-drop, take-add, length-append, length-take-le, length-drop, Option, Some, None, Bool, true, ◌↔◌, Global}
+use Rattle.std.proofs.Common.{◌≡◌, ℕ, zero, suc, ◌+◌, ◌-◌, ◌<◌, ◌≤◌, List, [], ◌∷◌, ◌++◌, length, get_or, take, drop, refl, sym, ap, subst, ◌∙◌, arith, add-one, drop-cons, drop-drop, take-add, length-append, Option, Some, None, Bool, true, ◌↔◌, Global}
 use Rattle.std.proofs.lemmas.List.{append-nil}
 use Rattle.std.proofs.Math.Seq.{drop-append_seam, take-length}
 use Rattle.std.specs.Vec.Iter.{into_iter_items, into_iter_len, into_iter_steps}
@@ -15,20 +15,21 @@ use Rattle.meaning.specs.Entries.{State, AreLegal, after, AllCommute}
 use Rattle.meaning.specs.Trees.{Children, NoChild, Child}
 use Rattle.meaning.specs.Records.{TakenChild, TakenChildren, entries_of_child, entries_of_children, kept_of_child}
 use Rattle.meaning.specs.Shown.{shown_child}
-use Rattle.meaning.specs.OneThread.{Run, Ran, record_of, outcome_of, labels_of, state_of, go_on_children, one, one_handler, one_children}
+use Rattle.meaning.specs.OneThread.{Run, Ran, record_of, outcome_of, labels_of, go_on_children, one, one_children}
 use Rattle.meaning.specs.Laws.{carried}
-use Rattle.meaning.proofs.Nets.{lead_on, act_leads, block_leads, handlers_lead}
+use Rattle.meaning.proofs.Nets.{lead_on}
 use Rattle.meaning.proofs.Shift.{children_shift}
 use Rattle.batch.specs.Views.{Tried, subaction_view, children_view}
 use Rattle.batch.specs.declared.tree.Subaction.{Subaction}
 use Rattle.intentions.specs.Levels.{Intentions as View, shown as state_of_view, AllEntriesLegal, AllHaveRoom, absorbed}
 use Rattle.intentions.specs.Committed.{AllStand}
+use Rattle.intentions.proofs.IndexLemmas.{length-range}
 use Rattle.speculate.specs.Running.{CanTryHere, CanRunAllHere, ShowsTried, acted}
 use Rattle.speculate.specs.Ahead.{CanAllTry, Leads, IsRunAhead, AreRunAhead, IsRunBefore}
 use Rattle.speculate.specs.declared.executor.Ahead.{Ahead}
 use Rattle.speculate.specs.declared.executor.Tried as executed
 use Rattle.speculate.proofs.Absorbed.{shown-absorbed}
-use Rattle.speculate.proofs.Children.{can_try}
+use Rattle.speculate.proofs.Children.{acted_leads, can_try}
 use Rattle.speculate.proofs.Meant.{one_children-Child}
 use Rattle.speculate.proofs.Room.{child_has_room}
 
@@ -103,14 +104,11 @@ module _ (child : Tried) (held : List Held) (since : List Entry) (state : State)
   entries_here : run.entries.items ≡ entries_of_child (record_of (acted child held state))
   entries_here = ap (λ (v : View). v.entries) before.ahead.view ∙ ap entries_of_child (sym same_here.taken)
 
-  net_leads : Leads state (kept_of_child (record_of (acted child held state))) (state_of (acted child held state))
-  net_leads = act_leads child.labelled (one child.body held state) (one_handler child.handlers held) state (block_leads child.body held state) (λ reason. handlers_lead child.handlers held reason state)
-
   pub net_is_legal : AllEntriesLegal state run.net.items
-  net_is_legal = subst (AllEntriesLegal state) (sym net_here) net_leads.0
+  net_is_legal = subst (AllEntriesLegal state) (sym net_here) (acted_leads child held state).0
 
   pub net_has_room : CanTryHere child held state → AllHaveRoom state run.net.items
-  net_has_room can = subst (AllHaveRoom state) (sym net_here) (child_has_room child held state can net_leads.0)
+  net_has_room can = subst (AllHaveRoom state) (sym net_here) (child_has_room child held state can (acted_leads child held state).0)
 
   -- and its run can be taken in
   pub taken_in : (view next : View) (entries net : List Entry) → entries ≡ run.entries.items → net ≡ run.net.items → next ≡ absorbed view entries net → ShowsTried child (acted child held state) run.tried view next
@@ -146,9 +144,6 @@ range-append xs a b c first second =
     let there : drop (b - a) (drop a xs) ≡ drop b xs = drop-drop (b - a) a xs ∙ ap (λ n. drop n xs) from_b in
     ap (λ ys. slice_range xs a b ++ take (c - b) ys) (sym there) ∙ sym (take-add (b - a) (c - b) (drop a xs)) ∙ ap (λ n. take n (drop a xs)) to_c
 
-length-range : {X : Type 0} (xs : List X) (a b : ℕ) → a ≤ b → b ≤ length xs → length (slice_range xs a b) ≡ b - a
-length-range xs a b first second = length-take-le (b - a) (drop a xs) (omega (arith, length-drop a xs))
-
 range-one : {X : Type 0} (xs : List X) (i : ℕ) (x : X) → i < length xs → x ≡ get_or xs i x → slice_range xs i (i + 1) ≡ x ∷ []
 range-one xs i x lt is =
     let one : (i + 1) - i ≡ 1 = omega arith in
@@ -159,7 +154,7 @@ pub halves : (children : List Subaction) (from middle upto : ℕ) (held : List H
     → length runs ≡ middle - from → AreRunAhead (slice_range children from middle) held state runs → AreRunAhead (slice_range children middle upto) held state others → AreRunAhead (slice_range children from upto) held state (runs ++ others)
 halves children from middle upto held state runs others first second within all front back =
     subst (λ cs. AreRunAhead cs held state (runs ++ others)) (range-append children from middle upto first second)
-    (runs-append (slice_range children from middle) (slice_range children middle upto) held state runs others (all ∙ sym (length-range children from middle first (omega arith))) front back)
+    (runs-append (slice_range children from middle) (slice_range children middle upto) held state runs others (all ∙ sym (length-range children from middle (omega arith))) front back)
 
 pub both_long : (runs others : List Ahead) (from middle upto : ℕ) → from ≤ middle → middle ≤ upto → length runs ≡ middle - from → length others ≡ upto - middle → length (runs ++ others) ≡ upto - from
 both_long runs others from middle upto first second front back = omega (arith, length-append runs others)
@@ -189,27 +184,24 @@ pub record AreLeft (children : List Subaction) (held : List Held) (since : List 
 pub left-start : (children : List Subaction) (held : List Held) (state : State) (runs : List Ahead) → AreRunAhead children held state runs → AreLeft children held [] state runs
 left-start children held state runs ahead = record { from = state; leads = (tt, refl); ahead = ahead }
 
-pub left-first : (child : Subaction) (children : List Subaction) (held : List Held) (since : List Entry) (state : State) (run : Ahead) (runs : List Ahead) → AreLeft (child ∷ children) held since state (run ∷ runs) → IsRunBefore (subaction_view child) held since state run
-left-first child children held since state run runs left = record { from = left.from; leads = left.leads; ahead = left.ahead.0 }
-
-pub left-others : (child : Subaction) (children : List Subaction) (held : List Held) (since : List Entry) (view next : View) (tried : executed.Tried) (run : Ahead) (runs : List Ahead)
+left-others : (child : Subaction) (children : List Subaction) (held : List Held) (since : List Entry) (view next : View) (tried : executed.Tried) (run : Ahead) (runs : List Ahead)
     → AreLeft (child ∷ children) held since (state_of_view view) (run ∷ runs) → ShowsTried (subaction_view child) (acted (subaction_view child) held (state_of_view view)) tried view next
     → AreLeft children held (since ++ kept_of_child (record_of (acted (subaction_view child) held (state_of_view view)))) (state_of_view next) runs
 left-others child children held since view next tried run runs left shows =
     let here = subaction_view child in
     let net = kept_of_child (record_of (acted here held (state_of_view view))) in
-    let leads = act_leads here.labelled (one here.body held (state_of_view view)) (one_handler here.handlers held) (state_of_view view) (block_leads here.body held (state_of_view view)) (λ reason. handlers_lead here.handlers held reason (state_of_view view)) in
     let there : state_of_view next ≡ after (state_of_view view) net = ap state_of_view shows.view ∙ shown-absorbed view (entries_of_child (record_of (acted here held (state_of_view view)))) net in
-    record { from = left.from; leads = lead_on left.from (state_of_view view) (state_of_view next) since net left.leads (leads.0, there); ahead = left.ahead.1 }
+    record { from = left.from; leads = lead_on left.from (state_of_view view) (state_of_view next) since net left.leads ((acted_leads here held (state_of_view view)).0, there); ahead = left.ahead.1 }
 
--- what a child adds to the net of its parent's level
-pub added : (child : Tried) (held : List Held) (view next : View) (tried : executed.Tried) → ShowsTried child (acted child held (state_of_view view)) tried view next
-    → slice_range next.net (length view.net) (length next.net) ≡ kept_of_child (record_of (acted child held (state_of_view view)))
-added child held view next tried shows =
+-- what a child adds to the net of its parent's level, listed
+pub added_listed : (child : Tried) (held : List Held) (view next : View) (tried : executed.Tried) (since later was now : List Entry) → ShowsTried child (acted child held (state_of_view view)) tried view next
+    → was ≡ view.net → now ≡ next.net → later ≡ since ++ slice_range now (length was) (length now) → later ≡ since ++ kept_of_child (record_of (acted child held (state_of_view view)))
+added_listed child held view next tried since later was now shows was_is now_is listed =
     let net = kept_of_child (record_of (acted child held (state_of_view view))) in
-    let more : next.net ≡ view.net ++ net = ap (λ (v : View). v.net) shows.view in
-    let count : length next.net - length view.net ≡ length net = omega (arith, ap length more, length-append view.net net) in
-    ap (λ n. take n (drop (length view.net) next.net)) count ∙ ap (λ ns. take (length net) (drop (length view.net) ns)) more ∙ ap (take (length net)) (drop-append_seam view.net net) ∙ take-length net
+    let more : now ≡ was ++ net = now_is ∙ ap (λ (v : View). v.net) shows.view ∙ ap (λ es. es ++ net) (sym was_is) in
+    let count : length now - length was ≡ length net = omega (arith, ap length more, length-append was net) in
+    listed ∙ ap (λ n. since ++ take n (drop (length was) now)) count ∙ ap (λ es. since ++ take (length net) (drop (length was) es)) more
+    ∙ ap (λ es. since ++ take (length net) es) (drop-append_seam was net) ∙ ap (λ es. since ++ es) (take-length net)
 
 next_of : (children : List Subaction) (place : ℕ) (x : Subaction) → place < length children → x ≡ get_or children place x → drop place children ≡ x ∷ drop (place + 1) children
 next_of children place x lt is = drop-cons children place x lt ∙ ap (λ y. y ∷ drop (suc place) children) (sym is) ∙ rw add-one refl
@@ -221,23 +213,10 @@ module _ (children : List Subaction) (place : ℕ) (x : Subaction) (held : List 
       subst (λ cs. AreLeft cs held since (state_of_view view) (run ∷ into_iter_items after)) (next_of children place x within is)
       (subst (AreLeft (drop place children) held since (state_of_view view)) steps.0 (left (omega (arith, steps.1))))
 
-  -- the next run was made of the next child
-  pub left-next : (ahead : Option Ahead) → into_iter_steps before ahead after → ForSome ahead (IsRunBefore (subaction_view x) held since (state_of_view view))
-  left-next None steps run some = absurd cc
-  left-next (Some first) steps run some =
-      let same : first ≡ run = cc in
-      subst (IsRunBefore (subaction_view x) held since (state_of_view view)) same (left-first x (drop (place + 1) children) held since (state_of_view view) first (into_iter_items after) (left_here first steps))
-
-  -- and the others of the others
+  -- the runs behind the next one were made of the children behind the next child
   pub left-more : (ahead : Option Ahead) (next : View) (tried : executed.Tried) (later : List Entry) → into_iter_steps before ahead after → ShowsTried (subaction_view x) (acted (subaction_view x) held (state_of_view view)) tried view next
       → ForSome ahead (λ _. later ≡ since ++ kept_of_child (record_of (acted (subaction_view x) held (state_of_view view)))) → 0 < into_iter_len after → AreLeft (drop (place + 1) children) held later (state_of_view next) (into_iter_items after)
   left-more None next tried later steps shows kept some = absurd (omega (arith, steps.1))
   left-more (Some run) next tried later steps shows kept some =
       subst (λ es. AreLeft (drop (place + 1) children) held es (state_of_view next) (into_iter_items after)) (sym (kept run refl))
       (left-others x (drop (place + 1) children) held since view next tried run (into_iter_items after) (left_here run steps) shows)
-
--- ---- how far a part of a run is from its end
-
--- the depth of its tree counts first, and then how many calls may be made at one depth
-abbrev pub deep : ℕ → ℕ → ℕ
-deep depth calls = 34_359_738_368 * depth + calls

@@ -9,7 +9,7 @@ use Rattle.intentions.specs.Levels.{shown as state_of_view}
 use Rattle.speculate.proofs.Steps.{part_run-start, part_run-more, part_run-aborted, part_run-ended}
 use Rattle.speculate.proofs.Stepping.{op-can, op-shows, if-bound, if-shows_then, if-shows_else, sub-shows, abort-shows, parallel-shows}
 use Rattle.speculate.proofs.Children.{part_tried-start, part_tried-more, part_tried-aborted, part_tried-ended}
-use Rattle.speculate.proofs.Siblings.{stand, net_is_legal, net_has_room, taken_in, net_listed, each_can_try, one_more, one_longer, halves, both_long, to_middle, left-start, left-more, added}
+use Rattle.speculate.proofs.Siblings.{stand, net_is_legal, net_has_room, taken_in, net_listed, each_can_try, one_more, one_longer, halves, both_long, to_middle, left-start, left-more, added_listed}
 use Rattle.speculate.proofs.executor.+run.Goals as goal
 use Rattle.speculate.proofs.executor.+run.Goals.{run_step-then-holds, run_step-else-holds}
 
@@ -153,7 +153,9 @@ run_child-returns-then-stands-clause-kept g t c =
     c.deref-then-stands-3.result.now c.append.new.self c.deref-then-stands-3.ensures.value c.in_ok-append.ensures.ok
 
 pub run_child-returns-clause-kept : goal.run_child-returns-clause-kept
-run_child-returns-clause-kept g t c = λ run is. c.in_ok-append-2.ensures.ok ∙ ap (λ net. c.args.kept.now ++ net) (rw (c.net.ensures, c.net-before.ensures) (added (subaction_view c.args.child.now) c.args.labels.now.items c.args.view.now c.run_subaction-2.new.view c.in_ok-tried.tried c.in_ok-tried.ensures.shows))
+run_child-returns-clause-kept g t c =
+    λ run is. added_listed (subaction_view c.args.child.now) c.args.labels.now.items c.args.view.now c.run_subaction-2.new.view c.in_ok-tried.tried c.args.kept.now c.append-2.new.self c.net-before.result.now c.net.result.now
+    c.in_ok-tried.ensures.shows c.net-before.ensures c.net.ensures c.in_ok-append-2.ensures.ok
 
 pub run_children-run_if_wide-requires-after_bounds : goal.run_children-run_if_wide-requires-after_bounds
 run_children-run_if_wide-requires-after_bounds g t c κs lives =
@@ -175,7 +177,7 @@ pub run_children-loop-place-preserved : goal.run_children-loop-place-preserved
 run_children-loop-place-preserved g t c =
     let more = part_tried-more _ _ _ _ _ _ _ c.index-children-place.result c.in_ok-tried.tried _ (c.in_ok-tried.tried.body, c.in_ok-tried.tried.handler) _ c.loop-place.invariant.part c.loop-place-test.true c.index-children-place.is c.in_ok-tried.ensures.shows c.in-Ended.is refl (ap (λ b. label_if b (Outcome c.in_ok-tried.tried.body.outcome)) (sym (subaction_view-labelled c.index-children-place.result))) in
     record {
-      same = c.in_ok-tried.ensures.labels ∙ c.loop-place.invariant.same;
+      same = rw c.in_ok-tried.ensures.labels c.loop-place.invariant.same;
       part = rw (c.in_ok-push.ensures.items, c.in_ok-add_label.ensures, c.in_ok-tried.ensures.labels) more;
       left = rw c.in_ok-tried.ensures.labels
           (left-more c.args.children.now c.loop-place.place c.index-children-place.result c.loop-place.labels.items c.loop-place.kept c.loop-place.view c.loop-place.ahead c.next-run.new.self c.loop-place.invariant.left c.loop-place-test.true c.index-children-place.is

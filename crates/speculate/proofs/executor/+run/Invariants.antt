@@ -9,7 +9,8 @@ use Rattle.intentions.specs.Levels.{shown as state_of_view}
 use Rattle.speculate.specs.Ahead.{AreRunAhead}
 use Rattle.speculate.proofs.Steps.{IsPartRun}
 use Rattle.speculate.proofs.Children.{ArePartTried}
-use Rattle.speculate.proofs.Siblings.{AreLeft, deep}
+use Rattle.speculate.proofs.Siblings.{AreLeft}
+use Rattle.speculate.proofs.Measures.{deep, beyond_widths}
 use Rattle.speculate.proofs.executor.+run.Given as goal
 
 abbrev pub decreases-run_block : goal.decreases-run_block
@@ -46,10 +47,10 @@ abbrev pub decreases-run_ahead-join+arg3 : goal.decreases-run_ahead-join+arg3
 decreases-run_ahead-join+arg3 g l = deep (most size-Subaction l.children.now) (5 + 2 * l.back_width)
 
 abbrev pub decreases-run_if_wide : goal.decreases-run_if_wide
-decreases-run_if_wide g l = deep (most size-Subaction l.children.now) 17_179_869_184
+decreases-run_if_wide g l = deep (most size-Subaction l.children.now) beyond_widths
 
 abbrev pub decreases-run_children : goal.decreases-run_children
-decreases-run_children g l = deep (most size-Subaction l.children.now) 17_179_869_185
+decreases-run_children g l = deep (most size-Subaction l.children.now) (beyond_widths + 1)
 
 abbrev pub invariant-run_steps-loop-step : goal.invariant-run_steps-loop-step
 invariant-run_steps-loop-step g l =
