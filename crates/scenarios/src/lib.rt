@@ -2,9 +2,11 @@
 //! one call until another comes, and count.
 #![tactic(auto)]
 
+mod child_counting;
 mod counting;
 mod meeting;
 
+pub use child_counting::ChildCounting;
 pub use counting::Counting;
 pub use meeting::Meeting;
 
@@ -12,3 +14,5 @@ pub use meeting::Meeting;
 mod plain_tests;
 #[cfg(test)]
 mod rounds_tests;
+#[cfg(test)]
+mod sibling_tests;

@@ -1,5 +1,5 @@
 -- Views that took in lists, and the states that they show.
-use Rattle.std.proofs.Common.{◌≡◌, List, [], ◌∷◌, ◌++◌, refl, sym, ap, ◌∙◌, append_assoc}
+use Rattle.std.proofs.Common.{◌≡◌, List, [], ◌++◌, refl, sym, ap, ◌∙◌, append_assoc}
 use Rattle.std.proofs.lemmas.List.{append-nil}
 use Rattle.objects.specs.declared.entry.Entry.{Entry}
 use Rattle.intentions.specs.Levels.{Intentions as View, after_entries, shown, begun, committed, aborted, absorbed, joined}

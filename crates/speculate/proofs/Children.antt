@@ -1,5 +1,5 @@
 -- Subactions by how their bodies end, and children of which the first were run.
-use Rattle.std.proofs.Common.{◌≡◌, ℕ, suc, ◌+◌, ◌<◌, ◌≤◌, Bool, List, [], ◌∷◌, ◌++◌, map, length, get_or, drop, refl, sym, ap, subst, ◌∙◌, arith, append_assoc, add-one, drop-cons, Option, Some, None}
+use Rattle.std.proofs.Common.{◌≡◌, ℕ, suc, ◌+◌, ◌<◌, ◌≤◌, List, [], ◌∷◌, ◌++◌, map, length, get_or, drop, refl, sym, ap, subst, ◌∙◌, arith, append_assoc, add-one, drop-cons, Option, None}
 use Rattle.std.proofs.Math.ListN.{drop_of_length-le}
 use Rattle.std.proofs.lemmas.List.{map-append, append-nil}
 use Rattle.std.specs.Prelude.{option_map}
@@ -8,12 +8,11 @@ use Rattle.meaning.specs.declared.end.End.{End}
 use Rattle.meaning.specs.declared.end.End.TheVariants.{Ended, Aborted}
 use Rattle.meaning.specs.declared.held.Held.{Held}
 use Rattle.meaning.specs.declared.held.Held.TheVariants.{Outcome}
-use Rattle.meaning.specs.Entries.{State, kinds}
-use Rattle.meaning.specs.Trees as meant
-use Rattle.meaning.specs.Trees.{Handlers, Children, NoChild, Child}
+use Rattle.meaning.specs.Entries.{State}
+use Rattle.meaning.specs.Trees.{Children, Child}
 use Rattle.meaning.specs.Records.{Taken, TakenChild, Undone, TakenHandler, NoHandler, Handled, TakenChildren, entries_of_child, entries_of_children, kept_of_child, kept_of_children, entries_of_handler, kept_of_handler, entries, kept}
-use Rattle.meaning.specs.Shown.{Shown, shown, shown_child, shown_children, ShownChild, ShownChildren}
-use Rattle.meaning.specs.OneThread.{Run, Ran, record_of, outcome_of, labels_of, state_of, label_if, act, after_abort, one, one_handler, one_children}
+use Rattle.meaning.specs.Shown.{shown, shown_child, shown_children, ShownChild, ShownChildren}
+use Rattle.meaning.specs.OneThread.{Run, Ran, record_of, outcome_of, labels_of, state_of, label_if, one, one_handler, one_children}
 use Rattle.meaning.specs.WellFormed.{AreWellFormed, operations, operations_of_handlers}
 use Rattle.meaning.specs.Running.{Keeps}
 use Rattle.meaning.proofs.Keeping.{block_keeps, handlers_keep, act_keeps}
@@ -23,16 +22,13 @@ use Rattle.batch.specs.Views.{Tried, subaction_view, children_view, record_view,
 use Rattle.batch.specs.declared.tree.Subaction.{Subaction}
 use Rattle.batch.specs.declared.record.Record.{Record}
 use Rattle.intentions.specs.Levels.{Intentions as View, shown as state_of_view, begun, committed, aborted, absorbed}
-use Rattle.speculate.specs.Running.{CanRunHere, CanHandleHere, CanTryHere, CanRunAllHere, ShowsRun, ShowsHandler, ShowsTried, ShowsChildren, shown_handler}
+use Rattle.speculate.specs.Running.{CanRunHere, CanHandleHere, CanTryHere, CanRunAllHere, ShowsRun, ShowsHandler, ShowsTried, ShowsChildren, shown_handler, acted}
+use Rattle.speculate.specs.Ahead.{Leads}
 use Rattle.speculate.specs.declared.executor.Tried as executed
 use Rattle.speculate.proofs.Absorbed.{absorbed-none, absorbed-then, shown-absorbed, shown-begun, committed-begun, aborted-begun, shown-aborted}
 use Rattle.speculate.proofs.Meant.{act-ended, act-aborted, one_children-NoChild, one_children-Child, GoesOn, go_on_children-ended, go_on_children-aborted}
 
 -- ---- one subaction
-
--- what one thread does with a subaction
-abbrev pub acted : Tried → List Held → State → Run TakenChild
-acted child held state = act child.labelled (one child.body held state) (one_handler child.handlers held) state
 
 -- a subaction's body, run in a level of its own
 pub body_can_run : (child : Tried) (held : List Held) (before : View) → CanTryHere child held (state_of_view before) → CanRunHere child.body held (state_of_view (begun before))
@@ -153,6 +149,7 @@ can_try child younger held state h =
     record {
       body = record { labels = h.labels; held_by = h.held_by; well_formed = h.well_formed.0; room = omega (arith, h.room) };
       handlers = record { labels = h.labels; held_by = h.held_by; well_formed = h.well_formed.1; room = omega (arith, h.room) };
+      room = omega (arith, h.room);
     }
 
 -- what a subaction keeps
@@ -197,12 +194,17 @@ pub part_tried-can_try : (children : List Subaction) (held : List Held) (before 
 part_tried-can_try children held before i tried outcomes now x h lt is =
     can_try (subaction_view x) (children_view (drop (i + 1) children)) held (state_of_view now) (subst (λ c. CanRunAllHere c held (state_of_view now)) (next_child children i x lt is) h.can)
 
+-- what a subaction keeps leads from where it began to where it came
+pub acted_leads : (child : Tried) (held : List Held) (state : State) → Leads state (kept_of_child (record_of (acted child held state))) (state_of (acted child held state))
+acted_leads child held state =
+    act_leads child.labelled (one child.body held state) (one_handler child.handlers held) state (block_leads child.body held state) (λ reason. handlers_lead child.handlers held reason state)
+
 -- what a view shows after a child is the state of the child's run
 shows_state : (child : Tried) (held : List Held) (now next : View)
     → next ≡ absorbed now (entries_of_child (record_of (acted child held (state_of_view now)))) (kept_of_child (record_of (acted child held (state_of_view now))))
     → state_of (acted child held (state_of_view now)) ≡ state_of_view next
 shows_state child held now next is =
-    (act_leads child.labelled (one child.body held (state_of_view now)) (one_handler child.handlers held) (state_of_view now) (block_leads child.body held (state_of_view now)) (λ reason. handlers_lead child.handlers held reason (state_of_view now))).1
+    (acted_leads child held (state_of_view now)).1
     ∙ sym (shown-absorbed now (entries_of_child (record_of (acted child held (state_of_view now)))) (kept_of_child (record_of (acted child held (state_of_view now))))) ∙ ap state_of_view (sym is)
 
 -- the trees of the children so far, and of one more

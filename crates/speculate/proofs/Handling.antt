@@ -12,8 +12,8 @@ use Rattle.meaning.specs.declared.held.Held.{Held}
 use Rattle.meaning.specs.Entries.{State}
 use Rattle.meaning.specs.Trees as meant
 use Rattle.meaning.specs.Trees.{Handlers, ForReason, Otherwise, GoOn, Pass, for_reasons, handlers_of}
-use Rattle.meaning.specs.Records.{Taken, TakenHandler, NoHandler}
-use Rattle.meaning.specs.OneThread.{Run, Ran, record_of, outcome_of, as_handler, is_for, choose_handler, one, one_handler}
+use Rattle.meaning.specs.Records.{Taken, TakenHandler}
+use Rattle.meaning.specs.OneThread.{Run, as_handler, is_for, choose_handler, one, one_handler}
 use Rattle.batch.specs.Views.{block_view, handler_view, subaction_view}
 use Rattle.batch.specs.declared.tree.Block.{Block}
 use Rattle.batch.specs.declared.tree.Handler.{Handler}

@@ -3,5 +3,8 @@ pub mod Meant
 pub mod Steps
 pub mod Children
 pub mod Handling
+pub mod Measures
+pub mod Room
+pub mod Siblings
 pub mod Stepping
 pub mod Transactions

@@ -1,10 +1,9 @@
 -- The steps of a block, kind by kind.
-use Rattle.std.proofs.Common.{◌≡◌, ℕ, ◌+◌, ◌<◌, ◌≤◌, Bool, true, false, List, [], ◌∷◌, ◌++◌, length, get_or, refl, sym, ap, subst, ◌∙◌, arith, Option, Some, None, Vec, Global}
+use Rattle.std.proofs.Common.{◌≡◌, ℕ, ◌<◌, Bool, true, false, List, [], ◌++◌, length, get_or, refl, sym, ap, subst, ◌∙◌, arith, Option, Some, Vec, Global}
 use Rattle.std.proofs.lemmas.List.{append-nil}
 use Rattle.std.proofs.lemmas.Option.{slice_get_within, get_or_from_slice_get}
 use Rattle.objects.specs.declared.call.Call.{Call}
 use Rattle.objects.specs.declared.call.Reply.{Reply}
-use Rattle.objects.specs.declared.entry.Entry.{Entry}
 use Rattle.meaning.specs.declared.end.End.{End}
 use Rattle.meaning.specs.declared.end.End.TheVariants.{Ended, Aborted}
 use Rattle.meaning.specs.declared.held.Held.{Held}
@@ -13,24 +12,23 @@ use Rattle.meaning.specs.declared.test.Test.{Test}
 use Rattle.meaning.specs.Entries.{State, reply_at, after_call}
 use Rattle.meaning.specs.Labels.{holds, holds_of, if_there}
 use Rattle.meaning.specs.Trees as meant
-use Rattle.meaning.specs.Records.{Performed, Branched, Acted, InParallel, TakenStep, entries, kept}
+use Rattle.meaning.specs.Records.{Performed, Acted, InParallel, TakenStep}
 use Rattle.meaning.specs.Shown.{ShownStep}
-use Rattle.meaning.specs.OneThread.{Run, Ran, record_of, outcome_of, labels_of, state_of, label_if, operate, choose, as_branch, act, as_step, one, one_step, one_handler, one_children}
+use Rattle.meaning.specs.OneThread.{Run, Ran, label_if, operate, choose, as_branch, act, as_step, one, one_step, one_handler, one_children}
 use Rattle.meaning.specs.Running.{CanPerform, IsBound}
 use Rattle.meaning.proofs.Keeping.{perform}
 use Rattle.meaning.proofs.HeldLabels.{test}
-use Rattle.batch.specs.Views.{block_view, step_view, subaction_view, children_view, record_view, taken_view, tried_view, all_tried_view}
+use Rattle.batch.specs.Views.{Tried, block_view, step_view, subaction_view, children_view}
 use Rattle.batch.specs.declared.tree.Block.{Block}
 use Rattle.batch.specs.declared.tree.Step.{Step, Op, If, Sub, Abort, Parallel}
 use Rattle.batch.specs.declared.tree.Subaction.{Subaction}
 use Rattle.batch.specs.declared.record.Record.{Record}
 use Rattle.batch.specs.declared.record.Taken as taken
 use Rattle.batch.proofs.ViewLemmas.{step_view-Op, step_view-If, step_view-Sub, step_view-Abort, step_view-Parallel, taken_view-Op, taken_view-If, taken_view-Sub, taken_view-Abort, taken_view-Parallel}
-use Rattle.intentions.specs.Levels.{Intentions as View, shown as state_of_view, performed, absorbed}
-use Rattle.speculate.specs.Running.{CanRunHere, CanStepHere, CanTryHere, CanHandleHere, CanRunAllHere, ShowsRun, ShowsStep, ShowsTried, ShowsChildren}
+use Rattle.intentions.specs.Levels.{Intentions as View, shown as state_of_view, performed}
+use Rattle.speculate.specs.Running.{CanRunHere, CanStepHere, CanTryHere, CanRunAllHere, ShowsRun, ShowsStep, ShowsTried, ShowsChildren, acted}
 use Rattle.speculate.specs.declared.executor.Tried as executed
 use Rattle.speculate.proofs.Absorbed.{absorbed-none}
-use Rattle.speculate.proofs.Children.{acted}
 
 -- what a step is, seen as a tree
 can_as : (step : Step) (tree : meant.Step) (held : List Held) (state : State) → step_view step ≡ tree → CanStepHere (step_view step) held state → CanStepHere tree held state
@@ -121,17 +119,18 @@ if-shows_else step label t then otherwise held seen before now read chosen done 
 
 -- ---- subactions
 
-sub_can : (body : meant.Block) (handlers : meant.Handlers) (labelled : Bool) (held : List Held) (state : State) → CanStepHere (meant.Subaction body handlers labelled) held state → CanRunHere body held state × CanHandleHere handlers held state
-sub_can body handlers labelled held state h = (
-  record { labels = h.labels; held_by = h.held_by; well_formed = h.well_formed.0; room = omega (arith, h.room) },
-  record { labels = h.labels; held_by = h.held_by; well_formed = h.well_formed.1; room = omega (arith, h.room) },
-)
+sub_can : (child : Tried) (held : List Held) (state : State) → CanStepHere (meant.Subaction child.body child.handlers child.labelled) held state → CanTryHere child held state
+sub_can child held state h =
+    record {
+      body = record { labels = h.labels; held_by = h.held_by; well_formed = h.well_formed.0; room = omega (arith, h.room) };
+      handlers = record { labels = h.labels; held_by = h.held_by; well_formed = h.well_formed.1; room = omega (arith, h.room) };
+      room = h.room;
+    }
 
 pub sub-can_try : (step : Step) (child : Subaction) (held : List Held) (state : State) → step ≡ Sub child → CanStepHere (step_view step) held state → CanTryHere (subaction_view child) held state
 sub-can_try step child held state is h =
     let tried = subaction_view child in
-    let can = sub_can tried.body tried.handlers tried.labelled held state (can_as step (meant.Subaction tried.body tried.handlers tried.labelled) held state (ap step_view is ∙ step_view-Sub child) h) in
-    record { body = can.0; handlers = can.1 }
+    sub_can tried held state (can_as step (meant.Subaction tried.body tried.handlers tried.labelled) held state (ap step_view is ∙ step_view-Sub child) h)
 
 sub_runs : (body : meant.Block) (handlers : meant.Handlers) (labelled : Bool) (held : List Held) (state : State)
     → one_step (meant.Subaction body handlers labelled) held state ≡ as_step Acted (act labelled (one body held state) (one_handler handlers held) state)

@@ -6,17 +6,17 @@ use Rattle.objects.specs.declared.entry.Entry.{Entry}
 use Rattle.meaning.specs.declared.end.End.{End}
 use Rattle.meaning.specs.declared.end.End.TheVariants.{Ended, Aborted}
 use Rattle.meaning.specs.declared.held.Held.{Held}
-use Rattle.meaning.specs.Entries.{State, kinds, after}
+use Rattle.meaning.specs.Entries.{State}
 use Rattle.meaning.specs.Trees as meant
 use Rattle.meaning.specs.Records as record_tree
 use Rattle.meaning.specs.Records.{Nothing, Took, TakenStep, entries, entries_of_step, kept, kept_of_step}
-use Rattle.meaning.specs.Shown.{Shown, AtEnd, ShownStep, shown_step, shown}
+use Rattle.meaning.specs.Shown.{Shown, AtEnd, shown_step, shown}
 use Rattle.meaning.specs.OneThread.{Run, record_of, outcome_of, labels_of, state_of, one, one_step}
 use Rattle.meaning.specs.WellFormed.{IsWellFormed, added_by}
 use Rattle.meaning.proofs.HeldLabels.{more_labels, step_labels}
 use Rattle.meaning.proofs.Keeping.{step_keeps}
 use Rattle.meaning.proofs.Nets.{step_leads}
-use Rattle.batch.specs.Views.{step_view, steps_view, record_view, taken_view, before_end}
+use Rattle.batch.specs.Views.{step_view, steps_view, taken_view, before_end}
 use Rattle.batch.specs.declared.tree.Step.{Step}
 use Rattle.batch.specs.declared.record.Record.{Record}
 use Rattle.batch.specs.declared.record.Taken.{Taken}

@@ -1,28 +1,25 @@
 -- The transactions of a batch, each of which can be run where all others were.
-use Rattle.std.proofs.Common.{◌≡◌, ℕ, zero, suc, ◌+◌, ◌-◌, ◌*◌, ◌<◌, ◌≤◌, List, [], ◌∷◌, ◌++◌, map, length, get_or, refl, sym, ap, subst, ◌∙◌, arith}
+use Rattle.std.proofs.Common.{◌≡◌, ℕ, zero, suc, ◌-◌, ◌<◌, ◌≤◌, List, [], ◌∷◌, map, length, get_or, sym, ap, subst, ◌∙◌, arith}
 use Rattle.std.proofs.lemmas.List.{get_or-map, length-map}
 use Rattle.objects.specs.declared.kind.Kind.{Kind}
-use Rattle.objects.specs.declared.entry.Entry.{Entry}
-use Rattle.meaning.specs.declared.end.End.{End}
 use Rattle.meaning.specs.declared.end.End.TheVariants.{Ended, Aborted}
 use Rattle.meaning.specs.Entries.{State, kinds}
 use Rattle.meaning.specs.declared.held.Held.{Held}
 use Rattle.meaning.specs.Trees.{Block, NoStep}
 use Rattle.meaning.specs.Records.{Taken, entries, kept, net}
-use Rattle.meaning.specs.OneThread.{Run, record_of, outcome_of, one}
-use Rattle.meaning.specs.Batch.{block_at, net_of, shown_of}
-use Rattle.meaning.specs.WellFormed.{IsWellFormed, operations, largest, largest_amount, HasRoom}
+use Rattle.meaning.specs.OneThread.{Run, record_of, one}
+use Rattle.meaning.specs.Batch.{block_at, net_of}
+use Rattle.meaning.specs.WellFormed.{IsWellFormed, operations}
 use Rattle.meaning.specs.Running.{all_operations}
 use Rattle.meaning.proofs.Keeping.{limit}
 use Rattle.batch.specs.Names.{Texts}
-use Rattle.batch.specs.Views.{block_view, record_view}
+use Rattle.batch.specs.Views.{block_view}
 use Rattle.batch.specs.Limits.{AllWellFormed, IsBatch}
 use Rattle.batch.specs.declared.tree.Block as declared_block
 use Rattle.batch.specs.declared.record.Record.{Record}
 use Rattle.intentions.specs.Levels.{Intentions as View, shown as state_of_view, opened, begun, committed, aborted, absorbed}
 use Rattle.speculate.specs.Running.{CanRunHere, ShowsRun}
 use Rattle.speculate.specs.Runs.{IsWithinOthers}
-use Rattle.speculate.proofs.Absorbed.{shown-begun}
 
 well_formed_at : (blocks : List Block) (ks : List Kind) (i : ℕ) → AllWellFormed blocks ks → i < length blocks → IsWellFormed (block_at blocks i) [] ks
 well_formed_at [] ks i h lt = absurd (omega arith)

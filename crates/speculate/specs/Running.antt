@@ -1,5 +1,5 @@
 -- What the executor asks where it stands, and what it shows of what it did.
-use Rattle.std.specs.Prelude.{◌≡◌, ℕ, List, [], ◌++◌, Option, Some, None, option_map}
+use Rattle.std.specs.Prelude.{◌≡◌, ℕ, ◌+◌, List, ◌++◌, Option, Some, None, option_map}
 use Rattle.meaning.specs.declared.end.End.{End}
 use Rattle.meaning.specs.declared.end.End.TheVariants.{Ended}
 use Rattle.meaning.specs.declared.held.Held.{Held}
@@ -11,7 +11,7 @@ use Rattle.meaning.specs.Shown as shown
 use Rattle.meaning.specs.Shown.{Shown, shown_step, shown_child, shown_children}
 use Rattle.std.specs.List.{position}
 use Rattle.batch.specs.declared.tree.Handler.{Handler}
-use Rattle.meaning.specs.OneThread.{Run, record_of, outcome_of, labels_of, label_if, is_for}
+use Rattle.meaning.specs.OneThread.{Run, record_of, outcome_of, labels_of, label_if, is_for, act, one, one_handler}
 use Rattle.meaning.specs.WellFormed.{Label, IsWellFormed, IsWellFormedStep, AreWellFormedHandlers, AreWellFormed, operations, operations_of_step, operations_of_handlers, operations_of_children, HasRoom}
 use Rattle.meaning.specs.Running.{AreHeldBy}
 use Rattle.batch.specs.Views.{Tried, record_view, taken_view, tried_view, all_tried_view}
@@ -42,12 +42,17 @@ pub record CanHandleHere (handlers : Handlers) (held : List Held) (state : State
 pub record CanTryHere (child : Tried) (held : List Held) (state : State) : Type 0 where
   pub body : CanRunHere child.body held state
   pub handlers : CanHandleHere child.handlers held state
+  pub room : HasRoom state (operations child.body + operations_of_handlers child.handlers)
 
 pub record CanRunAllHere (children : Children) (held : List Held) (state : State) : Type 0 where
   pub labels : List Label
   pub held_by : AreHeldBy held labels
   pub well_formed : AreWellFormed children labels (kinds state)
   pub room : HasRoom state (operations_of_children children)
+
+-- what one thread does with a subaction
+abbrev pub acted : Tried → List Held → State → Run TakenChild
+acted child held state = act child.labelled (one child.body held state) (one_handler child.handlers held) state
 
 -- the labels of before are seen still, and maybe more
 abbrev pub StillSeen : List Held → List Held → Type 0

@@ -1,15 +1,49 @@
-//! One thread runs a block, depth first, in a view of the objects.
-ghost use Rattle.std.specs.Prelude.{◌≡◌, ◌++◌, [], Some, IfOk, OnOk};
+//! A block is run depth first in a view of the objects. Children of a parallel step are run ahead,
+//! at once, where there is width for it, and are then kept in order.
+ghost use Rattle.std.specs.Prelude.{◌≡◌, ◌++◌, ◌-◌, ◌≤◌, ◌<◌, [], Some, IfOk, OnOk, length, slice_range};
+ghost use Rattle.std.specs.Option.{ForSome};
+ghost use Rattle.std.specs.Thread.{IsSync};
 ghost use Rattle.intentions.specs.Levels.{shown as state_of_view};
-ghost use Rattle.meaning.specs.OneThread.{is_for, label_if, one, one_step, one_children, act, one_handler};
+ghost use Rattle.meaning.specs.Records.{kept_of_child};
+ghost use Rattle.meaning.specs.OneThread.{is_for, label_if, record_of, one, one_step, one_children, one_handler};
 ghost use Rattle.batch.specs.Views.{block_view, steps_view, step_view, subaction_view, children_view};
-ghost use Rattle.speculate.specs.Running.{CanRunHere, CanStepHere, CanTryHere, CanRunAllHere, CanHandleHere, ShowsRun, ShowsStep, ShowsTried, ShowsHandler, ShowsChildren, StillSeen, place_for};
+ghost use Rattle.speculate.specs.Running.{CanRunHere, CanStepHere, CanTryHere, CanRunAllHere, CanHandleHere, ShowsRun, ShowsStep, ShowsTried, ShowsHandler, ShowsChildren, StillSeen, place_for, acted};
+ghost use Rattle.speculate.specs.Ahead.{CanAllTry, IsRunAhead, AreRunAhead, IsRunBefore};
 
+use crate::gate::Gate;
 use crate::labels::test_holds;
 use batch::{Block, Handler, Record, Step, Subaction, Taken};
-use intentions::{NoMemory, View};
+use intentions::{Committed, Entry, Lists, NoMemory, Objects, View};
 use meaning::{End, Held};
 use std::alloc::Global;
+use std::thread::{Threads, join};
+
+/// What the runs of all parts of a transaction share.
+#[derive(Drop)]
+pub(crate) struct Making<'a, T: Threads + Sync, G: Gate> {
+    pub(crate) threads: &'a T,
+    pub(crate) alloc: Global,
+    pub(crate) gate: &'a G,
+    pub(crate) number: u32,
+}
+
+impl<T: Threads + Sync, G: Gate> Making<'_, T, G> {
+    // Tells the gate that the child at this place (from 0) of its step starts.
+    fn pass(&self, place: usize) {
+        let child = u32::try_from(place).unwrap_or(u32::MAX);
+        self.gate.pass(self.number, child.saturating_add(1));
+    }
+}
+
+/// What the children of a parallel step share that are run ahead: the labels and the state that
+/// their parent sees at the step.
+#[derive(Drop)]
+struct Fork {
+    alloc: Global,
+    number: u32,
+    labels: Vec<Held>,
+    state: Objects,
+}
 
 /// What running a subaction gives: its body and its handler, and how the block goes on.
 #[derive(Drop)]
@@ -19,13 +53,22 @@ struct Tried {
     end: End,
 }
 
+/// The run of a child in a view of its own (Weihl 1988: an intentions list).
+#[derive(Drop)]
+struct Ahead {
+    tried: Tried,
+    entries: Vec<Entry>,
+    net: Vec<Entry>,
+}
+
 /// Runs a block. Its labels are forgotten at its end.
 #[cycle(run)]
-pub(crate) fn run_block(
-    alloc: Global,
+pub(crate) fn run_block<T: Threads + Sync, G: Gate>(
+    making: &Making<'_, T, G>,
     block: &Block,
     labels: &mut Vec<Held>,
     view: &mut View<'_>,
+    width: u32,
 ) -> Result<Record, NoMemory>
     requires { CanRunHere (block_view block.now) labels.old.items (state_of_view view.old) }
     ensures shows { IfOk result
@@ -33,26 +76,27 @@ pub(crate) fn run_block(
     ensures labels { OnOk result (labels.new.items ≡ labels.old.items) }
 {
     let seen = labels.len();
-    let record = run_steps(alloc, &block.steps, labels, view)?;
+    let record = run_steps(making, &block.steps, labels, view, width)?;
     labels.truncate(seen);
     Ok(record)
 }
 
 #[cycle(run)]
-fn run_steps(
-    alloc: Global,
+fn run_steps<T: Threads + Sync, G: Gate>(
+    making: &Making<'_, T, G>,
     steps: &[Step],
     labels: &mut Vec<Held>,
     view: &mut View<'_>,
+    width: u32,
 ) -> Result<Record, NoMemory>
     requires { CanRunHere (steps_view steps.now) labels.old.items (state_of_view view.old) }
     ensures shows { IfOk result
         (λ r. ShowsRun (one (steps_view steps.now) labels.old.items (state_of_view view.old)) r view.old view.new) }
     ensures labels { OnOk result (StillSeen labels.old.items labels.new.items) }
 {
-    let mut taken = Vec::new(alloc);
+    let mut taken = Vec::new(making.alloc);
     for step in steps {
-        let (done, end) = run_step(alloc, step, labels, view)?;
+        let (done, end) = run_step(making, step, labels, view, width)?;
         taken.push(done)?;
         match end {
             End::Ended => {}
@@ -71,11 +115,12 @@ fn run_steps(
 }
 
 #[cycle(run)]
-fn run_step(
-    alloc: Global,
+fn run_step<T: Threads + Sync, G: Gate>(
+    making: &Making<'_, T, G>,
     step: &Step,
     labels: &mut Vec<Held>,
     view: &mut View<'_>,
+    width: u32,
 ) -> Result<(Taken, End), NoMemory>
     requires { CanStepHere (step_view step.now) labels.old.items (state_of_view view.old) }
     ensures shows { IfOk result
@@ -100,19 +145,19 @@ fn run_step(
         } => {
             let holds = test_holds(test, &labels[*label as usize]);
             let branch = if holds { then } else { otherwise };
-            let record = run_block(alloc, branch, labels, view)?;
+            let record = run_block(making, branch, labels, view, width)?;
             let end = record.outcome;
             Ok((Taken::If(holds, record), end))
         }
         Step::Sub(child) => {
-            let tried = run_subaction(alloc, child, labels, view)?;
+            let tried = run_subaction(making, child, labels, view, width)?;
             add_label(labels, child.labelled, Held::Outcome(tried.body.outcome))?;
             Ok((Taken::Sub(tried.body, tried.handler), tried.end))
         }
         Step::Abort(reason) => Ok((Taken::Abort, End::Aborted(*reason))),
         Step::Parallel(children) => {
-            let mut outcomes = Vec::new(alloc);
-            let (tried, end) = run_children(alloc, children, labels, &mut outcomes, view)?;
+            let mut outcomes = Vec::new(making.alloc);
+            let (tried, end) = run_children(making, children, labels, &mut outcomes, view, width)?;
             labels.append(&mut outcomes)?;
             Ok((Taken::Parallel(tried), end))
         }
@@ -121,20 +166,20 @@ fn run_step(
 
 // Runs a body and, where it aborts, undoes it and runs the handler that takes the abort.
 #[cycle(run)]
-fn run_subaction(
-    alloc: Global,
+fn run_subaction<T: Threads + Sync, G: Gate>(
+    making: &Making<'_, T, G>,
     child: &Subaction,
     labels: &mut Vec<Held>,
     view: &mut View<'_>,
+    width: u32,
 ) -> Result<Tried, NoMemory>
     requires { CanTryHere (subaction_view child.now) labels.old.items (state_of_view view.old) }
     ensures shows { IfOk result
-        (λ r. let child = subaction_view child.now in
-        ShowsTried child (act child.labelled (one child.body labels.old.items (state_of_view view.old)) (one_handler child.handlers labels.old.items) (state_of_view view.old)) r view.old view.new) }
+        (λ r. ShowsTried (subaction_view child.now) (acted (subaction_view child.now) labels.old.items (state_of_view view.old)) r view.old view.new) }
     ensures labels { OnOk result (labels.new.items ≡ labels.old.items) }
 {
     view.begin()?;
-    let body = run_block(alloc, &child.body, labels, view)?;
+    let body = run_block(making, &child.body, labels, view, width)?;
     match body.outcome {
         End::Ended => {
             view.commit()?;
@@ -146,7 +191,7 @@ fn run_subaction(
         }
         End::Aborted(reason) => {
             view.abort();
-            let (handler, end) = run_handler(alloc, child, reason, labels, view)?;
+            let (handler, end) = run_handler(making, child, reason, labels, view, width)?;
             Ok(Tried { body, handler, end })
         }
     }
@@ -156,12 +201,13 @@ fn run_subaction(
 // goes on.
 #[cycle(run)]
 #[tactic(auto, using(crate::proofs::Handling::can_run_rules))]
-fn run_handler(
-    alloc: Global,
+fn run_handler<T: Threads + Sync, G: Gate>(
+    making: &Making<'_, T, G>,
     child: &Subaction,
     reason: Option<u32>,
     labels: &mut Vec<Held>,
     view: &mut View<'_>,
+    width: u32,
 ) -> Result<(Option<Record>, End), NoMemory>
     requires { CanHandleHere (subaction_view child.now).handlers labels.old.items (state_of_view view.old) }
     ensures shows { IfOk result
@@ -172,15 +218,15 @@ fn run_handler(
         Some(handlers) => match handler_for(handlers, reason) {
             Some(place) => {
                 let block = &handlers[place].block;
-                Ok(handled(run_block(alloc, block, labels, view)?))
+                Ok(handled(run_block(making, block, labels, view, width)?))
             }
             None => match &child.handler {
-                Some(block) => Ok(handled(run_block(alloc, block, labels, view)?)),
+                Some(block) => Ok(handled(run_block(making, block, labels, view, width)?)),
                 None => Ok((None, End::Aborted(reason))),
             },
         },
         None => match &child.handler {
-            Some(block) => Ok(handled(run_block(alloc, block, labels, view)?)),
+            Some(block) => Ok(handled(run_block(making, block, labels, view, width)?)),
             None => Ok((None, End::Ended)),
         },
     }
@@ -188,12 +234,13 @@ fn run_handler(
 
 #[cycle(run)]
 #[tactic(auto, using(crate::proofs::Children::can_try_rules))]
-fn run_children(
-    alloc: Global,
+fn run_children<T: Threads + Sync, G: Gate>(
+    making: &Making<'_, T, G>,
     children: &[Subaction],
     labels: &mut Vec<Held>,
     outcomes: &mut Vec<Held>,
     view: &mut View<'_>,
+    width: u32,
 ) -> Result<(Vec<(Record, Option<Record>)>, End), NoMemory>
     requires can { CanRunAllHere (children_view children.now) labels.old.items (state_of_view view.old) }
     requires none_yet { outcomes.old.items ≡ [] }
@@ -201,9 +248,12 @@ fn run_children(
         (λ r. ShowsChildren (one_children (children_view children.now) labels.old.items (state_of_view view.old)) r.0.items r.1 outcomes.new.items view.old view.new) }
     ensures labels { OnOk result (labels.new.items ≡ labels.old.items) }
 {
-    let mut all = Vec::new(alloc);
-    for child in children {
-        let tried = run_subaction(alloc, child, labels, view)?;
+    let mut all = Vec::with_capacity(making.alloc, children.len())?;
+    let mut ahead = run_if_wide(making, children, labels, view, width)?.into_iter();
+    let mut kept = Committed::new(making.alloc);
+    for (place, child) in children.iter().enumerate() {
+        let run = ahead.next();
+        let tried = run_child(making, child, place, run, &mut kept, labels, view, width)?;
         add_label(outcomes, child.labelled, Held::Outcome(tried.body.outcome))?;
         let end = tried.end;
         all.push((tried.body, tried.handler))?;
@@ -213,6 +263,172 @@ fn run_children(
         }
     }
     Ok((all, End::Ended))
+}
+
+// A child's run that was made ahead is taken in where each of its entries commutes forward with all
+// that its elder siblings left. Else the child is run in its parent's view, after them.
+#[cycle(run)]
+fn run_child<T: Threads + Sync, G: Gate>(
+    making: &Making<'_, T, G>,
+    child: &Subaction,
+    place: usize,
+    ahead: Option<Ahead>,
+    kept: &mut Committed,
+    labels: &mut Vec<Held>,
+    view: &mut View<'_>,
+    width: u32,
+) -> Result<Tried, NoMemory>
+    requires can { CanTryHere (subaction_view child.now) labels.old.items (state_of_view view.old) }
+    requires ahead { ForSome ahead (IsRunBefore (subaction_view child.now) labels.old.items kept.old (state_of_view view.old)) }
+    ensures shows { IfOk result
+        (λ r. ShowsTried (subaction_view child.now) (acted (subaction_view child.now) labels.old.items (state_of_view view.old)) r view.old view.new) }
+    ensures kept { OnOk result (ForSome ahead
+        (λ _. kept.new ≡ kept.old ++ kept_of_child (record_of (acted (subaction_view child.now) labels.old.items (state_of_view view.old))))) }
+    ensures labels { OnOk result (labels.new.items ≡ labels.old.items) }
+{
+    let Some(run) = ahead else {
+        making.pass(place);
+        return run_subaction(making, child, labels, view, width);
+    };
+    if kept.stands(&run.entries, 0, kept.len()) {
+        view.absorb(&run.entries, &run.net)?;
+        kept.append(&run.net)?;
+        return Ok(run.tried);
+    }
+    let before = view.net().len();
+    making.pass(place);
+    let tried = run_subaction(making, child, labels, view, width)?;
+    kept.append(&view.net()[before..])?;
+    Ok(tried)
+}
+
+// The runs of children ahead, where there are several and the width is for more than one: all on
+// a copy of the state that their parent shows.
+#[cycle(run)]
+fn run_if_wide<T: Threads + Sync, G: Gate>(
+    making: &Making<'_, T, G>,
+    children: &[Subaction],
+    labels: &[Held],
+    view: &View<'_>,
+    width: u32,
+) -> Result<Vec<Ahead>, NoMemory>
+    requires { CanAllTry children.now labels.now (state_of_view view.now) }
+    ensures { IfOk result (λ runs. AreRunAhead children.now labels.now (state_of_view view.now) runs.items) }
+{
+    if width < 2 || children.len() < 2 {
+        return Ok(Vec::new(making.alloc));
+    }
+    let fork = Fork {
+        alloc: making.alloc,
+        number: making.number,
+        labels: Vec::from_slice(making.alloc, labels)?,
+        state: view.state()?,
+    };
+    run_ahead(
+        making.threads,
+        making.gate,
+        &fork,
+        children,
+        0,
+        children.len(),
+        width,
+    )
+}
+
+// The runs of the children from one place to before another, in two halves at once while the width
+// is for more than one.
+#[cycle(run)]
+fn run_ahead<T: Threads + Sync, G: Gate>(
+    threads: &T,
+    gate: &G,
+    fork: &Fork,
+    children: &[Subaction],
+    from: usize,
+    upto: usize,
+    width: u32,
+) -> Result<Vec<Ahead>, NoMemory>
+    requires can { CanAllTry children.now fork.now.labels.items fork.now.state }
+    requires ordered { from ≤ upto }
+    requires within { upto ≤ length children.now }
+    ensures all { IfOk result (λ runs. length runs.items ≡ upto - from) }
+    ensures runs { IfOk result (λ runs. AreRunAhead (slice_range children.now from upto) fork.now.labels.items fork.now.state runs.items) }
+{
+    if width < 2 || upto - from < 2 {
+        return run_part(threads, gate, fork, children, from, upto, width);
+    }
+    let middle = from + (upto - from).div_ceil(2);
+    let front_width = width.div_ceil(2);
+    let back_width = width - front_width;
+    let (front, back) = join(
+        threads,
+        || -> Result<Vec<Ahead>, NoMemory>
+            requires { IsSync T.row × IsSync G.row × CanAllTry children.now fork.now.labels.items fork.now.state × (from ≤ middle) × (middle ≤ length children.now) }
+            ensures { IfOk result (λ runs. (length runs.items ≡ middle - from) × AreRunAhead (slice_range children.entry.now from middle) fork.entry.now.labels.items fork.entry.now.state runs.items) }
+        { run_ahead(threads, gate, fork, children, from, middle, front_width) },
+        || -> Result<Vec<Ahead>, NoMemory>
+            requires { IsSync T.row × IsSync G.row × CanAllTry children.now fork.now.labels.items fork.now.state × (middle ≤ upto) × (upto ≤ length children.now) }
+            ensures { IfOk result (λ runs. (length runs.items ≡ upto - middle) × AreRunAhead (slice_range children.entry.now middle upto) fork.entry.now.labels.items fork.entry.now.state runs.items) }
+        { run_ahead(threads, gate, fork, children, middle, upto, back_width) },
+    );
+    let mut runs = front?;
+    let mut others = back?;
+    runs.append(&mut others)?;
+    Ok(runs)
+}
+
+// The runs of the children from one place to before another, one after the other.
+#[cycle(run)]
+fn run_part<T: Threads + Sync, G: Gate>(
+    threads: &T,
+    gate: &G,
+    fork: &Fork,
+    children: &[Subaction],
+    from: usize,
+    upto: usize,
+    width: u32,
+) -> Result<Vec<Ahead>, NoMemory>
+    requires can { CanAllTry children.now fork.now.labels.items fork.now.state }
+    requires ordered { from ≤ upto }
+    requires within { upto ≤ length children.now }
+    ensures all { IfOk result (λ runs. length runs.items ≡ upto - from) }
+    ensures runs { IfOk result (λ runs. AreRunAhead (slice_range children.now from upto) fork.now.labels.items fork.now.state runs.items) }
+{
+    let making = Making {
+        threads,
+        alloc: fork.alloc,
+        gate,
+        number: fork.number,
+    };
+    let mut runs = Vec::with_capacity(fork.alloc, upto - from)?;
+    for place in from..upto {
+        let run = run_alone(&making, fork, &children[place], place, width)?;
+        runs.push(run)?;
+    }
+    Ok(runs)
+}
+
+// The run of a child in a view of its own.
+#[cycle(run)]
+fn run_alone<T: Threads + Sync, G: Gate>(
+    making: &Making<'_, T, G>,
+    fork: &Fork,
+    child: &Subaction,
+    place: usize,
+    width: u32,
+) -> Result<Ahead, NoMemory>
+    requires { CanTryHere (subaction_view child.now) fork.now.labels.items fork.now.state }
+    ensures { IfOk result (λ run. IsRunAhead (subaction_view child.now) fork.now.labels.items fork.now.state run) }
+{
+    making.pass(place);
+    let mut labels = Vec::from_slice(making.alloc, &fork.labels)?;
+    let mut view = View::open(making.alloc, &fork.state)?;
+    let tried = run_subaction(making, child, &mut labels, &mut view, width)?;
+    let Lists { entries, net } = view.into_run();
+    Ok(Ahead {
+        tried,
+        entries,
+        net,
+    })
 }
 
 // A handler that ran, and how the block goes on.

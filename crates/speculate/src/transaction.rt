@@ -6,7 +6,7 @@ ghost use Rattle.meaning.specs.OneThread.{one};
 ghost use Rattle.meaning.specs.Batch.{block_at};
 ghost use Rattle.speculate.specs.Runs.{IsRunOf, IsWithinOthers};
 
-use crate::executor::run_block;
+use crate::executor::{Making, run_block};
 use crate::gate::Gate;
 use crate::speculated::Run;
 use batch::Batch;
@@ -20,17 +20,17 @@ use std::thread::Threads;
 /// At most `width` children of a parallel block are run at once. `NoMemory` is answered where a
 /// growth of memory was refused; the batch and the objects are then as before.
 pub fn run<T: Threads + Sync, G: Gate>(
-    _threads: &T,
+    threads: &T,
     alloc: Global,
     objects: &Objects,
     batch: &Batch,
     number: u32,
-    _width: u32,
+    width: u32,
     gate: &G,
 ) -> Result<Run, NoMemory>
     requires first { 1 ≤ number }
     requires last { number ≤ length batch.now.transactions.items }
-    requires narrow { (1 ≤ _width) × (_width ≤ 64) }
+    requires narrow { (1 ≤ width) × (width ≤ 64) }
     requires same_kinds { kinds objects.now ≡ kinds batch.now.objects }
     requires room { IsWithinOthers (map block_view batch.now.transactions.items) (number - 1) objects.now }
     ensures { IfOk result (IsRunOf (one (block_at (map block_view batch.now.transactions.items) (number - 1)) [] objects.now)) }
@@ -40,7 +40,13 @@ pub fn run<T: Threads + Sync, G: Gate>(
     let mut view = View::open(alloc, objects)?;
     let mut labels = Vec::new(alloc);
     view.begin()?;
-    let tree = run_block(alloc, block, &mut labels, &mut view)?;
+    let making = Making {
+        threads,
+        alloc,
+        gate,
+        number,
+    };
+    let tree = run_block(&making, block, &mut labels, &mut view, width)?;
     match tree.outcome {
         End::Ended => view.commit()?,
         End::Aborted(_) => view.abort(),

@@ -1,52 +1,51 @@
-use Rattle.std.proofs.Common.{◌≡◌, ◌++◌, ◌∙◌, refl, sym, ap, subst, rules, arith, Some}
-use Rattle.std.proofs.lemmas.Grind.{common_steps}
+use Rattle.std.proofs.Common.{◌++◌, ◌∙◌, refl, sym, ap, rules, arith}
 use Rattle.batch.proofs.SizeLemmas.{last-is_smaller, handler-is_smaller}
 use Rattle.speculate.proofs.Handling.{place-within, each_can_run, last_can_run, found-runs, last-runs, abort-passes, plain-runs, plain-goes_on, shows_handler, shows_pass, shows_go_on}
-use Rattle.meaning.specs.OneThread.{one_handler, label_if}
+use Rattle.meaning.specs.OneThread.{label_if}
 use Rattle.meaning.specs.declared.held.Held.TheVariants.{Outcome}
 use Rattle.batch.proofs.ViewLemmas.{subaction_view-labelled}
-use Rattle.batch.specs.Views.{subaction_view, handler_view}
+use Rattle.batch.specs.Views.{subaction_view}
 use Rattle.intentions.specs.Levels.{shown as state_of_view}
-use Rattle.speculate.specs.Running.{CanRunHere, CanTryHere, ShowsRun, ShowsHandler, ShowsChildren}
-use Rattle.speculate.proofs.Steps.{part_run-start, part_run-can_step, part_run-more, part_run-aborted, part_run-ended}
-use Rattle.speculate.proofs.Stepping.{op-can, op-shows, if-bound, if-can_run, if-shows_then, if-shows_else, sub-can_try, sub-shows, abort-shows, parallel-can_run, parallel-shows}
-use Rattle.speculate.proofs.Children.{part_tried-start, part_tried-can_try, part_tried-more, part_tried-aborted, part_tried-ended}
+use Rattle.speculate.proofs.Steps.{part_run-start, part_run-more, part_run-aborted, part_run-ended}
+use Rattle.speculate.proofs.Stepping.{op-can, op-shows, if-bound, if-shows_then, if-shows_else, sub-shows, abort-shows, parallel-shows}
+use Rattle.speculate.proofs.Children.{part_tried-start, part_tried-more, part_tried-aborted, part_tried-ended}
+use Rattle.speculate.proofs.Siblings.{stand, net_is_legal, net_has_room, taken_in, net_listed, each_can_try, one_more, one_longer, halves, both_long, to_middle, left-start, left-more, added_listed}
 use Rattle.speculate.proofs.executor.+run.Goals as goal
 use Rattle.speculate.proofs.executor.+run.Goals.{run_step-then-holds, run_step-else-holds}
 
 -- ---- steps one after the other
 
 pub run_steps-loop-step-init : goal.run_steps-loop-step-init
-run_steps-loop-step-init t c = rw c.new-taken.ensures.items (part_run-start c.args.steps.now c.args.labels.now.items c.args.view.now c.requires)
+run_steps-loop-step-init g t c = rw c.new-taken.ensures.items (part_run-start c.args.steps.now c.args.labels.now.items c.args.view.now c.requires)
 
 pub run_steps-returns-in-Aborted-clause-shows : goal.run_steps-returns-in-Aborted-clause-shows
-run_steps-returns-in-Aborted-clause-shows t c =
+run_steps-returns-in-Aborted-clause-shows g t c =
     part_run-aborted _ _ _ _ _ _ _ c.step-item.result c.in_ok-done.done c.in_ok-done.end _ _ c.in-Aborted.field-0 _ c.loop-step.invariant c.loop-step-test.true c.step-item.is c.in_ok-done.ensures.shows c.in-Aborted.is c.in_ok-push.ensures.items refl
 
 pub run_steps-loop-step-preserved : goal.run_steps-loop-step-preserved
-run_steps-loop-step-preserved t c =
+run_steps-loop-step-preserved g t c =
     rw c.in_ok-push.ensures.items (part_run-more _ _ _ _ _ _ _ c.step-item.result c.in_ok-done.done c.in_ok-done.end _ _ c.loop-step.invariant c.loop-step-test.true c.step-item.is c.in_ok-done.ensures.shows c.in-Ended.is c.in_ok-done.ensures.labels)
 
 pub run_steps-returns-clause-shows : goal.run_steps-returns-clause-shows
-run_steps-returns-clause-shows t c = part_run-ended _ _ _ _ _ _ _ _ c.loop-step.invariant c.loop-step-test.false refl refl
+run_steps-returns-clause-shows g t c = part_run-ended _ _ _ _ _ _ _ _ c.loop-step.invariant c.loop-step-test.false refl refl
 
 -- ---- one step
 
 pub run_step-perform-requires-clause-fits : goal.run_step-perform-requires-clause-fits
-run_step-perform-requires-clause-fits t c = (op-can c.args.step.now _ _ _ _ _ c.in-Op.is c.requires).fits
+run_step-perform-requires-clause-fits g t c = (op-can c.args.step.now _ _ _ _ _ c.in-Op.is c.requires).fits
 
 pub run_step-perform-requires-clause-room : goal.run_step-perform-requires-clause-room
-run_step-perform-requires-clause-room t c = (op-can c.args.step.now _ _ _ _ _ c.in-Op.is c.requires).room
+run_step-perform-requires-clause-room g t c = (op-can c.args.step.now _ _ _ _ _ c.in-Op.is c.requires).room
 
 pub run_step-index-requires : goal.run_step-index-requires
-run_step-index-requires t c = let below = if-bound c.args.step.now c.in-If.label c.in-If.test c.in-If.then c.in-If.otherwise c.args.labels.now.items _ c.in-If.is c.requires in omega arith
+run_step-index-requires g t c = let below = if-bound c.args.step.now c.in-If.label c.in-If.test c.in-If.then c.in-If.otherwise c.args.labels.now.items _ c.in-If.is c.requires in omega arith
 
 pub run_step-returns-in_ok-add_label-in-Op-clause-shows : goal.run_step-returns-in_ok-add_label-in-Op-clause-shows
-run_step-returns-in_ok-add_label-in-Op-clause-shows t c =
+run_step-returns-in_ok-add_label-in-Op-clause-shows g t c =
     op-shows c.args.step.now _ _ _ _ _ _ _ _ c.in-Op.is c.in_ok-reply-in-Op.ensures.reply c.in_ok-reply-in-Op.ensures.ok c.in_ok-add_label-in-Op.ensures
 
 pub run_step-returns-in_ok-record-in-If-clause-shows : goal.run_step-returns-in_ok-record-in-If-clause-shows
-run_step-returns-in_ok-record-in-If-clause-shows t c =
+run_step-returns-in_ok-record-in-If-clause-shows g t c =
     elim c.if-holds.branch [
       | run_step-then-holds w ↦ if-shows_then c.args.step.now c.in-If.label c.in-If.test c.in-If.then c.in-If.otherwise c.args.labels.now.items _ c.args.view.now _ c.index.result.now c.test_holds-holds.result _ c.in-If.is c.requires c.index.ensures c.test_holds-holds.ensures w.if-holds.true
           (rw w.branch'-is at c.in_ok-record-in-If.ensures.shows) c.in_ok-record-in-If.ensures.labels
@@ -55,69 +54,135 @@ run_step-returns-in_ok-record-in-If-clause-shows t c =
     ]
 
 pub run_step-returns-in_ok-add_label-in-Sub-clause-shows : goal.run_step-returns-in_ok-add_label-in-Sub-clause-shows
-run_step-returns-in_ok-add_label-in-Sub-clause-shows t c =
+run_step-returns-in_ok-add_label-in-Sub-clause-shows g t c =
     sub-shows c.args.step.now c.in-Sub.child c.args.labels.now.items _ c.args.view.now _ c.in_ok-tried-in-Sub.tried c.in-Sub.is c.in_ok-tried-in-Sub.ensures.shows
     (rw (c.in_ok-add_label-in-Sub.ensures, c.in_ok-tried-in-Sub.ensures.labels, subaction_view-labelled c.in-Sub.child) refl)
 
 pub run_step-returns-in-Abort-clause-shows : goal.run_step-returns-in-Abort-clause-shows
-run_step-returns-in-Abort-clause-shows t c = abort-shows c.args.step.now c.in-Abort.reason c.args.labels.now.items c.args.view.now c.in-Abort.is
+run_step-returns-in-Abort-clause-shows g t c = abort-shows c.args.step.now c.in-Abort.reason c.args.labels.now.items c.args.view.now c.in-Abort.is
 
 pub run_step-returns-in_ok-append-in-Parallel-clause-shows : goal.run_step-returns-in_ok-append-in-Parallel-clause-shows
-run_step-returns-in_ok-append-in-Parallel-clause-shows t c =
+run_step-returns-in_ok-append-in-Parallel-clause-shows g t c =
     parallel-shows c.args.step.now c.in-Parallel.children c.args.labels.now.items _ c.run_children.new.outcomes.items c.args.view.now _ c.in_ok-tried-in-Parallel.tried c.in_ok-tried-in-Parallel.end c.in-Parallel.is (rw c.deref.ensures.value at c.in_ok-tried-in-Parallel.ensures.shows)
     (c.in_ok-append-in-Parallel.ensures.items ∙ ap (λ ls. ls ++ c.run_children.new.outcomes.items) c.in_ok-tried-in-Parallel.ensures.labels)
-
--- ---- children one after the other
-
-pub run_children-loop-child-init : goal.run_children-loop-child-init
-run_children-loop-child-init t c =
-    record { same = refl; part = rw (c.new-all.ensures.items, c.requires.none_yet) (part_tried-start c.args.children.now c.args.labels.now.items c.args.view.now c.requires.can) }
-
-pub run_children-returns-in-Aborted-clause-shows : goal.run_children-returns-in-Aborted-clause-shows
-run_children-returns-in-Aborted-clause-shows t c =
-    rw (c.in_ok-push.ensures.items, ← c.loop-child.invariant.same)
-    (part_tried-aborted _ _ _ _ _ _ _ c.child-item.result c.in_ok-tried.tried _ c.in-Aborted.field-0 (c.in_ok-tried.tried.body, c.in_ok-tried.tried.handler) _ c.loop-child.invariant.part c.loop-child-test.true c.child-item.is c.in_ok-tried.ensures.shows c.in-Aborted.is refl)
-
-pub run_children-loop-child-preserved : goal.run_children-loop-child-preserved
-run_children-loop-child-preserved t c =
-    let more = part_tried-more _ _ _ _ _ _ _ c.child-item.result c.in_ok-tried.tried _ (c.in_ok-tried.tried.body, c.in_ok-tried.tried.handler) _ c.loop-child.invariant.part c.loop-child-test.true c.child-item.is c.in_ok-tried.ensures.shows c.in-Ended.is refl (ap (λ b. label_if b (Outcome c.in_ok-tried.tried.body.outcome)) (sym (subaction_view-labelled c.child-item.result))) in
-    record { same = c.in_ok-tried.ensures.labels ∙ c.loop-child.invariant.same; part = rw (c.in_ok-push.ensures.items, c.in_ok-add_label.ensures, c.in_ok-tried.ensures.labels) more }
-
-pub run_children-returns-clause-shows : goal.run_children-returns-clause-shows
-run_children-returns-clause-shows t c = rw (← c.loop-child.invariant.same) (part_tried-ended _ _ _ _ _ _ _ c.loop-child.invariant.part c.loop-child-test.false)
 
 -- ---- the handler that takes an abort
 
 pub run_handler-run_block-requires : goal.run_handler-run_block-requires
-run_handler-run_block-requires t c =
+run_handler-run_block-requires g t c κs lives =
     let within = place-within c.in-Some.handlers.items c.args.reason c.in-Some-handler_for.place (sym c.handler_for.ensures ∙ c.in-Some-handler_for.is) in
     let smaller = handler-is_smaller c.args.child.now c.in-Some.handlers c.in-Some-handler_for.place c.index.result.now c.in-Some.is within c.index.ensures in
-    (omega (arith, smaller, c.decreases), each_can_run c.args.child.now c.args.labels.now.items _ c.in-Some.handlers c.in-Some-handler_for.place c.index.result.now c.requires c.in-Some.is within c.index.ensures)
+    let can = each_can_run c.args.child.now c.args.labels.now.items _ c.in-Some.handlers c.in-Some-handler_for.place c.index.result.now c.requires c.in-Some.is within c.index.ensures in
+    search rules
 
 pub run_handler-run_block-requires-in-Some-handler : goal.run_handler-run_block-requires-in-Some-handler
-run_handler-run_block-requires-in-Some-handler t c =
+run_handler-run_block-requires-in-Some-handler g t c κs lives =
     let smaller = last-is_smaller c.args.child.now c.in-Some-handler.block c.in-Some-handler.is in
-    (omega (arith, smaller, c.decreases), last_can_run c.args.child.now c.args.labels.now.items _ c.in-Some-handler.block c.requires c.in-Some-handler.is)
+    let can = last_can_run c.args.child.now c.args.labels.now.items _ c.in-Some-handler.block c.requires c.in-Some-handler.is in
+    search rules
 
 pub run_handler-returns-in_ok-run_block-in-Some-handler_for-clause-shows : goal.run_handler-returns-in_ok-run_block-in-Some-handler_for-clause-shows
-run_handler-returns-in_ok-run_block-in-Some-handler_for-clause-shows t c =
+run_handler-returns-in_ok-run_block-in-Some-handler_for-clause-shows g t c =
     rw c.handled.ensures.handler (shows_handler _ _ c.in_ok-run_block-in-Some-handler_for.field-0 _ _ _ c.in_ok-run_block-in-Some-handler_for.ensures.shows c.handled.ensures.end
     (found-runs c.args.child.now c.in-Some.handlers c.args.labels.now.items c.args.reason _ c.in-Some-handler_for.place c.index.result.now c.requires c.in-Some.is (sym c.handler_for.ensures ∙ c.in-Some-handler_for.is) c.index.ensures))
 
 pub run_handler-returns-in_ok-run_block-in-Some-handler-clause-shows : goal.run_handler-returns-in_ok-run_block-in-Some-handler-clause-shows
-run_handler-returns-in_ok-run_block-in-Some-handler-clause-shows t c =
+run_handler-returns-in_ok-run_block-in-Some-handler-clause-shows g t c =
     rw c.handled-in-Some-handler.ensures.handler (shows_handler _ _ c.in_ok-run_block-in-Some-handler.field-0 _ _ _ c.in_ok-run_block-in-Some-handler.ensures.shows c.handled-in-Some-handler.ensures.end
     (last-runs c.args.child.now c.in-Some.handlers c.args.labels.now.items c.args.reason _ c.in-Some-handler.block c.requires c.in-Some.is (sym c.handler_for.ensures ∙ c.in-None-handler_for.is) c.in-Some-handler.is))
 
 pub run_handler-returns-in-None-handler-clause-shows : goal.run_handler-returns-in-None-handler-clause-shows
-run_handler-returns-in-None-handler-clause-shows t c =
+run_handler-returns-in-None-handler-clause-shows g t c =
     rw (abort-passes c.args.child.now c.in-Some.handlers c.args.labels.now.items c.args.reason _ c.requires c.in-Some.is (sym c.handler_for.ensures ∙ c.in-None-handler_for.is) c.in-None-handler.is) (shows_pass c.args.labels.now.items c.args.reason c.args.view.now)
 
 pub run_handler-returns-in_ok-run_block-in-Some-handler-2-clause-shows : goal.run_handler-returns-in_ok-run_block-in-Some-handler-2-clause-shows
-run_handler-returns-in_ok-run_block-in-Some-handler-2-clause-shows t c =
+run_handler-returns-in_ok-run_block-in-Some-handler-2-clause-shows g t c =
     rw c.handled-in-Some-handler-2.ensures.handler (shows_handler _ _ c.in_ok-run_block-in-Some-handler-2.field-0 _ _ _ c.in_ok-run_block-in-Some-handler-2.ensures.shows c.handled-in-Some-handler-2.ensures.end
     (plain-runs c.args.child.now c.args.labels.now.items c.args.reason _ c.in-Some-handler-2.block c.in-None.is c.in-Some-handler-2.is))
 
 pub run_handler-returns-in-None-handler-2-clause-shows : goal.run_handler-returns-in-None-handler-2-clause-shows
-run_handler-returns-in-None-handler-2-clause-shows t c =
+run_handler-returns-in-None-handler-2-clause-shows g t c =
     rw (plain-goes_on c.args.child.now c.args.labels.now.items c.args.reason (state_of_view c.args.view.now) c.in-None.is c.in-None-handler-2.is) (shows_go_on c.args.labels.now.items c.args.reason c.args.view.now)
+
+-- ---- children that are run ahead
+
+pub run_ahead-returns-clause-all : goal.run_ahead-returns-clause-all
+run_ahead-returns-clause-all g t c =
+    let first = rw c.in_ok-runs.was at c.join-front.ensures.first in
+    let second = rw c.in_ok-others.was at c.join-front.ensures.second in
+    let middle = to_middle c.args.from c.args.upto c.div_ceil.result c.requires.ordered c.div_ceil.ensures in
+    rw c.in_ok-append.ensures.items (both_long c.in_ok-runs.runs.items c.in_ok-others.others.items c.args.from _ c.args.upto middle.0 middle.1 first.0 second.0)
+
+pub run_ahead-returns-clause-runs : goal.run_ahead-returns-clause-runs
+run_ahead-returns-clause-runs g t c =
+    let first = rw c.in_ok-runs.was at c.join-front.ensures.first in
+    let second = rw c.in_ok-others.was at c.join-front.ensures.second in
+    let middle = to_middle c.args.from c.args.upto c.div_ceil.result c.requires.ordered c.div_ceil.ensures in
+    rw c.in_ok-append.ensures.items (halves c.args.children.now c.args.from _ c.args.upto c.args.fork.now.labels.items c.args.fork.now.state c.in_ok-runs.runs.items c.in_ok-others.others.items middle.0 middle.1 c.requires.within first.0 first.1 second.1)
+
+pub run_part-loop-place-preserved : goal.run_part-loop-place-preserved
+run_part-loop-place-preserved g t c =
+    let children = c.args.children.now in
+    record {
+      all = rw c.in_ok-push.ensures.items (one_longer c.loop-place.runs.items c.in_ok-run.run' c.args.from c.loop-place.place c.loop-place.auto.place c.loop-place.invariant.all);
+      runs = rw c.in_ok-push.ensures.items (one_more children c.args.from c.loop-place.place c.args.fork.now.labels.items c.args.fork.now.state c.loop-place.runs.items c.index-children-place.result c.in_ok-run.run' c.loop-place.auto.place (omega (arith, c.loop-place-test.true, c.requires.within)) c.index-children-place.is c.loop-place.invariant.all c.loop-place.invariant.runs c.in_ok-run.ensures);
+    }
+
+-- ---- one child after another
+
+pub run_child-absorb-requires-clause-legal : goal.run_child-absorb-requires-clause-legal
+run_child-absorb-requires-clause-legal g t c =
+    let stands = stand c.in-Some.run' c.args.kept.now c.deref.result.now c.len.result c.stands.result c.stands.ensures c.if-stands.true c.deref.ensures.value c.len.ensures in
+    rw c.deref-then-stands-2.ensures.value (net_is_legal (subaction_view c.args.child.now) c.args.labels.now.items c.args.kept.now (state_of_view c.args.view.now) c.in-Some.run' (c.requires.ahead c.in-Some.run' c.in-Some.is) stands)
+
+pub run_child-absorb-requires-clause-room : goal.run_child-absorb-requires-clause-room
+run_child-absorb-requires-clause-room g t c =
+    let stands = stand c.in-Some.run' c.args.kept.now c.deref.result.now c.len.result c.stands.result c.stands.ensures c.if-stands.true c.deref.ensures.value c.len.ensures in
+    rw c.deref-then-stands-2.ensures.value (net_has_room (subaction_view c.args.child.now) c.args.labels.now.items c.args.kept.now (state_of_view c.args.view.now) c.in-Some.run' (c.requires.ahead c.in-Some.run' c.in-Some.is) stands c.requires.can)
+
+pub run_child-returns-then-stands-clause-shows : goal.run_child-returns-then-stands-clause-shows
+run_child-returns-then-stands-clause-shows g t c =
+    let stands = stand c.in-Some.run' c.args.kept.now c.deref.result.now c.len.result c.stands.result c.stands.ensures c.if-stands.true c.deref.ensures.value c.len.ensures in
+    taken_in (subaction_view c.args.child.now) c.args.labels.now.items c.args.kept.now (state_of_view c.args.view.now) c.in-Some.run' (c.requires.ahead c.in-Some.run' c.in-Some.is) stands
+    c.args.view.now c.absorb.new.self c.deref-then-stands.result.now c.deref-then-stands-2.result.now c.deref-then-stands.ensures.value c.deref-then-stands-2.ensures.value c.in_ok-absorb.ensures.ok
+
+pub run_child-returns-then-stands-clause-kept : goal.run_child-returns-then-stands-clause-kept
+run_child-returns-then-stands-clause-kept g t c =
+    let stands = stand c.in-Some.run' c.args.kept.now c.deref.result.now c.len.result c.stands.result c.stands.ensures c.if-stands.true c.deref.ensures.value c.len.ensures in
+    λ run is. net_listed (subaction_view c.args.child.now) c.args.labels.now.items c.args.kept.now (state_of_view c.args.view.now) c.in-Some.run' (c.requires.ahead c.in-Some.run' c.in-Some.is) stands
+    c.deref-then-stands-3.result.now c.append.new.self c.deref-then-stands-3.ensures.value c.in_ok-append.ensures.ok
+
+pub run_child-returns-clause-kept : goal.run_child-returns-clause-kept
+run_child-returns-clause-kept g t c =
+    λ run is. added_listed (subaction_view c.args.child.now) c.args.labels.now.items c.args.view.now c.run_subaction-2.new.view c.in_ok-tried.tried c.args.kept.now c.append-2.new.self c.net-before.result.now c.net.result.now
+    c.in_ok-tried.ensures.shows c.net-before.ensures c.net.ensures c.in_ok-append-2.ensures.ok
+
+pub run_children-run_if_wide-requires-after_bounds : goal.run_children-run_if_wide-requires-after_bounds
+run_children-run_if_wide-requires-after_bounds g t c κs lives =
+    rw c.deref.ensures.value (each_can_try c.args.children.now c.args.labels.now.items (state_of_view c.args.view.now) c.requires.can)
+
+pub run_children-loop-place-init : goal.run_children-loop-place-init
+run_children-loop-place-init g t c = record {
+  same = refl;
+  part = rw (c.in_ok-all.ensures.items, c.requires.none_yet) (part_tried-start c.args.children.now c.args.labels.now.items c.args.view.now c.requires.can);
+  left = λ some. rw (c.new-kept.ensures, c.into_iter-ahead.ensures.rest) (left-start c.args.children.now c.args.labels.now.items (state_of_view c.args.view.now) c.in_ok-run_if_wide.field-0.items (rw c.deref.ensures.value at c.in_ok-run_if_wide.ensures));
+}
+
+pub run_children-returns-in-Aborted-clause-shows : goal.run_children-returns-in-Aborted-clause-shows
+run_children-returns-in-Aborted-clause-shows g t c =
+    rw (c.in_ok-push.ensures.items, ← c.loop-place.invariant.same)
+    (part_tried-aborted _ _ _ _ _ _ _ c.index-children-place.result c.in_ok-tried.tried _ c.in-Aborted.field-0 (c.in_ok-tried.tried.body, c.in_ok-tried.tried.handler) _ c.loop-place.invariant.part c.loop-place-test.true c.index-children-place.is c.in_ok-tried.ensures.shows c.in-Aborted.is refl)
+
+pub run_children-loop-place-preserved : goal.run_children-loop-place-preserved
+run_children-loop-place-preserved g t c =
+    let more = part_tried-more _ _ _ _ _ _ _ c.index-children-place.result c.in_ok-tried.tried _ (c.in_ok-tried.tried.body, c.in_ok-tried.tried.handler) _ c.loop-place.invariant.part c.loop-place-test.true c.index-children-place.is c.in_ok-tried.ensures.shows c.in-Ended.is refl (ap (λ b. label_if b (Outcome c.in_ok-tried.tried.body.outcome)) (sym (subaction_view-labelled c.index-children-place.result))) in
+    record {
+      same = rw c.in_ok-tried.ensures.labels c.loop-place.invariant.same;
+      part = rw (c.in_ok-push.ensures.items, c.in_ok-add_label.ensures, c.in_ok-tried.ensures.labels) more;
+      left = rw c.in_ok-tried.ensures.labels
+          (left-more c.args.children.now c.loop-place.place c.index-children-place.result c.loop-place.labels.items c.loop-place.kept c.loop-place.view c.loop-place.ahead c.next-run.new.self c.loop-place.invariant.left c.loop-place-test.true c.index-children-place.is
+          c.next-run.result c.run_child.new.view c.in_ok-tried.tried c.run_child.new.kept c.next-run.ensures.cases c.in_ok-tried.ensures.shows c.in_ok-tried.ensures.kept);
+    }
+
+pub run_children-returns-clause-shows : goal.run_children-returns-clause-shows
+run_children-returns-clause-shows g t c = rw (← c.loop-place.invariant.same) (part_tried-ended _ _ _ _ _ _ _ c.loop-place.invariant.part c.loop-place-test.false)

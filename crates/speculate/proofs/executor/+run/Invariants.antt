@@ -1,14 +1,70 @@
-use Rattle.std.proofs.Common.{◌≡◌}
+use Rattle.std.proofs.Common.{◌≡◌, ◌+◌, ◌-◌, ◌*◌, ◌<◌, length, drop}
+use denote.Param.Weighed.{most}
+use Rattle.std.specs.List.{slice_range}
+use Rattle.std.specs.Vec.Iter.{into_iter_items, into_iter_len}
+use Rattle.batch.specs.declared.tree.Block.{size-Block}
+use Rattle.batch.specs.declared.tree.Step.{size-Step}
+use Rattle.batch.specs.declared.tree.Subaction.{size-Subaction}
+use Rattle.intentions.specs.Levels.{shown as state_of_view}
+use Rattle.speculate.specs.Ahead.{AreRunAhead}
 use Rattle.speculate.proofs.Steps.{IsPartRun}
 use Rattle.speculate.proofs.Children.{ArePartTried}
+use Rattle.speculate.proofs.Siblings.{AreLeft}
+use Rattle.speculate.proofs.Measures.{deep, beyond_widths}
 use Rattle.speculate.proofs.executor.+run.Given as goal
 
-abbrev pub invariant-run_children-loop-child : goal.invariant-run_children-loop-child
-invariant-run_children-loop-child l = record {
-  same : l.labels.items ≡ l.fn.labels.items;
-  part : ArePartTried l.children l.labels.items l.fn.view l.child-index l.all.items l.outcomes.items l.view;
-}
+abbrev pub decreases-run_block : goal.decreases-run_block
+decreases-run_block g l = deep (size-Block l.block.now) 0
+
+abbrev pub decreases-run_steps : goal.decreases-run_steps
+decreases-run_steps g l = deep (most size-Step l.steps.now) 1
+
+abbrev pub decreases-run_step : goal.decreases-run_step
+decreases-run_step g l = deep (size-Step l.step.now) 0
+
+abbrev pub decreases-run_subaction : goal.decreases-run_subaction
+decreases-run_subaction g l = deep (size-Subaction l.child.now) 1
+
+abbrev pub decreases-run_handler : goal.decreases-run_handler
+decreases-run_handler g l = deep (size-Subaction l.child.now) 0
+
+abbrev pub decreases-run_child : goal.decreases-run_child
+decreases-run_child g l = deep (size-Subaction l.child.now) 2
+
+abbrev pub decreases-run_alone : goal.decreases-run_alone
+decreases-run_alone g l = deep (size-Subaction l.child.now) 2
+
+abbrev pub decreases-run_part : goal.decreases-run_part
+decreases-run_part g l = deep (most size-Subaction l.children.now) 3
+
+abbrev pub decreases-run_ahead : goal.decreases-run_ahead
+decreases-run_ahead g l = deep (most size-Subaction l.children.now) (4 + 2 * l.width)
+
+abbrev pub decreases-run_ahead-join+arg2 : goal.decreases-run_ahead-join+arg2
+decreases-run_ahead-join+arg2 g l = deep (most size-Subaction l.children.now) (5 + 2 * l.front_width)
+
+abbrev pub decreases-run_ahead-join+arg3 : goal.decreases-run_ahead-join+arg3
+decreases-run_ahead-join+arg3 g l = deep (most size-Subaction l.children.now) (5 + 2 * l.back_width)
+
+abbrev pub decreases-run_if_wide : goal.decreases-run_if_wide
+decreases-run_if_wide g l = deep (most size-Subaction l.children.now) beyond_widths
+
+abbrev pub decreases-run_children : goal.decreases-run_children
+decreases-run_children g l = deep (most size-Subaction l.children.now) (beyond_widths + 1)
 
 abbrev pub invariant-run_steps-loop-step : goal.invariant-run_steps-loop-step
-invariant-run_steps-loop-step l =
+invariant-run_steps-loop-step g l =
     IsPartRun l.steps l.fn.labels.items l.fn.view l.step-index l.taken.items l.labels.items l.view
+
+abbrev pub invariant-run_children-loop-place : goal.invariant-run_children-loop-place
+invariant-run_children-loop-place g l = record {
+  same : l.labels.items ≡ l.fn.labels.items;
+  part : ArePartTried l.children l.labels.items l.fn.view l.place l.all.items l.outcomes.items l.view;
+  left : 0 < into_iter_len l.ahead → AreLeft (drop l.place l.children) l.labels.items l.kept (state_of_view l.view) (into_iter_items l.ahead);
+}
+
+abbrev pub invariant-run_part-loop-place : goal.invariant-run_part-loop-place
+invariant-run_part-loop-place g l = record {
+  all : length l.runs.items ≡ l.place - l.from;
+  runs : AreRunAhead (slice_range l.children l.from l.place) l.fork.labels.items l.fork.state l.runs.items;
+}

@@ -1,9 +1,8 @@
-use Rattle.std.proofs.Common.{◌≡◌, ◌<◌, ◌-◌, ◌∙◌, [], ap, sym, subst, map, length, arith}
+use Rattle.std.proofs.Common.{rules, ◌≡◌, ◌<◌, ◌-◌, ◌∙◌, [], ap, sym, subst, map, length, arith}
 use Rattle.batch.specs.Views.{block_view}
-use Rattle.meaning.specs.OneThread.{one}
 use Rattle.meaning.specs.Batch.{block_at}
 use Rattle.intentions.specs.Levels.{opened, begun, shown as state_of_view}
-use Rattle.speculate.specs.Running.{CanRunHere, ShowsRun}
+use Rattle.speculate.specs.Running.{CanRunHere}
 use Rattle.speculate.proofs.Transactions.{block_at_view, transaction_can_run, shows_alone, committed_lists, aborted_lists}
 use Rattle.speculate.proofs.transaction.run.Goals as goal
 use Rattle.speculate.proofs.transaction.run.Goals.{in-Ended+in_ok-commit-in-Ended, in-Aborted}
@@ -13,7 +12,8 @@ run_block-requires g c =
     let within : c.args.number - 1 < length c.args.batch.now.transactions.items = omega (arith, c.requires.first, c.requires.last) in
     let opens : c.begin.new.self ≡ begun (opened c.args.objects.now) = c.in_ok-begin.ensures.ok ∙ ap begun c.in_ok-view.ensures.opened in
     let can = transaction_can_run c.args.batch.now.objects c.args.batch.now.names c.args.batch.now.transactions.items (c.args.number - 1) c.args.objects.now c.index-block.result.now c.args.batch.now.is_batch c.requires.same_kinds c.requires.room within c.index-block.ensures in
-    rw c.new-labels.ensures.items (subst (λ v. CanRunHere (block_view c.index-block.result.now) [] (state_of_view v)) (sym opens) can)
+    let here : CanRunHere (block_view c.index-block.result.now) c.new-labels.result.items (state_of_view c.begin.new.self) = rw c.new-labels.ensures.items (subst (λ v. CanRunHere (block_view c.index-block.result.now) [] (state_of_view v)) (sym opens) can) in
+    search rules
 
 pub returns : goal.returns
 returns g c =

@@ -1,0 +1,222 @@
+-- Runs of children that were made ahead, and what keeping them shows.
+use Rattle.std.proofs.Common.{◌≡◌, ℕ, zero, suc, ◌+◌, ◌-◌, ◌<◌, ◌≤◌, List, [], ◌∷◌, ◌++◌, length, get_or, take, drop, refl, sym, ap, subst, ◌∙◌, arith, add-one, drop-cons, drop-drop, take-add, length-append, Option, Some, None, Bool, true, ◌↔◌, Global}
+use Rattle.std.proofs.lemmas.List.{append-nil}
+use Rattle.std.proofs.Math.Seq.{drop-append_seam, take-length}
+use Rattle.std.specs.Vec.Iter.{into_iter_items, into_iter_len, into_iter_steps}
+use Rattle.std.specs.Bool.{IsTrue}
+use Rattle.std.specs.Int.{div_ceil}
+use Rattle.std.specs.Option.{ForSome}
+use Rattle.std.specs.List.{slice_range}
+use Rattle.std.specs.declared.vec.IntoIter.{IntoIter}
+use Rattle.objects.specs.declared.entry.Entry.{Entry}
+use Rattle.meaning.specs.declared.end.End.TheVariants.{Ended, Aborted}
+use Rattle.meaning.specs.declared.held.Held.{Held}
+use Rattle.meaning.specs.Entries.{State, AreLegal, after, AllCommute}
+use Rattle.meaning.specs.Trees.{Children, NoChild, Child}
+use Rattle.meaning.specs.Records.{TakenChild, TakenChildren, entries_of_child, entries_of_children, kept_of_child}
+use Rattle.meaning.specs.Shown.{shown_child}
+use Rattle.meaning.specs.OneThread.{Run, Ran, record_of, outcome_of, labels_of, go_on_children, one, one_children}
+use Rattle.meaning.specs.Laws.{carried}
+use Rattle.meaning.proofs.Nets.{lead_on}
+use Rattle.meaning.proofs.Shift.{children_shift}
+use Rattle.batch.specs.Views.{Tried, subaction_view, children_view}
+use Rattle.batch.specs.declared.tree.Subaction.{Subaction}
+use Rattle.intentions.specs.Levels.{Intentions as View, shown as state_of_view, AllEntriesLegal, AllHaveRoom, absorbed}
+use Rattle.intentions.specs.Committed.{AllStand}
+use Rattle.intentions.proofs.IndexLemmas.{length-range}
+use Rattle.speculate.specs.Running.{CanTryHere, CanRunAllHere, ShowsTried, acted}
+use Rattle.speculate.specs.Ahead.{CanAllTry, Leads, IsRunAhead, AreRunAhead, IsRunBefore}
+use Rattle.speculate.specs.declared.executor.Ahead.{Ahead}
+use Rattle.speculate.specs.declared.executor.Tried as executed
+use Rattle.speculate.proofs.Absorbed.{shown-absorbed}
+use Rattle.speculate.proofs.Children.{acted_leads, can_try}
+use Rattle.speculate.proofs.Meant.{one_children-Child}
+use Rattle.speculate.proofs.Room.{child_has_room}
+
+-- ---- a child past what its elder siblings left
+
+-- the run of a child is known from that of the child alone
+record IsAlone (run : Run TakenChild) (all : Run TakenChildren) : Type 0 where
+  taken : record_of all ≡ TakenChildren.Child (record_of run) TakenChildren.NoChild
+  outcome : outcome_of all ≡ outcome_of run
+  labels : outcome_of run ≡ Ended → labels_of all ≡ labels_of run
+
+go_on-alone : (run : Run TakenChild) (held : List Held) → IsAlone run (go_on_children run (one_children NoChild held))
+unfolding one
+go_on-alone (Ran child Ended labels state) held = record { taken = refl; outcome = refl; labels = λ _. append-nil labels }
+go_on-alone (Ran child (Aborted reason) labels state) held = record { taken = refl; outcome = refl; labels = λ ended. absurd cc }
+
+abbrev alone : Tried → Children
+alone child = Child child.body child.handlers child.labelled NoChild
+
+is_alone : (child : Tried) (held : List Held) (state : State) → IsAlone (acted child held state) (one_children (alone child) held state)
+is_alone child held state =
+    subst (IsAlone (acted child held state)) (sym (one_children-Child child.body child.handlers child.labelled NoChild held state)) (go_on-alone (acted child held state) held)
+
+same_first : (child other : TakenChild) → TakenChildren.Child child TakenChildren.NoChild ≡ TakenChildren.Child other TakenChildren.NoChild → child ≡ other
+same_first child other same = cc
+
+-- the second run is the first one, made elsewhere
+record IsSameRun (here there : Run TakenChild) : Type 0 where
+  taken : record_of there ≡ record_of here
+  outcome : outcome_of there ≡ outcome_of here
+  labels : outcome_of here ≡ Ended → labels_of there ≡ labels_of here
+
+-- a child moves past entries with which each of its own commutes forward
+child_moves : (child : Tried) (held : List Held) (state : State) (since : List Entry) → AreLegal state since → AllCommute (entries_of_child (record_of (acted child held state))) since
+    → IsSameRun (acted child held state) (acted child held (after state since))
+child_moves child held state since legal commute =
+    let here = is_alone child held state in
+    let there = is_alone child held (after state since) in
+    let all : AllCommute (entries_of_children (record_of (one_children (alone child) held state))) since =
+    subst (λ taken. AllCommute (entries_of_children taken) since) (sym here.taken) (subst (λ es. AllCommute es since) (sym (append-nil (entries_of_child (record_of (acted child held state))))) commute) in
+    let moved : one_children (alone child) held (after state since) ≡ carried since (one_children (alone child) held state) = (children_shift (alone child) held state since legal all).1 in
+    let outcome : outcome_of (acted child held (after state since)) ≡ outcome_of (acted child held state) = sym there.outcome ∙ ap outcome_of moved ∙ here.outcome in
+    record {
+      taken = same_first _ _ (sym there.taken ∙ ap record_of moved ∙ here.taken);
+      outcome = outcome;
+      labels = λ ended. sym (there.labels (outcome ∙ ended)) ∙ ap labels_of moved ∙ here.labels ended;
+    }
+
+-- that a test was true of its entries and all that was listed
+pub stand : (run : Ahead) (since entries : List Entry) (count : ℕ) (stands : Bool) → (IsTrue stands ↔ AllStand entries (slice_range since 0 count)) → stands ≡ true → entries ≡ run.entries.items → count ≡ length since → AllStand run.entries.items since
+stand run since entries count stands exact so is all =
+    let whole_length : count - 0 ≡ length since = omega arith in
+    let whole : slice_range since 0 count ≡ since = ap (λ n. take n since) whole_length ∙ take-length since in
+    subst (AllStand run.entries.items) whole (subst (λ es. AllStand es (slice_range since 0 count)) is (exact.0 so))
+
+-- where its entries stand, a child that was run before is run the same here
+module _ (child : Tried) (held : List Held) (since : List Entry) (state : State) (run : Ahead) (before : IsRunBefore child held since state run) (stand : AllStand run.entries.items since) where
+  same_here : IsSameRun (acted child held before.from) (acted child held state)
+  same_here =
+      let entries = ap (λ (v : View). v.entries) before.ahead.view in
+      subst (λ s. IsSameRun (acted child held before.from) (acted child held s)) (sym before.leads.1)
+      (child_moves child held before.from since before.leads.0 (subst (λ es. AllCommute es since) entries stand))
+
+  -- so its net is what it leaves here
+  net_here : run.net.items ≡ kept_of_child (record_of (acted child held state))
+  net_here = ap (λ (v : View). v.net) before.ahead.view ∙ ap kept_of_child (sym same_here.taken)
+
+  -- and that is what is added to the list of what siblings left
+  pub net_listed : (net later : List Entry) → net ≡ run.net.items → later ≡ since ++ net → later ≡ since ++ kept_of_child (record_of (acted child held state))
+  net_listed net later is more = more ∙ ap (λ es. since ++ es) (is ∙ net_here)
+
+  entries_here : run.entries.items ≡ entries_of_child (record_of (acted child held state))
+  entries_here = ap (λ (v : View). v.entries) before.ahead.view ∙ ap entries_of_child (sym same_here.taken)
+
+  pub net_is_legal : AllEntriesLegal state run.net.items
+  net_is_legal = subst (AllEntriesLegal state) (sym net_here) (acted_leads child held state).0
+
+  pub net_has_room : CanTryHere child held state → AllHaveRoom state run.net.items
+  net_has_room can = subst (AllHaveRoom state) (sym net_here) (child_has_room child held state can (acted_leads child held state).0)
+
+  -- and its run can be taken in
+  pub taken_in : (view next : View) (entries net : List Entry) → entries ≡ run.entries.items → net ≡ run.net.items → next ≡ absorbed view entries net → ShowsTried child (acted child held state) run.tried view next
+  taken_in view next entries net entries_are net_is is =
+      let shows = before.ahead in
+      record {
+        tree = shows.tree ∙ ap shown_child (sym same_here.taken);
+        end = shows.end ∙ sym same_here.outcome;
+        labels = λ ended. same_here.labels (sym shows.end ∙ ended) ∙ shows.labels ended;
+        view = is ∙ ap (λ es. absorbed view es net) (entries_are ∙ entries_here) ∙ ap (absorbed view (entries_of_child (record_of (acted child held state)))) (net_is ∙ net_here);
+      }
+
+-- ---- children from place to place
+
+-- each child can be tried on the state of the step
+pub each_can_try : (children : List Subaction) (held : List Held) (state : State) → CanRunAllHere (children_view children) held state → CanAllTry children held state
+each_can_try [] held state can k d lt = absurd (omega arith)
+each_can_try (child ∷ children) held state can zero d lt = can_try (subaction_view child) (children_view children) held state can
+each_can_try (child ∷ children) held state can (suc k) d lt =
+    each_can_try children held state (record { labels = can.labels; held_by = can.held_by; well_formed = can.well_formed.2; room = omega (arith, can.room) }) k d (omega arith)
+
+pub runs-append : (front back : List Subaction) (held : List Held) (state : State) (runs others : List Ahead) → length runs ≡ length front → AreRunAhead front held state runs → AreRunAhead back held state others → AreRunAhead (front ++ back) held state (runs ++ others)
+runs-append [] back held state [] others same first second = second
+runs-append [] back held state (run ∷ runs) others same first second = absurd (omega arith)
+runs-append (child ∷ front) back held state [] others same first second = absurd (omega arith)
+runs-append (child ∷ front) back held state (run ∷ runs) others same first second = (first.0, runs-append front back held state runs others (omega arith) first.1 second)
+
+-- what lies from one place to another, and then from there on
+range-append : {X : Type 0} (xs : List X) (a b c : ℕ) → a ≤ b → b ≤ c → slice_range xs a b ++ slice_range xs b c ≡ slice_range xs a c
+range-append xs a b c first second =
+    let from_b : a + (b - a) ≡ b = omega arith in
+    let to_c : (b - a) + (c - b) ≡ c - a = omega arith in
+    let there : drop (b - a) (drop a xs) ≡ drop b xs = drop-drop (b - a) a xs ∙ ap (λ n. drop n xs) from_b in
+    ap (λ ys. slice_range xs a b ++ take (c - b) ys) (sym there) ∙ sym (take-add (b - a) (c - b) (drop a xs)) ∙ ap (λ n. take n (drop a xs)) to_c
+
+range-one : {X : Type 0} (xs : List X) (i : ℕ) (x : X) → i < length xs → x ≡ get_or xs i x → slice_range xs i (i + 1) ≡ x ∷ []
+range-one xs i x lt is =
+    let one : (i + 1) - i ≡ 1 = omega arith in
+    ap (λ n. take n (drop i xs)) one ∙ ap (take 1) (drop-cons xs i x lt) ∙ ap (λ y. y ∷ []) (sym is)
+
+-- two halves
+pub halves : (children : List Subaction) (from middle upto : ℕ) (held : List Held) (state : State) (runs others : List Ahead) → from ≤ middle → middle ≤ upto → upto ≤ length children
+    → length runs ≡ middle - from → AreRunAhead (slice_range children from middle) held state runs → AreRunAhead (slice_range children middle upto) held state others → AreRunAhead (slice_range children from upto) held state (runs ++ others)
+halves children from middle upto held state runs others first second within all front back =
+    subst (λ cs. AreRunAhead cs held state (runs ++ others)) (range-append children from middle upto first second)
+    (runs-append (slice_range children from middle) (slice_range children middle upto) held state runs others (all ∙ sym (length-range children from middle (omega arith))) front back)
+
+pub both_long : (runs others : List Ahead) (from middle upto : ℕ) → from ≤ middle → middle ≤ upto → length runs ≡ middle - from → length others ≡ upto - middle → length (runs ++ others) ≡ upto - from
+both_long runs others from middle upto first second front back = omega (arith, length-append runs others)
+
+-- the middle lies between
+pub to_middle : (from upto half : ℕ) → from ≤ upto → half ≡ div_ceil (upto - from) 2 → (from ≤ from + half) × (from + half ≤ upto)
+to_middle from upto half ordered is = (omega arith, omega (arith, is))
+
+-- one more
+pub one_more : (children : List Subaction) (from place : ℕ) (held : List Held) (state : State) (runs : List Ahead) (child : Subaction) (run : Ahead) → from ≤ place → place < length children → child ≡ get_or children place child
+    → length runs ≡ place - from → AreRunAhead (slice_range children from place) held state runs → IsRunAhead (subaction_view child) held state run → AreRunAhead (slice_range children from (place + 1)) held state (runs ++ run ∷ [])
+one_more children from place held state runs child run first lt is all so_far last =
+    halves children from place (place + 1) held state runs (run ∷ []) first (omega arith) (omega arith) all so_far
+    (subst (λ cs. AreRunAhead cs held state (run ∷ [])) (sym (range-one children place child lt is)) (last, tt))
+
+pub one_longer : (runs : List Ahead) (run : Ahead) (from place : ℕ) → from ≤ place → length runs ≡ place - from → length (runs ++ run ∷ []) ≡ (place + 1) - from
+one_longer runs run from place first all = omega (arith, length-append runs (run ∷ []))
+
+-- ---- children that are kept one after the other
+
+-- these runs were made of these children on a state from which these entries have led here
+pub record AreLeft (children : List Subaction) (held : List Held) (since : List Entry) (state : State) (runs : List Ahead) : Type 0 where
+  pub from : State
+  pub leads : Leads from since state
+  pub ahead : AreRunAhead children held from runs
+
+pub left-start : (children : List Subaction) (held : List Held) (state : State) (runs : List Ahead) → AreRunAhead children held state runs → AreLeft children held [] state runs
+left-start children held state runs ahead = record { from = state; leads = (tt, refl); ahead = ahead }
+
+left-others : (child : Subaction) (children : List Subaction) (held : List Held) (since : List Entry) (view next : View) (tried : executed.Tried) (run : Ahead) (runs : List Ahead)
+    → AreLeft (child ∷ children) held since (state_of_view view) (run ∷ runs) → ShowsTried (subaction_view child) (acted (subaction_view child) held (state_of_view view)) tried view next
+    → AreLeft children held (since ++ kept_of_child (record_of (acted (subaction_view child) held (state_of_view view)))) (state_of_view next) runs
+left-others child children held since view next tried run runs left shows =
+    let here = subaction_view child in
+    let net = kept_of_child (record_of (acted here held (state_of_view view))) in
+    let there : state_of_view next ≡ after (state_of_view view) net = ap state_of_view shows.view ∙ shown-absorbed view (entries_of_child (record_of (acted here held (state_of_view view)))) net in
+    record { from = left.from; leads = lead_on left.from (state_of_view view) (state_of_view next) since net left.leads ((acted_leads here held (state_of_view view)).0, there); ahead = left.ahead.1 }
+
+-- what a child adds to the net of its parent's level, listed
+pub added_listed : (child : Tried) (held : List Held) (view next : View) (tried : executed.Tried) (since later was now : List Entry) → ShowsTried child (acted child held (state_of_view view)) tried view next
+    → was ≡ view.net → now ≡ next.net → later ≡ since ++ slice_range now (length was) (length now) → later ≡ since ++ kept_of_child (record_of (acted child held (state_of_view view)))
+added_listed child held view next tried since later was now shows was_is now_is listed =
+    let net = kept_of_child (record_of (acted child held (state_of_view view))) in
+    let more : now ≡ was ++ net = now_is ∙ ap (λ (v : View). v.net) shows.view ∙ ap (λ es. es ++ net) (sym was_is) in
+    let count : length now - length was ≡ length net = omega (arith, ap length more, length-append was net) in
+    listed ∙ ap (λ n. since ++ take n (drop (length was) now)) count ∙ ap (λ es. since ++ take (length net) (drop (length was) es)) more
+    ∙ ap (λ es. since ++ take (length net) es) (drop-append_seam was net) ∙ ap (λ es. since ++ es) (take-length net)
+
+next_of : (children : List Subaction) (place : ℕ) (x : Subaction) → place < length children → x ≡ get_or children place x → drop place children ≡ x ∷ drop (place + 1) children
+next_of children place x lt is = drop-cons children place x lt ∙ ap (λ y. y ∷ drop (suc place) children) (sym is) ∙ rw add-one refl
+
+module _ (children : List Subaction) (place : ℕ) (x : Subaction) (held : List Held) (since : List Entry) (view : View) (before after : IntoIter Ahead Global)
+    (left : 0 < into_iter_len before → AreLeft (drop place children) held since (state_of_view view) (into_iter_items before)) (within : place < length children) (is : x ≡ get_or children place x) where
+  left_here : (run : Ahead) → into_iter_steps before (Some run) after → AreLeft (x ∷ drop (place + 1) children) held since (state_of_view view) (run ∷ into_iter_items after)
+  left_here run steps =
+      subst (λ cs. AreLeft cs held since (state_of_view view) (run ∷ into_iter_items after)) (next_of children place x within is)
+      (subst (AreLeft (drop place children) held since (state_of_view view)) steps.0 (left (omega (arith, steps.1))))
+
+  -- the runs behind the next one were made of the children behind the next child
+  pub left-more : (ahead : Option Ahead) (next : View) (tried : executed.Tried) (later : List Entry) → into_iter_steps before ahead after → ShowsTried (subaction_view x) (acted (subaction_view x) held (state_of_view view)) tried view next
+      → ForSome ahead (λ _. later ≡ since ++ kept_of_child (record_of (acted (subaction_view x) held (state_of_view view)))) → 0 < into_iter_len after → AreLeft (drop (place + 1) children) held later (state_of_view next) (into_iter_items after)
+  left-more None next tried later steps shows kept some = absurd (omega (arith, steps.1))
+  left-more (Some run) next tried later steps shows kept some =
+      subst (λ es. AreLeft (drop (place + 1) children) held es (state_of_view next) (into_iter_items after)) (sym (kept run refl))
+      (left-others x (drop (place + 1) children) held since view next tried run (into_iter_items after) (left_here run steps) shows)
