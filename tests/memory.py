@@ -10,15 +10,17 @@ FAULT = (b"", 1, b"fault 20 transaction 0\n")
 
 def refuse(library, number, words, path, document):
     """What a run answers whose Nth request is refused, and how many it made."""
-    reading, writing = os.pipe()
-    environment = dict(os.environ, LD_PRELOAD=library, REFUSE=str(number),
-                       COUNT=str(writing))
-    done = subprocess.run([path, *words], input=document,
-                          stdout=subprocess.PIPE, stderr=subprocess.PIPE,
-                          pass_fds=(writing,), env=environment, timeout=60)
-    os.close(writing)
-    with os.fdopen(reading) as told:
-        made = int(told.read())
+    with tempfile.TemporaryFile() as kept:
+        kept.write(bytes(8))
+        kept.flush()
+        environment = dict(os.environ, LD_PRELOAD=library, REFUSE=str(number),
+                           COUNT=str(kept.fileno()))
+        done = subprocess.run([path, *words], input=document,
+                              stdout=subprocess.PIPE, stderr=subprocess.PIPE,
+                              pass_fds=(kept.fileno(),), env=environment,
+                              timeout=60)
+        kept.seek(0)
+        made = int.from_bytes(kept.read(8), "little")
     return (done.stdout, done.returncode, done.stderr), made
 
 
