@@ -1,13 +1,13 @@
--- Each type's changes take its calls back; journals do, and changes at places of a list.
+-- Each type's changes take its calls back, and so do changes at places of a list.
 use Rattle.std.proofs.Common.{◌≡◌, ℕ, zero, suc, ◌-◌, Bool, true, false, cond, nat_le, List, [], ◌∷◌, ◌++◌, length, take, length-append, Option, Some, None, refl, sym, ap, ◌∙◌, arith}
-use Rattle.std.specs.Prelude.{option_map, option_and_then, option_to_list, slice_get, slice_set, is_some}
+use Rattle.std.specs.Prelude.{option_map, option_and_then, slice_get, slice_set, is_some}
 use Rattle.std.specs.FinSet as set
 use Rattle.std.specs.FinMap as map
 use Rattle.std.proofs.Math.Seq.{take-append_seam}
 use Rattle.std.proofs.lemmas.List.{set-set}
 use Rattle.serial.specs.Serial.{Serial}
 use Rattle.serial.specs.Places.{at_places, after_found}
-use Rattle.atoms.specs.Undo.{Undoing, undone_if, TakesBack, undone_all, after_calls, journal_of, JournalTakesBack, undone_found, undoing_at_places}
+use Rattle.atoms.specs.Undo.{Undoing, undone_if, TakesBack, undone_found, undoing_at_places}
 use Rattle.atoms.specs.Changes.{account_undoing, counter_undoing, max_undoing, set_undoing, queue_undoing, directory_undoing, before_at}
 use Rattle.atoms.specs.Account.{account}
 use Rattle.atoms.specs.Counter.{counter}
@@ -77,26 +77,6 @@ directory_takes_back m (Bind k v) =
 directory_takes_back m (Put k v) = put_before m k (Some v)
 directory_takes_back m (Unbind k) = changes_if directory_undoing (is_some (map.get m k)) (map.remove m k) m (before_at m k) (λ _. put_before m k None) (remove_missing m k)
 directory_takes_back m (Lookup k) = refl
-
--- ---- journals
-
-pub undone_all-append : {V C D : Type 0} (u : Undoing V C D) (v : V) (earlier later : List D) → undone_all u v (earlier ++ later) ≡ undone_all u (undone_all u v later) earlier
-unfolding undone_all
-undone_all-append u v [] later = refl
-undone_all-append u v (change ∷ earlier) later = ap (λ w. u.undone w change) (undone_all-append u v earlier later)
-
-pub undone_all-if : {V C D : Type 0} (u : Undoing V C D) (v : V) (change : Option D) → undone_all u v (option_to_list change) ≡ undone_if u v change
-unfolding undone_all
-undone_all-if u v None = refl
-undone_all-if u v (Some change) = refl
-
-pub journal_takes_back : {V C R D : Type 0} (s : Serial V C R) (u : Undoing V C D) → TakesBack s u → JournalTakesBack s u
-unfolding undone_all after_calls journal_of
-journal_takes_back s u h v [] = refl
-journal_takes_back s u h v (call ∷ calls) =
-    undone_all-append u (after_calls s (s.after v call) calls) (option_to_list (u.change v call)) (journal_of s u (s.after v call) calls)
-    ∙ ap (λ w. undone_all u w (option_to_list (u.change v call))) (journal_takes_back s u h (s.after v call) calls)
-    ∙ undone_all-if u (s.after v call) (u.change v call) ∙ h v call
 
 -- ---- places of a list
 

@@ -1,5 +1,5 @@
 -- Calls that are taken back: what each changes, and how the value before it is had again.
-use Rattle.std.specs.Prelude.{◌≡◌, ℕ, List, [], ◌∷◌, ◌++◌, Option, Some, None, option_map, option_and_then, option_to_list, slice_get, slice_set}
+use Rattle.std.specs.Prelude.{◌≡◌, ℕ, List, [], ◌∷◌, ◌++◌, length, drop, take, Option, Some, None, option_map, option_and_then, option_to_list, slice_get, slice_set}
 use Rattle.serial.specs.Serial.{Serial}
 
 -- what a call changes at a value, looked at before it, or none where it changes nothing; and the value that is
@@ -21,18 +21,33 @@ unfoldable pub undone_all : {V C D : Type 0} → Undoing V C D → V → List D 
 undone_all u v [] = v
 undone_all u v (change ∷ later) = u.undone (undone_all u v later) change
 
--- the value that calls leave, one after the other, and the journal that they leave
-unfoldable pub after_calls : {V C R : Type 0} → Serial V C R → V → List C → V
-after_calls s v [] = v
-after_calls s v (call ∷ calls) = after_calls s (s.after v call) calls
+-- a state that calls led to, with the journal of what they changed
+pub record Journaled (V D : Type 0) : Type 0 where
+  pub state : V
+  pub journal : List D
 
-unfoldable pub journal_of : {V C R D : Type 0} → Serial V C R → Undoing V C D → V → List C → List D
-journal_of s u v [] = []
-journal_of s u v (call ∷ calls) = option_to_list (u.change v call) ++ journal_of s u (s.after v call) calls
+-- after a call, with what it changed
+abbrev pub performed : {V C R D : Type 0} → Serial V C R → Undoing V C D → Journaled V D → C → Journaled V D
+performed s u j call = record { state = s.after j.state call; journal = j.journal ++ option_to_list (u.change j.state call) }
 
--- Where the journal of calls is taken back, the value before them is left.
-abbrev pub JournalTakesBack : {V C R D : Type 0} → Serial V C R → Undoing V C D → Type 0
-JournalTakesBack {V} {C} s u = (v : V) (calls : List C) → undone_all u (after_calls s v calls) (journal_of s u v calls) ≡ v
+-- after calls, one after the other
+unfoldable pub all_performed : {V C R D : Type 0} → Serial V C R → Undoing V C D → Journaled V D → List C → Journaled V D
+all_performed s u j [] = j
+all_performed s u j (call ∷ calls) = all_performed s u (performed s u j call) calls
+
+-- the changes from a place of the journal on are taken back
+abbrev pub rewound : {V C D : Type 0} → Undoing V C D → Journaled V D → ℕ → Journaled V D
+rewound u j mark = record { state = undone_all u j.state (drop mark j.journal); journal = take mark j.journal }
+
+-- Where the journal is taken back to where it was before calls, so is the state.
+abbrev pub Rewinds : {V C R D : Type 0} → Serial V C R → Undoing V C D → Type 0
+Rewinds {V} {C} {R} {D} s u = (j : Journaled V D) (calls : List C) → rewound u (all_performed s u j calls) (length j.journal) ≡ j
+
+-- a journal that grew so that taking back what came to it leads back to the state of before
+pub record LeadsBack {V C D : Type 0} (u : Undoing V C D) (before now : Journaled V D) : Type 0 where
+  pub more : List D
+  pub grown : now.journal ≡ before.journal ++ more
+  pub undone : undone_all u now.state more ≡ before.state
 
 -- the values after a change at a place is taken back, where the place has this value
 abbrev pub undone_found : {V C D : Type 0} → Undoing V C D → List V → ℕ → D → Option V → List V

@@ -1,9 +1,10 @@
 -- Changes of values of any kind, and of lists of them, take calls back.
 use Rattle.std.proofs.Common.{◌≡◌, Option, Some, None, refl, ap, ◌∙◌}
 use Rattle.std.specs.Prelude.{option_map}
-use Rattle.atoms.specs.Undo.{Undoing, undone_if, TakesBack, JournalTakesBack}
+use Rattle.atoms.specs.Undo.{Undoing, undone_if, TakesBack, Rewinds}
 use Rattle.atoms.specs.Changes.{account_undoing, counter_undoing, set_undoing, queue_undoing, directory_undoing, max_undoing}
-use Rattle.atoms.proofs.Undoings.{account_takes_back, counter_takes_back, set_takes_back, queue_takes_back, directory_takes_back, max_takes_back, journal_takes_back, places_take_back}
+use Rattle.atoms.proofs.Undoings.{account_takes_back, counter_takes_back, set_takes_back, queue_takes_back, directory_takes_back, max_takes_back, places_take_back}
+use Rattle.atoms.proofs.Journals.{rewinds}
 use Rattle.objects.specs.Objects.{one_value, objects}
 use Rattle.objects.specs.Changes.{value_undoing, objects_undoing}
 use Rattle.objects.specs.declared.value.Value.{Value}
@@ -30,5 +31,5 @@ value_takes_back v c = refl
 pub objects_take_back : TakesBack objects objects_undoing
 objects_take_back = places_take_back one_value value_undoing value_takes_back
 
-pub objects_journal_takes_back : JournalTakesBack objects objects_undoing
-objects_journal_takes_back = journal_takes_back objects objects_undoing objects_take_back
+pub objects_rewind : Rewinds objects objects_undoing
+objects_rewind = rewinds objects objects_undoing objects_take_back

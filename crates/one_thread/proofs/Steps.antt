@@ -105,6 +105,3 @@ part_run-aborted steps held before i taken seen now x done how seen_next next re
     items
     (more_steps taken h.done done (record_of run) h.tree shows.tree)
     (leads_back-then before now next h.back shows.back)
-
--- what the executor needs of a step that it takes
-pub ruleset can_step_rules = (part_run-can_step)

@@ -1,8 +1,7 @@
--- The first run that doesn't stand is sought by one run after the other.
+-- The first run that does not stand, and the nets that runs are checked against.
 use Rattle.std.proofs.Common.{◌≡◌, ℕ, ◌+◌, ◌<◌, ◌≤◌, List, [], ◌∷◌, ◌++◌, length, get_or, take, drop, ◌-◌, arith, refl, sym, ap, ◌∙◌, subst, append_assoc, append-nil}
 use Rattle.std.specs.Prelude.{slice_range, IsTrue, ◌↔◌, Bool}
-use Rattle.std.proofs.Math.ListN.{length-drop}
-use Rattle.std.proofs.lemmas.List.{take_more, get_or_default, take_all, take-append-drop, length-append}
+use Rattle.std.proofs.lemmas.List.{take_more, get_or_default, take-append-drop, length-append}
 use Rattle.std.proofs.Math.Seq.{take-append_seam, get_or-append_seam}
 use Rattle.std.proofs.Math.ListN.{get_or-append}
 use native.Mathlib.Decide.{dec_le}
@@ -11,6 +10,7 @@ use Rattle.objects.specs.declared.entry.Entry.{Entry}
 use Rattle.speculate.specs.declared.speculated.Run.{Run}
 use Rattle.rounds.specs.Passes.{nets_of, StandsPast, StandsAt, IsFirstConflict}
 
+-- the nets of two lists of runs
 nets_append : (xs ys : List Run) → nets_of (xs ++ ys) ≡ nets_of xs ++ nets_of ys
 nets_append [] ys = refl
 nets_append (run ∷ xs) ys = ap (λ ns. run.net.items ++ ns) (nets_append xs ys) ∙ sym (append_assoc run.net.items (nets_of xs) (nets_of ys))
@@ -21,6 +21,7 @@ next_nets runs i run lt is =
     let last : nets_of (run ∷ []) ≡ run.net.items = append-nil run.net.items in
     ap nets_of (take_more runs i run lt) ∙ (nets_append (take i runs) (get_or runs i run ∷ []) ∙ (ap (λ r. nets_of (take i runs) ++ nets_of (r ∷ [])) (sym is) ∙ ap (λ ns. nets_of (take i runs) ++ ns) last))
 
+-- a list of nets with one run's more
 pub nets_more : (runs : List Run) (i : ℕ) (run : Run) (before after net : List Entry) → i < length runs → run ≡ get_or runs i run → net ≡ run.net.items → after ≡ before ++ net → before ≡ nets_of (take i runs) → after ≡ nets_of (take (i + 1) runs)
 nets_more runs i run before after net lt is this all so_far =
     all ∙ (ap (λ es. es ++ net) so_far ∙ (ap (λ es. nets_of (take i runs) ++ es) this ∙ sym (next_nets runs i run lt is)))
@@ -38,9 +39,11 @@ starts_more runs i starts more nets pushed all so_far each k lt = elim (dec_le i
 first_nets : (runs : List Run) (i : ℕ) → nets_of runs ≡ nets_of (take i runs) ++ nets_of (drop i runs)
 first_nets runs i = ap nets_of (sym (take-append-drop i runs)) ∙ nets_append (take i runs) (drop i runs)
 
+-- they are those of the list's front
 pub front_nets : (runs : List Run) (i n : ℕ) (nets : List Entry) → nets ≡ nets_of runs → n ≡ length (nets_of (take i runs)) → slice_range nets 0 n ≡ nets_of (take i runs)
 front_nets runs i n nets are size = let whole : n - 0 ≡ n = omega arith in ap (λ m. take m nets) whole ∙ (ap (take n) (are ∙ first_nets runs i) ∙ (ap (λ m. take m (nets_of (take i runs) ++ nets_of (drop i runs))) size ∙ take-append_seam (nets_of (take i runs)) (nets_of (drop i runs))))
 
+-- which is no longer than the list
 pub front_within : (runs : List Run) (i n : ℕ) (nets : List Entry) → nets ≡ nets_of runs → n ≡ length (nets_of (take i runs)) → n ≤ length nets
 front_within runs i n nets are size = omega (arith, ap length (are ∙ first_nets runs i), length-append (nets_of (take i runs)) (nets_of (drop i runs)))
 
@@ -52,10 +55,6 @@ stands_there runs i run entries before told lt these so_far test =
       (λ told_so d. subst (StandsPast (nets_of (take i runs))) (get_or_default runs i run d lt) (subst (λ T. T) here (test.0 told_so))),
       (λ stands. test.1 (subst (λ T. T) (sym here) (stands run))),
     )
-
--- a list from one place to its end
-pub range_to_end : (xs : List Entry) (from end_at : ℕ) → end_at ≡ length xs → slice_range xs from end_at ≡ drop from xs
-range_to_end xs from end_at is = let size = length-drop from xs in take_all (end_at - from) (drop from xs) (omega arith)
 
 -- a run at which the first ones end and that doesn't stand itself
 pub first_found : (runs : List Run) (first : ℕ) → first ≤ length runs → ((k : ℕ) → k < first → StandsAt runs k) → (first < length runs → ¬ StandsAt runs first) → IsFirstConflict runs first

@@ -23,20 +23,19 @@ use Rattle.workers.proofs.Once.{each_given, sum_given_once}
 abbrev pub IsMade : Batch → State → Made → Type 0
 IsMade batch state m = IsRunOf (meaning batch m.number state) m.run
 
-times_numbers : (i : ℕ) (made : List Made) (m : Made) → times i (numbers_of (made ++ m ∷ [])) ≡ times i (numbers_of made) + times i (m.number ∷ [])
-times_numbers i made m = ap (times i) (map-append (λ (x : Made). x.number) made (m ∷ [])) ∙ times_append i (numbers_of made) (m.number ∷ [])
+-- the numbers of two lists of runs
+times_numbers : (i : ℕ) (xs ys : List Made) → times i (numbers_of (xs ++ ys)) ≡ times i (numbers_of xs) + times i (numbers_of ys)
+times_numbers i xs ys = ap (times i) (map-append (λ (m : Made). m.number) xs ys) ∙ times_append i (numbers_of xs) (numbers_of ys)
 
+-- one run more
 pub made_more : (batch : Batch) (state : State) (numbers : List ℕ) (i : ℕ) (m : Made) (made more : List Made) → i < length numbers → m.number ≡ get_or numbers i 0 → more ≡ made ++ m ∷ [] → AreMade batch state (take i numbers) made → IsMade batch state m → AreMade batch state (take (i + 1) numbers) more
 made_more batch state numbers i m made more lt is pushed so_far here = record {
   each = All-same (IsMade batch state) more (made ++ m ∷ []) pushed (All-push (IsMade batch state) made m so_far.each here);
   dealt = λ j.
-      let left : times j (numbers_of more) ≡ times j (numbers_of made) + times j (m.number ∷ []) = ap (λ ms. times j (numbers_of ms)) pushed ∙ times_numbers j made m in
+      let left : times j (numbers_of more) ≡ times j (numbers_of made) + times j (m.number ∷ []) = ap (λ ms. times j (numbers_of ms)) pushed ∙ times_numbers j made (m ∷ []) in
       let right : times j (take (i + 1) numbers) ≡ times j (take i numbers) + times j (get_or numbers i 0 ∷ []) = ap (times j) (take_more numbers i 0 lt) ∙ times_append j (take i numbers) (get_or numbers i 0 ∷ []) in
       left ∙ (ap (λ n. n + times j (m.number ∷ [])) (so_far.dealt j) ∙ (ap (λ n. times j (take i numbers) + times j (n ∷ [])) is ∙ sym right));
 }
-
-times_numbers_append : (i : ℕ) (xs ys : List Made) → times i (numbers_of (xs ++ ys)) ≡ times i (numbers_of xs) + times i (numbers_of ys)
-times_numbers_append i xs ys = ap (times i) (map-append (λ (m : Made). m.number) xs ys) ∙ times_append i (numbers_of xs) (numbers_of ys)
 
 -- a number stands in the chunks of a list, put together, as often as in the list
 times_chunks : (i size count : ℕ) (numbers : List ℕ) → 0 < size → count ≡ div_ceil (length numbers) size → sum_by (λ k. times i (slice_chunk numbers size k)) (range_with_len 0 count) ≡ times i numbers
@@ -52,7 +51,7 @@ pub all_groups : (batch : Batch) (state : State) (numbers : List ℕ) (cut count
 all_groups batch state numbers cut count made some are given =
     let IsGroup : ℕ → List Made → Type 0 = λ k. AreMade batch state (slice_chunk numbers cut k) in record {
       each = each_given IsGroup (IsMade batch state) (λ k own here. here.each) given.order made given.given;
-      dealt = λ i. sum_given_once IsGroup (λ ms. times i (numbers_of ms)) refl (times_numbers_append i) (λ k. times i (slice_chunk numbers cut k)) (λ k own here. here.dealt i) count made given ∙ times_chunks i cut count numbers some are;
+      dealt = λ i. sum_given_once IsGroup (λ ms. times i (numbers_of ms)) refl (times_numbers i) (λ k. times i (slice_chunk numbers cut k)) (λ k own here. here.dealt i) count made given ∙ times_chunks i cut count numbers some are;
     }
 
 -- Some of the runs are in their places, and these are left.
@@ -87,7 +86,7 @@ all_put batch state numbers old runs was counts left none put = record {
 
 pub put_inside : (batch : Batch) (state : State) (numbers : List ℕ) (old runs : List Run) (was counts : List ℕ) (left rest : List Made) (m : Made) → left ≡ rest ++ m ∷ [] → ArePut batch state numbers old runs was counts left → 0 < times m.number numbers
 put_inside batch state numbers old runs was counts left rest m popped put =
-    let split : times m.number (numbers_of left) ≡ times m.number (numbers_of rest) + times m.number (m.number ∷ []) = ap (λ ms. times m.number (numbers_of ms)) popped ∙ times_numbers m.number rest m in
+    let split : times m.number (numbers_of left) ≡ times m.number (numbers_of rest) + times m.number (m.number ∷ []) = ap (λ ms. times m.number (numbers_of ms)) popped ∙ times_numbers m.number rest (m ∷ []) in
     let once = times_one m.number in
     let few = put.few m.number in
     omega arith
@@ -105,7 +104,7 @@ all_front P (x ∷ xs) y all =
 pub put_one : (batch : Batch) (state : State) (numbers : List ℕ) (old runs : List Run) (was counts : List ℕ) (left rest : List Made) (m : Made) → length was ≡ length old → m.number < length old → left ≡ rest ++ m ∷ [] → ArePut batch state numbers old runs was counts left → ArePut batch state numbers old (set runs m.number m.run) was (set counts m.number (get_or counts m.number 0 + 1)) rest
 put_one batch state numbers old runs was counts left rest m sizes inside popped put =
     let made = all_front (IsMade batch state) rest m (subst (All (IsMade batch state)) popped put.each) in
-    let split : (i : ℕ) → times i (numbers_of left) ≡ times i (numbers_of rest) + times i (m.number ∷ []) = λ i. ap (λ ms. times i (numbers_of ms)) popped ∙ times_numbers i rest m in
+    let split : (i : ℕ) → times i (numbers_of left) ≡ times i (numbers_of rest) + times i (m.number ∷ []) = λ i. ap (λ ms. times i (numbers_of ms)) popped ∙ times_numbers i rest (m ∷ []) in
     let runs_all = put.runs_all in
     let counts_all = put.counts_all in
     record {

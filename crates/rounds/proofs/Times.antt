@@ -44,6 +44,7 @@ below_push i numbers more pushed below beyond j lt = elim (ℕ_discrete i j) [
 pub beyond_push : (i : ℕ) (numbers more : List ℕ) → more ≡ numbers ++ i ∷ [] → ((j : ℕ) → i ≤ j → times j numbers ≡ 0) → (j : ℕ) → i + 1 ≤ j → times j more ≡ 0
 beyond_push i numbers more pushed beyond j le = let other : i ≢ j = omega arith in ap (times j) pushed ∙ (times_push_other j i numbers other ∙ beyond j (omega arith))
 
+-- as a sum over the list
 pub times_sum : (x : ℕ) (ys : List ℕ) → times x ys ≡ sum_by (λ y. bit (y == x)) ys
 times_sum x [] = refl
 times_sum x (y ∷ ys) = omega (arith, sum_by-cons (λ z. bit (z == x)) y ys, times_sum x ys)

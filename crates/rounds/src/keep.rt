@@ -2,7 +2,7 @@
 ghost use Rattle.std.specs.Prelude.{ℕ, ◌+◌, ◌<◌, ◌≤◌, IfOk, length, drop};
 ghost use Rattle.rounds.specs.Passes.{AreRefuted, IsDecided};
 
-use crate::crew::Crew;
+use crate::crew::{Crew, checkers};
 use intentions::Committed;
 use speculate::{Gate, NoMemory, Run};
 use std::alloc::Global;
@@ -55,7 +55,7 @@ pub(crate) fn keep_all<R: Threads + Sync, G: Gate>(
         threads,
         alloc,
         (runs.len() - from) as u32,
-        plan.workers,
+        checkers(plan, &runs[from..]),
         &|piece: u32| -> Result<Vec<usize>, NoMemory>
             requires { (from + piece < length runs.now) × (length runs.now ≤ 10000) × (since ≤ length committed.now) }
             ensures { IfOk result (λ told. IsDecided runs.entry.now (drop since committed.entry.now) (from + piece) told.items) }

@@ -12,7 +12,7 @@ ghost use Rattle.rounds.specs.Passes.{CanBeMade, nets_of, times, AreRenewed};
 ghost use Rattle.rounds.specs.Openings.{AreCounts};
 
 use crate::check::first_conflict;
-use crate::crew::Crew;
+use crate::crew::{Crew, checkers};
 use crate::keep::keep_all;
 use crate::make::{Made, make_all};
 use crate::plan::Plan;
@@ -161,7 +161,9 @@ pub fn execute<R: Threads + Sync, G: Gate>(
     'opening: while opened < count {
         renew(&crew, batch, &objects, &stale, &mut runs, &mut counts)?;
         let since = committed.len();
-        let passed = first_conflict(threads, alloc, &runs[opened..], plan.workers, gate)?;
+        let pending = &runs[opened..];
+        let workers = checkers(plan, pending);
+        let passed = first_conflict(threads, alloc, pending, workers, gate)?;
         commit(&runs[opened..opened + passed], &mut objects, &mut committed)?;
         opened += passed;
         rounds += 1;

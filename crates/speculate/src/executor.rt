@@ -53,7 +53,8 @@ struct Tried {
     end: End,
 }
 
-/// The run of a child in a view of its own (Weihl 1988: an intentions list).
+/// The run of a child in a view of its own, with all its entries and its net (Weihl 1988: an
+/// intentions list).
 #[derive(Drop)]
 struct Ahead {
     tried: Tried,
@@ -336,7 +337,9 @@ fn run_if_wide<T: Threads + Sync, G: Gate>(
 }
 
 // The runs of the children from one place to before another, in two halves at once while the width
-// is for more than one.
+// is for more than one: the first half gets half of it, rounded up, and the other the rest. (The
+// threads and the gate come by themselves, since `join` tells nothing of closures that capture a
+// struct which borrows.)
 #[cycle(run)]
 fn run_ahead<T: Threads + Sync, G: Gate>(
     threads: &T,

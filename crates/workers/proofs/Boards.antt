@@ -17,6 +17,7 @@ pub none_raised : (seats : List Seated) → All (λ s. s.view.raised ≡ false) 
 none_raised [] each = refl
 none_raised (s ∷ seats) each = ap (λ b. b || list_any (λ v. v.raised) (views_of seats)) (each 0 s (omega arith)) ∙ none_raised seats (all_rest (λ u. u.view.raised ≡ false) s seats each)
 
+-- a seat that is over and was not told Stopped was told Done
 done_of_over : (n : ℕ) (b : Bool) → (ltb 0 n || b) ≡ true → ¬ (b ≡ true) → 0 < n
 done_of_over zero b over not = absurd (not over)
 done_of_over (suc n) b over not = omega arith
@@ -36,6 +37,7 @@ in_list Q (x ∷ xs) k each some = elim (ℕ_discrete x k) [
   | no other ↦ in_list Q xs k (all_rest Q x xs each) (let none : bit (eqb x k) ≡ 0 = ap bit (ne_eqb x k other) in omega arith)
 ]
 
+-- a sum that is not 0 has a part that isn't
 either_some : (m n : ℕ) → 0 < m + n → (0 < m) ⊎ (0 < n)
 either_some zero n h = inr (omega arith)
 either_some (suc m) n h = inl (omega arith)
@@ -48,6 +50,7 @@ in_some Q (s ∷ seats) k each some =
     (λ (there : 0 < times k (all_drawn (views_of seats))). in_some Q seats k (all_rest (λ u. 0 < times k u.view.drawn → Q) s seats each) there)
     (either_some (times k s.view.drawn) (times k (all_drawn (views_of seats))) (omega (arith, times-append k s.view.drawn (all_drawn (views_of seats)))))
 
+-- a piece below the number of pieces is there once
 pub once_some : (k n : ℕ) → k < n → 0 < once_below k n
 once_some k n lt = grind (arith, nat_tests)
 

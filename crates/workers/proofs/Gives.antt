@@ -15,6 +15,7 @@ use Rattle.workers.specs.declared.work.Worked.{Worked}
 use Rattle.workers.specs.Working.{Gives, AreGiven, AreGivenOnce, HasWorked}
 use Rattle.workers.proofs.Boards.{all_rest, all_pieces}
 
+-- either part of a disjunction that is false is false
 or_none : (a b : Bool) → (a || b) ≡ false → a ≡ false
 or_none true b h = h
 or_none false b h = refl
@@ -38,6 +39,7 @@ module _ {X : Type 0} (giving : ℕ → List X → Type 0) where
   abbrev pub seats_of : List (Worked X) → List Seated
   seats_of = map (λ w. w.seat)
 
+  -- where the seats together did not raise, none did
   none_raised : (all : List (Worked X)) → list_any (λ v. v.raised) (views_of (seats_of all)) ≡ false → All (λ w. w.seat.view.raised ≡ false) all
   none_raised [] none k d lt = absurd (omega arith)
   none_raised (w ∷ all) none zero d lt = or_none w.seat.view.raised (list_any (λ v. v.raised) (views_of (seats_of all))) none
@@ -49,6 +51,7 @@ module _ {X : Type 0} (giving : ℕ → List X → Type 0) where
   each_seat P (w ∷ all) each zero d lt = each 0 w (omega arith)
   each_seat P (w ∷ all) each (suc k) d lt = each_seat P all (all_rest (λ u. P u.seat) w all each) k d (omega arith)
 
+  -- each seat is the board's
   pub all_own : (board : Opened) (all : List (Worked X)) → All (HasWorked giving board) all → All (IsSeatOf board) (seats_of all)
   all_own board all each = each_seat (IsSeatOf board) all (λ k d lt. (each k d lt).own)
 

@@ -14,6 +14,7 @@ use Rattle.claims.proofs.Lists.{below_of_once, times-append, once_below_next}
 use Rattle.workers.specs.Working.{AreGiven, AreGivenOnce}
 use Rattle.workers.proofs.Boards.{once_some, once_here}
 
+-- a number that stands at the head counts, and no other does
 same_once : (x : ℕ) → bit (eqb x x) ≡ 1
 same_once x = grind (arith, nat_tests)
 
@@ -32,14 +33,17 @@ parted x (k ∷ ks) some = elim (ℕ_discrete k x) [
 parted_times : (x y : ℕ) (front back : List ℕ) → times y (front ++ x ∷ back) ≡ times y (front ++ back) + bit (eqb x y)
 parted_times x y front back = omega (arith, times-append y front (x ∷ back), times-append y front back)
 
+-- one number more of a range
 range_next : (a n : ℕ) → range_with_len a (suc n) ≡ range_with_len a n ++ (a + n) ∷ []
 range_next a zero = let same : a ≡ a + 0 = omega arith in ap (λ m. m ∷ []) same
 range_next a (suc n) = let same : (a + 1) + n ≡ a + suc n = omega arith in ap (λ l. a ∷ l) (range_next (a + 1) n ∙ ap (λ m. range_with_len (a + 1) n ++ m ∷ []) same)
 
+-- a list in which no number stands
 no_number : (ks : List ℕ) → ((x : ℕ) → times x ks ≡ 0) → ks ≡ []
 no_number [] none = refl
 no_number (k ∷ ks) none = absurd (omega (arith, none k, same_once k))
 
+-- the numbers up to n, and n
 range_last : (n : ℕ) → range_with_len 0 (suc n) ≡ range_with_len 0 n ++ n ∷ []
 range_last n = let same : 0 + n ≡ n = omega arith in range_next 0 n ∙ ap (λ m. range_with_len 0 n ++ m ∷ []) same
 
@@ -47,11 +51,13 @@ range_last n = let same : 0 + n ≡ n = omega arith in range_next 0 n ∙ ap (λ
 without_last : (n : ℕ) (ks front back : List ℕ) → ks ≡ front ++ n ∷ back → HoldsEachBelow (n + 1) ks → HoldsEachBelow n (front ++ back)
 without_last n ks front back is once x = omega (arith, ap (times x) is, parted_times n x front back, once x, once_below_next x n)
 
+-- an order of the others is one of all
 order_next : (n : ℕ) (ks front back : List ℕ) → ks ≡ front ++ n ∷ back → IsPermutation (range_with_len 0 n) (front ++ back) → IsPermutation (range_with_len 0 n ++ n ∷ []) ks
 order_next n ks front back is order =
     let last = IsPermutation-trans _ _ _ (IsPermutation-to_front (range_with_len 0 n) n) (IsPermutation-cons n (range_with_len 0 n) (front ++ back) order) in
     subst (IsPermutation (range_with_len 0 n ++ n ∷ [])) (sym is) (IsPermutation-trans _ _ _ last (IsPermutation-sym _ _ (IsPermutation-middle front n back)))
 
+-- no number is below 0
 below_none : (x : ℕ) → once_below x 0 ≡ 0
 below_none x = grind (arith, nat_tests)
 
@@ -64,6 +70,7 @@ some_order (suc n) ks once =
     let less = without_last n ks at.0 at.1 at.2 (subst (λ m. HoldsEachBelow m ks) next once) in
     subst (λ r. IsPermutation r ks) (sym (range_last n)) (order_next n ks at.0 at.1 at.2 (some_order n (at.0 ++ at.1) less))
 
+-- there are n of them
 pub count_once : (n : ℕ) (ks : List ℕ) → HoldsEachBelow n ks → length ks ≡ n
 count_once n ks once = length_permutation (range_with_len 0 n) ks (some_order n ks once) ∙ length-range_with_len 0 n
 
@@ -78,6 +85,7 @@ module _ {X : Type 0} (giving : ℕ → List X → Type 0) where
   few_given of_piece [] items none = omega (arith, ap length none)
   few_given of_piece (k ∷ ks) items (own, rest, is, here, more) = omega (arith, ap length is, length-append own rest, of_piece k own here, few_given of_piece ks rest more)
 
+  -- the same of all pieces
   pub few_given_once : ((k : ℕ) (own : List X) → giving k own → length own ≤ 1) → (n : ℕ) (items : List X) → AreGivenOnce giving n items → length items ≤ n
   few_given_once of_piece n items all = omega (arith, few_given of_piece all.order items all.given, count_once n all.order all.once)
 
@@ -113,5 +121,6 @@ module _ {X : Type 0} (giving : ℕ → List X → Type 0) where
           (later.0, later.1, omega (arith, ap m is, sums own rest, apart j own other here, later.2))
     ]
 
+    -- the same of all items
     pub given_here : (k n : ℕ) → k < n → ((j : ℕ) (own : List X) → j ≢ k → giving j own → m own ≡ 0) → (items : List X) → AreGivenOnce giving n items → (own : List X) × giving k own × (m items ≡ m own)
     given_here k n lt apart items all = only_here k apart all.order items (all.once k ∙ once_here k n lt) all.given

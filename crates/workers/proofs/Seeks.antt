@@ -9,9 +9,11 @@ use Rattle.claims.specs.Steps.{with_piece}
 use Rattle.workers.specs.Testing.{Judged, LowFails, Sought, LowAndTold}
 use Rattle.workers.proofs.Boards.{all_rest, none_raised, all_pieces, in_list, in_some, once_some}
 
+-- seats that have sought and are over
 abbrev pub Back : (ℕ → Type 0) → (ℕ → Type 0) → Opened → List Seated → Type 0
 Back passing failing board seats = All (λ s. Sought passing failing board s × (is_over s.view ≡ true)) seats
 
+-- what holds of two numbers holds of the lesser
 min_either : (Q : ℕ → Type 0) (m n : ℕ) → Q m → Q n → Q (min m n)
 min_either Q m n left right = elim (dec_le m n) [
   | yes le ↦ let e : m ≡ min m n = omega arith in subst Q e left
@@ -24,6 +26,7 @@ attained Q pieces [] start each = start
 attained Q pieces (s ∷ seats) start each =
     min_either Q s.view.low (least (λ v. v.low) pieces (views_of seats)) (each 0 s (omega arith)) (attained Q pieces seats start (all_rest (λ u. Q u.view.low) s seats each))
 
+-- the least is at most each
 least_below : (pieces : ℕ) (seats : List Seated) → All (λ s. least (λ v. v.low) pieces (views_of seats) ≤ s.view.low) seats
 least_below pieces [] k d lt = absurd (omega arith)
 least_below pieces (s ∷ seats) zero d lt = omega arith
@@ -50,6 +53,7 @@ module _ (passing failing : ℕ → Type 0) (board : Opened) (seats : List Seate
       (in_list (Judged passing (get_or seats i d).view) (get_or seats i d).view.drawn k (each i d below).0.judged here))
       (omega (arith, once k, once_some k drawn (omega arith)))
 
+-- one element more
 all_push : (Q : ℕ → Type 0) (xs : List ℕ) (k : ℕ) → All Q xs → Q k → All Q (xs ++ k ∷ [])
 all_push Q [] k each here zero d lt = here
 all_push Q [] k each here (suc i) d lt = absurd (omega arith)
