@@ -10,9 +10,11 @@ use std::sync::atomic::{AtomicU32, Ordering};
 const COUNTED: usize = 3;
 
 /// Counts, for each of the first three transactions, the runs that began, and those that were made;
-/// and keeps the last run of a transaction whose first reply was `no`.
+/// and keeps the last run of a transaction whose first reply was `no`; and counts the runs that began
+/// of all transactions.
 #[derive(Drop)]
 pub struct Counting {
+    all: AtomicU32,
     begun: [AtomicU32; COUNTED],
     made: [AtomicU32; COUNTED],
     refused: [AtomicU32; COUNTED],
@@ -21,10 +23,16 @@ pub struct Counting {
 impl Counting {
     pub fn new() -> Counting {
         Counting {
+            all: AtomicU32::new(0),
             begun: [AtomicU32::new(0), AtomicU32::new(0), AtomicU32::new(0)],
             made: [AtomicU32::new(0), AtomicU32::new(0), AtomicU32::new(0)],
             refused: [AtomicU32::new(0), AtomicU32::new(0), AtomicU32::new(0)],
         }
+    }
+
+    /// How many runs began.
+    pub fn all(&self) -> u32 {
+        self.all.load(Ordering::SeqCst)
     }
 
     /// How many runs of each transaction began.
@@ -65,6 +73,9 @@ impl Gate for Counting {
     fn pass(&self, transaction: u32, child: u32) {
         if child != 0 {
             return;
+        }
+        if transaction != 0 {
+            self.all.fetch_add(1, Ordering::SeqCst);
         }
         if let Some(i) = place(transaction) {
             self.begun[i].fetch_add(1, Ordering::SeqCst);

@@ -23,6 +23,16 @@ fn run_by_two<R: Threads + Sync, G: Gate>(
     gate: &G,
 ) -> Result<u32, Fail> {
     let document = format!(in alloc; "{HEAD}{transactions}]}}")?;
+    run_document(threads, alloc, document.as_str(), gate)
+}
+
+/// Runs a document with two workers and pieces of one transaction.
+fn run_document<R: Threads + Sync, G: Gate>(
+    threads: &R,
+    alloc: Global,
+    document: &str,
+    gate: &G,
+) -> Result<u32, Fail> {
     let batch = read(alloc, document.as_bytes()).ok().ok_or("a batch")?;
     let plan = Plan::new(2, 1).ok_or("a plan")?;
     let outcome = execute(threads, alloc, &batch, plan, gate)?;
@@ -80,6 +90,32 @@ fn runs_are_made(rt: HostRuntime) -> Result<(), Fail> {
     assert_eq!(rt; run_by_two(&rt, rt.alloc(), transactions, &gate)?, 2);
     assert_eq!(rt; gate.made(), [1, 2, 0]);
     assert_eq!(rt; gate.refused(), [0, 2, 0]);
+    Ok(())
+}
+
+#[test]
+fn each_withdrawal_is_made_again_until_its_round(rt: HostRuntime) -> Result<(), Fail> {
+    let mut transactions = String::from_str(rt.alloc(), "[{\"op\":[\"a\",\"withdraw\",1]}]")?;
+    for _ in 1..100 {
+        transactions.push_str(",[{\"op\":[\"a\",\"withdraw\",1]}]")?;
+    }
+    let gate = Counting::new();
+    assert_eq!(rt;
+        run_by_two(&rt, rt.alloc(), transactions.as_str(), &gate)?,
+        100
+    );
+    assert_eq!(rt; gate.begun(), [1, 2, 3]);
+    assert_eq!(rt; gate.all(), 5050);
+    Ok(())
+}
+
+#[test]
+fn another_keys_lookup_is_not_made_again(rt: HostRuntime) -> Result<(), Fail> {
+    let document =
+        "{\"ordtx\":1,\"objects\":[{\"name\":\"d\",\"kind\":\"directory\",\"start\":[]}],\"transactions\":[[{\"op\":[\"d\",\"bind\",\"k\",\"v\"]}],[{\"op\":[\"d\",\"lookup\",\"k\"]}],[{\"op\":[\"d\",\"lookup\",\"j\"]}]]}";
+    let gate = Counting::new();
+    assert_eq!(rt; run_document(&rt, rt.alloc(), document, &gate)?, 2);
+    assert_eq!(rt; gate.begun(), [1, 2, 1]);
     Ok(())
 }
 

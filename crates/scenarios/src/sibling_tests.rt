@@ -1,8 +1,7 @@
 //! Children of parallel steps, run at once.
 ghost use Rattle.std.specs.Prelude.{◌≤◌};
 
-use crate::ChildCounting;
-use crate::Meeting;
+use crate::{ChildCounting, Meeting};
 use atoms::{CounterReply, Item, QueueReply};
 use lang::read;
 use objects::{Entry, Reply};
