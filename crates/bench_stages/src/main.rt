@@ -3,15 +3,14 @@
 //! running it on one thread, and of writing its report into a text. With no argument it prints nothing.
 #![tactic(auto)]
 
-use std::alloc::Global;
-use std::process::ExitCode;
-use std::time::{Clock, Instant};
-use std::{env, fs};
-
 use lang::read;
 use one_thread::plain;
 use report::render_plain;
 use serde_json::Value;
+use std::alloc::Global;
+use std::process::ExitCode;
+use std::time::{Clock, Instant};
+use std::{env, fs};
 
 const MOST_OBJECTS: usize = 1_000;
 
