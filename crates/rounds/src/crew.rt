@@ -1,33 +1,47 @@
-//! What the passes of a round are run with, and how many workers check runs.
+//! What the passes of a round are run with, and how many workers pay.
 ghost use Rattle.std.specs.Prelude.{◌≤◌};
 
 use crate::plan::Plan;
+use batch::Batch;
 use speculate::Run;
 use std::alloc::Global;
 
-/// The right to start threads, the allocator, how many workers there are, and the gate that sees
-/// them.
+/// The right to start threads, the allocator, how many workers there are, the gate that sees them, and
+/// how many operations a run may be taken to have.
 #[derive(Drop)]
 pub(crate) struct Crew<'a, R, G> {
     pub(crate) threads: &'a R,
     pub(crate) alloc: Global,
     pub(crate) plan: Plan,
     pub(crate) gate: &'a G,
+    pub(crate) operations_each: usize,
 }
 
-/// How many operations a worker checks, at the least, for each transaction of a cut above 1: fewer
-/// are checked sooner than a thread starts.
+/// How many operations a worker performs or checks, at the least, for each transaction of a cut above
+/// 1: fewer are done sooner than a thread starts.
 const OPERATIONS: usize = 64;
 
-/// How many workers to check these runs with. The answers are the same for any number of them. A
-/// cut of 1 asks for as many as there are, and a coarser one for no more than pay.
-pub(crate) fn checkers(plan: Plan, runs: &[Run]) -> u32
+/// How many workers so many operations are shared out among. The answers are the same for any number
+/// of them. A cut of 1 asks for as many as there are, and a coarser one for no more than pay.
+pub(crate) fn paying(plan: Plan, operations: usize) -> u32
     ensures { (1 ≤ result) × (result ≤ plan.workers) }
 {
     let share = 1 + OPERATIONS * (plan.cut as usize - 1);
+    let workers = (operations / share).min(plan.workers as usize);
+    workers.max(1) as u32
+}
+
+/// How many workers to check these runs with.
+pub(crate) fn checkers(plan: Plan, runs: &[Run]) -> u32
+    ensures { (1 ≤ result) × (result ≤ plan.workers) }
+{
     let operations = runs
         .iter()
         .fold(0usize, |sum, run| sum.saturating_add(run.entries.len()));
-    let paying = (operations / share).min(plan.workers as usize);
-    paying.max(1) as u32
+    paying(plan, operations)
+}
+
+/// How many operations a transaction of the batch has, taken over all of them, rounded up.
+pub(crate) fn operations_each(batch: &Batch) -> usize {
+    (batch.operations() as usize).div_ceil(batch.transactions.len().max(1))
 }

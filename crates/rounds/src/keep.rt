@@ -50,6 +50,7 @@ pub(crate) fn keep_all<R: Threads + Sync, G: Gate>(
         alloc,
         plan,
         gate,
+        ..
     } = *crew;
     give_all(
         threads,

@@ -5,7 +5,7 @@ ghost use Rattle.std.specs.List.{All};
 ghost use Rattle.meaning.specs.Entries.{kinds};
 ghost use Rattle.rounds.specs.Passes.{CanBeMade, AreMade};
 
-use crate::crew::Crew;
+use crate::crew::{Crew, paying};
 use batch::Batch;
 use speculate::{Gate, NoMemory, Objects, Run, run};
 use std::alloc::Global;
@@ -78,14 +78,16 @@ pub(crate) fn make_all<R: Threads + Sync, G: Gate>(
         alloc,
         plan,
         gate,
+        operations_each,
     } = *crew;
     let cut = plan.cut as usize;
+    let operations = numbers.len().saturating_mul(operations_each);
     let width = plan.width(numbers.len() as u32);
     give_all(
         threads,
         alloc,
         numbers.len().div_ceil(cut) as u32,
-        plan.workers,
+        paying(plan, operations),
         &|piece: u32| -> Result<Vec<Made>, NoMemory>
             requires { (cut ≤ 1000) × (piece * cut < length numbers.now) × (1 ≤ width) × (width ≤ 64) × (kinds objects.now ≡ kinds batch.now.objects) × All (λ n. CanBeMade batch.now objects.now n) numbers.now }
             ensures { IfOk result (λ made. AreMade batch.entry.now objects.entry.now (slice_chunk numbers.entry.now cut piece) made.items) }

@@ -12,7 +12,7 @@ ghost use Rattle.rounds.specs.Passes.{CanBeMade, nets_of, times, AreRenewed};
 ghost use Rattle.rounds.specs.Openings.{AreCounts};
 
 use crate::check::first_conflict;
-use crate::crew::{Crew, checkers};
+use crate::crew::{Crew, checkers, operations_each};
 use crate::keep::keep_all;
 use crate::make::{Made, make_all};
 use crate::plan::Plan;
@@ -157,6 +157,7 @@ pub fn execute<R: Threads + Sync, G: Gate>(
         alloc,
         plan,
         gate,
+        operations_each: operations_each(batch),
     };
     'opening: while opened < count {
         renew(&crew, batch, &objects, &stale, &mut runs, &mut counts)?;

@@ -5,9 +5,9 @@ use crate::speculated::Run;
 /// changes no answer.
 ///
 /// `pass(t, 0)` is called as a run of transaction `t` starts, `pass(t, c)` as child `c` of one of
-/// its parallel blocks starts (counted from 1), `pass(0, i)` as the check of the `i`-th run of a
-/// round starts (from 1), and `pass(0, 10000 + i)` as a worker begins to decide whether the `i`-th
-/// pending run of a later opening (from 1) is kept.
+/// its parallel blocks starts (counted from 1), once more where it is run again, `pass(0, i)` as the
+/// check of the `i`-th run of a round starts (from 1), and `pass(0, 10000 + i)` as a worker begins to
+/// decide whether the `i`-th pending run of a later opening (from 1) is kept.
 pub trait Gate: Sync {
     fn pass(&self, transaction: u32, child: u32);
 
