@@ -134,7 +134,7 @@ can_run_younger child younger held state h =
 
 -- ---- transactions
 
-well_formed_at : (blocks : List meant.Block) (ks : List Kind) (i : ℕ) → AllWellFormed blocks ks → i < length blocks → IsWellFormed (block_at blocks i) [] ks
+pub well_formed_at : (blocks : List meant.Block) (ks : List Kind) (i : ℕ) → AllWellFormed blocks ks → i < length blocks → IsWellFormed (block_at blocks i) [] ks
 well_formed_at [] ks i h lt = absurd (omega arith)
 well_formed_at (block ∷ blocks) ks zero h lt = h.0
 well_formed_at (block ∷ blocks) ks (suc i) h lt = well_formed_at blocks ks i h.1 (omega arith)

@@ -58,7 +58,7 @@ mutual
   step_count (Abort reason) labels state = omega arith
   step_count (Parallel children) labels state = children_count children labels state
 
-  handlers_count : (handlers : Handlers) (labels : List Held) (reason : Option ℕ) (state : State) → AtMost entries_of_handler (operations_of_handlers handlers) (one_handler handlers labels reason state)
+  pub handlers_count : (handlers : Handlers) (labels : List Held) (reason : Option ℕ) (state : State) → AtMost entries_of_handler (operations_of_handlers handlers) (one_handler handlers labels reason state)
   handlers_count (ForReason reason handler others) labels aborted state =
       handler_choice_count (is_for reason aborted) (one handler labels) (one_handler others labels aborted) state _ _ (block_count handler labels state) (handlers_count others labels aborted state)
   handlers_count (Otherwise handler) labels aborted state = block_count handler labels state

@@ -1,7 +1,7 @@
 -- Subactions by how their bodies end, and children of which the first were run.
-use Rattle.std.proofs.Common.{◌≡◌, ℕ, suc, ◌+◌, ◌<◌, ◌≤◌, List, [], ◌∷◌, ◌++◌, map, length, get_or, drop, refl, sym, ap, subst, ◌∙◌, arith, append_assoc, add-one, drop-cons, Option, None}
+use Rattle.std.proofs.Common.{◌≡◌, ℕ, ◌+◌, ◌<◌, ◌≤◌, List, [], ◌∷◌, ◌++◌, map, length, get_or, drop, refl, sym, ap, subst, ◌∙◌, append_assoc, Option, None}
 use Rattle.std.proofs.Math.ListN.{drop_of_length-le}
-use Rattle.std.proofs.lemmas.List.{map-append, append-nil}
+use Rattle.std.proofs.lemmas.List.{append-nil}
 use Rattle.std.specs.Prelude.{option_map}
 use Rattle.objects.specs.declared.entry.Entry.{Entry}
 use Rattle.meaning.specs.declared.end.End.{End}
@@ -9,24 +9,23 @@ use Rattle.meaning.specs.declared.end.End.TheVariants.{Ended, Aborted}
 use Rattle.meaning.specs.declared.held.Held.{Held}
 use Rattle.meaning.specs.declared.held.Held.TheVariants.{Outcome}
 use Rattle.meaning.specs.Entries.{State}
-use Rattle.meaning.specs.Trees.{Children, Child}
-use Rattle.meaning.specs.Records.{Taken, TakenChild, Undone, TakenHandler, NoHandler, Handled, TakenChildren, entries_of_child, entries_of_children, kept_of_child, kept_of_children, entries_of_handler, kept_of_handler, entries, kept}
+use Rattle.meaning.specs.Records.{TakenChild, TakenChildren, entries_of_child, entries_of_children, kept_of_child, kept_of_children, entries_of_handler, kept_of_handler, entries, kept}
 use Rattle.meaning.specs.Shown.{shown, shown_child, shown_children, ShownChild, ShownChildren}
 use Rattle.meaning.specs.OneThread.{Run, Ran, record_of, outcome_of, labels_of, state_of, label_if, one, one_handler, one_children}
-use Rattle.meaning.specs.WellFormed.{AreWellFormed, operations, operations_of_handlers}
-use Rattle.meaning.specs.Running.{Keeps}
-use Rattle.meaning.proofs.Keeping.{block_keeps, handlers_keep, act_keeps}
 use Rattle.meaning.proofs.Nets.{block_leads, handlers_lead, act_leads}
+use Rattle.meaning.proofs.Parts.{act-ended, act-aborted, one_children-NoChild, one_children-Child, GoesOn, go_on_children-ended, go_on_children-aborted}
 use Rattle.batch.specs.Views as views
 use Rattle.batch.specs.Views.{Tried, subaction_view, children_view, record_view, tried_view, all_tried_view, before_younger}
+use Rattle.batch.specs.Running.{CanRunHere, CanHandleHere, CanTryHere, CanRunAllHere, acted}
 use Rattle.batch.specs.declared.tree.Subaction.{Subaction}
 use Rattle.batch.specs.declared.record.Record.{Record}
+use Rattle.batch.proofs.CanRun.{can_try, can_run_younger}
+use Rattle.batch.proofs.TakenLemmas.{shown_undone, children_from, next_child, children_after, children_after-more, shown_children-after, more_children}
 use Rattle.intentions.specs.Levels.{Intentions as View, shown as state_of_view, begun, committed, aborted, absorbed}
-use Rattle.speculate.specs.Running.{CanRunHere, CanHandleHere, CanTryHere, CanRunAllHere, ShowsRun, ShowsHandler, ShowsTried, ShowsChildren, shown_handler, acted}
+use Rattle.speculate.specs.Running.{ShowsRun, ShowsHandler, ShowsTried, ShowsChildren}
 use Rattle.speculate.specs.Ahead.{Leads}
 use Rattle.speculate.specs.declared.executor.Tried as executed
 use Rattle.speculate.proofs.Absorbed.{absorbed-none, absorbed-then, shown-absorbed, shown-begun, committed-begun, aborted-begun, shown-aborted}
-use Rattle.speculate.proofs.Meant.{act-ended, act-aborted, one_children-NoChild, one_children-Child, GoesOn, go_on_children-ended, go_on_children-aborted}
 
 -- ---- one subaction
 
@@ -70,11 +69,6 @@ pub handlers_can_run : (child : Tried) (held : List Held) (before mid next : Vie
 handlers_can_run child held before mid next body can shows is =
     subst (CanHandleHere child.handlers held) (sym (aborted_state child held before mid next body shows is)) can.handlers
 
--- a body and a handler as they are shown
-shown_undone : (body : Taken) (reason : Option ℕ) (handler : TakenHandler) → views.shown_child (shown body (Aborted reason), shown_handler handler) ≡ shown_child (Undone body reason handler)
-shown_undone body reason NoHandler = refl
-shown_undone body reason (Handled handler outcome) = refl
-
 -- a subaction whose body aborted
 pub tried-aborted : (child : Tried) (held : List Held) (before mid next now : View) (body : Record) (reason : Option ℕ) (handler : Option Record) (how : End) (done : executed.Tried)
     → ShowsRun (one child.body held (state_of_view (begun before))) body (begun before) mid → body.outcome ≡ Aborted reason → next ≡ aborted mid
@@ -100,11 +94,7 @@ tried-aborted child held before mid next now body reason handler how done shows_
 
 -- ---- children
 
--- the records of these children, and then of others
-pub children_after : List TakenChild → TakenChildren → TakenChildren
-children_after [] younger = younger
-children_after (child ∷ children) younger = TakenChildren.Child child (children_after children younger)
-
+-- what children that were reached performed, and what of it is kept
 pub all_entries : List TakenChild → List Entry
 all_entries [] = []
 all_entries (child ∷ children) = entries_of_child child ++ all_entries children
@@ -112,11 +102,6 @@ all_entries (child ∷ children) = entries_of_child child ++ all_entries childre
 pub all_kept : List TakenChild → List Entry
 all_kept [] = []
 all_kept (child ∷ children) = kept_of_child child ++ all_kept children
-
-children_after-more : (children : List TakenChild) (child : TakenChild) (rest : TakenChildren) → children_after (children ++ child ∷ []) rest ≡ children_after children (TakenChildren.Child child rest)
-unfolding children_after
-children_after-more [] child rest = refl
-children_after-more (first ∷ children) child rest = ap (TakenChildren.Child first) (children_after-more children child rest)
 
 all_entries-more : (children : List TakenChild) (child : TakenChild) → all_entries children ++ entries_of_child child ≡ all_entries (children ++ child ∷ [])
 unfolding all_entries
@@ -138,35 +123,6 @@ unfolding children_after all_kept
 kept-after [] = refl
 kept-after (child ∷ children) = ap (λ es. kept_of_child child ++ es) (kept-after children)
 
-shown-after : (children : List TakenChild) → shown_children (children_after children TakenChildren.NoChild) ≡ before_younger (map shown_child children) ShownChildren.NoChild
-unfolding children_after
-shown-after [] = refl
-shown-after (child ∷ children) = ap (ShownChildren.Child (shown_child child)) (shown-after children)
-
--- the first child can be tried, and the others run after it
-pub can_try : (child : Tried) (younger : Children) (held : List Held) (state : State) → CanRunAllHere (Child child.body child.handlers child.labelled younger) held state → CanTryHere child held state
-can_try child younger held state h =
-    record {
-      body = record { labels = h.labels; held_by = h.held_by; well_formed = h.well_formed.0; room = omega (arith, h.room) };
-      handlers = record { labels = h.labels; held_by = h.held_by; well_formed = h.well_formed.1; room = omega (arith, h.room) };
-      room = omega (arith, h.room);
-    }
-
--- what a subaction keeps
-acted_keeps : (child : Tried) (held : List Held) (state : State) → Keeps (operations child.body + operations_of_handlers child.handlers) state (state_of (acted child held state))
-acted_keeps child held state =
-    act_keeps child.labelled (one child.body held state) (one_handler child.handlers held) state (operations child.body) (operations_of_handlers child.handlers) (block_keeps child.body held state) (λ reason. handlers_keep child.handlers held reason state)
-
-can_run_younger : (child : Tried) (younger : Children) (held : List Held) (state : State) → CanRunAllHere (Child child.body child.handlers child.labelled younger) held state → CanRunAllHere younger held (state_of (acted child held state))
-can_run_younger child younger held state h =
-    let keeps = acted_keeps child held state in
-    record {
-      labels = h.labels;
-      held_by = h.held_by;
-      well_formed = subst (λ ks. AreWellFormed younger h.labels ks) (sym keeps.same_kinds) h.well_formed.2;
-      room = omega (arith, h.room, keeps.growth);
-    }
-
 -- of these children the first i were run, from a view to another
 pub record ArePartTried (children : List Subaction) (held : List Held) (before : View) (i : ℕ) (tried : List (Record × Option Record)) (outcomes : List Held) (now : View) : Type 0 where
   pub done : List TakenChild
@@ -180,14 +136,6 @@ pub record ArePartTried (children : List Subaction) (held : List Held) (before :
 pub part_tried-start : (children : List Subaction) (held : List Held) (before : View) → CanRunAllHere (children_view children) held (state_of_view before) → ArePartTried children held before 0 [] [] before
 unfolding children_after all_entries all_kept
 part_tried-start children held before h = record { done = []; whole = refl; outcome = refl; labels = refl; can = h; tree = refl; view = absorbed-none before }
-
--- the children from the next one on
-abbrev children_from : Tried → Children → Children
-children_from child younger = Child child.body child.handlers child.labelled younger
-
-next_child : (children : List Subaction) (i : ℕ) (x : Subaction) → i < length children → x ≡ get_or children i x → children_view (drop i children) ≡ children_from (subaction_view x) (children_view (drop (i + 1) children))
-next_child children i x lt e =
-    ap children_view (drop-cons children i x lt) ∙ ap (λ y. children_from (subaction_view y) (children_view (drop (suc i) children))) (sym e) ∙ rw add-one refl
 
 pub part_tried-can_try : (children : List Subaction) (held : List Held) (before : View) (i : ℕ) (tried : List (Record × Option Record)) (outcomes : List Held) (now : View) (x : Subaction)
     → ArePartTried children held before i tried outcomes now → i < length children → x ≡ get_or children i x → CanTryHere (subaction_view x) held (state_of_view now)
@@ -206,11 +154,6 @@ shows_state : (child : Tried) (held : List Held) (now next : View)
 shows_state child held now next is =
     (acted_leads child held (state_of_view now)).1
     ∙ sym (shown-absorbed now (entries_of_child (record_of (acted child held (state_of_view now)))) (kept_of_child (record_of (acted child held (state_of_view now))))) ∙ ap state_of_view (sym is)
-
--- the trees of the children so far, and of one more
-more_trees : (tried : List (Record × Option Record)) (done : List TakenChild) (one_more : Record × Option Record) (child : TakenChild) → map tried_view tried ≡ map shown_child done → tried_view one_more ≡ shown_child child → map tried_view (tried ++ one_more ∷ []) ≡ map shown_child (done ++ child ∷ [])
-more_trees tried done one_more child trees tree =
-    map-append tried_view tried (one_more ∷ []) ∙ ap (λ xs. xs ++ tried_view one_more ∷ []) trees ∙ ap (λ y. map shown_child done ++ y ∷ []) tree ∙ sym (map-append shown_child done (child ∷ []))
 
 -- what a view took in of the children so far, and of one more
 more_absorbed : (before now next : View) (done : List TakenChild) (child : TakenChild) → now ≡ absorbed before (all_entries done) (all_kept done) → next ≡ absorbed now (entries_of_child child) (kept_of_child child)
@@ -238,7 +181,7 @@ part_tried-more children held before i tried outcomes now x done next pair more 
       outcome = h.outcome ∙ ap outcome_of here ∙ goes.outcome ∙ ap outcome_of there;
       labels = h.labels ∙ ap (λ ls. outcomes ++ ls) (ap labels_of here ∙ goes.labels ∙ ap (λ ls. ls ++ labels_of (one_children younger held (state_of run))) (shows.labels ended ∙ sym more_is) ∙ ap (λ r. more ++ labels_of r) there) ∙ sym (append_assoc outcomes more _);
       can = subst (CanRunAllHere younger held) state (can_run_younger child younger held (state_of_view now) (subst (λ c. CanRunAllHere c held (state_of_view now)) (next_child children i x lt is) h.can));
-      tree = more_trees tried h.done pair (record_of run) h.tree (ap tried_view pair_is ∙ shows.tree);
+      tree = more_children tried h.done pair (record_of run) h.tree (ap tried_view pair_is ∙ shows.tree);
       view = more_absorbed before now next h.done (record_of run) h.view shows.view;
     }
 
@@ -248,7 +191,7 @@ shows_children : (run : Run TakenChildren) (before now : View) (tried : List (Re
     → ShowsChildren run tried how outcomes before now
 shows_children run before now tried done outcomes how is ends labels tree view =
     record {
-      tree = ap (λ ts. before_younger ts ShownChildren.NoChild) tree ∙ sym (shown-after done) ∙ ap shown_children (sym is);
+      tree = ap (λ ts. before_younger ts ShownChildren.NoChild) tree ∙ sym (shown_children-after done) ∙ ap shown_children (sym is);
       end = sym ends;
       labels = labels;
       view = view ∙ ap (λ es. absorbed before es (all_kept done)) (sym (entries-after done) ∙ ap entries_of_children (sym is)) ∙ ap (absorbed before (entries_of_children (record_of run))) (sym (kept-after done) ∙ ap kept_of_children (sym is));
@@ -276,7 +219,7 @@ part_tried-aborted children held before i tried outcomes now x done next reason 
     (h.whole ∙ ap (children_after h.done) (ap record_of goes ∙ off.0) ∙ sym (children_after-more h.done (record_of run) TakenChildren.NoChild))
     (h.outcome ∙ ap outcome_of goes ∙ off.1 ∙ sym aborted)
     (λ ended. let absurd_end : Ended ≡ Aborted reason = sym ended ∙ aborted in absurd cc)
-    (more_trees tried h.done pair (record_of run) h.tree (ap tried_view pair_is ∙ shows.tree))
+    (more_children tried h.done pair (record_of run) h.tree (ap tried_view pair_is ∙ shows.tree))
     (more_absorbed before now next h.done (record_of run) h.view shows.view)
 
 -- what the executor needs of a child that it tries

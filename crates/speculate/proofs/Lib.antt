@@ -1,5 +1,4 @@
 pub mod Absorbed
-pub mod Meant
 pub mod Steps
 pub mod Children
 pub mod Handling

@@ -1,21 +1,20 @@
 -- There is room for what a child leaves.
-use Rattle.std.proofs.Common.{◌≡◌, ℕ, zero, suc, ◌+◌, ◌≤◌, List, [], ◌∷◌, ◌++◌, length, Some, ap, arith, length-append}
+use Rattle.std.proofs.Common.{◌≡◌, ℕ, zero, suc, ◌≤◌, List, [], ◌∷◌, length, Bool, Option, Some, ap, arith, length-append}
 use Rattle.objects.specs.declared.call.Call.{Call}
 use Rattle.objects.specs.declared.call.Reply.{Reply}
 use Rattle.objects.specs.declared.entry.Entry.{Entry}
 use Rattle.meaning.specs.declared.end.End.TheVariants.{Ended, Aborted}
 use Rattle.meaning.specs.declared.held.Held.{Held}
 use Rattle.meaning.specs.Entries.{State, kinds, reply_at, after_call, AreLegal}
-use Rattle.meaning.specs.Trees.{NoStep, Steps, Subaction}
 use Rattle.meaning.specs.Records.{Taken, Nothing, Took, TakenStep, Performed, Branched, Acted, InParallel, TakenChild, Committed, Undone, TakenHandler, NoHandler, Handled, TakenChildren, NoChild, Child, entries, entries_of_step, entries_of_child, entries_of_handler, entries_of_children, kept, kept_of_step, kept_of_child, kept_of_handler, kept_of_children}
-use Rattle.meaning.specs.OneThread.{Run, Ran, record_of, as_step, go_on, one}
+use Rattle.meaning.specs.OneThread.{Run, Ran, record_of, act, one, one_handler}
 use Rattle.meaning.specs.WellFormed.{CallFits, operations, operations_of_handlers, HasRoom}
 use Rattle.meaning.proofs.Keeping.{perform, call_keeps}
-use Rattle.meaning.proofs.Counting.{entries_count}
+use Rattle.meaning.proofs.Counting.{entries_count, handlers_count}
 use Rattle.batch.specs.Views.{Tried}
+use Rattle.batch.specs.Running.{CanTryHere, acted}
 use Rattle.intentions.specs.Levels.{AllHaveRoom}
 use Rattle.intentions.proofs.EntriesLemmas.{legal-fits}
-use Rattle.speculate.specs.Running.{CanTryHere, acted}
 
 -- ---- legal entries have room where there is room for as many operations
 
@@ -59,22 +58,16 @@ mutual
   kept_of_children-le (Child child younger) =
       omega (arith, kept_of_child-le child, kept_of_children-le younger, length-append (kept_of_child child) (kept_of_children younger), length-append (entries_of_child child) (entries_of_children younger))
 
--- ---- a child has no more entries than operations
+-- ---- what a child leaves is its body's or its handler's
 
-first_count : (step : Run TakenStep) (held : List Held) → length (entries_of_step (record_of step)) ≤ length (entries (record_of (go_on step (λ added mid. one NoStep (held ++ added) mid))))
-unfolding one
-first_count (Ran step Ended labels state) held = omega (arith, length-append (entries_of_step step) [])
-first_count (Ran step (Aborted reason) labels state) held = omega (arith, length-append (entries_of_step step) [])
-
-child_count : (child : Tried) (held : List Held) (state : State) → length (entries_of_child (record_of (acted child held state))) ≤ operations child.body + operations_of_handlers child.handlers
-unfolding one
-child_count child held state =
-    let whole = entries_count (Steps (Subaction child.body child.handlers child.labelled) NoStep) held state in
-    let first = first_count (as_step Acted (acted child held state)) held in
-    omega arith
+act_has_room : (labelled : Bool) (body : Run Taken) (handlers : Option ℕ → State → Run TakenHandler) (state : State) (m n : ℕ) → HasRoom state m → HasRoom state n → length (entries (record_of body)) ≤ m
+    → ((reason : Option ℕ) → length (entries_of_handler (record_of (handlers reason state))) ≤ n) → AreLegal state (kept_of_child (record_of (act labelled body handlers state))) → AllHaveRoom state (kept_of_child (record_of (act labelled body handlers state)))
+act_has_room labelled (Ran body Ended labels mid) handlers state m n room other few fewer legal = legal_has_room state (kept body) m legal (omega (arith, kept-le body, few)) room
+act_has_room labelled (Ran body (Aborted reason) labels mid) handlers state m n other room few fewer legal =
+    legal_has_room state (kept_of_handler (record_of (handlers reason state))) n legal (omega (arith, kept_of_handler-le (record_of (handlers reason state)), fewer reason)) room
 
 -- what a child leaves has room, where it is legal
 pub child_has_room : (child : Tried) (held : List Held) (state : State) → CanTryHere child held state → AreLegal state (kept_of_child (record_of (acted child held state))) → AllHaveRoom state (kept_of_child (record_of (acted child held state)))
 child_has_room child held state can legal =
-    legal_has_room state (kept_of_child (record_of (acted child held state))) (operations child.body + operations_of_handlers child.handlers) legal
-    (omega (arith, kept_of_child-le (record_of (acted child held state)), child_count child held state)) can.room
+    act_has_room child.labelled (one child.body held state) (one_handler child.handlers held) state (operations child.body) (operations_of_handlers child.handlers) can.body.room can.handlers.room
+    (entries_count child.body held state) (λ reason. handlers_count child.handlers held reason state) legal

@@ -18,19 +18,21 @@ use Rattle.meaning.specs.Shown.{shown_child}
 use Rattle.meaning.specs.OneThread.{Run, Ran, record_of, outcome_of, labels_of, go_on_children, one, one_children}
 use Rattle.meaning.specs.Laws.{carried}
 use Rattle.meaning.proofs.Nets.{lead_on}
+use Rattle.meaning.proofs.Parts.{one_children-Child}
 use Rattle.meaning.proofs.Shift.{children_shift}
 use Rattle.batch.specs.Views.{Tried, subaction_view, children_view}
+use Rattle.batch.specs.Running.{CanTryHere, CanRunAllHere, acted}
 use Rattle.batch.specs.declared.tree.Subaction.{Subaction}
+use Rattle.batch.proofs.CanRun.{can_try}
 use Rattle.intentions.specs.Levels.{Intentions as View, shown as state_of_view, AllEntriesLegal, AllHaveRoom, absorbed}
 use Rattle.intentions.specs.Committed.{AllStand}
 use Rattle.intentions.proofs.IndexLemmas.{length-range}
-use Rattle.speculate.specs.Running.{CanTryHere, CanRunAllHere, ShowsTried, acted}
+use Rattle.speculate.specs.Running.{ShowsTried}
 use Rattle.speculate.specs.Ahead.{CanAllTry, Leads, IsRunAhead, AreRunAhead, IsRunBefore}
 use Rattle.speculate.specs.declared.executor.Ahead.{Ahead}
 use Rattle.speculate.specs.declared.executor.Tried as executed
 use Rattle.speculate.proofs.Absorbed.{shown-absorbed}
-use Rattle.speculate.proofs.Children.{acted_leads, can_try}
-use Rattle.speculate.proofs.Meant.{one_children-Child}
+use Rattle.speculate.proofs.Children.{acted_leads}
 use Rattle.speculate.proofs.Room.{child_has_room}
 
 -- ---- a child past what its elder siblings left

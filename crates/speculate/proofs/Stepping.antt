@@ -1,7 +1,6 @@
--- The steps of a block, kind by kind.
-use Rattle.std.proofs.Common.{◌≡◌, ℕ, ◌<◌, Bool, true, false, List, [], ◌++◌, length, get_or, refl, sym, ap, subst, ◌∙◌, arith, Option, Some, Vec, Global}
+-- What the steps of a block show, kind by kind.
+use Rattle.std.proofs.Common.{◌≡◌, ℕ, Bool, true, false, List, [], ◌++◌, get_or, refl, sym, ap, subst, ◌∙◌, Option, Some, Vec, Global}
 use Rattle.std.proofs.lemmas.List.{append-nil}
-use Rattle.std.proofs.lemmas.Option.{slice_get_within, get_or_from_slice_get}
 use Rattle.objects.specs.declared.call.Call.{Call}
 use Rattle.objects.specs.declared.call.Reply.{Reply}
 use Rattle.meaning.specs.declared.end.End.{End}
@@ -10,39 +9,30 @@ use Rattle.meaning.specs.declared.held.Held.{Held}
 use Rattle.meaning.specs.declared.held.Held.TheVariants.{Replied, Outcome}
 use Rattle.meaning.specs.declared.test.Test.{Test}
 use Rattle.meaning.specs.Entries.{State, reply_at, after_call}
-use Rattle.meaning.specs.Labels.{holds, holds_of, if_there}
+use Rattle.meaning.specs.Labels.{holds, holds_of}
 use Rattle.meaning.specs.Trees as meant
 use Rattle.meaning.specs.Records.{Performed, Acted, InParallel, TakenStep}
 use Rattle.meaning.specs.Shown.{ShownStep}
 use Rattle.meaning.specs.OneThread.{Run, Ran, label_if, operate, choose, as_branch, act, as_step, one, one_step, one_handler, one_children}
-use Rattle.meaning.specs.Running.{CanPerform, IsBound}
-use Rattle.meaning.proofs.Keeping.{perform}
-use Rattle.meaning.proofs.HeldLabels.{test}
-use Rattle.batch.specs.Views.{Tried, block_view, step_view, subaction_view, children_view}
+use Rattle.batch.specs.Views.{block_view, step_view, subaction_view, children_view}
+use Rattle.batch.specs.Running.{CanStepHere, acted}
 use Rattle.batch.specs.declared.tree.Block.{Block}
 use Rattle.batch.specs.declared.tree.Step.{Step, Op, If, Sub, Abort, Parallel}
 use Rattle.batch.specs.declared.tree.Subaction.{Subaction}
 use Rattle.batch.specs.declared.record.Record.{Record}
 use Rattle.batch.specs.declared.record.Taken as taken
 use Rattle.batch.proofs.ViewLemmas.{step_view-Op, step_view-If, step_view-Sub, step_view-Abort, step_view-Parallel, taken_view-Op, taken_view-If, taken_view-Sub, taken_view-Abort, taken_view-Parallel}
+use Rattle.batch.proofs.CanRun.{if-holds}
 use Rattle.intentions.specs.Levels.{Intentions as View, shown as state_of_view, performed}
-use Rattle.speculate.specs.Running.{CanRunHere, CanStepHere, CanTryHere, CanRunAllHere, ShowsRun, ShowsStep, ShowsTried, ShowsChildren, acted}
+use Rattle.speculate.specs.Running.{ShowsRun, ShowsStep, ShowsTried, ShowsChildren}
 use Rattle.speculate.specs.declared.executor.Tried as executed
 use Rattle.speculate.proofs.Absorbed.{absorbed-none}
 
 -- what a step is, seen as a tree
-can_as : (step : Step) (tree : meant.Step) (held : List Held) (state : State) → step_view step ≡ tree → CanStepHere (step_view step) held state → CanStepHere tree held state
-can_as step tree held state is h = subst (λ s. CanStepHere s held state) is h
-
 shows_as : (step : Step) (tree : meant.Step) (held : List Held) (state : State) (run : Run TakenStep) → step_view step ≡ tree → one_step tree held state ≡ run → run ≡ one_step (step_view step) held state
 shows_as step tree held state run is runs = sym (ap (λ s. one_step s held state) is ∙ runs)
 
 -- ---- operations
-
-pub op-can : (step : Step) (object : ℕ) (call : Call) (labelled : Bool) (held : List Held) (state : State) → step ≡ Op object call labelled → CanStepHere (step_view step) held state → CanPerform state object call
-op-can step object call labelled held state is h =
-    let here = can_as step (meant.Operation object call labelled) held state (ap step_view is ∙ step_view-Op object call labelled) h in
-    perform state object call here.well_formed here.room
 
 operation_runs : (object : ℕ) (call : Call) (labelled : Bool) (held : List Held) (state : State) (reply : Reply) → reply_at state object call ≡ Some reply
     → one_step (meant.Operation object call labelled) held state ≡ Ran (Performed (record { object = object; call = call; reply = reply })) Ended (label_if labelled (Replied reply)) (after_call state object call)
@@ -57,34 +47,6 @@ op-shows step object call labelled held seen before now reply is replies view la
     subst (λ r. ShowsStep r (taken.Op reply) Ended held seen before now) run (record { tree = taken_view-Op reply; end = refl; labels = λ _. labels; view = view })
 
 -- ---- ifs
-
-bound : (step : Step) (label : ℕ) (t : Test) (then otherwise : Block) (held : List Held) (state : State) → step ≡ If label t then otherwise → CanStepHere (step_view step) held state → IsBound held label t
-bound step label t then otherwise held state is h =
-    let here = can_as step (meant.If label t (block_view then) (block_view otherwise)) held state (ap step_view is ∙ step_view-If label t then otherwise) h in
-    test held here.labels label t here.held_by here.well_formed.0
-
-pub if-bound : (step : Step) (label : ℕ) (t : Test) (then otherwise : Block) (held : List Held) (state : State) → step ≡ If label t then otherwise → CanStepHere (step_view step) held state → label < length held
-if-bound step label t then otherwise held state is h =
-    let b = bound step label t then otherwise held state is h in slice_get_within held label b.found b.is
-
--- the test of what was read is that of the label
-if-holds : (step : Step) (label : ℕ) (t : Test) (then otherwise : Block) (held : List Held) (state : State) (read : Held) → step ≡ If label t then otherwise → CanStepHere (step_view step) held state → read ≡ get_or held label read
-    → holds held label t ≡ holds_of t read
-if-holds step label t then otherwise held state read is h reads =
-    let b = bound step label t then otherwise held state is h in
-    ap (λ o. if_there o (holds_of t)) b.is ∙ ap (holds_of t) (sym (reads ∙ get_or_from_slice_get held label b.found read b.is))
-
-if-can : (label : ℕ) (t : Test) (then otherwise : meant.Block) (held : List Held) (state : State) → CanStepHere (meant.If label t then otherwise) held state → CanRunHere then held state × CanRunHere otherwise held state
-if-can label t then otherwise held state h = (
-  record { labels = h.labels; held_by = h.held_by; well_formed = h.well_formed.1; room = omega (arith, h.room) },
-  record { labels = h.labels; held_by = h.held_by; well_formed = h.well_formed.2; room = omega (arith, h.room) },
-)
-
--- the branches can be run
-pub if-can_run : (step : Step) (label : ℕ) (t : Test) (then otherwise : Block) (held : List Held) (state : State) → step ≡ If label t then otherwise → CanStepHere (step_view step) held state
-    → CanRunHere (block_view then) held state × CanRunHere (block_view otherwise) held state
-if-can_run step label t then otherwise held state is h =
-    if-can label t (block_view then) (block_view otherwise) held state (can_as step (meant.If label t (block_view then) (block_view otherwise)) held state (ap step_view is ∙ step_view-If label t then otherwise) h)
 
 if_runs : (label : ℕ) (t : Test) (then otherwise : meant.Block) (held : List Held) (state : State) (chosen : Bool) → holds held label t ≡ chosen
     → one_step (meant.If label t then otherwise) held state ≡ choose chosen (one then held) (one otherwise held) state
@@ -119,19 +81,6 @@ if-shows_else step label t then otherwise held seen before now read chosen done 
 
 -- ---- subactions
 
-sub_can : (child : Tried) (held : List Held) (state : State) → CanStepHere (meant.Subaction child.body child.handlers child.labelled) held state → CanTryHere child held state
-sub_can child held state h =
-    record {
-      body = record { labels = h.labels; held_by = h.held_by; well_formed = h.well_formed.0; room = omega (arith, h.room) };
-      handlers = record { labels = h.labels; held_by = h.held_by; well_formed = h.well_formed.1; room = omega (arith, h.room) };
-      room = h.room;
-    }
-
-pub sub-can_try : (step : Step) (child : Subaction) (held : List Held) (state : State) → step ≡ Sub child → CanStepHere (step_view step) held state → CanTryHere (subaction_view child) held state
-sub-can_try step child held state is h =
-    let tried = subaction_view child in
-    sub_can tried held state (can_as step (meant.Subaction tried.body tried.handlers tried.labelled) held state (ap step_view is ∙ step_view-Sub child) h)
-
 sub_runs : (body : meant.Block) (handlers : meant.Handlers) (labelled : Bool) (held : List Held) (state : State)
     → one_step (meant.Subaction body handlers labelled) held state ≡ as_step Acted (act labelled (one body held state) (one_handler handlers held) state)
 unfolding one
@@ -163,11 +112,6 @@ abort-shows step reason held before is =
     subst (λ r. ShowsStep r taken.Abort (Aborted reason) held held before before) run (record { tree = taken_view-Abort; end = refl; labels = λ _. sym (append-nil held); view = absorbed-none before })
 
 -- ---- parallel steps
-
-pub parallel-can_run : (step : Step) (children : Vec Subaction Global) (held : List Held) (state : State) → step ≡ Parallel children → CanStepHere (step_view step) held state → CanRunAllHere (children_view children.items) held state
-parallel-can_run step children held state is h =
-    let here = can_as step (meant.Parallel (children_view children.items)) held state (ap step_view is ∙ step_view-Parallel children) h in
-    record { labels = here.labels; held_by = here.held_by; well_formed = here.well_formed; room = here.room }
 
 parallel_runs : (children : meant.Children) (held : List Held) (state : State) → one_step (meant.Parallel children) held state ≡ as_step InParallel (one_children children held state)
 unfolding one

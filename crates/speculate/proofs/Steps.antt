@@ -1,61 +1,31 @@
 -- A run of a block of which the first steps are taken.
-use Rattle.std.proofs.Common.{◌≡◌, ℕ, suc, ◌+◌, ◌<◌, ◌≤◌, List, [], ◌∷◌, ◌++◌, map, length, get_or, drop, refl, sym, ap, subst, ◌∙◌, arith, append_assoc, add-one, drop-cons, Option}
+use Rattle.std.proofs.Common.{◌≡◌, ℕ, ◌+◌, ◌<◌, ◌≤◌, List, [], ◌∷◌, ◌++◌, map, length, get_or, drop, refl, sym, ap, subst, ◌∙◌, append_assoc, Option}
 use Rattle.std.proofs.Math.ListN.{drop_of_length-le}
-use Rattle.std.proofs.lemmas.List.{map-append, append-nil}
+use Rattle.std.proofs.lemmas.List.{append-nil}
 use Rattle.objects.specs.declared.entry.Entry.{Entry}
 use Rattle.meaning.specs.declared.end.End.{End}
 use Rattle.meaning.specs.declared.end.End.TheVariants.{Ended, Aborted}
 use Rattle.meaning.specs.declared.held.Held.{Held}
-use Rattle.meaning.specs.Entries.{State}
 use Rattle.meaning.specs.Trees as meant
 use Rattle.meaning.specs.Records as record_tree
 use Rattle.meaning.specs.Records.{Nothing, Took, TakenStep, entries, entries_of_step, kept, kept_of_step}
-use Rattle.meaning.specs.Shown.{Shown, AtEnd, shown_step, shown}
+use Rattle.meaning.specs.Shown.{AtEnd, shown_step, shown}
 use Rattle.meaning.specs.OneThread.{Run, record_of, outcome_of, labels_of, state_of, one, one_step}
-use Rattle.meaning.specs.WellFormed.{IsWellFormed, added_by}
-use Rattle.meaning.proofs.HeldLabels.{more_labels, step_labels}
-use Rattle.meaning.proofs.Keeping.{step_keeps}
 use Rattle.meaning.proofs.Nets.{step_leads}
+use Rattle.meaning.proofs.Parts.{one-Steps, one-NoStep, go_on-ended, go_on-aborted}
 use Rattle.batch.specs.Views.{step_view, steps_view, taken_view, before_end}
+use Rattle.batch.specs.Running.{CanRunHere, CanStepHere, StillSeen}
 use Rattle.batch.specs.declared.tree.Step.{Step}
 use Rattle.batch.specs.declared.record.Record.{Record}
 use Rattle.batch.specs.declared.record.Taken.{Taken}
 use Rattle.batch.proofs.ViewLemmas.{record_view-is}
+use Rattle.batch.proofs.CanRun.{can_step, can_run_rest, still_same, still_then}
+use Rattle.batch.proofs.TakenLemmas.{next_step, record_after, record_after-more, shown_record-after, more_steps}
 use Rattle.intentions.specs.Levels.{Intentions as View, shown as state_of_view, absorbed}
-use Rattle.speculate.specs.Running.{CanRunHere, CanStepHere, StillSeen, ShowsRun, ShowsStep}
+use Rattle.speculate.specs.Running.{ShowsRun, ShowsStep}
 use Rattle.speculate.proofs.Absorbed.{absorbed-none, absorbed-then, shown-absorbed}
-use Rattle.speculate.proofs.Meant.{one-Steps, one-NoStep, go_on-ended, go_on-aborted}
 
--- the first step can be taken, and the others after it
-pub can_step : (step : meant.Step) (rest : meant.Block) (held : List Held) (state : State) → CanRunHere (meant.Steps step rest) held state → CanStepHere step held state
-can_step step rest held state h = record { labels = h.labels; held_by = h.held_by; well_formed = h.well_formed.0; room = omega (arith, h.room) }
-
-pub can_run_rest : (step : meant.Step) (rest : meant.Block) (held : List Held) (state : State) → CanRunHere (meant.Steps step rest) held state
-    → outcome_of (one_step step held state) ≡ Ended → CanRunHere rest (held ++ labels_of (one_step step held state)) (state_of (one_step step held state))
-can_run_rest step rest held state h ended =
-    let keeps = step_keeps step held state in
-    record {
-      labels = h.labels ++ added_by step;
-      held_by = more_labels held _ h.labels (added_by step) h.held_by (step_labels step held state ended);
-      well_formed = subst (λ ks. IsWellFormed rest (h.labels ++ added_by step) ks) (sym keeps.same_kinds) h.well_formed.1;
-      room = omega (arith, h.room, keeps.growth);
-    }
-
--- ---- labels that are seen still
-
-pub still_same : (held : List Held) → StillSeen held held
-still_same held = ([], sym (append-nil held))
-
-pub still_then : (first second third : List Held) → StillSeen first second → StillSeen second third → StillSeen first third
-still_then first second third h k = (h.0 ++ k.0, k.1 ∙ ap (λ x. x ++ k.0) h.1 ∙ append_assoc first h.0 k.0)
-
--- ---- steps that were taken
-
--- the record of these steps, and then of others
-pub record_after : List TakenStep → record_tree.Taken → record_tree.Taken
-record_after [] rest = rest
-record_after (step ∷ steps) rest = Took step (record_after steps rest)
-
+-- what steps that were taken performed, and what of it is kept
 pub all_entries : List TakenStep → List Entry
 all_entries [] = []
 all_entries (step ∷ steps) = entries_of_step step ++ all_entries steps
@@ -63,11 +33,6 @@ all_entries (step ∷ steps) = entries_of_step step ++ all_entries steps
 pub all_kept : List TakenStep → List Entry
 all_kept [] = []
 all_kept (step ∷ steps) = kept_of_step step ++ all_kept steps
-
-record_after-more : (steps : List TakenStep) (step : TakenStep) (rest : record_tree.Taken) → record_after (steps ++ step ∷ []) rest ≡ record_after steps (Took step rest)
-unfolding record_after
-record_after-more [] step rest = refl
-record_after-more (first ∷ steps) step rest = ap (Took first) (record_after-more steps step rest)
 
 all_entries-more : (steps : List TakenStep) (step : TakenStep) → all_entries steps ++ entries_of_step step ≡ all_entries (steps ++ step ∷ [])
 unfolding all_entries
@@ -89,11 +54,6 @@ unfolding record_after all_kept
 kept-after [] = refl
 kept-after (step ∷ steps) = ap (λ es. kept_of_step step ++ es) (kept-after steps)
 
-shown-after : (steps : List TakenStep) (outcome : End) → shown (record_after steps Nothing) outcome ≡ before_end (map shown_step steps) (AtEnd outcome)
-unfolding record_after
-shown-after [] outcome = refl
-shown-after (step ∷ steps) outcome = ap (Shown.First (shown_step step)) (shown-after steps outcome)
-
 -- ---- a part of a run
 
 -- of these steps the first i are taken, from labels and a view to others
@@ -109,11 +69,6 @@ pub record IsPartRun (steps : List Step) (held : List Held) (before : View) (i :
 pub part_run-start : (steps : List Step) (held : List Held) (before : View) → CanRunHere (steps_view steps) held (state_of_view before) → IsPartRun steps held before 0 [] held before
 unfolding record_after all_entries all_kept
 part_run-start steps held before h = record { done = []; whole = refl; outcome = refl; can = h; still = still_same held; tree = refl; view = absorbed-none before }
-
--- the steps from the next one on
-next_step : (steps : List Step) (i : ℕ) (x : Step) → i < length steps → x ≡ get_or steps i x → steps_view (drop i steps) ≡ meant.Steps (step_view x) (steps_view (drop (i + 1) steps))
-next_step steps i x lt e =
-    ap steps_view (drop-cons steps i x lt) ∙ ap (λ y. meant.Steps (step_view y) (steps_view (drop (suc i) steps))) (sym e) ∙ rw add-one refl
 
 pub part_run-can_step : (steps : List Step) (held : List Held) (before : View) (i : ℕ) (taken : List Taken) (seen : List Held) (now : View) (x : Step)
     → IsPartRun steps held before i taken seen now → i < length steps → x ≡ get_or steps i x → CanStepHere (step_view x) seen (state_of_view now)
@@ -148,7 +103,7 @@ part_run-more steps held before i taken seen now x done how seen_next next h lt 
       outcome = h.outcome ∙ ap outcome_of goes ∙ on.1 ∙ ap outcome_of there;
       can = subst (CanRunHere rest seen_next) state (subst (λ l. CanRunHere rest l (state_of run)) labels can);
       still = still_then held seen seen_next h.still still;
-      tree = map-append taken_view taken (done ∷ []) ∙ ap (λ xs. xs ++ taken_view done ∷ []) h.tree ∙ ap (λ y. map shown_step h.done ++ y ∷ []) shows.tree ∙ sym (map-append shown_step h.done (record_of run ∷ []));
+      tree = more_steps taken h.done done (record_of run) h.tree shows.tree;
       view = shows.view ∙ ap (λ v. absorbed v (entries_of_step (record_of run)) (kept_of_step (record_of run))) h.view ∙ absorbed-then before _ _ _ _
           ∙ ap (λ es. absorbed before es (all_kept h.done ++ kept_of_step (record_of run))) (all_entries-more h.done (record_of run)) ∙ ap (absorbed before (all_entries (h.done ++ record_of run ∷ []))) (all_kept-more h.done (record_of run));
     }
@@ -159,7 +114,7 @@ shows_run : (run : Run record_tree.Taken) (before now : View) (taken : List Take
     → ShowsRun run made before now
 shows_run run before now taken done made is ends items tree view =
     record {
-      tree = record_view-is made ∙ ap (λ ts. before_end (map taken_view ts) (AtEnd made.outcome)) items ∙ ap (λ ts. before_end ts (AtEnd made.outcome)) tree ∙ sym (shown-after done made.outcome)
+      tree = record_view-is made ∙ ap (λ ts. before_end (map taken_view ts) (AtEnd made.outcome)) items ∙ ap (λ ts. before_end ts (AtEnd made.outcome)) tree ∙ sym (shown_record-after done made.outcome)
           ∙ ap (λ e. shown (record_after done Nothing) e) (sym ends) ∙ ap (λ t. shown t (outcome_of run)) (sym is);
       end = sym ends;
       view = view ∙ ap (λ es. absorbed before es (all_kept done)) (sym (entries-after done) ∙ ap entries (sym is)) ∙ ap (absorbed before (entries (record_of run))) (sym (kept-after done) ∙ ap kept (sym is));
@@ -186,6 +141,6 @@ part_run-aborted steps held before i taken seen now x done how seen_next next re
     (h.whole ∙ ap (record_after h.done) (ap record_of goes ∙ off.0) ∙ sym (record_after-more h.done (record_of run) Nothing))
     (h.outcome ∙ ap outcome_of goes ∙ off.1 ∙ sym aborted ∙ sym ends)
     items
-    (map-append taken_view taken (done ∷ []) ∙ ap (λ xs. xs ++ taken_view done ∷ []) h.tree ∙ ap (λ y. map shown_step h.done ++ y ∷ []) shows.tree ∙ sym (map-append shown_step h.done (record_of run ∷ [])))
+    (more_steps taken h.done done (record_of run) h.tree shows.tree)
     (shows.view ∙ ap (λ v. absorbed v (entries_of_step (record_of run)) (kept_of_step (record_of run))) h.view ∙ absorbed-then before _ _ _ _
     ∙ ap (λ es. absorbed before es (all_kept h.done ++ kept_of_step (record_of run))) (all_entries-more h.done (record_of run)) ∙ ap (absorbed before (all_entries (h.done ++ record_of run ∷ []))) (all_kept-more h.done (record_of run)))

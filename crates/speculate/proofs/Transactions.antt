@@ -1,11 +1,10 @@
 -- The transactions of a batch, each of which can be run where all others were.
 use Rattle.std.proofs.Common.{◌≡◌, ℕ, zero, suc, ◌-◌, ◌<◌, ◌≤◌, List, [], ◌∷◌, map, length, get_or, sym, ap, subst, ◌∙◌, arith}
-use Rattle.std.proofs.lemmas.List.{get_or-map, length-map}
-use Rattle.objects.specs.declared.kind.Kind.{Kind}
+use Rattle.std.proofs.lemmas.List.{length-map}
 use Rattle.meaning.specs.declared.end.End.TheVariants.{Ended, Aborted}
 use Rattle.meaning.specs.Entries.{State, kinds}
 use Rattle.meaning.specs.declared.held.Held.{Held}
-use Rattle.meaning.specs.Trees.{Block, NoStep}
+use Rattle.meaning.specs.Trees.{Block}
 use Rattle.meaning.specs.Records.{Taken, entries, kept, net}
 use Rattle.meaning.specs.OneThread.{Run, record_of, one}
 use Rattle.meaning.specs.Batch.{block_at, net_of}
@@ -14,26 +13,20 @@ use Rattle.meaning.specs.Running.{all_operations}
 use Rattle.meaning.proofs.Keeping.{limit}
 use Rattle.batch.specs.Names.{Texts}
 use Rattle.batch.specs.Views.{block_view}
-use Rattle.batch.specs.Limits.{AllWellFormed, IsBatch}
+use Rattle.batch.specs.Limits.{IsBatch}
 use Rattle.batch.specs.declared.tree.Block as declared_block
 use Rattle.batch.specs.declared.record.Record.{Record}
+use Rattle.batch.specs.Running.{CanRunHere}
+use Rattle.batch.proofs.CanRun.{well_formed_at, block_at_view}
 use Rattle.intentions.specs.Levels.{Intentions as View, shown as state_of_view, opened, begun, committed, aborted, absorbed}
-use Rattle.speculate.specs.Running.{CanRunHere, ShowsRun}
+use Rattle.speculate.specs.Running.{ShowsRun}
 use Rattle.speculate.specs.Runs.{IsWithinOthers}
 
-well_formed_at : (blocks : List Block) (ks : List Kind) (i : ℕ) → AllWellFormed blocks ks → i < length blocks → IsWellFormed (block_at blocks i) [] ks
-well_formed_at [] ks i h lt = absurd (omega arith)
-well_formed_at (block ∷ blocks) ks zero h lt = h.0
-well_formed_at (block ∷ blocks) ks (suc i) h lt = well_formed_at blocks ks i h.1 (omega arith)
-
+-- a transaction has no more operations than all
 pub operations_at : (blocks : List Block) (i : ℕ) → operations (block_at blocks i) ≤ all_operations blocks
 operations_at [] i = omega arith
 operations_at (block ∷ blocks) zero = omega arith
 operations_at (block ∷ blocks) (suc i) = let rest = operations_at blocks i in omega arith
-
--- the block at a place, seen as a tree
-pub block_at_view : (blocks : List declared_block.Block) (i : ℕ) (x : declared_block.Block) → i < length blocks → x ≡ get_or blocks i x → block_view x ≡ block_at (map block_view blocks) i
-block_at_view blocks i x lt is = ap block_view is ∙ sym (get_or-map block_view blocks i x NoStep lt)
 
 -- a transaction can be run on objects of the batch's kinds that are no larger than all others can make them
 pub transaction_can_run : (start : State) (texts : Texts) (blocks : List declared_block.Block) (i : ℕ) (state : State) (x : declared_block.Block)

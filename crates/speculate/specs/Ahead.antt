@@ -5,10 +5,11 @@ use Rattle.objects.specs.declared.entry.Entry.{Entry}
 use Rattle.meaning.specs.declared.held.Held.{Held}
 use Rattle.meaning.specs.Entries.{State, AreLegal, after}
 use Rattle.batch.specs.Views.{Tried, subaction_view}
+use Rattle.batch.specs.Running.{CanTryHere, acted}
 use Rattle.batch.specs.declared.tree.Subaction.{Subaction}
 use Rattle.intentions.specs.Levels.{opened, absorbed}
 use Rattle.speculate.specs.declared.executor.Ahead.{Ahead}
-use Rattle.speculate.specs.Running.{CanTryHere, ShowsTried, acted}
+use Rattle.speculate.specs.Running.{ShowsTried}
 
 -- each of the children can be tried here
 abbrev pub CanAllTry : List Subaction → List Held → State → Type 0

@@ -5,14 +5,14 @@ ghost use Rattle.std.specs.Option.{ForSome};
 ghost use Rattle.std.specs.Thread.{IsSync};
 ghost use Rattle.intentions.specs.Levels.{shown as state_of_view};
 ghost use Rattle.meaning.specs.Records.{kept_of_child};
-ghost use Rattle.meaning.specs.OneThread.{is_for, label_if, record_of, one, one_step, one_children, one_handler};
+ghost use Rattle.meaning.specs.OneThread.{record_of, one, one_step, one_children, one_handler};
 ghost use Rattle.batch.specs.Views.{block_view, steps_view, step_view, subaction_view, children_view};
-ghost use Rattle.speculate.specs.Running.{CanRunHere, CanStepHere, CanTryHere, CanRunAllHere, CanHandleHere, ShowsRun, ShowsStep, ShowsTried, ShowsHandler, ShowsChildren, StillSeen, place_for, acted};
+ghost use Rattle.batch.specs.Running.{CanRunHere, CanStepHere, CanTryHere, CanRunAllHere, CanHandleHere, StillSeen, acted};
+ghost use Rattle.speculate.specs.Running.{ShowsRun, ShowsStep, ShowsTried, ShowsHandler, ShowsChildren};
 ghost use Rattle.speculate.specs.Ahead.{CanAllTry, IsRunAhead, AreRunAhead, IsRunBefore};
 
 use crate::gate::Gate;
-use crate::labels::test_holds;
-use batch::{Block, Handler, Record, Step, Subaction, Taken};
+use batch::{Block, Record, Step, Subaction, Taken, add_label, handler_for, test_holds};
 use intentions::{Committed, Entry, Lists, NoMemory, Objects, View};
 use meaning::{End, Held};
 use std::alloc::Global;
@@ -201,7 +201,7 @@ fn run_subaction<T: Threads + Sync, G: Gate>(
 // Runs the handler that takes an abort for this reason, if there is one, and says how the block
 // goes on.
 #[cycle(run)]
-#[tactic(auto, using(crate::proofs::Handling::can_run_rules))]
+#[tactic(auto, using(batch::proofs::Handling::can_run_rules))]
 fn run_handler<T: Threads + Sync, G: Gate>(
     making: &Making<'_, T, G>,
     child: &Subaction,
@@ -441,34 +441,4 @@ fn handled(done: Record) -> (Option<Record>, End)
 {
     let end = done.outcome;
     (Some(done), end)
-}
-
-// The place of the first handler that takes an abort for this reason.
-#[tactic(auto, unfolding(crate::specs::Running::place_for))]
-fn handler_for(handlers: &Vec<Handler>, reason: Option<u32>) -> Option<usize>
-    ensures { result ≡ place_for handlers.now.items reason }
-{
-    handlers
-        .iter()
-        .position(|handler| is_for(handler.reason, reason))
-}
-
-// Whether a handler for one reason takes an abort for this one.
-fn is_for(handled: u32, reason: Option<u32>) -> bool
-    ensures { result ≡ is_for handled reason }
-{
-    match reason {
-        Some(reason) => handled == reason,
-        None => false,
-    }
-}
-
-// One more label, where the step has one.
-fn add_label(labels: &mut Vec<Held>, labelled: bool, held: Held) -> Result<(), NoMemory>
-    ensures { OnOk result (labels.new.items ≡ labels.old.items ++ label_if labelled held) }
-{
-    if labelled {
-        labels.push(held)?;
-    }
-    Ok(())
 }

@@ -3,7 +3,6 @@
 
 mod executor;
 mod gate;
-mod labels;
 pub mod laws;
 mod speculated;
 mod transaction;

@@ -1,13 +1,15 @@
 use Rattle.std.proofs.Common.{◌++◌, ◌∙◌, refl, sym, ap, rules, arith}
 use Rattle.batch.proofs.SizeLemmas.{last-is_smaller, handler-is_smaller}
-use Rattle.speculate.proofs.Handling.{place-within, each_can_run, last_can_run, found-runs, last-runs, abort-passes, plain-runs, plain-goes_on, shows_handler, shows_pass, shows_go_on}
+use Rattle.batch.proofs.Handling.{place-within, each_can_run, last_can_run, found-runs, last-runs, abort-passes, plain-runs, plain-goes_on}
+use Rattle.speculate.proofs.Handling.{shows_handler, shows_pass, shows_go_on}
 use Rattle.meaning.specs.OneThread.{label_if}
 use Rattle.meaning.specs.declared.held.Held.TheVariants.{Outcome}
 use Rattle.batch.proofs.ViewLemmas.{subaction_view-labelled}
 use Rattle.batch.specs.Views.{subaction_view}
 use Rattle.intentions.specs.Levels.{shown as state_of_view}
 use Rattle.speculate.proofs.Steps.{part_run-start, part_run-more, part_run-aborted, part_run-ended}
-use Rattle.speculate.proofs.Stepping.{op-can, op-shows, if-bound, if-shows_then, if-shows_else, sub-shows, abort-shows, parallel-shows}
+use Rattle.batch.proofs.CanRun.{op-can, if-bound}
+use Rattle.speculate.proofs.Stepping.{op-shows, if-shows_then, if-shows_else, sub-shows, abort-shows, parallel-shows}
 use Rattle.speculate.proofs.Children.{part_tried-start, part_tried-more, part_tried-aborted, part_tried-ended}
 use Rattle.speculate.proofs.Siblings.{stand, net_is_legal, net_has_room, taken_in, net_listed, each_can_try, one_more, one_longer, halves, both_long, to_middle, left-start, left-more, added_listed}
 use Rattle.speculate.proofs.executor.+run.Goals as goal
@@ -70,7 +72,7 @@ run_step-returns-in_ok-append-in-Parallel-clause-shows g t c =
 
 pub run_handler-run_block-requires : goal.run_handler-run_block-requires
 run_handler-run_block-requires g t c κs lives =
-    let within = place-within c.in-Some.handlers.items c.args.reason c.in-Some-handler_for.place (sym c.handler_for.ensures ∙ c.in-Some-handler_for.is) in
+    let within = place-within c.in-Some.handlers.items c.args.reason c.in-Some-handler_for.place (sym (rw c.deref.ensures.value at c.handler_for.ensures) ∙ c.in-Some-handler_for.is) in
     let smaller = handler-is_smaller c.args.child.now c.in-Some.handlers c.in-Some-handler_for.place c.index.result.now c.in-Some.is within c.index.ensures in
     let can = each_can_run c.args.child.now c.args.labels.now.items _ c.in-Some.handlers c.in-Some-handler_for.place c.index.result.now c.requires c.in-Some.is within c.index.ensures in
     search rules
@@ -84,16 +86,16 @@ run_handler-run_block-requires-in-Some-handler g t c κs lives =
 pub run_handler-returns-in_ok-run_block-in-Some-handler_for-clause-shows : goal.run_handler-returns-in_ok-run_block-in-Some-handler_for-clause-shows
 run_handler-returns-in_ok-run_block-in-Some-handler_for-clause-shows g t c =
     rw c.handled.ensures.handler (shows_handler _ _ c.in_ok-run_block-in-Some-handler_for.field-0 _ _ _ c.in_ok-run_block-in-Some-handler_for.ensures.shows c.handled.ensures.end
-    (found-runs c.args.child.now c.in-Some.handlers c.args.labels.now.items c.args.reason _ c.in-Some-handler_for.place c.index.result.now c.requires c.in-Some.is (sym c.handler_for.ensures ∙ c.in-Some-handler_for.is) c.index.ensures))
+    (found-runs c.args.child.now c.in-Some.handlers c.args.labels.now.items c.args.reason _ c.in-Some-handler_for.place c.index.result.now c.requires c.in-Some.is (sym (rw c.deref.ensures.value at c.handler_for.ensures) ∙ c.in-Some-handler_for.is) c.index.ensures))
 
 pub run_handler-returns-in_ok-run_block-in-Some-handler-clause-shows : goal.run_handler-returns-in_ok-run_block-in-Some-handler-clause-shows
 run_handler-returns-in_ok-run_block-in-Some-handler-clause-shows g t c =
     rw c.handled-in-Some-handler.ensures.handler (shows_handler _ _ c.in_ok-run_block-in-Some-handler.field-0 _ _ _ c.in_ok-run_block-in-Some-handler.ensures.shows c.handled-in-Some-handler.ensures.end
-    (last-runs c.args.child.now c.in-Some.handlers c.args.labels.now.items c.args.reason _ c.in-Some-handler.block c.requires c.in-Some.is (sym c.handler_for.ensures ∙ c.in-None-handler_for.is) c.in-Some-handler.is))
+    (last-runs c.args.child.now c.in-Some.handlers c.args.labels.now.items c.args.reason _ c.in-Some-handler.block c.requires c.in-Some.is (sym (rw c.deref.ensures.value at c.handler_for.ensures) ∙ c.in-None-handler_for.is) c.in-Some-handler.is))
 
 pub run_handler-returns-in-None-handler-clause-shows : goal.run_handler-returns-in-None-handler-clause-shows
 run_handler-returns-in-None-handler-clause-shows g t c =
-    rw (abort-passes c.args.child.now c.in-Some.handlers c.args.labels.now.items c.args.reason _ c.requires c.in-Some.is (sym c.handler_for.ensures ∙ c.in-None-handler_for.is) c.in-None-handler.is) (shows_pass c.args.labels.now.items c.args.reason c.args.view.now)
+    rw (abort-passes c.args.child.now c.in-Some.handlers c.args.labels.now.items c.args.reason _ c.requires c.in-Some.is (sym (rw c.deref.ensures.value at c.handler_for.ensures) ∙ c.in-None-handler_for.is) c.in-None-handler.is) (shows_pass c.args.labels.now.items c.args.reason c.args.view.now)
 
 pub run_handler-returns-in_ok-run_block-in-Some-handler-2-clause-shows : goal.run_handler-returns-in_ok-run_block-in-Some-handler-2-clause-shows
 run_handler-returns-in_ok-run_block-in-Some-handler-2-clause-shows g t c =

@@ -2,8 +2,9 @@ use Rattle.std.proofs.Common.{rules, ◌≡◌, ◌<◌, ◌-◌, ◌∙◌, [],
 use Rattle.batch.specs.Views.{block_view}
 use Rattle.meaning.specs.Batch.{block_at}
 use Rattle.intentions.specs.Levels.{opened, begun, shown as state_of_view}
-use Rattle.speculate.specs.Running.{CanRunHere}
-use Rattle.speculate.proofs.Transactions.{block_at_view, transaction_can_run, shows_alone, committed_lists, aborted_lists}
+use Rattle.batch.specs.Running.{CanRunHere}
+use Rattle.batch.proofs.CanRun.{block_at_view}
+use Rattle.speculate.proofs.Transactions.{transaction_can_run, shows_alone, committed_lists, aborted_lists}
 use Rattle.speculate.proofs.transaction.run.Goals as goal
 use Rattle.speculate.proofs.transaction.run.Goals.{in-Ended+in_ok-commit-in-Ended, in-Aborted}
 
