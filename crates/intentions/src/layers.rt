@@ -1,28 +1,28 @@
-//! Copies of changed values over a snapshot, in levels.
-ghost use Rattle.std.specs.Prelude.{◌≡◌, ◌<◌, ◌^◌, ℕ, [], ◌∷◌, ◌++◌, length, reverse, slice_get, slice_set, Some, IfOk, IfSome, IsSome, OnOk, OnErr, MatchOption, drop};
-ghost use Rattle.std.specs.Option.{option_copied};
+//! Drafts of changed values over a snapshot, in levels.
+ghost use Rattle.std.specs.Prelude.{◌≡◌, ◌<◌, ◌^◌, ℕ, [], ◌∷◌, ◌++◌, length, reverse, slice_get, slice_set, Some, IfOk, IfSome, IsSome, OnOk, OnErr, MatchOption, drop, option_map};
+ghost use Rattle.drafts.specs.Shown.{shown_value};
 ghost use Rattle.objects.specs.Objects.{objects, Fits, ObjectHasRoom};
 ghost use Rattle.intentions.specs.Levels.{after_entries, AllEntriesLegal, AllHaveRoom};
 ghost use Rattle.intentions.specs.Starts.{innermost_start};
 ghost use Rattle.intentions.specs.Layers.{States, IsUnchanged, IsLatest};
 
-use crate::looks::reply_of_look;
-use objects::{Call, Entry, NoMemory, Objects, Reply, Value};
+use drafts::{Draft, Shown};
+use objects::{Call, Entry, NoMemory, Objects, Reply};
 use std::alloc::Global;
 use std::marker::Model;
 
 /// What the value of an object became in a level.
 #[derive(Drop)]
-struct Version {
+struct Version<'s> {
     object: u32,
-    value: Value,
+    value: Draft<'s>,
 }
 
 /// The values of a snapshot and of what was changed since, by levels.
 #[derive(Drop)]
 pub struct Layers<'s> {
     snapshot: &'s Objects,
-    versions: Vec<Version>,
+    versions: Vec<Version<'s>>,
     /// For each open level, how many versions there were at its begin.
     starts: Vec<usize>,
 }
@@ -70,20 +70,20 @@ impl<'s> Layers<'s> {
     }
 
     /// What is shown of the object.
-    pub fn value(&self, object: u32) -> Option<&Value>
-        ensures { option_copied result ≡ slice_get self.now.shown object }
+    pub fn value(&self, object: u32) -> Option<Shown<'_, 's>>
+        ensures { option_map shown_value result ≡ slice_get self.now.shown object }
     {
         match self.snapshot.value(object) {
             Some(original) => match latest(&self.versions, object) {
-                Some(place) => Some(&self.versions[place].value),
-                None => Some(original),
+                Some(place) => Some(Shown::Changed(&self.versions[place].value)),
+                None => Some(Shown::Lent(original)),
             },
             None => None,
         }
     }
 
-    /// Performs a call on the object. A value is copied only where the call changes it for the
-    /// first time in its level.
+    /// Performs a call on the object. The first change of an object in a level copies what differs
+    /// from the snapshot, and nothing else does.
     pub fn perform(&mut self, object: u32, call: &Call) -> Result<Reply, NoMemory>
         requires fits { Fits self.old.shown object call.now }
         requires room { ObjectHasRoom self.old.shown object call.now }
@@ -98,7 +98,7 @@ impl<'s> Layers<'s> {
         match latest(&self.versions, object) {
             Some(place) if start <= place => self.versions[place].value.perform(call),
             _ => {
-                let (value, reply) = self.changed_copy(object, call)?;
+                let (value, reply) = self.changed_draft(object, call)?;
                 self.versions.push(Version { object, value })?;
                 Ok(reply)
             }
@@ -147,7 +147,7 @@ impl<'s> Layers<'s> {
         let mut state = Objects::new(alloc);
         for object in 0..count {
             match self.value(object) {
-                Some(value) => state.push(value.copy()?)?,
+                Some(value) => state.push(value.whole(alloc)?)?,
                 None => unreachable!(),
             }
         }
@@ -160,13 +160,13 @@ impl<'s> Layers<'s> {
         ensures same { IsSome result → objects.after self.now.shown (object, call.now) ≡ self.now.shown }
     {
         match self.value(object) {
-            Some(value) => reply_of_look(value, call),
+            Some(value) => value.look(*self.versions.allocator(), call),
             None => None,
         }
     }
 
     /// What a call makes of the object's value, and its reply.
-    fn changed_copy(&self, object: u32, call: &Call) -> Result<(Value, Reply), NoMemory>
+    fn changed_draft(&self, object: u32, call: &Call) -> Result<(Draft<'s>, Reply), NoMemory>
         requires fits { Fits self.now.shown object call.now }
         requires room { ObjectHasRoom self.now.shown object call.now }
         ensures reply { IfOk result (λ made. objects.reply self.now.shown (object, call.now) ≡ Some made.1) }
@@ -174,7 +174,7 @@ impl<'s> Layers<'s> {
     {
         match self.value(object) {
             Some(value) => {
-                let mut changed = value.copy()?;
+                let mut changed = value.draft(*self.versions.allocator())?;
                 let reply = changed.perform(call)?;
                 Ok((changed, reply))
             }
@@ -225,7 +225,7 @@ fn innermost_start(starts: &[usize]) -> usize
 }
 
 /// The place of the object's last version.
-fn latest(versions: &[Version], object: u32) -> Option<usize>
+fn latest(versions: &[Version<'_>], object: u32) -> Option<usize>
     ensures { MatchOption result
         (IsUnchanged versions.now object)
         (λ place. IsLatest versions.now object place) }

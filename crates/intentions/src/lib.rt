@@ -9,7 +9,6 @@
 mod classes;
 mod committed;
 mod layers;
-mod looks;
 mod reserved;
 mod view;
 

@@ -4,7 +4,7 @@ use Rattle.std.proofs.lemmas.List.Quantifiers.{position-Some}
 use Rattle.std.specs.List.{position_from}
 use Rattle.std.proofs.lemmas.Iterator.Adapters.{position_from-zero}
 use Rattle.std.specs.Prelude.{option_map, codes}
-use Rattle.meaning.specs.Trees.{Handlers, ForReason, Otherwise, Pass, for_reasons, handlers_of}
+use Rattle.meaning.specs.Trees.{Handlers, ForReason, for_reasons, handlers_of}
 use Rattle.meaning.specs.Shown.{Shown}
 use Rattle.meaning.specs.Words.{Names}
 use Rattle.meaning.specs.Texts.{steps_text, handler_path, handler_block, pick}
@@ -13,33 +13,10 @@ use Rattle.batch.specs.Views.{block_view, handler_view, subaction_view}
 use Rattle.batch.specs.declared.tree.Block.{Block}
 use Rattle.batch.specs.declared.tree.Handler.{Handler}
 use Rattle.batch.specs.declared.tree.Subaction.{Subaction, out-Subaction}
-use Rattle.batch.proofs.ViewLemmas.{subaction_view-handlers, handler_view-is}
-use Rattle.report.specs.Handled.{place_for, last_block}
-
-abbrev last_handler : Option Block → Handlers
-last_handler None = Pass
-last_handler (Some handler) = Otherwise (block_view handler)
-
-handlers_of_some : (by_reason : List Handler) (last : Option Block) → handlers_of (Some (map handler_view by_reason)) (option_map block_view last) ≡ for_reasons (map handler_view by_reason) (last_handler last)
-handlers_of_some by_reason None = refl
-handlers_of_some by_reason (Some handler) = refl
-
--- a subaction with handlers by reason
-handlers-by_reason : (child : Subaction) (by_reason : Vec Handler Global) → (out-Subaction child).handlers ≡ Some by_reason → (subaction_view child).handlers ≡ for_reasons (map handler_view by_reason.items) (last_handler (out-Subaction child).handler)
-handlers-by_reason child by_reason is =
-    subaction_view-handlers child ∙ ap (λ hs. handlers_of (option_map (λ (v : Vec Handler Global). map handler_view v.items) hs) (option_map block_view (out-Subaction child).handler)) is
-    ∙ handlers_of_some by_reason.items (out-Subaction child).handler
-
--- a subaction with none
-handlers-plain : (child : Subaction) → (out-Subaction child).handlers ≡ None → (subaction_view child).handlers ≡ handlers_of None (option_map block_view (out-Subaction child).handler)
-handlers-plain child is =
-    subaction_view-handlers child ∙ ap (λ hs. handlers_of (option_map (λ (v : Vec Handler Global). map handler_view v.items) hs) (option_map block_view (out-Subaction child).handler)) is
-
--- the place of a handler is one of the list
-pub place-within : (by_reason : List Handler) (reason : Option ℕ) (i : ℕ) → place_for by_reason reason ≡ Some i → i < length by_reason
-unfolding place_for
-place-within [] reason i at = absurd cc
-place-within (x ∷ by_reason) reason i at = (position-Some (λ (h : Handler). is_for h.reason reason) (x ∷ by_reason) i x at).0
+use Rattle.batch.specs.Running.{place_for}
+use Rattle.batch.proofs.ViewLemmas.{handler_view-is}
+use Rattle.batch.proofs.Handling.{last_handler, handlers-by_reason, handlers-plain}
+use Rattle.report.specs.Handled.{last_block}
 
 module _ (names : Names) (path : List ℕ) (reason : Option ℕ) (done : Shown) where
   -- the lines of what runs where the body aborted for this reason
@@ -105,4 +82,4 @@ module _ (names : Names) (path : List ℕ) (reason : Option ℕ) (done : Shown) 
         ∙ last_handler_text (out-Subaction child).handler
 
     pub handled_text-plain : (out-Subaction child).handlers ≡ None → handled_text (subaction_view child).handlers ≡ last_text (out-Subaction child).handler
-    handled_text-plain is = ap handled_text (handlers-plain child is) ∙ plain_handler_text (out-Subaction child).handler
+    handled_text-plain is = ap handled_text (handlers-plain child (out-Subaction child).handler is refl) ∙ plain_handler_text (out-Subaction child).handler

@@ -1,15 +1,14 @@
 //! The lines of a record.
 ghost use Rattle.std.specs.Prelude.{◌≡◌, ◌++◌, IfOk, OnOk, codes, string_bytes};
 ghost use Rattle.meaning.specs.Texts.{line, reason_text, outcome_text, choice_text, operation_line, steps_text, step_text, child_text, children_text, handler_path, handler_block, part, reason_of};
-ghost use Rattle.meaning.specs.OneThread.{is_for};
 ghost use Rattle.batch.specs.Names.{names_of};
 ghost use Rattle.batch.specs.Views.{block_view, record_view, step_view, taken_view, subaction_view, tried_view, children_view, all_tried_view};
 ghost use Rattle.batch.specs.declared.tree.Subaction.{out-Subaction};
-ghost use Rattle.report.specs.Handled.{last_block, place_for};
+ghost use Rattle.report.specs.Handled.{last_block};
 
 use crate::names::{object_name, reason_name};
 use crate::words::{write_call, write_reply};
-use batch::{Block, Handler, Names, Record, Step, Subaction, Taken};
+use batch::{Block, Names, Record, Step, Subaction, Taken, handler_for};
 use meaning::End;
 use objects::{Call, NoMemory, Reply};
 use std::alloc::Global;
@@ -264,26 +263,6 @@ pub(crate) fn write_end(out: &mut String, names: &Names, outcome: End) -> Result
         }
     }
     Ok(())
-}
-
-// The place of the first handler that takes an abort for this reason.
-#[tactic(auto, unfolding(crate::specs::Handled::place_for))]
-fn handler_for(handlers: &Vec<Handler>, reason: Option<u32>) -> Option<usize>
-    ensures { result ≡ place_for handlers.now.items reason }
-{
-    handlers
-        .iter()
-        .position(|handler| is_for(handler.reason, reason))
-}
-
-// Whether a handler for one reason takes an abort for this one.
-fn is_for(handled: u32, reason: Option<u32>) -> bool
-    ensures { result ≡ is_for handled reason }
-{
-    match reason {
-        Some(reason) => handled == reason,
-        None => false,
-    }
 }
 
 fn reason_of(outcome: End) -> Option<u32>

@@ -6,7 +6,8 @@ use Rattle.batch.specs.Views.{record_view, subaction_view}
 use Rattle.batch.proofs.ViewLemmas.{block_view-is, record_view-is, step_view-Parallel, taken_view-Parallel}
 use Rattle.batch.proofs.SizeLemmas.{handler-is_smaller}
 use Rattle.report.proofs.TextLemmas.{rest_text-start, rest_text-more, rest_text-no_step, rest_text-end, rest_children_text-start, rest_children_text-more, rest_children_text-no_child, rest_children_text-end, after_text, after_two, body_lines, child_text-body, child_text-handler}
-use Rattle.report.proofs.HandlerLemmas.{handled_text, place-within, handled_text-found, handled_text-none_found}
+use Rattle.batch.proofs.Handling.{place-within}
+use Rattle.report.proofs.HandlerLemmas.{handled_text, handled_text-found, handled_text-none_found}
 use Rattle.report.proofs.lines.+lines.Goals as goal
 
 -- ---- steps one after the other
@@ -79,12 +80,12 @@ write_child-returns-in-Some t c =
 
 pub write_handler-index-handler-requires : goal.write_handler-index-handler-requires
 write_handler-index-handler-requires t c =
-    let within = place-within c.in-Some.handlers.items c.args.reason c.in-Some-handler_for.place (sym c.handler_for.ensures ∙ c.in-Some-handler_for.is) in
+    let within = place-within c.in-Some.handlers.items c.args.reason c.in-Some-handler_for.place (sym (rw c.deref.ensures.value at c.handler_for.ensures) ∙ c.in-Some-handler_for.is) in
     omega (arith, within, c.in-Some.handlers.ok.0)
 
 pub write_handler-write_block-requires : goal.write_handler-write_block-requires
 write_handler-write_block-requires t c =
-    let within = place-within c.in-Some.handlers.items c.args.reason c.in-Some-handler_for.place (sym c.handler_for.ensures ∙ c.in-Some-handler_for.is) in
+    let within = place-within c.in-Some.handlers.items c.args.reason c.in-Some-handler_for.place (sym (rw c.deref.ensures.value at c.handler_for.ensures) ∙ c.in-Some-handler_for.is) in
     let smaller = handler-is_smaller c.args.child.now c.in-Some.handlers c.in-Some-handler_for.place c.index-handler.result.now c.in-Some.is within c.index-handler.ensures in
     omega (arith, smaller, c.requires)
 
@@ -93,9 +94,9 @@ write_handler-returns-in_ok-handler_path-in-Some-handler_for t c =
     let handler = c.index-handler.result.now in
     let path : c.as_str.result.now ≡ c.args.path.now ++ codes ".h:" ++ (names_of c.args.names.now).reason handler.reason =
     c.as_str.ensures.value ∙ c.in_ok-handler_path-in-Some-handler_for.ensures.ok ∙ ap (λ name. c.args.path.now ++ (codes ".h:" ++ name)) c.reason_name-name.ensures ∙ sym (append_assoc c.args.path.now (codes ".h:") ((names_of c.args.names.now).reason handler.reason)) in
-    let text = handled_text-found (names_of c.args.names.now) c.args.path.now c.args.reason (record_view c.args.done.now) c.args.child.now c.in-Some.handlers c.in-Some-handler_for.place c.index-handler.result.now c.in-Some.is (sym c.handler_for.ensures ∙ c.in-Some-handler_for.is) c.index-handler.ensures in
+    let text = handled_text-found (names_of c.args.names.now) c.args.path.now c.args.reason (record_view c.args.done.now) c.args.child.now c.in-Some.handlers c.in-Some-handler_for.place c.index-handler.result.now c.in-Some.is (sym (rw c.deref.ensures.value at c.handler_for.ensures) ∙ c.in-Some-handler_for.is) c.index-handler.ensures in
     rw text (rw path at c.write_block.ensures)
 
 pub write_handler-returns-in-None-handler_for : goal.write_handler-returns-in-None-handler_for
 write_handler-returns-in-None-handler_for t c =
-    rw (handled_text-none_found (names_of c.args.names.now) c.args.path.now c.args.reason (record_view c.args.done.now) c.args.child.now c.in-Some.handlers c.in-Some.is (sym c.handler_for.ensures ∙ c.in-None-handler_for.is)) c.write_last_handler.ensures
+    rw (handled_text-none_found (names_of c.args.names.now) c.args.path.now c.args.reason (record_view c.args.done.now) c.args.child.now c.in-Some.handlers c.in-Some.is (sym (rw c.deref.ensures.value at c.handler_for.ensures) ∙ c.in-None-handler_for.is)) c.write_last_handler.ensures

@@ -1,0 +1,3 @@
+pub mod Overlays
+pub mod Drafts
+pub mod Shown

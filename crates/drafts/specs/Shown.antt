@@ -1,0 +1,8 @@
+-- The value that is lent, as it was or as a draft.
+use Rattle.objects.specs.declared.value.Value.{Value}
+use Rattle.drafts.specs.declared.shown.Shown.{Shown}
+use Rattle.drafts.specs.declared.shown.Shown.TheVariants.{Lent, Changed}
+
+abbrev pub shown_value : Shown → Value
+shown_value (Lent value) = value.now
+shown_value (Changed draft) = draft.now

@@ -1,0 +1,70 @@
+//! A value that is lent as it was, or as a draft of it.
+ghost use Rattle.std.specs.Prelude.{◌≡◌, ◌↔◌, IsTrue, Some, IfOk, IfSome, IsSome};
+ghost use Rattle.objects.specs.Objects.{kind_of_value, kind_of_call, one_value, HasRoom};
+ghost use Rattle.drafts.specs.Shown.{shown_value};
+
+use crate::Draft;
+use objects::{Call, NoMemory, Reply, Value};
+use std::alloc::Global;
+
+/// A lent value with no change, or a draft of one.
+#[derive(Clone, Copy)]
+pub enum Shown<'a, 's> {
+    Lent(&'s Value),
+    Changed(&'a Draft<'s>),
+}
+
+impl<'a, 's> Shown<'a, 's> {
+    /// Whether the call is of its kind.
+    pub fn fits(&self, call: &Call) -> bool
+        ensures { IsTrue result ↔ (kind_of_value (shown_value self.now) ≡ kind_of_call call.now) }
+    {
+        match self {
+            Shown::Lent(value) => value.fits(call),
+            Shown::Changed(draft) => draft.fits(call),
+        }
+    }
+
+    /// Whether its numbers stay in range in the call.
+    pub fn has_room(&self, call: &Call) -> bool
+        requires { kind_of_value (shown_value self.now) ≡ kind_of_call call.now }
+        ensures { IsTrue result ↔ HasRoom (shown_value self.now) call.now }
+    {
+        match self {
+            Shown::Lent(value) => value.has_room(call),
+            Shown::Changed(draft) => draft.has_room(call),
+        }
+    }
+
+    /// The reply of a call that leaves the value as it is. None for a call that may change it.
+    /// It takes no memory.
+    pub fn look(&self, alloc: Global, call: &Call) -> Option<Reply>
+        ensures reply { IfSome result (λ reply. one_value.reply (shown_value self.now) call.now ≡ Some reply) }
+        ensures same { IsSome result → one_value.after (shown_value self.now) call.now ≡ shown_value self.now }
+    {
+        match self {
+            Shown::Lent(value) => Draft::of(alloc, *value).look(call),
+            Shown::Changed(draft) => draft.look(call),
+        }
+    }
+
+    /// A draft of its own: it takes memory for what differs from what was lent.
+    pub fn draft(&self, alloc: Global) -> Result<Draft<'s>, NoMemory>
+        ensures { IfOk result (λ draft. draft ≡ shown_value self.now) }
+    {
+        match self {
+            Shown::Lent(value) => Ok(Draft::of(alloc, *value)),
+            Shown::Changed(draft) => draft.copy(),
+        }
+    }
+
+    /// The value in memory of its own.
+    pub fn whole(&self, alloc: Global) -> Result<Value, NoMemory>
+        ensures { IfOk result (λ whole. whole ≡ shown_value self.now) }
+    {
+        match self {
+            Shown::Lent(value) => value.copy(),
+            Shown::Changed(draft) => draft.whole(alloc),
+        }
+    }
+}
