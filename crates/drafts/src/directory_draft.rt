@@ -101,9 +101,8 @@ impl<'s> DirectoryDraft<'s> {
                 Ok(DirectoryReply::Ok)
             }
             DirectoryCall::Unbind(key) => {
-                let found = self.get(*key).is_some();
-                self.put(*key, None)?;
-                if found {
+                if self.get(*key).is_some() {
+                    self.put(*key, None)?;
                     Ok(DirectoryReply::Gone)
                 } else {
                     Ok(DirectoryReply::Missing)

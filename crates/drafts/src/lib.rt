@@ -14,3 +14,6 @@ mod shown;
 
 pub use draft::Draft;
 pub use shown::Shown;
+
+#[cfg(test)]
+mod tests;

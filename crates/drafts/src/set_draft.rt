@@ -64,7 +64,8 @@ impl<'s> SetDraft<'s> {
             return Ok(false);
         }
         self.touched.insert(item, true)?;
-        let _slots = self.touched.len();
+        // The size fits: the lent items and the touched ones are fewer than 2^63 each.
+        let _touched = self.touched.len();
         self.size += 1;
         Ok(true)
     }

@@ -8,7 +8,13 @@ use Rattle.objects.specs.declared.call.Call.{Call}
 use Rattle.objects.specs.Objects.{objects, one_value}
 use Rattle.serial.specs.Places.{after_found}
 use Rattle.intentions.specs.Starts.{IsNested, innermost_start, at_starts}
-use Rattle.intentions.specs.Layers.{States, overlaid, IsUnchanged, IsLatest}
+use Rattle.std.specs.Prelude.{Bool, true, false, cond, take}
+use Rattle.std.specs.Ordering.{nat_cmp, is_eq}
+use Rattle.std.specs.BTreeMap.{is_at}
+use Rattle.std.specs.Map.{lookup}
+use Rattle.std.specs.Cmp.{nat_cmp_total, tied_itself}
+use Rattle.std.proofs.lemmas.Bool.{false≢true}
+use Rattle.intentions.specs.Layers.{States, overlaid, IsUnchanged, IsLatest, above, ArePlaces}
 use Rattle.intentions.proofs.StartsLemmas.{at_starts-append, at_starts-set, at_starts-take}
 
 -- states by their parts
@@ -165,3 +171,70 @@ pub committed_level : (values : List Value) (versions : List Version) (start : �
     → layers_view values versions starts ≡ states state.shown (drop 1 state.begun)
 committed_level values versions start starts state is nested =
     states_of (ap (λ (s : States). s.shown) is) (sym (at_starts-take (overlaid values) starts start versions nested.1) ∙ ap (λ (s : States). drop 1 s.begun) is)
+
+-- ---- the places of last versions
+
+unchanged-append : (versions : List Version) (version : Version) (object : ℕ) → IsUnchanged versions object → version.object ≢ object → IsUnchanged (versions ++ version ∷ []) object
+unchanged-append [] version object h ne = (ne, tt)
+unchanged-append (v ∷ versions) version object h ne = (h.0, unchanged-append versions version object h.1 ne)
+
+unchanged-drop_append : (n : ℕ) (versions : List Version) (version : Version) (object : ℕ) → IsUnchanged (drop n versions) object → version.object ≢ object → IsUnchanged (drop n (versions ++ version ∷ [])) object
+unchanged-drop_append zero versions version object h ne = unchanged-append versions version object h ne
+unchanged-drop_append (suc zero) [] version object h ne = tt
+unchanged-drop_append (suc (suc n)) [] version object h ne = tt
+unchanged-drop_append (suc n) (v ∷ versions) version object h ne = unchanged-drop_append n versions version object h ne
+
+unchanged-take : (n : ℕ) (versions : List Version) (object : ℕ) → IsUnchanged versions object → IsUnchanged (take n versions) object
+unchanged-take zero versions object h = tt
+unchanged-take (suc n) [] object h = tt
+unchanged-take (suc n) (v ∷ versions) object h = (h.0, unchanged-take n versions object h.1)
+
+unchanged-drop_take : (m n : ℕ) (versions : List Version) (object : ℕ) → IsUnchanged (drop m versions) object → IsUnchanged (drop m (take n versions)) object
+unchanged-drop_take zero n versions object h = unchanged-take n versions object h
+unchanged-drop_take (suc m) zero versions object h = tt
+unchanged-drop_take (suc m) (suc n) [] object h = tt
+unchanged-drop_take (suc m) (suc n) (v ∷ versions) object h = unchanged-drop_take m n versions object h
+
+unchanged-drop_set : (m place : ℕ) (versions : List Version) (version : Version) (object : ℕ) → version.object ≡ (get_or versions place version).object → IsUnchanged (drop m versions) object → IsUnchanged (drop m (slice_set versions place version)) object
+unchanged-drop_set zero place [] version object is h = tt
+unchanged-drop_set (suc m) place [] version object is h = tt
+unchanged-drop_set zero zero (v ∷ versions) version object is h = (λ e. h.0 (sym is ∙ e), h.1)
+unchanged-drop_set zero (suc place) (v ∷ versions) version object is h = (h.0, unchanged-drop_set zero place versions version object is h.1)
+unchanged-drop_set (suc m) zero (v ∷ versions) version object is h = h
+unchanged-drop_set (suc m) (suc place) (v ∷ versions) version object is h = unchanged-drop_set m place versions version object is h
+
+none-above : (versions : List Version) (version : Version) (object : ℕ) → IsUnchanged (drop (suc (length versions)) (versions ++ version ∷ [])) object
+none-above [] version object = tt
+none-above (v ∷ versions) version object = none-above versions version object
+
+pub places-take : (n : ℕ) (versions : List Version) (places : List (ℕ × ℕ)) → ArePlaces versions places → ArePlaces (take n versions) places
+places-take n versions places h object = unchanged-drop_take (above (lookup (is_at (nat_cmp object)) places)) n versions object (h object)
+
+-- another value in a version
+pub places-set : (place : ℕ) (versions : List Version) (version : Version) (places : List (ℕ × ℕ)) → version.object ≡ (get_or versions place version).object → ArePlaces versions places → ArePlaces (slice_set versions place version) places
+places-set place versions version places is h object = unchanged-drop_set (above (lookup (is_at (nat_cmp object)) places)) place versions version object is (h object)
+
+-- one more version, whose place is kept
+pub places-put : (versions : List Version) (version : Version) (places put : List (ℕ × ℕ)) → ArePlaces versions places
+    → ((object : ℕ) → lookup (is_at (nat_cmp object)) put ≡ cond (is_at (nat_cmp version.object) object) (Some (length versions)) (lookup (is_at (nat_cmp object)) places))
+    → ArePlaces (versions ++ version ∷ []) put
+places-put versions version places put h updates object = subst (λ last. IsUnchanged (drop (above last) (versions ++ version ∷ [])) object) (sym (updates object)) (by_test (is_at (nat_cmp version.object) object) refl)
+  where
+    by_test : (b : Bool) → is_at (nat_cmp version.object) object ≡ b → IsUnchanged (drop (above (cond b (Some (length versions)) (lookup (is_at (nat_cmp object)) places))) (versions ++ version ∷ [])) object
+    by_test true e = none-above versions version object
+    by_test false e = unchanged-drop_append (above (lookup (is_at (nat_cmp object)) places)) versions version object (h object)
+        (λ same. absurd (false≢true (sym e ∙ ap (is_at (nat_cmp version.object)) (sym same) ∙ ap is_eq (tied_itself nat_cmp_total version.object))))
+
+-- a place kept of a version that is not put
+pub places-kept : (versions : List Version) (place : ℕ) (places put : List (ℕ × ℕ)) → ArePlaces versions places
+    → ((object : ℕ) → lookup (is_at (nat_cmp object)) put ≡ cond (is_at (nat_cmp place) object) (Some (length versions)) (lookup (is_at (nat_cmp object)) places))
+    → ArePlaces versions put
+places-kept versions place places put h updates object = subst (λ last. IsUnchanged (drop (above last) versions) object) (sym (updates object)) (by_test (is_at (nat_cmp place) object))
+  where
+    past : (vs : List Version) → IsUnchanged (drop (suc (length vs)) vs) object
+    past [] = tt
+    past (v ∷ vs) = past vs
+
+    by_test : (b : Bool) → IsUnchanged (drop (above (cond b (Some (length versions)) (lookup (is_at (nat_cmp object)) places))) versions) object
+    by_test true = past versions
+    by_test false = h object

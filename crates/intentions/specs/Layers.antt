@@ -1,5 +1,8 @@
 -- Drafts of changed values over a snapshot.
-use Rattle.std.specs.Prelude.{◌≡◌, ◌≢◌, ℕ, zero, suc, List, [], ◌∷◌, length, slice_set}
+use Rattle.std.specs.Prelude.{◌≡◌, ◌≢◌, ℕ, zero, suc, List, [], ◌∷◌, length, drop, Option, Some, None, slice_set}
+use Rattle.std.specs.Ordering.{nat_cmp}
+use Rattle.std.specs.BTreeMap.{is_at}
+use Rattle.std.specs.Map.{lookup}
 use Rattle.objects.specs.declared.value.Value.{Value}
 use Rattle.objects.specs.declared.entry.Entry.{Entry}
 use Rattle.intentions.specs.Levels.{after_entries, AllEntriesLegal, AllHaveRoom}
@@ -26,6 +29,15 @@ abbrev pub IsLatest : List Version → ℕ → ℕ → Type 0
 IsLatest [] object place = ⊥
 IsLatest (version ∷ versions) object zero = (version.object ≡ object) × IsUnchanged versions object
 IsLatest (version ∷ versions) object (suc place) = IsLatest versions object place
+
+-- the first place that lies above a last one
+abbrev pub above : Option ℕ → ℕ
+above None = 0
+above (Some place) = suc place
+
+-- no object has a version above the place that is kept of it
+abbrev pub ArePlaces : List Version → List (ℕ × ℕ) → Type 0
+ArePlaces versions places = (object : ℕ) → IsUnchanged (drop (above (lookup (is_at (nat_cmp object)) places)) versions) object
 
 -- what layers show where these entries were performed on a snapshot, with levels that start there
 abbrev pub states_after : List Value → List Entry → List ℕ → States

@@ -1,14 +1,15 @@
 //! Drafts of changed values over a snapshot, in levels.
-ghost use Rattle.std.specs.Prelude.{◌≡◌, ◌<◌, ◌^◌, ℕ, [], ◌∷◌, ◌++◌, length, reverse, slice_get, slice_set, Some, IfOk, IfSome, IsSome, OnOk, OnErr, MatchOption, drop, option_map};
+ghost use Rattle.std.specs.Prelude.{◌≡◌, ◌<◌, ◌≤◌, ◌^◌, ℕ, [], ◌∷◌, ◌++◌, length, reverse, slice_get, slice_set, Some, IfOk, IfSome, IsSome, OnOk, OnErr, MatchOption, drop, option_map};
 ghost use Rattle.drafts.specs.Shown.{shown_value};
 ghost use Rattle.objects.specs.Objects.{objects, Fits, ObjectHasRoom};
 ghost use Rattle.intentions.specs.Levels.{after_entries, AllEntriesLegal, AllHaveRoom};
 ghost use Rattle.intentions.specs.Starts.{innermost_start};
-ghost use Rattle.intentions.specs.Layers.{States, IsUnchanged, IsLatest};
+ghost use Rattle.intentions.specs.Layers.{States, IsUnchanged, IsLatest, ArePlaces};
 
 use drafts::{Draft, Shown};
 use objects::{Call, Entry, NoMemory, Objects, Reply};
 use std::alloc::Global;
+use std::collections::BTreeMap;
 use std::marker::Model;
 
 /// What the value of an object became in a level.
@@ -23,6 +24,8 @@ struct Version<'s> {
 pub struct Layers<'s> {
     snapshot: &'s Objects,
     versions: Vec<Version<'s>>,
+    /// For each object that was changed, where its last version was put, which may be gone again.
+    places: BTreeMap<u32, usize>,
     /// For each open level, how many versions there were at its begin.
     starts: Vec<usize>,
 }
@@ -40,14 +43,14 @@ impl<'s> Model for Layers<'s> {
     ghost coded = { code_by (List OneValue × List (List OneValue)) (coded× (coded_list one_value_type.the_row.coded) (coded_list (coded_list one_value_type.the_row.coded))) (λ s. (s.shown, s.begun)) (λ p. record { shown = p.0; begun = p.1 }) (λ _. refl) };
 
     ghost use Rattle.intentions.specs.Starts.{IsNested, at_starts};
-    ghost use Rattle.intentions.specs.Layers.{overlaid};
+    ghost use Rattle.intentions.specs.Layers.{overlaid, ArePlaces};
 
     ghost view = { λ layers. record {
       shown = overlaid layers.snapshot.now layers.versions.items;
       begun = at_starts (overlaid layers.snapshot.now) (reverse layers.starts.items) layers.versions.items;
     } };
 
-    ghost invariant = { λ layers. IsNested (reverse layers.starts.items) (length layers.versions.items) };
+    ghost invariant = { λ layers. IsNested (reverse layers.starts.items) (length layers.versions.items) × ArePlaces layers.versions.items layers.places.entries };
 }
 
 impl<'s> Layers<'s> {
@@ -58,6 +61,7 @@ impl<'s> Layers<'s> {
         Layers {
             snapshot,
             versions: Vec::new(alloc),
+            places: BTreeMap::new(alloc),
             starts: Vec::new(alloc),
         }
     }
@@ -74,7 +78,7 @@ impl<'s> Layers<'s> {
         ensures { option_map shown_value result ≡ slice_get self.now.shown object }
     {
         match self.snapshot.value(object) {
-            Some(original) => match latest(&self.versions, object) {
+            Some(original) => match latest(&self.versions, &self.places, object) {
                 Some(place) => Some(Shown::Changed(&self.versions[place].value)),
                 None => Some(Shown::Lent(original)),
             },
@@ -95,10 +99,11 @@ impl<'s> Layers<'s> {
             return Ok(reply);
         }
         let start = innermost_start(&self.starts);
-        match latest(&self.versions, object) {
+        match latest(&self.versions, &self.places, object) {
             Some(place) if start <= place => self.versions[place].value.perform(call),
             _ => {
                 let (value, reply) = self.changed_draft(object, call)?;
+                self.places.insert(object, self.versions.len())?;
                 self.versions.push(Version { object, value })?;
                 Ok(reply)
             }
@@ -224,13 +229,30 @@ fn innermost_start(starts: &[usize]) -> usize
     }
 }
 
-/// The place of the object's last version.
-fn latest(versions: &[Version<'_>], object: u32) -> Option<usize>
+/// The place of the object's last version. The first place that is looked at is where one was put
+/// last.
+fn latest(versions: &[Version<'_>], places: &BTreeMap<u32, usize>, object: u32) -> Option<usize>
+    requires { ArePlaces versions.now places.now.entries }
     ensures { MatchOption result
         (IsUnchanged versions.now object)
         (λ place. IsLatest versions.now object place) }
 {
-    let mut place = versions.len();
+    match places.get(&object) {
+        Some(last) if *last < versions.len() => latest_below(versions, *last + 1, object),
+        Some(_) => latest_below(versions, versions.len(), object),
+        None => None,
+    }
+}
+
+/// The place of the object's last version, where none stands from the end on.
+fn latest_below(versions: &[Version<'_>], end: usize, object: u32) -> Option<usize>
+    requires within { end ≤ length versions.now }
+    requires rest { IsUnchanged (drop end versions.now) object }
+    ensures { MatchOption result
+        (IsUnchanged versions.now object)
+        (λ place. IsLatest versions.now object place) }
+{
+    let mut place = end;
     while place > 0 {
         place -= 1;
         if versions[place].object == object {

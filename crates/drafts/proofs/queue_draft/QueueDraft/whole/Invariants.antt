@@ -1,4 +1,4 @@
-use Rattle.std.proofs.Common.{◌≡◌, ◌++◌, ◌≤◌, drop, length}
+use Rattle.std.proofs.Common.{◌≡◌, ◌++◌, drop}
 use Rattle.drafts.proofs.queue_draft.QueueDraft.whole.Given as goal
 
 abbrev pub invariant-loop-place : goal.invariant-loop-place

@@ -18,7 +18,7 @@ overflow_add-self c =
     let size : c.self.inside.size + 1 ≡ set.len (over_set lent written) = size-inserted lent slots written c.args.item c.self.inside.size c.self.invariant.0 new now in
     let most : set.len (over_set lent written) ≤ set.len lent + length written = len-over lent written in
     let small : set.len lent < 2 ^ 63 = c.self.invariant.1 in
-    let few : length written < 2 ^ 63 = subst (λ n. n < 2 ^ 63) c.len-slots.ensures.len c.len-slots.ensures.small in
+    let few : length written < 2 ^ 63 = subst (λ n. n < 2 ^ 63) c.len-touched.ensures.len c.len-touched.ensures.small in
     omega arith
 
 pub invariant_of-self-2 : goal.invariant_of-self-2

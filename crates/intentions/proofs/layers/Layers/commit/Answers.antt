@@ -9,8 +9,8 @@ invariant_of-self c =
     let starts = reverse c.pop.new.self.items in
     let n = length c.self.inside.versions.items in
     let is : reverse c.self.inside.starts.items ≡ c.in-Some._start ∷ starts = reverse_push _ _ _ c.in-Some.ensures.items in
-    let nested : IsNested (c.in-Some._start ∷ starts) n = subst (λ ss. IsNested ss n) is c.self.invariant in
-    nested_more starts c.in-Some._start n nested.1 nested.0
+    let nested : IsNested (c.in-Some._start ∷ starts) n = subst (λ ss. IsNested ss n) is c.self.invariant.0 in
+    (nested_more starts c.in-Some._start n nested.1 nested.0, c.self.invariant.1)
 
 pub returns : goal.returns
 returns c =
@@ -18,5 +18,5 @@ returns c =
     let values = c.self.inside.snapshot.now in
     let versions = c.self.inside.versions.items in
     let is : reverse c.self.inside.starts.items ≡ c.in-Some._start ∷ starts = reverse_push _ _ _ c.in-Some.ensures.items in
-    let nested : IsNested (c.in-Some._start ∷ starts) (length versions) = subst (λ ss. IsNested ss (length versions)) is c.self.invariant in
+    let nested : IsNested (c.in-Some._start ∷ starts) (length versions) = subst (λ ss. IsNested ss (length versions)) is c.self.invariant.0 in
     committed_level values versions c.in-Some._start starts c.args.self.now (ap (λ ss. layers_view values versions ss) (sym is) ∙ c.self.view_is) nested

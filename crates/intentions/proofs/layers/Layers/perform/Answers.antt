@@ -1,13 +1,20 @@
-use Rattle.std.proofs.Common.{◌≡◌, ◌<◌, ◌≤◌, Some, length, reverse, arith, ap, ◌∙◌, subst}
+use Rattle.std.proofs.Common.{◌≡◌, ◌+◌, ◌<◌, ◌≤◌, ℕ, [], ◌∷◌, ◌++◌, Some, length, length-append, reverse, get_or, arith, sym, ap, ◌∙◌, subst}
+use Rattle.std.specs.Prelude.{cond}
+use Rattle.std.specs.Ordering.{nat_cmp}
+use Rattle.std.specs.BTreeMap.{is_at}
+use Rattle.std.specs.Map.{lookup}
+use Rattle.std.proofs.lemmas.List.{length-set}
 use Rattle.std.specs.Prelude.{slice_get, IsSomeAnd, IfSome}
 use Rattle.std.specs.Option.{option_and_then}
 use Rattle.std.proofs.lemmas.Result.{IfOk-weaker, on_ok_weaker}
 use Rattle.objects.specs.declared.value.Value.{Value}
 use Rattle.objects.specs.declared.call.Reply.{Reply}
 use Rattle.objects.specs.Objects.{one_value, kind_of_value, kind_of_call, HasRoom}
-use Rattle.intentions.specs.Starts.{innermost_start}
-use Rattle.intentions.specs.Layers.{IsLatest}
-use Rattle.intentions.proofs.LayersLemmas.{layers_view, latest-within, found_latest, performed_in_place, performed_on_copy}
+use Rattle.intentions.specs.Starts.{IsNested, innermost_start}
+use Rattle.intentions.specs.Layers.{IsLatest, ArePlaces}
+use Rattle.intentions.specs.declared.layers.Version.{Version}
+use Rattle.intentions.proofs.StartsLemmas.{nested_more}
+use Rattle.intentions.proofs.LayersLemmas.{layers_view, version_of, latest-within, latest-object, places-set, places-put, places-kept, found_latest, performed_in_place, performed_on_copy}
 use Rattle.intentions.proofs.layers.Layers.perform.Goals as goal
 
 pub index_mut-requires : goal.index_mut-requires
@@ -65,5 +72,44 @@ returns-in_ok-push-in_default-latest-clause-ok c =
     let values = c.self.inside.snapshot.now in
     let starts = reverse c.self.inside.starts.items in
     ap (λ vs. layers_view values vs starts) c.in_ok-push-in_default-latest.ensures.items
-    ∙ performed_on_copy values c.self.inside.versions.items starts c.args.self.now c.args.object c.args.call.now c.in_ok-value-in_default-latest.value c.self.view_is c.self.invariant
+    ∙ performed_on_copy values c.self.inside.versions.items starts c.args.self.now c.args.object c.args.call.now c.in_ok-value-in_default-latest.value c.self.view_is c.self.invariant.0
     c.in_ok-value-in_default-latest.ensures.value
+
+pub invariant_of-self : goal.invariant_of-self
+invariant_of-self c =
+    let versions = c.self.inside.versions.items in
+    let place = c.in-Some-latest.place in
+    let version : Version = version_of c.index_mut.result.now.object c.perform.new.self in
+    let latest : IsLatest versions c.args.object place = subst (λ vs. IsLatest vs c.args.object place) c.deref-2.ensures.value c.in-Some-latest.ensures in
+    let same : version.object ≡ (get_or versions place version).object =
+    ap (λ (v : Version). v.object) c.index_mut.ensures.value ∙ latest-object versions c.args.object place c.index_mut.result.now latest
+    ∙ sym (latest-object versions c.args.object place version latest) in (
+      subst (IsNested (reverse c.self.inside.starts.items)) (sym (length-set versions place version)) c.self.invariant.0,
+      places-set place versions version c.self.inside.places.entries same c.self.invariant.1,
+    )
+
+pub invariant_of-self-in_err-push-in_default-latest : goal.invariant_of-self-in_err-push-in_default-latest
+invariant_of-self-in_err-push-in_default-latest c =
+    let starts = reverse c.self.inside.starts.items in
+    let versions = c.self.inside.versions.items in
+    let places = c.self.inside.places.entries in
+    let put = c.insert.new.self.entries in
+    let updates : (object : ℕ) → lookup (is_at (nat_cmp object)) put ≡ cond (is_at (nat_cmp c.args.object) object) (Some (length versions)) (lookup (is_at (nat_cmp object)) places) =
+    subst (λ n. (object : ℕ) → lookup (is_at (nat_cmp object)) put ≡ cond (is_at (nat_cmp c.args.object) object) (Some n) (lookup (is_at (nat_cmp object)) places)) (c.len.ensures ∙ c.self.inside.versions.ok.0) c.in_ok-insert-in_default-latest.ensures.updates.0 in (
+      subst (λ vs. IsNested starts (length vs)) (sym c.in_err-push-in_default-latest.ensures.items) c.self.invariant.0,
+      subst (λ vs. ArePlaces vs put) (sym c.in_err-push-in_default-latest.ensures.items) (places-kept versions c.args.object places put c.self.invariant.1 updates),
+    )
+
+pub invariant_of-self-in_default-latest : goal.invariant_of-self-in_default-latest
+invariant_of-self-in_default-latest c =
+    let starts = reverse c.self.inside.starts.items in
+    let versions = c.self.inside.versions.items in
+    let places = c.self.inside.places.entries in
+    let put = c.insert.new.self.entries in
+    let version : Version = version_of c.args.object c.in_ok-value-in_default-latest.value in
+    let updates : (object : ℕ) → lookup (is_at (nat_cmp object)) put ≡ cond (is_at (nat_cmp c.args.object) object) (Some (length versions)) (lookup (is_at (nat_cmp object)) places) =
+    subst (λ n. (object : ℕ) → lookup (is_at (nat_cmp object)) put ≡ cond (is_at (nat_cmp c.args.object) object) (Some n) (lookup (is_at (nat_cmp object)) places)) (c.len.ensures ∙ c.self.inside.versions.ok.0) c.in_ok-insert-in_default-latest.ensures.updates.0 in
+    let size : length (versions ++ version ∷ []) ≡ length versions + 1 = length-append versions (version ∷ []) in (
+      subst (λ vs. IsNested starts (length vs)) (sym c.in_ok-push-in_default-latest.ensures.items) (nested_more starts (length versions) (length (versions ++ version ∷ [])) c.self.invariant.0 (omega arith)),
+      subst (λ vs. ArePlaces vs put) (sym c.in_ok-push-in_default-latest.ensures.items) (places-put versions version places put c.self.invariant.1 updates),
+    )
