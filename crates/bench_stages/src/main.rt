@@ -1,5 +1,5 @@
 //! How long each stage of `ordtx serial` takes. `bench_stages FILE` prints the milliseconds of making a JSON value of
-//! the file's bytes (`serde_json` alone), of reading a batch (the value and what the reader adds), of
+//! the file's bytes (`serde_json` alone) and of freeing it, of reading a batch (the value and what the reader adds), of
 //! running it on one thread, and of writing its report into a text. With no argument it prints nothing.
 #![tactic(auto)]
 
@@ -26,7 +26,9 @@ fn time_stages(rt: &HostRuntime, alloc: Global, bytes: &[u8]) -> Option<()> {
     let start = Instant::now(rt).ok()?;
     let value = Value::from_slice(alloc, bytes).ok()?;
     let parsed = since(rt, start);
+    let start = Instant::now(rt).ok()?;
     drop(value);
+    let freed = since(rt, start);
     let start = Instant::now(rt).ok()?;
     let batch = read(alloc, bytes).ok()?;
     let read = since(rt, start);
@@ -41,7 +43,7 @@ fn time_stages(rt: &HostRuntime, alloc: Global, bytes: &[u8]) -> Option<()> {
     let written = since(rt, start);
     let size = text.len();
     let _ = println!(rt;
-        "value {parsed} ms, read {read} ms, run {run} ms, text {written} ms ({size} bytes)"
+        "value {parsed} ms (freed in {freed} ms), read {read} ms, run {run} ms, text {written} ms ({size} bytes)"
     );
     Some(())
 }
