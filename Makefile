@@ -40,6 +40,8 @@ bin/refusals: $(SOURCES)
 bench: bin/ordtx
 	RT=$(RT) bench/claims
 	bench/run bin/ordtx
+	cd crates/bench_stages && $(RT) run > /dev/null
+	bench/stages crates/bench_stages/out/bench_stages
 
 install: bin/ordtx
 	install -d $(DESTDIR)$(PREFIX)/bin
