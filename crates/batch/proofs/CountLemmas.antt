@@ -15,7 +15,7 @@ use Rattle.batch.specs.declared.tree.Subaction.{Subaction, out-Subaction}
 use Rattle.batch.proofs.ViewLemmas.{handler_view-is, subaction_view-body, subaction_view-handlers}
 
 -- one element of a list that is left
-left : {X : Type 0} (xs : List X) (i : ℕ) (x : X) → i < length xs → x ≡ get_or xs i x → drop i xs ≡ x ∷ drop (i + 1) xs
+pub left : {X : Type 0} (xs : List X) (i : ℕ) (x : X) → i < length xs → x ≡ get_or xs i x → drop i xs ≡ x ∷ drop (i + 1) xs
 left xs i x lt e = drop-cons xs i x lt ∙ ap (λ y. y ∷ drop (suc i) xs) (sym e) ∙ rw add-one refl
 
 -- the transactions from the i-th on

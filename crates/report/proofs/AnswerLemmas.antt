@@ -13,7 +13,8 @@ use Rattle.meaning.specs.Texts.{line, outcome_text, steps_text, transactions_tex
 use Rattle.batch.specs.Views.{block_view, record_view}
 use Rattle.batch.specs.declared.tree.Block.{Block}
 use Rattle.batch.specs.declared.record.Record.{Record}
-use Rattle.report.proofs.TextLemmas.{end_of-record_view, left}
+use Rattle.report.proofs.TextLemmas.{end_of-record_view}
+use Rattle.batch.proofs.CountLemmas.{left}
 
 module _ (names : Names) where
   -- the lines of the transactions from the i-th on, counted from 0

@@ -7,7 +7,8 @@ use Rattle.std.specs.List.Sorted.{IsStrictlySortedBy}
 use Rattle.std.specs.FinMap.{IsAntisymmetric, entries, keys, from_entries, from_sorted, find, is_sorted, same_map, get-from_entries, get-from_sorted, entries-from_sorted}
 use Rattle.std.specs.FinMap.Entries.{below_all}
 use Rattle.std.specs.FinSet as finite_set
-use Rattle.atoms.specs.Item.{item_cmp, items_total, items_antisymmetric}
+use Rattle.atoms.specs.Item.{item_cmp}
+use Rattle.atoms.proofs.Items.{items_total, items_antisymmetric}
 use Rattle.atoms.specs.declared.item.Item.{Item}
 use Rattle.meaning.specs.Words.{members}
 

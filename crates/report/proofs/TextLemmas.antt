@@ -1,5 +1,5 @@
 -- The lines that are left to write.
-use Rattle.std.proofs.Common.{◌≡◌, ℕ, suc, ◌+◌, ◌<◌, ◌≤◌, List, [], ◌∷◌, ◌++◌, length, get_or, drop, map, Option, Some, None, refl, sym, ap, ◌∙◌, append_assoc, add-one, drop-cons}
+use Rattle.std.proofs.Common.{◌≡◌, ℕ, ◌+◌, ◌<◌, ◌≤◌, List, [], ◌∷◌, ◌++◌, length, get_or, drop, map, Option, Some, None, refl, sym, ap, ◌∙◌, append_assoc}
 use Rattle.std.proofs.Math.ListN.{drop_of_length-le}
 use Rattle.std.specs.Prelude.{codes}
 use Rattle.meaning.specs.declared.end.End.{End}
@@ -14,10 +14,7 @@ use Rattle.batch.specs.declared.tree.Subaction.{Subaction, out-Subaction}
 use Rattle.batch.specs.declared.record.Record.{Record}
 use Rattle.batch.specs.declared.record.Taken.{Taken}
 use Rattle.batch.proofs.ViewLemmas.{record_view-is, subaction_view-body}
-
--- one element of a list that is left
-pub left : {X : Type 0} (xs : List X) (i : ℕ) (x : X) → i < length xs → x ≡ get_or xs i x → drop i xs ≡ x ∷ drop (i + 1) xs
-left xs i x lt e = drop-cons xs i x lt ∙ ap (λ y. y ∷ drop (suc i) xs) (sym e) ∙ rw add-one refl
+use Rattle.batch.proofs.CountLemmas.{left}
 
 -- a record shows how its block ended
 end_of-before_end : (steps : List ShownStep) (outcome : End) → end_of (before_end steps (AtEnd outcome)) ≡ outcome

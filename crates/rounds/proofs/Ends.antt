@@ -8,11 +8,12 @@ use Rattle.batch.specs.Views.{record_view}
 use Rattle.meaning.specs.Batch.{state_at, answer, nets, shown_of, shown_from, all_shown}
 use Rattle.meaning.specs.Rounds.{Rounds}
 use Rattle.meaning.proofs.Batches.{batch_leads}
-use Rattle.rounds.specs.Views.{IsRecordOf, start_of, blocks_of}
+use Rattle.rounds.specs.Views.{start_of, blocks_of}
 use Rattle.speculate.specs.declared.speculated.Run.{Run}
 use Rattle.batch.specs.declared.record.Record.{Record}
 use Rattle.batch.specs.declared.batch.Batch.{Batch}
-use Rattle.rounds.specs.Openings.{AtOpening, AreAnswers, AreCounts}
+use Rattle.rounds.specs.Openings.{AreCounts}
+use Rattle.rounds.proofs.Reached.{AtOpening, IsRecordOf, AreAnswers}
 
 a_run : (P : Type 0) (runs : List Run) (i : ℕ) → i < length runs → (Run → P) → P
 a_run P [] i lt use_run = absurd (omega arith)

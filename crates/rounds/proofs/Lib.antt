@@ -5,5 +5,6 @@ pub mod Firsts
 pub mod Conflicts
 pub mod Room
 pub mod Commits
+pub mod Reached
 pub mod Steps
 pub mod Ends

@@ -21,7 +21,7 @@ use Rattle.batch.specs.declared.batch.Batch.{Batch}
 use Rattle.rounds.proofs.Room.{kinds_at, made_at, nets_have_room}
 use Rattle.rounds.proofs.Times.{times_read}
 use Rattle.rounds.specs.Passes.{CanBeMade, nets_of, times, Kept, StandsPast, AreRefuted, AreRenewed, IsFirstConflict}
-use Rattle.rounds.specs.Openings.{AtOpening}
+use Rattle.rounds.proofs.Reached.{AtOpening}
 use Rattle.rounds.proofs.Conflicts.{AreAlone, left, stands_past, still_stands, keeps_answers, next_opening}
 
 none_or_some : (n : ℕ) → (n ≡ 0) ⊎ (0 < n)

@@ -1,34 +1,8 @@
--- What the loop of openings keeps.
-use Rattle.std.specs.Prelude.{◌≡◌, ℕ, suc, ◌+◌, ◌<◌, ◌≤◌, List, length, slice_index_or}
-use Rattle.meaning.specs.Entries.{State}
-use Rattle.meaning.specs.Batch.{state_at, alone, answer}
-use Rattle.meaning.specs.Rounds.{RoundsFrom, Rounds, CountFrom, Count}
-use Rattle.rounds.specs.Views.{IsRecordOf, start_of, blocks_of}
-use Rattle.speculate.specs.Runs.{IsRunOf}
-use Rattle.batch.specs.declared.record.Record.{Record}
-use Rattle.speculate.specs.declared.speculated.Run.{Run}
+-- How often each transaction is run.
+use Rattle.std.specs.Prelude.{◌≡◌, ℕ, ◌<◌, List, length, slice_index_or}
+use Rattle.meaning.specs.Rounds.{Count}
+use Rattle.rounds.specs.Views.{start_of, blocks_of}
 use Rattle.batch.specs.declared.batch.Batch.{Batch}
-use Rattle.rounds.specs.Passes.{times}
-
--- At opening b, after so many rounds: the objects are those after the first b transactions, which have their answers, and each later one has a run on this state, or its number is among the stale ones.
-pub record AtOpening (batch : Batch) (b rounds : ℕ) (state : State) (runs : List Run) (counts stale : List ℕ) : Type 0 where
-  pub within : b ≤ length (blocks_of batch)
-  pub all : length runs ≡ length (blocks_of batch)
-  pub counted : length counts ≡ length (blocks_of batch)
-  pub reached : state ≡ state_at (start_of batch) (blocks_of batch) b
-  pub committed : (i : ℕ) (d : Run) → i < b → IsRunOf (answer (start_of batch) (blocks_of batch) i) (slice_index_or runs i d)
-  pub pending : (i : ℕ) (d : Run) → b ≤ i → i < length (blocks_of batch) → times i stale ≡ 0 → IsRunOf (alone (start_of batch) (blocks_of batch) i b) (slice_index_or runs i d)
-  pub numbers : (i : ℕ) → 0 < times i stale → (b ≤ i) × (i < length (blocks_of batch))
-  pub few_rounds : rounds ≤ b
-  pub few_runs : (i : ℕ) → slice_index_or counts i 0 + times i stale ≤ rounds + 1
-  pub all_rounds : (more : ℕ) → RoundsFrom (start_of batch) (blocks_of batch) b more → Rounds (start_of batch) (blocks_of batch) (rounds + more)
-  pub committed_counts : (i : ℕ) → i < b → Count (start_of batch) (blocks_of batch) i (slice_index_or counts i 0)
-  pub pending_counts : (i more : ℕ) → b ≤ i → i < length (blocks_of batch) → CountFrom (start_of batch) (blocks_of batch) i b (suc more) → Count (start_of batch) (blocks_of batch) i (slice_index_or counts i 0 + times i stale + more)
-
--- the records are those of the one-thread answer, by number
-pub record AreAnswers (batch : Batch) (records : List Record) : Type 0 where
-  pub all : length records ≡ length (blocks_of batch)
-  pub each : (i : ℕ) (d : Record) → i < length (blocks_of batch) → IsRecordOf (answer (start_of batch) (blocks_of batch) i) (slice_index_or records i d)
 
 -- the counts say how often each transaction is run
 pub record AreCounts (batch : Batch) (counts : List ℕ) : Type 0 where

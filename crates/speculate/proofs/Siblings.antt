@@ -26,7 +26,7 @@ use Rattle.batch.specs.declared.tree.Subaction.{Subaction}
 use Rattle.batch.proofs.CanRun.{can_try}
 use Rattle.intentions.specs.Levels.{Intentions as View, shown as state_of_view, AllEntriesLegal, AllHaveRoom, absorbed}
 use Rattle.intentions.specs.Committed.{AllStand}
-use Rattle.intentions.proofs.IndexLemmas.{length-range}
+use Rattle.intentions.proofs.StandsLemmas.{length-range}
 use Rattle.speculate.specs.Running.{ShowsTried}
 use Rattle.speculate.specs.Ahead.{CanAllTry, Leads, IsRunAhead, AreRunAhead, IsRunBefore}
 use Rattle.speculate.specs.declared.executor.Ahead.{Ahead}

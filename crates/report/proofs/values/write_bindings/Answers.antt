@@ -3,7 +3,8 @@ use Rattle.std.specs.FinMap as finite_map
 use Rattle.std.specs.Prelude.{codes}
 use Rattle.meaning.specs.Words.{spaced, binding_text}
 use Rattle.batch.specs.Names.{names_of}
-use Rattle.atoms.specs.Item.{item_cmp, items_total, items_antisymmetric}
+use Rattle.atoms.specs.Item.{item_cmp}
+use Rattle.atoms.proofs.Items.{items_total, items_antisymmetric}
 use Rattle.report.proofs.SortedLemmas.{entries-sorted}
 use Rattle.report.proofs.Spaced.{spaced_behind-nothing, next_name}
 use Rattle.report.proofs.values.write_bindings.Goals as goal

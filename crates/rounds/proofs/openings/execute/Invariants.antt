@@ -1,5 +1,5 @@
 use Rattle.std.proofs.Common.{◌-◌, ◌≤◌, length}
-use Rattle.rounds.specs.Openings.{AtOpening}
+use Rattle.rounds.proofs.Reached.{AtOpening}
 use Rattle.rounds.proofs.openings.execute.Given as goal
 
 abbrev pub invariant-opening : goal.invariant-opening
