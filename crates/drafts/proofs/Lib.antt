@@ -1,1 +1,4 @@
+pub mod HistoryLemmas
 pub mod OverlayLemmas
+pub mod TouchedLemmas
+pub mod QueueLemmas

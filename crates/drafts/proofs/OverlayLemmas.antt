@@ -2,22 +2,18 @@
 use Rattle.std.specs.Prelude.{◌≡◌, ℕ, ◌+◌, ◌-◌, ◌≤◌, Bool, true, false, cond, not, ◌&&◌, ◌||◌, List, [], ◌∷◌, ◌++◌, length, Option, Some, None}
 use Rattle.std.proofs.Common.{refl, sym, ap, ◌∙◌, arith, suc, zero}
 use Rattle.std.specs.BTreeMap.{is_at}
-use Rattle.std.specs.Map.{lookup}
 use Rattle.std.specs.Cmp.{eq_by_cmp_equiv}
 use Rattle.std.specs.Ordering.{eq_by_cmp}
 use Rattle.std.specs.FinSet as set
 use Rattle.std.specs.FinMap as map
-use Rattle.atoms.specs.Item.{item_cmp, items_total, items_antisymmetric}
+use Rattle.atoms.specs.Item.{item_cmp}
+use Rattle.atoms.proofs.Items.{items_total, items_antisymmetric}
 use Rattle.atoms.specs.ItemSet.{Sets}
 use Rattle.atoms.specs.Directory.{Directories, put_at}
 use Rattle.atoms.specs.declared.item.Item.{Item}
 use Rattle.std.proofs.lemmas.Bool.{false≢true}
 use Rattle.atoms.proofs.ItemSets.{len_inserted, len_removed, none_in_empty}
-use Rattle.drafts.specs.Overlays.{put_item, over_set, over_directory}
-
--- what slots have at a key
-abbrev pub slot_at : {B : Type 0} → List (Item × B) → Item → Option B
-slot_at slots q = lookup (is_at (item_cmp q)) slots
+use Rattle.drafts.specs.Overlays.{put_item, over_set, over_directory, slot_at}
 
 -- a slot's content, or what is lent
 abbrev pub slot_or : {B : Type 0} → Option B → B → B

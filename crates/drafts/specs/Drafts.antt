@@ -1,13 +1,15 @@
--- The value that a draft is, by what is kept of it.
+-- The value that a draft is, with those that it was, by what is kept of it.
 use Rattle.objects.specs.declared.value.Value.{Value}
 use Rattle.objects.specs.declared.value.Value.TheVariants as value
 use Rattle.drafts.specs.declared.draft.Kept.{Kept}
 use Rattle.drafts.specs.declared.draft.Kept.TheVariants as kept
+use Rattle.drafts.specs.History.{History, seen_as}
+use Rattle.drafts.specs.Numbers.{number_history}
 
-abbrev pub drafted : Kept → Value
-drafted (kept.Account v) = value.Account v
-drafted (kept.Counter v) = value.Counter v
-drafted (kept.Set v) = value.Set v
-drafted (kept.Queue v) = value.Queue v
-drafted (kept.Directory v) = value.Directory v
-drafted (kept.Max v) = value.Max v
+abbrev pub drafted : Kept → History Value
+drafted (kept.Account draft) = seen_as value.Account (number_history draft)
+drafted (kept.Counter draft) = seen_as value.Counter (number_history draft)
+drafted (kept.Set draft) = seen_as value.Set draft
+drafted (kept.Queue draft) = seen_as value.Queue draft
+drafted (kept.Directory draft) = seen_as value.Directory draft
+drafted (kept.Max draft) = seen_as value.Max (number_history draft)

@@ -5,4 +5,4 @@ use Rattle.drafts.specs.declared.shown.Shown.TheVariants.{Lent, Changed}
 
 abbrev pub shown_value : Shown → Value
 shown_value (Lent value) = value.now
-shown_value (Changed draft) = draft.now
+shown_value (Changed draft) = draft.now.value

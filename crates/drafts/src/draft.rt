@@ -1,8 +1,15 @@
 //! A draft of a value of any kind.
-ghost use Rattle.std.specs.Prelude.{◌≡◌, ◌↔◌, IsTrue, Some, IfOk, IfSome, IsSome, OnOk, OnErr};
+ghost use Rattle.std.specs.Prelude.{◌≡◌, ◌↔◌, IsTrue, Some, IfOk, IfSome, IsSome, IsNone, OnOk, OnErr};
 ghost use Rattle.objects.specs.Objects.{kind_of_value, kind_of_call, one_value, HasRoom};
+ghost use Rattle.objects.specs.Changes.{value_change};
+ghost use Rattle.atoms.specs.Account.{account};
+ghost use Rattle.atoms.specs.Counter.{counter};
+ghost use Rattle.atoms.specs.MaxRegister.{max_register};
+ghost use Rattle.atoms.specs.Changes.{account_undoing, counter_undoing, max_undoing};
+ghost use Rattle.drafts.specs.History.{unchanged, changed, undone};
 
 use crate::directory_draft::DirectoryDraft;
+use crate::number_draft::NumberDraft;
 use crate::queue_draft::QueueDraft;
 use crate::set_draft::SetDraft;
 use objects::{
@@ -16,15 +23,16 @@ use std::marker::Model;
 /// What is kept of a value, by its kind.
 #[derive(Drop)]
 enum Kept<'s> {
-    Account(u64),
-    Counter(i64),
+    Account(NumberDraft<u64>),
+    Counter(NumberDraft<i64>),
     Set(SetDraft<'s>),
     Queue(QueueDraft<'s>),
     Directory(DirectoryDraft<'s>),
-    Max(u64),
+    Max(NumberDraft<u64>),
 }
 
-/// What a lent value became: what differs from it is kept, and the rest is read from it.
+/// What a lent value became, and what it was before each of its changes: what differs from it is
+/// kept, and the rest is read from it.
 #[derive(Drop)]
 pub struct Draft<'s> {
     kept: Kept<'s>,
@@ -33,11 +41,13 @@ pub struct Draft<'s> {
 impl<'s> Model for Draft<'s> {
     ghost use Rattle.objects.specs.declared.value.Value.{Value as OneValue};
     ghost use Rattle.objects.specs.contracts.value.Value as one_value_type;
+    ghost use Rattle.std.specs.Coded.{codes};
+    ghost use Rattle.drafts.specs.History.{History};
     ghost use Rattle.drafts.specs.Drafts.{drafted};
 
-    ghost Value = { OneValue };
+    ghost Value = { History OneValue };
 
-    ghost coded = { one_value_type.the_row.coded };
+    ghost coded = { Prim.hlevel (codes, one_value_type.the_row.coded) };
 
     ghost view = { λ draft. drafted draft.kept };
 }
@@ -46,22 +56,22 @@ impl<'s> Draft<'s> {
     /// A draft of this value, with no change. It takes no memory, and no time that grows with the
     /// value.
     pub fn of(alloc: Global, lent: &'s Value) -> Draft<'s>
-        ensures { result ≡ lent.now }
+        ensures { result ≡ unchanged lent.now }
     {
         let kept = match lent {
-            Value::Account(value) => Kept::Account(*value),
-            Value::Counter(value) => Kept::Counter(*value),
+            Value::Account(number) => Kept::Account(NumberDraft::of(alloc, *number)),
+            Value::Counter(number) => Kept::Counter(NumberDraft::of(alloc, *number)),
             Value::Set(value) => Kept::Set(SetDraft::of(alloc, value)),
             Value::Queue(value) => Kept::Queue(QueueDraft::of(alloc, value)),
             Value::Directory(value) => Kept::Directory(DirectoryDraft::of(alloc, value)),
-            Value::Max(value) => Kept::Max(*value),
+            Value::Max(number) => Kept::Max(NumberDraft::of(alloc, *number)),
         };
         Draft { kept }
     }
 
     /// Its kind.
     fn kind(&self) -> Kind
-        ensures { result ≡ kind_of_value self.now }
+        ensures { result ≡ kind_of_value self.now.value }
     {
         match &self.kept {
             Kept::Account(_) => Kind::Account,
@@ -75,118 +85,150 @@ impl<'s> Draft<'s> {
 
     /// Whether the call is of this kind.
     pub fn fits(&self, call: &Call) -> bool
-        ensures { IsTrue result ↔ (kind_of_value self.now ≡ kind_of_call call.now) }
+        ensures { IsTrue result ↔ (kind_of_value self.now.value ≡ kind_of_call call.now) }
     {
         self.kind() == call.kind()
     }
 
     /// Whether its numbers stay in range in the call.
     pub fn has_room(&self, call: &Call) -> bool
-        ensures { IsTrue result ↔ HasRoom self.now call.now }
+        ensures { IsTrue result ↔ HasRoom self.now.value call.now }
     {
         match (&self.kept, call) {
-            (Kept::Account(value), Call::Account(call)) => Account::has_room(value, call),
-            (Kept::Counter(value), Call::Counter(call)) => Counter::has_room(value, call),
+            (Kept::Account(draft), Call::Account(call)) => Account::has_room(&draft.number, call),
+            (Kept::Counter(draft), Call::Counter(call)) => Counter::has_room(&draft.number, call),
             _ => true,
         }
     }
 
-    /// The reply of a call that leaves the value as it is. None for a call that may change it.
+    /// The reply of a call that leaves the value as it is. None for a call that changes it; a put
+    /// into a directory is one, whatever the key is bound to.
     pub fn look(&self, call: &Call) -> Option<Reply>
-        ensures reply { IfSome result (λ reply. one_value.reply self.now call.now ≡ Some reply) }
-        ensures same { IsSome result → one_value.after self.now call.now ≡ self.now }
+        ensures reply { IfSome result (λ reply. one_value.reply self.now.value call.now ≡ Some reply) }
+        ensures same { IsSome result → one_value.after self.now.value call.now ≡ self.now.value }
+        ensures answers { kind_of_value self.now.value ≡ kind_of_call call.now
+            → IsNone result → IsSome (value_change self.now.value call.now) }
     {
         match (&self.kept, call) {
-            (Kept::Account(balance), Call::Account(AccountCall::Balance)) => {
-                Some(Reply::Account(AccountReply::Number(*balance)))
+            (Kept::Account(draft), Call::Account(call)) => {
+                look_at_account(draft.number, call).map(Reply::Account)
             }
-            (Kept::Account(balance), Call::Account(AccountCall::Withdraw(amount))) => {
-                if *balance < amount.get() {
-                    Some(Reply::Account(AccountReply::No))
-                } else {
-                    None
-                }
+            (Kept::Counter(draft), Call::Counter(call)) => {
+                look_at_counter(draft.number, call).map(Reply::Counter)
             }
-            (Kept::Counter(number), Call::Counter(CounterCall::Read)) => {
-                Some(Reply::Counter(CounterReply::Number(*number)))
+            (Kept::Set(draft), Call::Set(call)) => draft.look(call).map(Reply::Set),
+            (Kept::Queue(draft), Call::Queue(call)) => draft.look(call).map(Reply::Queue),
+            (Kept::Directory(draft), Call::Directory(call)) => {
+                draft.look(call).map(Reply::Directory)
             }
-            (Kept::Set(set), Call::Set(call)) => match set.look(call) {
-                Some(reply) => Some(Reply::Set(reply)),
-                None => None,
-            },
-            (Kept::Queue(queue), Call::Queue(call)) => match queue.look(call) {
-                Some(reply) => Some(Reply::Queue(reply)),
-                None => None,
-            },
-            (Kept::Directory(directory), Call::Directory(call)) => match directory.look(call) {
-                Some(reply) => Some(Reply::Directory(reply)),
-                None => None,
-            },
-            (Kept::Max(top), Call::Max(MaxCall::Raise(amount))) => {
-                if amount.get() <= *top {
-                    Some(Reply::Max(MaxReply::Ok))
-                } else {
-                    None
-                }
-            }
-            (Kept::Max(top), Call::Max(MaxCall::Top)) => Some(Reply::Max(MaxReply::Number(*top))),
+            (Kept::Max(draft), Call::Max(call)) => look_at_max(draft.number, call).map(Reply::Max),
             _ => None,
         }
     }
 
-    /// Performs a call, and answers its reply. On `NoMemory` the value is as before.
+    /// Performs a call that changes the value, and answers its reply. On `NoMemory` the value is as
+    /// before.
     pub fn perform(&mut self, call: &Call) -> Result<Reply, NoMemory>
-        requires fits { kind_of_value self.old ≡ kind_of_call call.now }
-        requires room { HasRoom self.old call.now }
-        ensures reply { IfOk result (λ reply. one_value.reply self.old call.now ≡ Some reply) }
-        ensures ok { OnOk result (self.new ≡ one_value.after self.old call.now) }
+        requires fits { kind_of_value self.old.value ≡ kind_of_call call.now }
+        requires room { HasRoom self.old.value call.now }
+        requires changes { IsSome (value_change self.old.value call.now) }
+        ensures reply { IfOk result (λ reply. one_value.reply self.old.value call.now ≡ Some reply) }
+        ensures ok { OnOk result (self.new ≡ changed self.old (one_value.after self.old.value call.now)) }
         ensures err { OnErr result (self.new ≡ self.old) }
     {
         match (&mut self.kept, call) {
-            (Kept::Account(value), Call::Account(call)) => {
-                Ok(Reply::Account(Account::perform(value, call)?))
+            (Kept::Account(draft), Call::Account(call)) => {
+                Ok(Reply::Account(draft.perform::<Account>(call)?))
             }
-            (Kept::Counter(value), Call::Counter(call)) => {
-                Ok(Reply::Counter(Counter::perform(value, call)?))
+            (Kept::Counter(draft), Call::Counter(call)) => {
+                Ok(Reply::Counter(draft.perform::<Counter>(call)?))
             }
-            (Kept::Set(value), Call::Set(call)) => Ok(Reply::Set(value.perform(call)?)),
-            (Kept::Queue(value), Call::Queue(call)) => Ok(Reply::Queue(value.perform(call)?)),
-            (Kept::Directory(value), Call::Directory(call)) => {
-                Ok(Reply::Directory(value.perform(call)?))
+            (Kept::Set(draft), Call::Set(call)) => Ok(Reply::Set(draft.perform(call)?)),
+            (Kept::Queue(draft), Call::Queue(call)) => Ok(Reply::Queue(draft.perform(call)?)),
+            (Kept::Directory(draft), Call::Directory(call)) => {
+                Ok(Reply::Directory(draft.perform(call)?))
             }
-            (Kept::Max(value), Call::Max(call)) => {
-                Ok(Reply::Max(MaxRegister::perform(value, call)?))
+            (Kept::Max(draft), Call::Max(call)) => {
+                Ok(Reply::Max(draft.perform::<MaxRegister>(call)?))
             }
             _ => unreachable!(),
         }
     }
 
-    /// The same draft of the same lent value: it takes memory for what differs.
-    pub fn copy(&self) -> Result<Draft<'s>, NoMemory>
-        ensures { IfOk result (λ copied. copied ≡ self.now) }
+    /// Takes the last change back, if there is one. It takes no memory.
+    pub fn undo(&mut self)
+        ensures { self.new ≡ undone self.old }
     {
-        let kept = match &self.kept {
-            Kept::Account(value) => Kept::Account(*value),
-            Kept::Counter(value) => Kept::Counter(*value),
-            Kept::Set(value) => Kept::Set(value.copy()?),
-            Kept::Queue(value) => Kept::Queue(value.copy()?),
-            Kept::Directory(value) => Kept::Directory(value.copy()?),
-            Kept::Max(value) => Kept::Max(*value),
-        };
-        Ok(Draft { kept })
+        match &mut self.kept {
+            Kept::Account(draft) => draft.undo(),
+            Kept::Counter(draft) => draft.undo(),
+            Kept::Set(draft) => draft.undo(),
+            Kept::Queue(draft) => draft.undo(),
+            Kept::Directory(draft) => draft.undo(),
+            Kept::Max(draft) => draft.undo(),
+        }
     }
 
     /// The value in memory of its own.
     pub fn whole(&self, alloc: Global) -> Result<Value, NoMemory>
-        ensures { IfOk result (λ whole. whole ≡ self.now) }
+        ensures { IfOk result (λ whole. whole ≡ self.now.value) }
     {
         match &self.kept {
-            Kept::Account(value) => Ok(Value::Account(*value)),
-            Kept::Counter(value) => Ok(Value::Counter(*value)),
-            Kept::Set(value) => Ok(Value::Set(value.whole()?)),
-            Kept::Queue(value) => Ok(Value::Queue(value.whole(alloc)?)),
-            Kept::Directory(value) => Ok(Value::Directory(value.whole()?)),
-            Kept::Max(value) => Ok(Value::Max(*value)),
+            Kept::Account(draft) => Ok(Value::Account(draft.number)),
+            Kept::Counter(draft) => Ok(Value::Counter(draft.number)),
+            Kept::Set(draft) => Ok(Value::Set(draft.whole()?)),
+            Kept::Queue(draft) => Ok(Value::Queue(draft.whole(alloc)?)),
+            Kept::Directory(draft) => Ok(Value::Directory(draft.whole()?)),
+            Kept::Max(draft) => Ok(Value::Max(draft.number)),
         }
+    }
+}
+
+/// The reply of a call that leaves the account as it is. None for a call that changes it.
+fn look_at_account(balance: u64, call: &AccountCall) -> Option<AccountReply>
+    ensures reply { IfSome result (λ reply. account.reply balance call.now ≡ reply) }
+    ensures same { IsSome result → account.after balance call.now ≡ balance }
+    ensures answers { IsNone result → IsSome (account_undoing.change balance call.now) }
+{
+    match call {
+        AccountCall::Deposit(_) => None,
+        AccountCall::Withdraw(amount) => {
+            if balance < amount.get() {
+                Some(AccountReply::No)
+            } else {
+                None
+            }
+        }
+        AccountCall::Balance => Some(AccountReply::Number(balance)),
+    }
+}
+
+/// The reply of a call that leaves the counter as it is. None for a call that changes it.
+fn look_at_counter(number: i64, call: &CounterCall) -> Option<CounterReply>
+    ensures reply { IfSome result (λ reply. counter.reply number call.now ≡ reply) }
+    ensures same { IsSome result → counter.after number call.now ≡ number }
+    ensures answers { IsNone result → IsSome (counter_undoing.change number call.now) }
+{
+    match call {
+        CounterCall::Add(_) | CounterCall::Sub(_) => None,
+        CounterCall::Read => Some(CounterReply::Number(number)),
+    }
+}
+
+/// The reply of a call that leaves the register as it is. None for a call that changes it.
+fn look_at_max(top: u64, call: &MaxCall) -> Option<MaxReply>
+    ensures reply { IfSome result (λ reply. max_register.reply top call.now ≡ reply) }
+    ensures same { IsSome result → max_register.after top call.now ≡ top }
+    ensures answers { IsNone result → IsSome (max_undoing.change top call.now) }
+{
+    match call {
+        MaxCall::Raise(amount) => {
+            if amount.get() <= top {
+                Some(MaxReply::Ok)
+            } else {
+                None
+            }
+        }
+        MaxCall::Top => Some(MaxReply::Number(top)),
     }
 }

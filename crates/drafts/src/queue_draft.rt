@@ -1,123 +1,168 @@
 //! Queues that differ from a lent one.
-ghost use Rattle.std.specs.Prelude.{◌≡◌, ◌∷◌, ◌++◌, [], length, drop, slice_get, IfOk, IfSome, IsSome, OnOk, OnErr};
+ghost use Rattle.std.specs.Prelude.{◌≡◌, ◌∷◌, ◌++◌, [], length, drop, slice_get, IfOk, IfSome, IsSome, IsNone, OnOk, OnErr};
 ghost use Rattle.atoms.specs.Queue.{queue};
+ghost use Rattle.atoms.specs.Changes.{queue_undoing};
+ghost use Rattle.drafts.specs.History.{unchanged, changed, undone};
 
 use objects::{Item, NoMemory, Queue, QueueCall, QueueReply};
-use serial::Atom;
 use std::alloc::Global;
-use std::collections::VecDeque;
 use std::marker::Model;
 
-/// A lent queue with how many items went from its front, and those that came at its end.
+/// An item came at the end; or one went from the front, before which so many had gone.
+#[derive(Clone, Copy)]
+enum QueueChange {
+    Enqueued,
+    Dequeued(usize),
+}
+
+/// A lent queue with how many items went from its front, those that came at its end, and the
+/// changes that led to it. An item that came and went is kept.
 #[derive(Drop)]
 pub struct QueueDraft<'s> {
     lent: &'s Queue,
     taken: usize,
-    added: VecDeque<Item>,
+    added: Vec<Item>,
+    journal: Vec<QueueChange>,
 }
 
 impl<'s> Model for QueueDraft<'s> {
-    ghost use Rattle.std.specs.Prelude.{List, ◌++◌, ◌≤◌, drop, length};
+    ghost use Rattle.std.specs.Prelude.{List, reverse};
+    ghost use Rattle.std.specs.Coded.{codes};
+    ghost use Rattle.atoms.specs.Item.{coded_item};
     ghost use Rattle.atoms.specs.declared.item.Item.{Item};
+    ghost use Rattle.drafts.specs.History.{History, journaled, seen_as};
+    ghost use Rattle.drafts.specs.Queues.{queue_back, between, AreWithin};
 
-    ghost Value = { List Item };
+    ghost Value = { History (List Item) };
 
-    ghost view = { λ draft. drop draft.taken draft.lent.now ++ draft.added.items };
+    ghost coded = { Prim.hlevel (codes, coded_item) };
 
-    ghost invariant = { λ draft. draft.taken ≤ length draft.lent.now };
+    ghost view = { λ draft. seen_as (between draft.lent.now) (journaled queue_back (record { taken = draft.taken; added = draft.added.items }) (reverse draft.journal.items)) };
+
+    ghost invariant = { λ draft. AreWithin draft.lent.now (record { taken = draft.taken; added = draft.added.items }) (reverse draft.journal.items) };
 }
 
 impl<'s> QueueDraft<'s> {
     /// A draft to which nothing came and from which nothing went. It takes no memory.
     pub fn of(alloc: Global, lent: &'s Queue) -> QueueDraft<'s>
-        ensures { result ≡ lent.now }
+        ensures { result ≡ unchanged lent.now }
     {
         QueueDraft {
             lent,
             taken: 0,
-            added: VecDeque::new(alloc),
+            added: Vec::new(alloc),
+            journal: Vec::new(alloc),
         }
     }
 
     /// The number of items.
     pub fn len(&self) -> usize
-        ensures { result ≡ length self.now }
+        ensures { result ≡ length self.now.value }
     {
-        self.lent.items().len() - self.taken + self.added.len()
+        self.lent.items().len() + self.added.len() - self.taken
     }
 
-    /// Takes the item at the front.
-    fn pop_front(&mut self) -> Option<Item>
-        ensures item { result ≡ slice_get self.old 0 }
-        ensures rest { self.new ≡ drop 1 self.old }
+    /// The item at the front, if there is one.
+    fn front(&self) -> Option<Item>
+        ensures { result ≡ slice_get self.now.value 0 }
     {
-        match self.lent.items().get(self.taken) {
-            Some(item) => {
-                self.taken += 1;
-                Some(*item)
-            }
-            None => self.added.pop_front(),
+        let lent = self.lent.items();
+        if self.taken < lent.len() {
+            Some(lent[self.taken])
+        } else {
+            self.added.get(self.taken - lent.len()).copied()
         }
     }
 
-    /// The reply of a call that leaves the queue as it is. None for a call that may change it.
+    /// The reply of a call that leaves the queue as it is. None for a call that changes it.
     pub fn look(&self, call: &QueueCall) -> Option<QueueReply>
-        ensures reply { IfSome result (λ reply. queue.reply self.now call.now ≡ reply) }
-        ensures same { IsSome result → queue.after self.now call.now ≡ self.now }
+        ensures reply { IfSome result (λ reply. queue.reply self.now.value call.now ≡ reply) }
+        ensures same { IsSome result → queue.after self.now.value call.now ≡ self.now.value }
+        ensures answers { IsNone result → IsSome (queue_undoing.change self.now.value call.now) }
     {
         match call {
             QueueCall::Enq(_) => None,
-            QueueCall::Deq => {
-                if self.len() == 0 {
-                    Some(QueueReply::Empty)
-                } else {
-                    None
-                }
-            }
+            QueueCall::Deq => match self.front() {
+                Some(_) => None,
+                None => Some(QueueReply::Empty),
+            },
             QueueCall::Length => Some(QueueReply::Number(self.len() as u64)),
         }
     }
 
-    /// Performs a call, and answers its reply. On `NoMemory` the queue is as before.
+    /// Performs a call that changes the queue, and answers its reply. On `NoMemory` the queue is as
+    /// before.
     pub fn perform(&mut self, call: &QueueCall) -> Result<QueueReply, NoMemory>
-        ensures reply { IfOk result (λ reply. reply ≡ queue.reply self.old call.now) }
-        ensures ok { OnOk result (self.new ≡ queue.after self.old call.now) }
+        requires { IsSome (queue_undoing.change self.old.value call.now) }
+        ensures reply { IfOk result (λ reply. reply ≡ queue.reply self.old.value call.now) }
+        ensures ok { OnOk result (self.new ≡ changed self.old (queue.after self.old.value call.now)) }
         ensures err { OnErr result (self.new ≡ self.old) }
     {
         match call {
             QueueCall::Enq(item) => {
-                self.added.push_back(*item)?;
+                self.enqueue(*item)?;
                 Ok(QueueReply::Ok)
             }
-            QueueCall::Deq => match self.pop_front() {
-                Some(item) => Ok(QueueReply::Got(item)),
-                None => Ok(QueueReply::Empty),
+            QueueCall::Deq => match self.front() {
+                Some(item) => {
+                    self.dequeue()?;
+                    Ok(QueueReply::Got(item))
+                }
+                None => unreachable!(),
             },
-            QueueCall::Length => Ok(QueueReply::Number(self.len() as u64)),
+            QueueCall::Length => unreachable!(),
         }
     }
 
-    /// The same draft of the same lent queue: it takes memory for the items that came.
-    pub fn copy(&self) -> Result<QueueDraft<'s>, NoMemory>
-        ensures { IfOk result (λ copied. copied ≡ self.now) }
+    /// Adds an item at the end. On `NoMemory` the queue is as before.
+    fn enqueue(&mut self, item: Item) -> Result<(), NoMemory>
+        ensures ok { OnOk result (self.new ≡ changed self.old (self.old.value ++ item ∷ [])) }
+        ensures err { OnErr result (self.new ≡ self.old) }
     {
-        Ok(QueueDraft {
-            lent: self.lent,
-            taken: self.taken,
-            added: self.added.clone()?,
-        })
+        self.journal.reserve(1)?;
+        self.added.push(item)?;
+        self.journal.push_reserved(QueueChange::Enqueued);
+        Ok(())
+    }
+
+    /// Drops the item at the front. On `NoMemory` the queue is as before.
+    fn dequeue(&mut self) -> Result<(), NoMemory>
+        requires { IsSome (slice_get self.old.value 0) }
+        ensures ok { OnOk result (self.new ≡ changed self.old (drop 1 self.old.value)) }
+        ensures err { OnErr result (self.new ≡ self.old) }
+    {
+        self.journal.push(QueueChange::Dequeued(self.taken))?;
+        // The count fits: the lent items and those that came are fewer than 2^63 each.
+        let _lent = self.lent.items().len();
+        let _added = self.added.len();
+        self.taken += 1;
+        Ok(())
+    }
+
+    /// Takes the last change back, if there is one. It takes no memory.
+    pub fn undo(&mut self)
+        ensures { self.new ≡ undone self.old }
+    {
+        match self.journal.pop() {
+            Some(QueueChange::Enqueued) => {
+                self.added.pop();
+            }
+            Some(QueueChange::Dequeued(taken)) => self.taken = taken,
+            None => {}
+        }
     }
 
     /// The queue in memory of its own.
     pub fn whole(&self, alloc: Global) -> Result<Queue, NoMemory>
-        ensures { IfOk result (λ whole. whole ≡ self.now) }
+        ensures { IfOk result (λ whole. whole ≡ self.now.value) }
     {
         let mut whole = Queue::new(alloc);
-        for place in self.taken..self.lent.items().len() {
-            whole.push_back(self.lent.items()[place])?;
+        let lent = self.lent.items();
+        for place in self.taken..lent.len() {
+            whole.push_back(lent[place])?;
         }
-        for item in self.added.iter() {
-            whole.push_back(*item)?;
+        for place_added in self.taken.saturating_sub(lent.len())..self.added.len() {
+            whole.push_back(self.added[place_added])?;
         }
         Ok(whole)
     }

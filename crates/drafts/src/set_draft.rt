@@ -1,52 +1,61 @@
 //! Sets that differ from a lent one.
-ghost use Rattle.std.specs.Prelude.{◌≡◌, not, IfOk, IfSome, IsSome, OnOk, OnErr};
+ghost use Rattle.std.specs.Prelude.{◌≡◌, true, false, IfOk, IfSome, IsSome, IsNone, OnOk, OnErr};
 ghost use Rattle.std.specs.FinSet as set;
 ghost use Rattle.atoms.specs.ItemSet.{item_set};
+ghost use Rattle.atoms.specs.Changes.{set_undoing};
+ghost use Rattle.drafts.specs.History.{unchanged, changed, undone};
 
-use objects::{Item, ItemSet, NoMemory, SetCall, SetReply};
+use crate::slots::write_slot;
+use objects::{Item, ItemSet, NoMemory, SetCall, SetChange, SetReply};
 use serial::Atom;
 use std::alloc::Global;
 use std::collections::BTreeMap;
 use std::marker::Model;
 
-/// A lent set with whether each touched item is inside now, and the size now.
+/// A lent set with whether each touched item is inside now, the size now, and the changes that led
+/// to it. An item stays touched where its change is taken back.
 #[derive(Drop)]
 pub struct SetDraft<'s> {
     lent: &'s ItemSet,
     touched: BTreeMap<Item, bool>,
     size: usize,
+    journal: Vec<SetChange>,
 }
 
 impl<'s> Model for SetDraft<'s> {
-    ghost use Rattle.std.specs.Prelude.{◌≡◌, ◌<◌, ◌^◌};
+    ghost use Rattle.std.specs.Prelude.{reverse};
     ghost use Rattle.std.specs.FinSet as set;
+    ghost use Rattle.std.specs.Coded.{codes};
     ghost use Rattle.atoms.specs.Item.{item_cmp, coded_item};
-    ghost use Rattle.drafts.specs.Overlays.{over_set};
+    ghost use Rattle.atoms.specs.Changes.{set_undone};
+    ghost use Rattle.drafts.specs.History.{History, journaled};
+    ghost use Rattle.drafts.specs.Overlays.{over_set, IsSetKept};
 
-    ghost Value = { set.FinSet item_cmp };
+    ghost Value = { History (set.FinSet item_cmp) };
 
-    ghost coded = { set.code coded_item };
+    ghost coded = { Prim.hlevel (codes, set.code {R = item_cmp} coded_item) };
 
-    ghost view = { λ draft. over_set draft.lent.now draft.touched.entries };
+    ghost view = { λ draft. journaled set_undone (over_set draft.lent.now draft.touched.entries) (reverse draft.journal.items) };
 
-    ghost invariant = { λ draft. (draft.size ≡ set.len (over_set draft.lent.now draft.touched.entries)) × (set.len draft.lent.now < 2 ^ 63) };
+    ghost invariant = { λ draft. IsSetKept draft.lent.now draft.touched.entries draft.size (reverse draft.journal.items) };
 }
 
 impl<'s> SetDraft<'s> {
     /// A draft in which nothing is touched. It takes no memory.
     pub fn of(alloc: Global, lent: &'s ItemSet) -> SetDraft<'s>
-        ensures { result ≡ lent.now }
+        ensures { result ≡ unchanged lent.now }
     {
         SetDraft {
             lent,
             touched: BTreeMap::new(alloc),
             size: lent.items().len(),
+            journal: Vec::new(alloc),
         }
     }
 
     /// Whether the item is a member.
     pub fn contains(&self, item: Item) -> bool
-        ensures { result ≡ set.contains self.now item }
+        ensures { result ≡ set.contains self.now.value item }
     {
         match self.touched.get(&item) {
             Some(inside) => *inside,
@@ -54,40 +63,11 @@ impl<'s> SetDraft<'s> {
         }
     }
 
-    /// Adds an item, and answers whether it is new. On `NoMemory` the set is as before.
-    fn insert(&mut self, item: Item) -> Result<bool, NoMemory>
-        ensures added { IfOk result (λ added. added ≡ not (set.contains self.old item)) }
-        ensures ok { OnOk result (self.new ≡ set.insert self.old item) }
-        ensures err { OnErr result (self.new ≡ self.old) }
-    {
-        if self.contains(item) {
-            return Ok(false);
-        }
-        self.touched.insert(item, true)?;
-        // The size fits: the lent items and the touched ones are fewer than 2^63 each.
-        let _touched = self.touched.len();
-        self.size += 1;
-        Ok(true)
-    }
-
-    /// Removes an item, and answers whether it was there. On `NoMemory` the set is as before.
-    fn remove(&mut self, item: Item) -> Result<bool, NoMemory>
-        ensures found { IfOk result (λ found. found ≡ set.contains self.old item) }
-        ensures ok { OnOk result (self.new ≡ set.remove self.old item) }
-        ensures err { OnErr result (self.new ≡ self.old) }
-    {
-        if !self.contains(item) {
-            return Ok(false);
-        }
-        self.touched.insert(item, false)?;
-        self.size -= 1;
-        Ok(true)
-    }
-
-    /// The reply of a call that leaves the set as it is. None for a call that may change it.
+    /// The reply of a call that leaves the set as it is. None for a call that changes it.
     pub fn look(&self, call: &SetCall) -> Option<SetReply>
-        ensures reply { IfSome result (λ reply. item_set.reply self.now call.now ≡ reply) }
-        ensures same { IsSome result → item_set.after self.now call.now ≡ self.now }
+        ensures reply { IfSome result (λ reply. item_set.reply self.now.value call.now ≡ reply) }
+        ensures same { IsSome result → item_set.after self.now.value call.now ≡ self.now.value }
+        ensures answers { IsNone result → IsSome (set_undoing.change self.now.value call.now) }
     {
         match call {
             SetCall::Insert(item) => {
@@ -115,52 +95,76 @@ impl<'s> SetDraft<'s> {
         }
     }
 
-    /// Performs a call, and answers its reply. On `NoMemory` the set is as before.
+    /// Performs a call that changes the set, and answers its reply. On `NoMemory` the set is as
+    /// before.
     pub fn perform(&mut self, call: &SetCall) -> Result<SetReply, NoMemory>
-        ensures reply { IfOk result (λ reply. reply ≡ item_set.reply self.old call.now) }
-        ensures ok { OnOk result (self.new ≡ item_set.after self.old call.now) }
+        requires { IsSome (set_undoing.change self.old.value call.now) }
+        ensures reply { IfOk result (λ reply. reply ≡ item_set.reply self.old.value call.now) }
+        ensures ok { OnOk result (self.new ≡ changed self.old (item_set.after self.old.value call.now)) }
         ensures err { OnErr result (self.new ≡ self.old) }
     {
         match call {
             SetCall::Insert(item) => {
-                if self.insert(*item)? {
-                    Ok(SetReply::Added)
-                } else {
-                    Ok(SetReply::Present)
-                }
+                self.insert(*item)?;
+                Ok(SetReply::Added)
             }
             SetCall::Remove(item) => {
-                if self.remove(*item)? {
-                    Ok(SetReply::Removed)
-                } else {
-                    Ok(SetReply::Absent)
-                }
+                self.remove(*item)?;
+                Ok(SetReply::Removed)
             }
-            SetCall::Has(item) => {
-                if self.contains(*item) {
-                    Ok(SetReply::Yes)
-                } else {
-                    Ok(SetReply::No)
-                }
-            }
-            SetCall::Size => Ok(SetReply::Number(self.size as u64)),
+            SetCall::Has(_) | SetCall::Size => unreachable!(),
         }
     }
 
-    /// The same draft of the same lent set: it takes memory for what was touched.
-    pub fn copy(&self) -> Result<SetDraft<'s>, NoMemory>
-        ensures { IfOk result (λ copied. copied ≡ self.now) }
+    /// Adds an item that isn't there. On `NoMemory` the set is as before.
+    fn insert(&mut self, item: Item) -> Result<(), NoMemory>
+        requires { set.contains self.old.value item ≡ false }
+        ensures ok { OnOk result (self.new ≡ changed self.old (set.insert self.old.value item)) }
+        ensures err { OnErr result (self.new ≡ self.old) }
     {
-        Ok(SetDraft {
-            lent: self.lent,
-            touched: self.touched.clone()?,
-            size: self.size,
-        })
+        self.journal.reserve(1)?;
+        self.touched.insert(item, true)?;
+        // The size fits: the lent items and the touched ones are fewer than 2^63 each.
+        let _touched = self.touched.len();
+        self.size += 1;
+        self.journal.push_reserved(SetChange::Added(item));
+        Ok(())
+    }
+
+    /// Removes an item that is there. On `NoMemory` the set is as before.
+    fn remove(&mut self, item: Item) -> Result<(), NoMemory>
+        requires { set.contains self.old.value item ≡ true }
+        ensures ok { OnOk result (self.new ≡ changed self.old (set.remove self.old.value item)) }
+        ensures err { OnErr result (self.new ≡ self.old) }
+    {
+        self.journal.reserve(1)?;
+        self.touched.insert(item, false)?;
+        self.size -= 1;
+        self.journal.push_reserved(SetChange::Removed(item));
+        Ok(())
+    }
+
+    /// Takes the last change back, if there is one. It takes no memory.
+    pub fn undo(&mut self)
+        ensures { self.new ≡ undone self.old }
+    {
+        match self.journal.pop() {
+            Some(SetChange::Added(item)) => {
+                write_slot(&mut self.touched, item, false);
+                self.size -= 1;
+            }
+            Some(SetChange::Removed(item)) => {
+                write_slot(&mut self.touched, item, true);
+                let _touched = self.touched.len();
+                self.size += 1;
+            }
+            None => {}
+        }
     }
 
     /// The set in memory of its own.
     pub fn whole(&self) -> Result<ItemSet, NoMemory>
-        ensures { IfOk result (λ whole. whole ≡ self.now) }
+        ensures { IfOk result (λ whole. whole ≡ self.now.value) }
     {
         let mut whole = ItemSet::copy(self.lent)?;
         for (item, inside) in self.touched.iter().rev() {

@@ -1,6 +1,7 @@
 //! A value that is lent as it was, or as a draft of it.
-ghost use Rattle.std.specs.Prelude.{◌≡◌, ◌↔◌, IsTrue, Some, IfOk, IfSome, IsSome};
+ghost use Rattle.std.specs.Prelude.{◌≡◌, ◌↔◌, IsTrue, Some, IfOk, IfSome, IsSome, IsNone};
 ghost use Rattle.objects.specs.Objects.{kind_of_value, kind_of_call, one_value, HasRoom};
+ghost use Rattle.objects.specs.Changes.{value_change};
 ghost use Rattle.drafts.specs.Shown.{shown_value};
 
 use crate::Draft;
@@ -36,25 +37,17 @@ impl<'a, 's> Shown<'a, 's> {
         }
     }
 
-    /// The reply of a call that leaves the value as it is. None for a call that may change it.
-    /// It takes no memory.
+    /// The reply of a call that leaves the value as it is. None for a call that changes it; a put
+    /// into a directory is one, whatever the key is bound to. It takes no memory.
     pub fn look(&self, alloc: Global, call: &Call) -> Option<Reply>
         ensures reply { IfSome result (λ reply. one_value.reply (shown_value self.now) call.now ≡ Some reply) }
         ensures same { IsSome result → one_value.after (shown_value self.now) call.now ≡ shown_value self.now }
+        ensures answers { kind_of_value (shown_value self.now) ≡ kind_of_call call.now
+            → IsNone result → IsSome (value_change (shown_value self.now) call.now) }
     {
         match self {
             Shown::Lent(value) => Draft::of(alloc, *value).look(call),
             Shown::Changed(draft) => draft.look(call),
-        }
-    }
-
-    /// A draft of its own: it takes memory for what differs from what was lent.
-    pub fn draft(&self, alloc: Global) -> Result<Draft<'s>, NoMemory>
-        ensures { IfOk result (λ draft. draft ≡ shown_value self.now) }
-    {
-        match self {
-            Shown::Lent(value) => Ok(Draft::of(alloc, *value)),
-            Shown::Changed(draft) => draft.copy(),
         }
     }
 

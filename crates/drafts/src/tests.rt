@@ -7,9 +7,9 @@ use objects::{
 use std::process::Abort;
 use std::test::Fail;
 
-/// Performs a call that the draft says fits and has room.
+/// Performs a call that the draft says fits, has room and may change the value.
 fn perform(rt: &impl Abort, draft: &mut Draft<'_>, call: Call) -> Result<Reply, NoMemory> {
-    assert!(rt; draft.fits(&call) && draft.has_room(&call));
+    assert!(rt; draft.fits(&call) && draft.has_room(&call) && draft.look(&call).is_none());
     draft.perform(&call)
 }
 
@@ -34,15 +34,22 @@ fn sets(rt: HostRuntime) -> Result<(), Fail> {
         Reply::Set(SetReply::Added)
     );
     assert_eq!(rt; draft.look(&has), Some(Reply::Set(SetReply::No)));
-    let copied = draft.copy()?;
     assert_eq!(rt;
-        copied.look(&Call::Set(SetCall::Size)),
+        draft.look(&Call::Set(SetCall::Size)),
         Some(Reply::Set(SetReply::Number(2)))
     );
     let whole = draft.whole(rt.alloc())?;
     assert_eq!(rt;
         Draft::of(rt.alloc(), &whole).look(&has),
         Some(Reply::Set(SetReply::No))
+    );
+    draft.undo();
+    assert_eq!(rt; draft.look(&insert), None);
+    draft.undo();
+    assert_eq!(rt; draft.look(&has), Some(Reply::Set(SetReply::Yes)));
+    assert_eq!(rt;
+        draft.look(&Call::Set(SetCall::Size)),
+        Some(Reply::Set(SetReply::Number(2)))
     );
     Ok(())
 }
@@ -73,9 +80,16 @@ fn directories(rt: HostRuntime) -> Result<(), Fail> {
         Shown::Lent(&whole).look(rt.alloc(), &lookup),
         Some(Reply::Directory(DirectoryReply::Missing))
     );
+    draft.undo();
+    draft.undo();
     assert_eq!(rt;
-        Draft::of(rt.alloc(), &lent).look(&lookup),
+        draft.look(&lookup),
         Some(Reply::Directory(DirectoryReply::Found(Item(7))))
+    );
+    let lookup = Call::Directory(DirectoryCall::Lookup(Item(2)));
+    assert_eq!(rt;
+        draft.look(&lookup),
+        Some(Reply::Directory(DirectoryReply::Missing))
     );
     Ok(())
 }
@@ -98,17 +112,26 @@ fn queues(rt: HostRuntime) -> Result<(), Fail> {
         perform(&rt, &mut draft, deq)?,
         Reply::Queue(QueueReply::Got(Item(1)))
     );
-    let shown = Shown::Changed(&draft);
-    let mut copied = shown.draft(rt.alloc())?;
-    assert_eq!(rt;
-        perform(&rt, &mut copied, deq)?,
-        Reply::Queue(QueueReply::Got(Item(2)))
-    );
-    assert_eq!(rt; copied.look(&deq), Some(Reply::Queue(QueueReply::Empty)));
-    let whole = shown.whole(rt.alloc())?;
+    let whole = Shown::Changed(&draft).whole(rt.alloc())?;
     assert_eq!(rt;
         Draft::of(rt.alloc(), &whole).look(&length),
         Some(Reply::Queue(QueueReply::Number(1)))
+    );
+    assert_eq!(rt;
+        perform(&rt, &mut draft, deq)?,
+        Reply::Queue(QueueReply::Got(Item(2)))
+    );
+    assert_eq!(rt; draft.look(&deq), Some(Reply::Queue(QueueReply::Empty)));
+    draft.undo();
+    draft.undo();
+    draft.undo();
+    assert_eq!(rt;
+        draft.look(&length),
+        Some(Reply::Queue(QueueReply::Number(1)))
+    );
+    assert_eq!(rt;
+        perform(&rt, &mut draft, deq)?,
+        Reply::Queue(QueueReply::Got(Item(1)))
     );
     Ok(())
 }
@@ -126,6 +149,11 @@ fn numbers(rt: HostRuntime) -> Result<(), Fail> {
     assert_eq!(rt;
         draft.look(&read),
         Some(Reply::Counter(CounterReply::Number(-2)))
+    );
+    draft.undo();
+    assert_eq!(rt;
+        draft.look(&read),
+        Some(Reply::Counter(CounterReply::Number(5)))
     );
     let shown = Shown::Lent(&lent);
     assert!(rt; shown.fits(&read) && shown.has_room(&read));

@@ -1,21 +1,23 @@
--- What a list of versions shows over a snapshot.
-use Rattle.std.proofs.Common.{◌≡◌, ◌≢◌, ℕ, zero, suc, ◌<◌, ◌≤◌, arith, List, [], ◌∷◌, ◌++◌, Some, None, length, set, get_or, drop, refl, sym, ap, ◌∙◌, subst}
-use Rattle.std.specs.Prelude.{slice_get, slice_set, IsSomeAnd}
-use Rattle.std.proofs.lemmas.List.{set-set, set_comm, length-set}
-use Rattle.objects.specs.declared.value.Value.{Value}
-use Rattle.intentions.specs.declared.layers.Version.{Version}
-use Rattle.objects.specs.declared.call.Call.{Call}
-use Rattle.objects.specs.Objects.{objects, one_value}
-use Rattle.serial.specs.Places.{after_found}
-use Rattle.intentions.specs.Starts.{IsNested, innermost_start, at_starts}
-use Rattle.std.specs.Prelude.{Bool, true, false, cond, take}
+-- What drafts over a snapshot show, and what they showed before changes that are taken back.
+use Rattle.std.proofs.Common.{◌≡◌, ◌≢◌, ℕ, zero, suc, ◌<◌, ◌≤◌, arith, List, [], ◌∷◌, ◌++◌, Some, None, Option, length, length-append, ◌+◌, reverse, take, drop, Bool, true, false, cond, refl, sym, ap, ◌∙◌, subst}
+use Rattle.std.specs.Prelude.{slice_get, slice_set, option_map, option_and_then, unwrap_or, IsSome, IsSomeAnd, IfSome}
+use Rattle.std.proofs.lemmas.List.{take-append-le, drop-append-le, take-take, reverse-append}
+use Rattle.std.proofs.Math.ListN.{drop_of_length-le}
 use Rattle.std.specs.Ordering.{nat_cmp, is_eq}
 use Rattle.std.specs.BTreeMap.{is_at}
-use Rattle.std.specs.Map.{lookup}
-use Rattle.std.specs.Cmp.{nat_cmp_total, tied_itself}
+use Rattle.std.specs.Cmp.{nat_cmp_total, tied_itself, Equal-is}
+use Rattle.std.specs.FinMap.{nat_cmp-IsAntisymmetric}
 use Rattle.std.proofs.lemmas.Bool.{false≢true}
-use Rattle.intentions.specs.Layers.{States, overlaid, IsUnchanged, IsLatest, above, ArePlaces}
-use Rattle.intentions.proofs.StartsLemmas.{at_starts-append, at_starts-set, at_starts-take}
+use Rattle.objects.specs.declared.value.Value.{Value}
+use Rattle.objects.specs.declared.call.Call.{Call}
+use Rattle.objects.specs.declared.change.Change.{Change}
+use Rattle.objects.specs.Objects.{objects, one_value, kind_of_value, kind_of_call, HasRoom, Fits, ObjectHasRoom}
+use Rattle.objects.specs.Changes.{value_change, objects_undoing}
+use Rattle.serial.specs.Places.{after_found}
+use Rattle.drafts.specs.History.{History, unchanged, changed, undone}
+use Rattle.intentions.specs.Starts.{IsNested}
+use Rattle.intentions.specs.Layers.{States, Drafts, histories, values_now, undo_at, rewound, values_at, layered}
+use Rattle.intentions.proofs.StartsLemmas.{innermost_joined}
 
 -- states by their parts
 abbrev pub states : List Value → List (List Value) → States
@@ -24,217 +26,221 @@ states shown begun = record { shown = shown; begun = begun }
 pub states_of : {shown shown' : List Value} {begun begun' : List (List Value)} → shown ≡ shown' → begun ≡ begun' → states shown begun ≡ states shown' begun'
 states_of p q = cc
 
--- a version of an object
-abbrev pub version_of : ℕ → Value → Version
-version_of object value = record { object = object; value = value }
+-- ---- lists
 
-get_set_same : (values : List Value) (object : ℕ) (value : Value) → object < length values → slice_get (slice_set values object value) object ≡ Some value
-get_set_same [] object value h = absurd (omega arith)
-get_set_same (v ∷ values) zero value h = refl
-get_set_same (v ∷ values) (suc object) value h = get_set_same values object value (omega arith)
+-- a list is what is found in it
+same_list : {A : Type 0} (xs ys : List A) → ((i : ℕ) → slice_get xs i ≡ slice_get ys i) → xs ≡ ys
+same_list [] [] h = refl
+same_list [] (y ∷ ys) h = let first = h 0 in cc
+same_list (x ∷ xs) [] h = let first = h 0 in cc
+same_list (x ∷ xs) (y ∷ ys) h =
+    let first : Some x ≡ Some y = h 0 in
+    let same : x ≡ y = cc in
+    let rest : xs ≡ ys = same_list xs ys (λ i. h (suc i)) in
+    cc
 
-get_set_other : (values : List Value) (place object : ℕ) (value : Value) → place ≢ object → slice_get (slice_set values place value) object ≡ slice_get values object
-get_set_other [] place object value ne = refl
-get_set_other (v ∷ values) zero zero value ne = absurd (ne refl)
-get_set_other (v ∷ values) zero (suc object) value ne = refl
-get_set_other (v ∷ values) (suc place) zero value ne = refl
-get_set_other (v ∷ values) (suc place) (suc object) value ne = get_set_other values place object value (λ e. ne (ap suc e))
+get_set_same : {A : Type 0} (xs : List A) (i : ℕ) (x : A) → slice_get (slice_set xs i x) i ≡ option_map (λ _. x) (slice_get xs i)
+get_set_same [] i x = refl
+get_set_same (y ∷ xs) zero x = refl
+get_set_same (y ∷ xs) (suc i) x = get_set_same xs i x
 
-pub length-overlaid : (values : List Value) (versions : List Version) → length (overlaid values versions) ≡ length values
-length-overlaid values [] = refl
-length-overlaid values (v ∷ versions) = length-overlaid (slice_set values v.object v.value) versions ∙ length-set values v.object v.value
-
--- an object with no version
-pub get-overlaid_unchanged : (values : List Value) (versions : List Version) (object : ℕ) → IsUnchanged versions object → slice_get (overlaid values versions) object ≡ slice_get values object
-get-overlaid_unchanged values [] object h = refl
-get-overlaid_unchanged values (v ∷ versions) object h =
-    get-overlaid_unchanged (slice_set values v.object v.value) versions object h.1 ∙ get_set_other values v.object object v.value h.0
-
--- an object with a last version
-pub get-overlaid_latest : (values : List Value) (versions : List Version) (object place : ℕ) (d : Version) → object < length values → IsLatest versions object place → slice_get (overlaid values versions) object ≡ Some (get_or versions place d).value
-get-overlaid_latest values [] object place d within h = absurd h
-get-overlaid_latest values (v ∷ versions) object zero d within h =
-    get-overlaid_unchanged (slice_set values v.object v.value) versions object h.1
-    ∙ subst (λ o. slice_get (slice_set values v.object v.value) o ≡ Some v.value) h.0 (get_set_same values v.object v.value (subst (λ o. o < length values) (sym h.0) within))
-get-overlaid_latest values (v ∷ versions) object (suc place) d within h =
-    get-overlaid_latest (slice_set values v.object v.value) versions object place d (subst (λ n. object < n) (sym (length-set values v.object v.value)) within) h
-
--- one more version
-pub overlaid-push : (values : List Value) (versions : List Version) (version : Version) → overlaid values (versions ++ version ∷ []) ≡ slice_set (overlaid values versions) version.object version.value
-overlaid-push values [] version = refl
-overlaid-push values (v ∷ versions) version = overlaid-push (slice_set values v.object v.value) versions version
-
--- a change below versions of other objects
-overlaid-set_unchanged : (values : List Value) (versions : List Version) (object : ℕ) (value : Value) → IsUnchanged versions object → overlaid (slice_set values object value) versions ≡ slice_set (overlaid values versions) object value
-overlaid-set_unchanged values [] object value h = refl
-overlaid-set_unchanged values (v ∷ versions) object value h =
-    ap (λ ws. overlaid ws versions) (set_comm values object v.object value v.value (λ e. h.0 (sym e)))
-    ∙ overlaid-set_unchanged (slice_set values v.object v.value) versions object value h.1
-
--- another value in the last version of an object
-pub overlaid-set_latest : (values : List Value) (versions : List Version) (object place : ℕ) (value : Value) → IsLatest versions object place → overlaid values (set versions place (version_of object value)) ≡ slice_set (overlaid values versions) object value
-overlaid-set_latest values [] object place value h = absurd h
-overlaid-set_latest values (v ∷ versions) object zero value h =
-    ap (λ ws. overlaid ws versions) (sym (set-set values object v.value value))
-    ∙ overlaid-set_unchanged (slice_set values object v.value) versions object value h.1
-    ∙ ap (λ o. slice_set (overlaid (slice_set values o v.value) versions) object value) (sym h.0)
-overlaid-set_latest values (v ∷ versions) object (suc place) value h = overlaid-set_latest (slice_set values v.object v.value) versions object place value h
-
-pub latest-within : (versions : List Version) (object place : ℕ) → IsLatest versions object place → place < length versions
-latest-within [] object place h = absurd h
-latest-within (v ∷ versions) object zero h = omega arith
-latest-within (v ∷ versions) object (suc place) h = let below : place < length versions = latest-within versions object place h in omega arith
-
-pub latest-object : (versions : List Version) (object place : ℕ) (d : Version) → IsLatest versions object place → (get_or versions place d).object ≡ object
-latest-object [] object place d h = absurd h
-latest-object (v ∷ versions) object zero d h = h.0
-latest-object (v ∷ versions) object (suc place) d h = latest-object versions object place d h
-
--- a place that holds a version of the object, none standing behind it
-pub latest_at : (versions : List Version) (object place : ℕ) (d : Version) → place < length versions → (get_or versions place d).object ≡ object → IsUnchanged (drop (suc place) versions) object → IsLatest versions object place
-latest_at [] object place d within is rest = absurd (omega arith)
-latest_at (v ∷ versions) object zero d within is rest = (is, rest)
-latest_at (v ∷ versions) object (suc place) d within is rest = latest_at versions object place d (omega arith) is rest
-
-get_set_past : (values : List Value) (place object : ℕ) (value : Value) → slice_get values object ≡ None → slice_get (slice_set values place value) object ≡ None
-get_set_past [] place object value h = refl
-get_set_past (v ∷ values) zero zero value h = cc
-get_set_past (v ∷ values) zero (suc object) value h = h
-get_set_past (v ∷ values) (suc place) zero value h = h
-get_set_past (v ∷ values) (suc place) (suc object) value h = get_set_past values place object value h
-
--- an object that the snapshot has not
-pub get-overlaid_past : (values : List Value) (versions : List Version) (object : ℕ) → slice_get values object ≡ None → slice_get (overlaid values versions) object ≡ None
-get-overlaid_past values [] object h = h
-get-overlaid_past values (v ∷ versions) object h = get-overlaid_past (slice_set values v.object v.value) versions object (get_set_past values v.object object v.value h)
-
-pub found-within : (values : List Value) (object : ℕ) (value : Value) → slice_get values object ≡ Some value → object < length values
-found-within [] object value h = cc
-found-within (v ∷ values) zero value h = omega arith
-found-within (v ∷ values) (suc object) value h = let below : object < length values = found-within values object value h in omega arith
-
--- what layers with these parts show
-abbrev pub layers_view : List Value → List Version → List ℕ → States
-layers_view values versions starts = record { shown = overlaid values versions; begun = at_starts (overlaid values) starts versions }
-
--- the value of an object that is there and has a last version
-pub found_latest : (values : List Value) (versions : List Version) (starts : List ℕ) (state : States) (object place : ℕ) (version : Version) (P : Value → Type 0)
-    → layers_view values versions starts ≡ state → IsSomeAnd (slice_get state.shown object) P → IsLatest versions object place → version ≡ get_or versions place version
-    → slice_get state.shown object ≡ Some version.value
-found_latest values versions starts state object place version P is there latest at =
-    let shown_is : overlaid values versions ≡ state.shown = ap (λ (s : States). s.shown) is in
-    let within : object < length values =
-    subst (λ n. object < n) (ap length (sym shown_is) ∙ length-overlaid values versions) (there-within state.shown object P there) in
-    ap (λ ws. slice_get ws object) (sym shown_is) ∙ get-overlaid_latest values versions object place version within latest ∙ ap (λ (v : Version). Some v.value) (sym at)
-  where
-    there-within : (ws : List Value) (object : ℕ) (P : Value → Type 0) → IsSomeAnd (slice_get ws object) P → object < length ws
-    there-within [] object P h = absurd h
-    there-within (w ∷ ws) zero P h = omega arith
-    there-within (w ∷ ws) (suc object) P h = let below : object < length ws = there-within ws object P h in omega arith
-
--- a call that changes a version of the innermost level
-pub performed_in_place : (values : List Value) (versions : List Version) (starts : List ℕ) (state : States) (object place : ℕ) (version : Version) (call : Call) (new : Value)
-    → layers_view values versions starts ≡ state → innermost_start starts ≤ place → IsLatest versions object place → version ≡ get_or versions place version
-    → slice_get state.shown object ≡ Some version.value → new ≡ one_value.after version.value call
-    → layers_view values (slice_set versions place (version_of version.object new)) starts ≡ states (objects.after state.shown (object, call)) state.begun
-performed_in_place values versions starts state object place version call new is level latest at found new_is =
-    let same_object : version.object ≡ object = ap (λ (v : Version). v.object) at ∙ latest-object versions object place version latest in
-    let changed : overlaid values (slice_set versions place (version_of version.object new)) ≡ objects.after state.shown (object, call) =
-    ap (λ o. overlaid values (slice_set versions place (version_of o new))) same_object
-    ∙ overlaid-set_latest values versions object place new latest
-    ∙ ap (λ ws. slice_set ws object new) (ap (λ (s : States). s.shown) is)
-    ∙ ap (slice_set state.shown object) new_is
-    ∙ sym (ap (after_found one_value state.shown object call) found) in
-    let kept : at_starts (overlaid values) starts (slice_set versions place (version_of version.object new)) ≡ state.begun =
-    at_starts-set (overlaid values) starts versions place (version_of version.object new) level ∙ ap (λ (s : States). s.begun) is in
-    states_of changed kept
-
--- a call that gives the innermost level a version
-pub performed_on_copy : (values : List Value) (versions : List Version) (starts : List ℕ) (state : States) (object : ℕ) (call : Call) (new : Value)
-    → layers_view values versions starts ≡ state → IsNested starts (length versions)
-    → objects.after state.shown (object, call) ≡ slice_set state.shown object new
-    → layers_view values (versions ++ version_of object new ∷ []) starts ≡ states (objects.after state.shown (object, call)) state.begun
-performed_on_copy values versions starts state object call new is nested new_is =
-    states_of
-    (overlaid-push values versions (version_of object new) ∙ ap (λ ws. slice_set ws object new) (ap (λ (s : States). s.shown) is) ∙ sym new_is)
-    (at_starts-append (overlaid values) starts versions (version_of object new ∷ []) nested ∙ ap (λ (s : States). s.begun) is)
+get_set_other : {A : Type 0} (xs : List A) (i j : ℕ) (x : A) → i ≢ j → slice_get (slice_set xs i x) j ≡ slice_get xs j
+get_set_other [] i j x ne = refl
+get_set_other (y ∷ xs) zero zero x ne = absurd (ne refl)
+get_set_other (y ∷ xs) zero (suc j) x ne = refl
+get_set_other (y ∷ xs) (suc i) zero x ne = refl
+get_set_other (y ∷ xs) (suc i) (suc j) x ne = get_set_other xs i j x (λ e. ne (ap suc e))
 
 -- the value that is there, put there
-pub set_found : (values : List Value) (object : ℕ) (value : Value) → slice_get values object ≡ Some value → slice_set values object value ≡ values
-set_found [] object value h = refl
-set_found (v ∷ values) zero value h = let same : v ≡ value = cc in ap (λ w. w ∷ values) (sym same)
-set_found (v ∷ values) (suc object) value h = ap (λ ws. v ∷ ws) (set_found values object value h)
+pub set_found : {A : Type 0} (xs : List A) (i : ℕ) (x : A) → slice_get xs i ≡ Some x → slice_set xs i x ≡ xs
+set_found [] i x h = refl
+set_found (y ∷ xs) zero x h = let same : y ≡ x = cc in ap (λ z. z ∷ xs) (sym same)
+set_found (y ∷ xs) (suc i) x h = ap (λ ys. y ∷ ys) (set_found xs i x h)
+
+-- ---- what each object became
+
+-- a draft, or the value that is lent
+abbrev draft_or : Option (History Value) → Value → History Value
+draft_or draft lent = unwrap_or draft (unchanged lent)
+
+pub get-histories : (snapshot : List Value) (drafts : Drafts) (object : ℕ) → slice_get (histories snapshot drafts) object ≡ option_map (draft_or (drafts object)) (slice_get snapshot object)
+get-histories [] drafts object = refl
+get-histories (lent ∷ snapshot) drafts zero = refl
+get-histories (lent ∷ snapshot) drafts (suc object) = get-histories snapshot (λ o. drafts (suc o)) object
+
+-- what is shown of an object
+get-values_now : (snapshot : List Value) (drafts : Drafts) (object : ℕ) → slice_get (values_now (histories snapshot drafts)) object ≡ option_map (λ lent. (draft_or (drafts object) lent).value) (slice_get snapshot object)
+get-values_now [] drafts object = refl
+get-values_now (lent ∷ snapshot) drafts zero = refl
+get-values_now (lent ∷ snapshot) drafts (suc object) = get-values_now snapshot (λ o. drafts (suc o)) object
+
+-- an object with a draft, one without, and none
+pub found_draft : (snapshot : List Value) (drafts : Drafts) (object : ℕ) (lent : Value) (h : History Value) → slice_get snapshot object ≡ Some lent → drafts object ≡ Some h → slice_get (histories snapshot drafts) object ≡ Some h
+found_draft snapshot drafts object lent h e d = get-histories snapshot drafts object ∙ ap (option_map (draft_or (drafts object))) e ∙ ap (λ o. Some (draft_or o lent)) d
+
+pub found_lent : (snapshot : List Value) (drafts : Drafts) (object : ℕ) (lent : Value) → slice_get snapshot object ≡ Some lent → drafts object ≡ None → slice_get (histories snapshot drafts) object ≡ Some (unchanged lent)
+found_lent snapshot drafts object lent e d = get-histories snapshot drafts object ∙ ap (option_map (draft_or (drafts object))) e ∙ ap (λ o. Some (draft_or o lent)) d
+
+pub found_none : (snapshot : List Value) (drafts : Drafts) (object : ℕ) → slice_get snapshot object ≡ None → slice_get (values_now (histories snapshot drafts)) object ≡ None
+found_none snapshot drafts object e = get-values_now snapshot drafts object ∙ ap (option_map (λ lent. (draft_or (drafts object) lent).value)) e
+
+-- no drafts
+pub now-none : (snapshot : List Value) → values_now (histories snapshot (λ object. None)) ≡ snapshot
+now-none [] = refl
+now-none (lent ∷ snapshot) = ap (λ vs. lent ∷ vs) (now-none snapshot)
+
+-- drafts in which one was put
+abbrev pub IsPut : Drafts → Drafts → ℕ → History Value → Type 0
+IsPut drafts put object h = (q : ℕ) → put q ≡ cond (is_at (nat_cmp object) q) (Some h) (drafts q)
+
+map_twice : {A B C : Type 0} (f : A → B) (c : C) (o : Option A) → option_map (λ _. c) (option_map f o) ≡ option_map (λ _. c) o
+map_twice f c None = refl
+map_twice f c (Some a) = refl
+
+pub histories-put : (snapshot : List Value) (drafts put : Drafts) (object : ℕ) (h : History Value) → IsPut drafts put object h → histories snapshot put ≡ slice_set (histories snapshot drafts) object h
+histories-put snapshot drafts put object h is = same_list _ _ (λ q.
+    get-histories snapshot put q ∙ ap (λ d. option_map (draft_or d) (slice_get snapshot q)) (is q) ∙ by_test q (is_at (nat_cmp object) q) refl)
+  where
+    by_test : (q : ℕ) (b : Bool) → is_at (nat_cmp object) q ≡ b → option_map (draft_or (cond b (Some h) (drafts q))) (slice_get snapshot q) ≡ slice_get (slice_set (histories snapshot drafts) object h) q
+    by_test q true e =
+        let same : object ≡ q = nat_cmp-IsAntisymmetric object q ((Equal-is (nat_cmp object q)).0 e) in
+        sym (subst (λ p. slice_get (slice_set (histories snapshot drafts) object h) p ≡ option_map (λ _. h) (slice_get (histories snapshot drafts) p)) same (get_set_same (histories snapshot drafts) object h)
+        ∙ ap (option_map (λ _. h)) (get-histories snapshot drafts q) ∙ map_twice (draft_or (drafts q)) h (slice_get snapshot q))
+    by_test q false e =
+        sym (get_set_other (histories snapshot drafts) object q h (λ same. absurd (false≢true (sym e ∙ ap (is_at (nat_cmp object)) (sym same) ∙ ap is_eq (tied_itself nat_cmp_total object))))
+        ∙ get-histories snapshot drafts q)
+
+-- ---- changes, and changes that are taken back
+
+now-set : (hs : List (History Value)) (object : ℕ) (h : History Value) → values_now (slice_set hs object h) ≡ slice_set (values_now hs) object h.value
+now-set [] object h = refl
+now-set (g ∷ hs) zero h = refl
+now-set (g ∷ hs) (suc object) h = ap (λ vs. g.value ∷ vs) (now-set hs object h)
+
+pub get-now : (hs : List (History Value)) (object : ℕ) (h : History Value) → slice_get hs object ≡ Some h → slice_get (values_now hs) object ≡ Some h.value
+get-now [] object h e = cc
+get-now (g ∷ hs) zero h e = let same : g ≡ h = cc in ap (λ (f : History Value). Some f.value) same
+get-now (g ∷ hs) (suc object) h e = get-now hs object h e
+
+undo-changed : (hs : List (History Value)) (object : ℕ) (h : History Value) (v : Value) → slice_get hs object ≡ Some h → undo_at (slice_set hs object (changed h v)) object ≡ hs
+undo-changed [] object h v e = refl
+undo-changed (g ∷ hs) zero h v e = let same : g ≡ h = cc in ap (λ f. f ∷ hs) (sym same)
+undo-changed (g ∷ hs) (suc object) h v e = ap (λ fs. g ∷ fs) (undo-changed hs object h v e)
+
+rewound-append : (hs : List (History Value)) (xs ys : List ℕ) → rewound hs (xs ++ ys) ≡ rewound (rewound hs xs) ys
+rewound-append hs [] ys = refl
+rewound-append hs (x ∷ xs) ys = rewound-append (undo_at hs x) xs ys
+
+-- a change that names its object
+abbrev at_object : ℕ → Change → ℕ × Change
+at_object object change = (object, change)
+
+some_change : {D E : Type 0} (f : D → E) (o : Option D) → IsSome (option_map f o) → IsSome o
+some_change f None h = h
+some_change f (Some d) h = refl
+
+-- what is asked of a call holds of the value that is shown
+pub fits_found : (values : List Value) (object : ℕ) (call : Call) (v : Value) → slice_get values object ≡ Some v → Fits values object call → kind_of_value v ≡ kind_of_call call
+fits_found values object call v found fits = subst (λ o. IsSomeAnd o (λ w. kind_of_value w ≡ kind_of_call call)) found fits
+
+pub room_found : (values : List Value) (object : ℕ) (call : Call) (v : Value) → slice_get values object ≡ Some v → ObjectHasRoom values object call → HasRoom v call
+room_found values object call v found room = subst (λ o. IfSome o (λ w. HasRoom w call)) found room
+
+pub change_found : (values : List Value) (object : ℕ) (call : Call) (v : Value) → slice_get values object ≡ Some v → IsSome (objects_undoing.change values (object, call)) → IsSome (value_change v call)
+change_found values object call v found some =
+    some_change (at_object object) (value_change v call) (subst (λ o. IsSome (option_map (at_object object) (option_and_then (λ w. value_change w call) o))) found some)
+
+-- one more change leaves what was shown at the begin of each level
+values_at-changed : (hs : List (History Value)) (object : ℕ) (h : History Value) (v : Value) (starts journal : List ℕ) → slice_get hs object ≡ Some h → IsNested starts (length journal)
+    → values_at (slice_set hs object (changed h v)) starts (journal ++ object ∷ []) ≡ values_at hs starts journal
+values_at-changed hs object h v [] journal e nested = refl
+values_at-changed hs object h v (start ∷ starts) journal e nested =
+    let later : reverse (drop start (journal ++ object ∷ [])) ≡ object ∷ reverse (drop start journal) =
+    ap reverse (drop-append-le start journal (object ∷ []) nested.0) ∙ reverse-append (drop start journal) (object ∷ []) in
+    let before : rewound (slice_set hs object (changed h v)) (reverse (drop start (journal ++ object ∷ []))) ≡ rewound hs (reverse (drop start journal)) =
+    ap (rewound (slice_set hs object (changed h v))) later ∙ ap (λ gs. rewound gs (reverse (drop start journal))) (undo-changed hs object h v e) in
+    let earlier : take start (journal ++ object ∷ []) ≡ take start journal = take-append-le start journal (object ∷ []) nested.0 in
+    ap (λ gs. values_now gs ∷ values_at gs starts (take start (journal ++ object ∷ []))) before
+    ∙ ap (λ js. values_now (rewound hs (reverse (drop start journal))) ∷ values_at (rewound hs (reverse (drop start journal))) starts js) earlier
+
+-- a call on an object that became this
+pub performed : (hs new : List (History Value)) (starts journal pushed : List ℕ) (state : States) (object : ℕ) (call : Call) (h : History Value)
+    → layered hs starts journal ≡ state → IsNested starts (length journal) → slice_get hs object ≡ Some h
+    → new ≡ slice_set hs object (changed h (one_value.after h.value call)) → pushed ≡ journal ++ object ∷ []
+    → layered new starts pushed ≡ states (objects.after state.shown (object, call)) state.begun
+performed hs new starts journal pushed state object call h is nested found new_is pushed_is =
+    let v = one_value.after h.value call in
+    let shown : values_now hs ≡ state.shown = ap (λ (s : States). s.shown) is in
+    let there : slice_get state.shown object ≡ Some h.value = sym (ap (λ vs. slice_get vs object) shown) ∙ get-now hs object h found in
+    let after : objects.after state.shown (object, call) ≡ slice_set state.shown object v = ap (after_found one_value state.shown object call) there in
+    let here : layered new starts pushed ≡ layered (slice_set hs object (changed h v)) starts (journal ++ object ∷ []) = cc in
+    here ∙ states_of
+    (now-set hs object (changed h v) ∙ ap (λ vs. slice_set vs object v) shown ∙ sym after)
+    (values_at-changed hs object h v starts journal found nested ∙ ap (λ (s : States). s.begun) is)
+
+-- what was shown at the begin of each level
+pub length-values_at : (hs : List (History Value)) (starts journal : List ℕ) → length (values_at hs starts journal) ≡ length starts
+length-values_at hs [] journal = refl
+length-values_at hs (start ∷ starts) journal = ap suc (length-values_at (rewound hs (reverse (drop start journal))) starts (take start journal))
 
 -- the innermost level ends as part of the one around it
-pub committed_level : (values : List Value) (versions : List Version) (start : ℕ) (starts : List ℕ) (state : States)
-    → layers_view values versions (start ∷ starts) ≡ state → IsNested (start ∷ starts) (length versions)
-    → layers_view values versions starts ≡ states state.shown (drop 1 state.begun)
-committed_level values versions start starts state is nested =
-    states_of (ap (λ (s : States). s.shown) is) (sym (at_starts-take (overlaid values) starts start versions nested.1) ∙ ap (λ (s : States). drop 1 s.begun) is)
+values_at-joined : (hs : List (History Value)) (start : ℕ) (starts journal : List ℕ) → IsNested (start ∷ starts) (length journal)
+    → values_at (rewound hs (reverse (drop start journal))) starts (take start journal) ≡ values_at hs starts journal
+values_at-joined hs start [] journal nested = refl
+values_at-joined hs start (outer ∷ starts) journal nested =
+    let inside = rewound hs (reverse (drop start journal)) in
+    let parts : reverse (drop outer journal) ≡ reverse (drop start journal) ++ reverse (drop outer (take start journal)) =
+    sym (ap reverse (innermost_joined start (outer ∷ starts) journal nested)) ∙ reverse-append (drop outer (take start journal)) (drop start journal) in
+    let before : rewound inside (reverse (drop outer (take start journal))) ≡ rewound hs (reverse (drop outer journal)) =
+    sym (ap (rewound hs) parts ∙ rewound-append hs (reverse (drop start journal)) (reverse (drop outer (take start journal)))) in
+    let earlier : take outer (take start journal) ≡ take outer journal = take-take outer start journal nested.1.0 in
+    ap (λ gs. values_now gs ∷ values_at gs starts (take outer (take start journal))) before
+    ∙ ap (λ js. values_now (rewound hs (reverse (drop outer journal))) ∷ values_at (rewound hs (reverse (drop outer journal))) starts js) earlier
 
--- ---- the places of last versions
+pub committed_level : (hs : List (History Value)) (start : ℕ) (starts journal : List ℕ) (state : States)
+    → layered hs (start ∷ starts) journal ≡ state → IsNested (start ∷ starts) (length journal) → layered hs starts journal ≡ states state.shown (drop 1 state.begun)
+committed_level hs start starts journal state is nested =
+    states_of (ap (λ (s : States). s.shown) is) (sym (values_at-joined hs start starts journal nested) ∙ ap (λ (s : States). drop 1 s.begun) is)
 
-unchanged-append : (versions : List Version) (version : Version) (object : ℕ) → IsUnchanged versions object → version.object ≢ object → IsUnchanged (versions ++ version ∷ []) object
-unchanged-append [] version object h ne = (ne, tt)
-unchanged-append (v ∷ versions) version object h ne = (h.0, unchanged-append versions version object h.1 ne)
+-- ---- the journal taken back
 
-unchanged-drop_append : (n : ℕ) (versions : List Version) (version : Version) (object : ℕ) → IsUnchanged (drop n versions) object → version.object ≢ object → IsUnchanged (drop n (versions ++ version ∷ [])) object
-unchanged-drop_append zero versions version object h ne = unchanged-append versions version object h ne
-unchanged-drop_append (suc zero) [] version object h ne = tt
-unchanged-drop_append (suc (suc n)) [] version object h ne = tt
-unchanged-drop_append (suc n) (v ∷ versions) version object h ne = unchanged-drop_append n versions version object h ne
+set_undone : (snapshot : List Value) (drafts : Drafts) (object : ℕ) (h : History Value) → drafts object ≡ Some h → slice_set (histories snapshot drafts) object (undone h) ≡ undo_at (histories snapshot drafts) object
+set_undone [] drafts object h e = refl
+set_undone (lent ∷ snapshot) drafts zero h e = ap (λ d. undone (draft_or d lent) ∷ histories snapshot (λ o. drafts (suc o))) (sym e)
+set_undone (lent ∷ snapshot) drafts (suc object) h e = ap (λ hs. draft_or (drafts 0) lent ∷ hs) (set_undone snapshot (λ o. drafts (suc o)) object h e)
 
-unchanged-take : (n : ℕ) (versions : List Version) (object : ℕ) → IsUnchanged versions object → IsUnchanged (take n versions) object
-unchanged-take zero versions object h = tt
-unchanged-take (suc n) [] object h = tt
-unchanged-take (suc n) (v ∷ versions) object h = (h.0, unchanged-take n versions object h.1)
+-- a draft whose last change is taken back
+pub undo-put : (snapshot : List Value) (drafts put : Drafts) (object : ℕ) (h new : History Value) → drafts object ≡ Some h → new ≡ undone h → IsPut drafts put object new → histories snapshot put ≡ undo_at (histories snapshot drafts) object
+undo-put snapshot drafts put object h new e new_is is = histories-put snapshot drafts put object new is ∙ ap (slice_set (histories snapshot drafts) object) new_is ∙ set_undone snapshot drafts object h e
 
-unchanged-drop_take : (m n : ℕ) (versions : List Version) (object : ℕ) → IsUnchanged (drop m versions) object → IsUnchanged (drop m (take n versions)) object
-unchanged-drop_take zero n versions object h = unchanged-take n versions object h
-unchanged-drop_take (suc m) zero versions object h = tt
-unchanged-drop_take (suc m) (suc n) [] object h = tt
-unchanged-drop_take (suc m) (suc n) (v ∷ versions) object h = unchanged-drop_take m n versions object h
+-- where there is no draft
+pub undo_none : (snapshot : List Value) (drafts : Drafts) (object : ℕ) → drafts object ≡ None → histories snapshot drafts ≡ undo_at (histories snapshot drafts) object
+undo_none [] drafts object e = refl
+undo_none (lent ∷ snapshot) drafts zero e =
+    let rest = histories snapshot (λ o. drafts (suc o)) in
+    ap (λ d. draft_or d lent ∷ rest) e ∙ sym (ap (λ d. undone (draft_or d lent) ∷ rest) e)
+undo_none (lent ∷ snapshot) drafts (suc object) e = ap (λ hs. draft_or (drafts 0) lent ∷ hs) (undo_none snapshot (λ o. drafts (suc o)) object e)
 
-unchanged-drop_set : (m place : ℕ) (versions : List Version) (version : Version) (object : ℕ) → version.object ≡ (get_or versions place version).object → IsUnchanged (drop m versions) object → IsUnchanged (drop m (slice_set versions place version)) object
-unchanged-drop_set zero place [] version object is h = tt
-unchanged-drop_set (suc m) place [] version object is h = tt
-unchanged-drop_set zero zero (v ∷ versions) version object is h = (λ e. h.0 (sym is ∙ e), h.1)
-unchanged-drop_set zero (suc place) (v ∷ versions) version object is h = (h.0, unchanged-drop_set zero place versions version object is h.1)
-unchanged-drop_set (suc m) zero (v ∷ versions) version object is h = h
-unchanged-drop_set (suc m) (suc place) (v ∷ versions) version object is h = unchanged-drop_set m place versions version object is h
+-- a part of the changes from a place of the journal on is taken back
+pub record IsPartUndone (was : Drafts) (journal : List ℕ) (start : ℕ) (drafts : Drafts) (left : List ℕ) : Type 0 where
+  pub within : start ≤ length left
+  pub keeps : take start left ≡ take start journal
+  pub rewinds : (snapshot : List Value) → rewound (histories snapshot drafts) (reverse (drop start left)) ≡ rewound (histories snapshot was) (reverse (drop start journal))
 
-none-above : (versions : List Version) (version : Version) (object : ℕ) → IsUnchanged (drop (suc (length versions)) (versions ++ version ∷ [])) object
-none-above [] version object = tt
-none-above (v ∷ versions) version object = none-above versions version object
+pub undone_more : (was drafts now : Drafts) (journal left rest : List ℕ) (start object : ℕ) → IsPartUndone was journal start drafts left → start < length left → left ≡ rest ++ object ∷ []
+    → ((snapshot : List Value) → histories snapshot now ≡ undo_at (histories snapshot drafts) object) → IsPartUndone was journal start now rest
+undone_more was drafts now journal left rest start object part more is back =
+    let size : length left ≡ length rest + 1 = ap length is ∙ length-append rest (object ∷ []) in
+    let within : start ≤ length rest = omega arith in
+    let later : reverse (drop start left) ≡ object ∷ reverse (drop start rest) =
+    ap (λ js. reverse (drop start js)) is ∙ ap reverse (drop-append-le start rest (object ∷ []) within) ∙ reverse-append (drop start rest) (object ∷ []) in
+    record {
+      within = within;
+      keeps = sym (take-append-le start rest (object ∷ []) within) ∙ sym (ap (take start) is) ∙ part.keeps;
+      rewinds = λ snapshot. ap (λ hs. rewound hs (reverse (drop start rest))) (back snapshot) ∙ sym (ap (rewound (histories snapshot drafts)) later) ∙ part.rewinds snapshot;
+    }
 
-pub places-take : (n : ℕ) (versions : List Version) (places : List (ℕ × ℕ)) → ArePlaces versions places → ArePlaces (take n versions) places
-places-take n versions places h object = unchanged-drop_take (above (lookup (is_at (nat_cmp object)) places)) n versions object (h object)
-
--- another value in a version
-pub places-set : (place : ℕ) (versions : List Version) (version : Version) (places : List (ℕ × ℕ)) → version.object ≡ (get_or versions place version).object → ArePlaces versions places → ArePlaces (slice_set versions place version) places
-places-set place versions version places is h object = unchanged-drop_set (above (lookup (is_at (nat_cmp object)) places)) place versions version object is (h object)
-
--- one more version, whose place is kept
-pub places-put : (versions : List Version) (version : Version) (places put : List (ℕ × ℕ)) → ArePlaces versions places
-    → ((object : ℕ) → lookup (is_at (nat_cmp object)) put ≡ cond (is_at (nat_cmp version.object) object) (Some (length versions)) (lookup (is_at (nat_cmp object)) places))
-    → ArePlaces (versions ++ version ∷ []) put
-places-put versions version places put h updates object = subst (λ last. IsUnchanged (drop (above last) (versions ++ version ∷ [])) object) (sym (updates object)) (by_test (is_at (nat_cmp version.object) object) refl)
-  where
-    by_test : (b : Bool) → is_at (nat_cmp version.object) object ≡ b → IsUnchanged (drop (above (cond b (Some (length versions)) (lookup (is_at (nat_cmp object)) places))) (versions ++ version ∷ [])) object
-    by_test true e = none-above versions version object
-    by_test false e = unchanged-drop_append (above (lookup (is_at (nat_cmp object)) places)) versions version object (h object)
-        (λ same. absurd (false≢true (sym e ∙ ap (is_at (nat_cmp version.object)) (sym same) ∙ ap is_eq (tied_itself nat_cmp_total version.object))))
-
--- a place kept of a version that is not put
-pub places-kept : (versions : List Version) (place : ℕ) (places put : List (ℕ × ℕ)) → ArePlaces versions places
-    → ((object : ℕ) → lookup (is_at (nat_cmp object)) put ≡ cond (is_at (nat_cmp place) object) (Some (length versions)) (lookup (is_at (nat_cmp object)) places))
-    → ArePlaces versions put
-places-kept versions place places put h updates object = subst (λ last. IsUnchanged (drop (above last) versions) object) (sym (updates object)) (by_test (is_at (nat_cmp place) object))
-  where
-    past : (vs : List Version) → IsUnchanged (drop (suc (length vs)) vs) object
-    past [] = tt
-    past (v ∷ vs) = past vs
-
-    by_test : (b : Bool) → IsUnchanged (drop (above (cond b (Some (length versions)) (lookup (is_at (nat_cmp object)) places))) versions) object
-    by_test true = past versions
-    by_test false = h object
+pub undone_all : (was drafts : Drafts) (journal left : List ℕ) (start : ℕ) (snapshot : List Value) → IsPartUndone was journal start drafts left → length left ≤ start
+    → histories snapshot drafts ≡ rewound (histories snapshot was) (reverse (drop start journal))
+undone_all was drafts journal left start snapshot part all =
+    sym (ap (λ js. rewound (histories snapshot drafts) (reverse js)) (drop_of_length-le left all)) ∙ part.rewinds snapshot

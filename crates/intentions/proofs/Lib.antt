@@ -3,5 +3,8 @@ pub mod EntriesLemmas
 pub mod LayersLemmas
 pub mod LookLemmas
 pub mod ViewLemmas
+pub mod ListsLemmas
 pub mod IndexLemmas
+pub mod SameLemmas
 pub mod ClassesLemmas
+pub mod StandsLemmas

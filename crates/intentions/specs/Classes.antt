@@ -29,11 +29,13 @@ use Rattle.objects.specs.declared.call.Call.TheVariants as call
 use Rattle.objects.specs.declared.call.Reply.{Reply}
 use Rattle.objects.specs.declared.call.Reply.TheVariants as reply
 use Rattle.intentions.specs.declared.classes.Class.{Class}
-use Rattle.intentions.specs.declared.classes.Class.TheVariants.{Look, Deposit, Withdrawal, Count, Raise, Change}
+use Rattle.intentions.specs.declared.classes.Class.TheVariants.{Look, Deposit, Withdrawal, Refusal, Balance, Count, Raise, Size, Change}
 
 abbrev pub account_class : AccountCall → AccountReply → Class
 account_class (account_call.Deposit a) account_reply.Ok = Deposit
 account_class (account_call.Withdraw a) account_reply.Ok = Withdrawal
+account_class (account_call.Withdraw a) account_reply.No = Refusal
+account_class account_call.Balance (account_reply.Number n) = Balance
 account_class c r = Look
 
 abbrev pub counter_class : CounterCall → CounterReply → Class
@@ -44,6 +46,7 @@ counter_class c r = Look
 abbrev pub set_class : SetCall → SetReply → Class
 set_class (set_call.Insert x) set_reply.Added = Change
 set_class (set_call.Remove x) set_reply.Removed = Change
+set_class set_call.Size (set_reply.Number n) = Size
 set_class c r = Look
 
 abbrev pub queue_class : QueueCall → QueueReply → Class
@@ -75,16 +78,35 @@ abbrev pub number_of : Class → ℕ
 number_of Look = 0
 number_of Deposit = 1
 number_of Withdrawal = 2
-number_of Count = 3
-number_of Raise = 4
-number_of Change = 5
+number_of Refusal = 3
+number_of Balance = 4
+number_of Count = 5
+number_of Raise = 6
+number_of Size = 7
+number_of Change = 8
 
 -- any two operations of these classes commute forward
 abbrev pub always_commute : Class → Class → Bool
-always_commute Look Look = true
-always_commute Deposit Deposit = true
-always_commute Deposit Withdrawal = true
-always_commute Withdrawal Deposit = true
-always_commute Count Count = true
-always_commute Raise Raise = true
-always_commute c d = false
+always_commute Deposit Refusal = false
+always_commute Deposit Balance = false
+always_commute Refusal Deposit = false
+always_commute Balance Deposit = false
+always_commute Withdrawal Withdrawal = false
+always_commute Withdrawal Balance = false
+always_commute Balance Withdrawal = false
+always_commute Look Count = false
+always_commute Look Raise = false
+always_commute Look Change = false
+always_commute Count Look = false
+always_commute Raise Look = false
+always_commute Change Look = false
+always_commute Size Change = false
+always_commute Change Size = false
+always_commute Change Change = false
+always_commute c d = true
+
+-- of the class, two operations on different items of an object commute forward
+abbrev pub is_by_item : Class → Bool
+is_by_item Look = true
+is_by_item Change = true
+is_by_item c = false

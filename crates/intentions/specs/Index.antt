@@ -1,33 +1,82 @@
--- An index of a list of entries, by their objects and classes.
-use Rattle.std.specs.Prelude.{◌≡◌, List, [], ◌∷◌, ℕ, zero, suc, ◌+◌, ◌*◌, ◌<◌, ◌≤◌, length, slice_index, slice_index_or, cond, eqb}
+-- An index of a list of entries: for each heading, the places of the entries under it.
+use Rattle.std.specs.Prelude.{◌≡◌, List, [], ◌∷◌, ℕ, zero, suc, ◌+◌, ◌*◌, ◌<◌, ◌≤◌, true, Option, Some, None, length, map, slice_index, slice_index_or, cond}
+use Rattle.std.specs.declared.vec.Vec.{Vec}
+use Rattle.std.specs.BTreeMap as tree
+use Rattle.std.specs.declared.cmp.Ordering.{Ordering}
 use Rattle.serial.specs.Serial.{CommuteForward}
 use Rattle.objects.specs.Objects.{objects, operation_of}
+use Rattle.atoms.specs.declared.item.Item.{Item}
 use Rattle.objects.specs.declared.entry.Entry.{Entry}
 use Rattle.intentions.specs.declared.classes.Class.{Class}
-use Rattle.intentions.specs.Classes.{class_of, number_of}
+use Rattle.intentions.specs.declared.headings.Heading.{Heading}
+use Rattle.intentions.specs.contracts.headings.HeadingOrd.TheImpl as heading_order
+use Rattle.intentions.specs.declared.index.Index.{Index}
+use Rattle.intentions.specs.declared.index.Listed.{Listed}
+use Rattle.intentions.specs.Classes.{number_of}
+use Rattle.intentions.specs.Headings.{is_under}
 
--- which list of an index has the places of an object's entries of a class
+-- which list has the entries of an object's class
 abbrev pub list_of : ℕ → Class → ℕ
-list_of object class = object * 6 + number_of class
+list_of object class = object * 9 + number_of class
 
--- which list of an index has the place of the entry
-unfoldable pub filed_at : Entry → ℕ
-filed_at entry = list_of entry.object (class_of entry.call entry.reply)
-
--- the places of the entries of one list of an index, where the first entry's place is `from`
-abbrev pub places_of : ℕ → ℕ → List Entry → List ℕ
-places_of list from [] = []
-places_of list from (entry ∷ entries) = cond (eqb (filed_at entry) list) (from ∷ places_of list (suc from) entries) (places_of list (suc from) entries)
-
--- a list of an index, empty where the index has none
+-- a list of lists, empty where there is none
 abbrev pub list_at : {A : Type 0} → List (List A) → ℕ → List A
 list_at [] n = []
-list_at (places ∷ index) zero = places
-list_at (places ∷ index) (suc n) = list_at index n
+list_at (list ∷ lists) zero = list
+list_at (list ∷ lists) (suc n) = list_at lists n
+
+-- a list that was found
+abbrev pub found_list : {A Z : Type 0} → Option (Vec A Z) → List A
+found_list None = []
+found_list (Some list) = list.items
+
+-- the order of headings in a map
+abbrev pub heading_cmp : Heading → Heading → Ordering
+heading_cmp = heading_order.ghosts.cmp
+
+abbrev pub list_for : Index → Heading → Option Item → List Listed
+list_for index heading None = list_at (map (λ list. list.items) index.by_class.items) (list_of heading.object heading.class)
+list_for index heading (Some item) = found_list (tree.get heading_cmp index.by_item heading)
+
+-- the list of a heading
+abbrev pub list_under : Index → Heading → List Listed
+list_under index heading = list_for index heading heading.item
+
+-- the places of the entries under a heading, where the first entry's place is `from`
+abbrev pub places_of : Heading → ℕ → List Entry → List ℕ
+places_of heading from [] = []
+places_of heading from (entry ∷ entries) = cond (is_under entry heading) (from ∷ places_of heading (suc from) entries) (places_of heading (suc from) entries)
+
+abbrev pub places : List Listed → List ℕ
+places list = map (λ listed. listed.place) list
+
+abbrev pub runs : List Listed → List ℕ
+runs list = map (λ listed. listed.run) list
 
 -- each place is before the next
 abbrev pub IsRising : List ℕ → Type 0
 IsRising places = (i j : ℕ) → i < j → j < length places → slice_index places i < slice_index places j
+
+-- each place is that of an entry
+abbrev pub AreWithin : List Entry → List Listed → Type 0
+AreWithin entries list = (j : ℕ) → j < length list → slice_index (places list) j < length entries
+
+-- from `run` to `last`, the entries at these places are equal
+abbrev pub IsRun : List Entry → List ℕ → ℕ → ℕ → Type 0
+IsRun entries places run last =
+    (run ≤ last) × ((i : ℕ) → run ≤ i → i ≤ last → (e : Entry) → slice_index_or entries (slice_index places i) e ≡ slice_index_or entries (slice_index places last) e)
+
+-- each listed entry ends the run that is kept with it
+abbrev pub AreRuns : List Entry → List Listed → Type 0
+AreRuns entries list = (j : ℕ) → j < length list → IsRun entries (places list) (slice_index (runs list) j) j
+
+-- what the list of a heading is to be
+abbrev pub IsListOf : Heading → List Entry → List Listed → Type 0
+IsListOf heading entries list = (places list ≡ places_of heading 0 entries) × AreRuns entries list
+
+-- what an index is to be
+abbrev pub IsIndexOf : List Entry → Index → Type 0
+IsIndexOf entries index = (heading : Heading) → IsListOf heading entries (list_under index heading)
 
 abbrev pub Commute : Entry → Entry → Type 0
 Commute p q = CommuteForward objects (operation_of p) (operation_of q)
@@ -37,7 +86,7 @@ abbrev pub CommutesAtPlaces : Entry → List Entry → List ℕ → ℕ → ℕ 
 CommutesAtPlaces entry entries places since upto =
     (j : ℕ) → j < length places → since ≤ slice_index places j → slice_index places j < upto → Commute entry (slice_index_or entries (slice_index places j) entry)
 
--- the entry commutes forward with those from place `since` to before `upto` that one list of an index has
-abbrev pub CommutesInList : Entry → List Entry → ℕ → ℕ → ℕ → Type 0
-CommutesInList entry entries list since upto =
-    (k : ℕ) → since ≤ k → k < upto → filed_at (slice_index_or entries k entry) ≡ list → Commute entry (slice_index_or entries k entry)
+-- the entry commutes forward with those under a heading from place `since` to before `upto`
+abbrev pub CommutesUnder : Entry → List Entry → Heading → ℕ → ℕ → Type 0
+CommutesUnder entry entries heading since upto =
+    (k : ℕ) → since ≤ k → k < upto → is_under (slice_index_or entries k entry) heading ≡ true → Commute entry (slice_index_or entries k entry)

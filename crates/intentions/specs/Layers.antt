@@ -1,43 +1,57 @@
--- Drafts of changed values over a snapshot.
-use Rattle.std.specs.Prelude.{◌≡◌, ◌≢◌, ℕ, zero, suc, List, [], ◌∷◌, length, drop, Option, Some, None, slice_set}
+-- Drafts of changed values over a snapshot, with one journal of their changes.
+use Rattle.std.specs.Prelude.{◌≡◌, ℕ, zero, suc, List, [], ◌∷◌, length, map, take, drop, reverse, Option, unwrap_or}
 use Rattle.std.specs.Ordering.{nat_cmp}
 use Rattle.std.specs.BTreeMap.{is_at}
 use Rattle.std.specs.Map.{lookup}
 use Rattle.objects.specs.declared.value.Value.{Value}
 use Rattle.objects.specs.declared.entry.Entry.{Entry}
+use Rattle.drafts.specs.History.{History, unchanged, undone}
 use Rattle.intentions.specs.Levels.{after_entries, AllEntriesLegal, AllHaveRoom}
 use Rattle.intentions.specs.Starts.{IsNested, at_starts}
-use Rattle.intentions.specs.declared.layers.Version.{Version}
 
 -- what layers show, and what they showed at the begin of each open level, from the innermost
 pub record States : Type 0 where
   pub shown : List Value
   pub begun : List (List Value)
 
--- the snapshot with these versions of its values, a later one over an earlier one
-abbrev pub overlaid : List Value → List Version → List Value
-overlaid values [] = values
-overlaid values (version ∷ versions) = overlaid (slice_set values version.object version.value) versions
+-- the draft of each object that has one
+abbrev pub Drafts : Type 0
+Drafts = ℕ → Option (History Value)
 
--- the object has no version
-abbrev pub IsUnchanged : List Version → ℕ → Type 0
-IsUnchanged [] object = Unit {0}
-IsUnchanged (version ∷ versions) object = (version.object ≢ object) × IsUnchanged versions object
+-- the drafts that a map holds
+abbrev pub drafts_in : List (ℕ × History Value) → Drafts
+drafts_in entries object = lookup (is_at (nat_cmp object)) entries
 
--- the place of the object's last version
-abbrev pub IsLatest : List Version → ℕ → ℕ → Type 0
-IsLatest [] object place = ⊥
-IsLatest (version ∷ versions) object zero = (version.object ≡ object) × IsUnchanged versions object
-IsLatest (version ∷ versions) object (suc place) = IsLatest versions object place
+-- what each object became: its draft, or the value that is lent with no change
+abbrev pub histories : List Value → Drafts → List (History Value)
+histories [] drafts = []
+histories (lent ∷ snapshot) drafts = unwrap_or (drafts 0) (unchanged lent) ∷ histories snapshot (λ object. drafts (suc object))
 
--- the first place that lies above a last one
-abbrev pub above : Option ℕ → ℕ
-above None = 0
-above (Some place) = suc place
+-- the values now
+abbrev pub values_now : List (History Value) → List Value
+values_now hs = map (λ h. h.value) hs
 
--- no object has a version above the place that is kept of it
-abbrev pub ArePlaces : List Version → List (ℕ × ℕ) → Type 0
-ArePlaces versions places = (object : ℕ) → IsUnchanged (drop (above (lookup (is_at (nat_cmp object)) places)) versions) object
+-- the last change of an object taken back
+abbrev pub undo_at : List (History Value) → ℕ → List (History Value)
+undo_at [] object = []
+undo_at (h ∷ hs) zero = undone h ∷ hs
+undo_at (h ∷ hs) (suc object) = h ∷ undo_at hs object
+
+-- changes of these objects taken back, the newest first
+abbrev pub rewound : List (History Value) → List ℕ → List (History Value)
+rewound hs [] = hs
+rewound hs (object ∷ journal) = rewound (undo_at hs object) journal
+
+-- the values where the journal, the object of each change, is taken back to each start, from the innermost
+abbrev pub values_at : List (History Value) → List ℕ → List ℕ → List (List Value)
+values_at hs [] journal = []
+values_at hs (start ∷ starts) journal =
+    let before = rewound hs (reverse (drop start journal)) in
+    values_now before ∷ values_at before starts (take start journal)
+
+-- what layers show of these histories, with levels that start there in the journal
+abbrev pub layered : List (History Value) → List ℕ → List ℕ → States
+layered hs starts journal = record { shown = values_now hs; begun = values_at hs starts journal }
 
 -- what layers show where these entries were performed on a snapshot, with levels that start there
 abbrev pub states_after : List Value → List Entry → List ℕ → States

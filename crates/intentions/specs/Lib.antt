@@ -3,4 +3,5 @@ pub mod Committed
 pub mod Starts
 pub mod Classes
 pub mod Layers
+pub mod Headings
 pub mod Index

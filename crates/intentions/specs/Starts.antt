@@ -20,8 +20,3 @@ around (start ∷ starts) xs = innermost starts (take start xs) ∷ around start
 abbrev pub at_starts : {A B : Type 0} → (List A → B) → List ℕ → List A → List B
 at_starts show [] xs = []
 at_starts show (start ∷ starts) xs = show (take start xs) ∷ at_starts show starts (take start xs)
-
--- the innermost start, or 0 where there is none
-abbrev pub innermost_start : List ℕ → ℕ
-innermost_start [] = 0
-innermost_start (start ∷ starts) = start

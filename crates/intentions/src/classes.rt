@@ -1,7 +1,6 @@
 //! Classes of operations that always commute forward, whatever their arguments and replies are.
 ghost use Rattle.std.specs.Prelude.{◌≡◌};
-ghost use Rattle.intentions.specs.Classes.{account_class, counter_class, set_class, queue_class, directory_class, max_class, class_of, number_of, always_commute};
-ghost use Rattle.intentions.specs.Index.{filed_at, list_of};
+ghost use Rattle.intentions.specs.Classes.{account_class, counter_class, set_class, queue_class, directory_class, max_class, class_of, number_of, always_commute, is_by_item};
 
 use objects::{
     AccountCall, AccountReply, Call, CounterCall, CounterReply, DirectoryCall, DirectoryReply,
@@ -9,22 +8,28 @@ use objects::{
 };
 
 /// What an operation did, as far as it decides with which others it always commutes forward.
-#[derive(Clone, Copy, Debug, PartialEq, Eq)]
+#[derive(Clone, Copy, Debug, PartialEq, Eq, PartialOrd, Ord)]
 pub enum Class {
-    /// It left the value as it was.
+    /// It left the value as it was, and is of no other class.
     Look,
     Deposit,
     Withdrawal,
+    /// A withdrawal that was refused.
+    Refusal,
+    /// It told the balance of an account.
+    Balance,
     /// It changed a counter.
     Count,
     /// It raised a register, or found it higher.
     Raise,
+    /// It told the number of a set's members.
+    Size,
     /// It changed a set, a queue or a directory.
     Change,
 }
 
 /// How many classes there are.
-const CLASSES: usize = 6;
+pub const CLASSES: usize = 9;
 
 impl Class {
     /// Every class, in the order of the numbers.
@@ -32,8 +37,11 @@ impl Class {
         Class::Look,
         Class::Deposit,
         Class::Withdrawal,
+        Class::Refusal,
+        Class::Balance,
         Class::Count,
         Class::Raise,
+        Class::Size,
         Class::Change,
     ];
 
@@ -60,9 +68,12 @@ impl Class {
             Class::Look => 0,
             Class::Deposit => 1,
             Class::Withdrawal => 2,
-            Class::Count => 3,
-            Class::Raise => 4,
-            Class::Change => 5,
+            Class::Refusal => 3,
+            Class::Balance => 4,
+            Class::Count => 5,
+            Class::Raise => 6,
+            Class::Size => 7,
+            Class::Change => 8,
         }
     }
 
@@ -71,28 +82,25 @@ impl Class {
         ensures { result ≡ always_commute self other }
     {
         match (self, other) {
-            (Class::Look, Class::Look)
-            | (Class::Deposit, Class::Deposit | Class::Withdrawal)
-            | (Class::Withdrawal, Class::Deposit)
-            | (Class::Count, Class::Count)
-            | (Class::Raise, Class::Raise) => true,
-            _ => false,
+            (Class::Deposit, Class::Refusal | Class::Balance)
+            | (Class::Refusal | Class::Balance, Class::Deposit)
+            | (Class::Withdrawal, Class::Withdrawal | Class::Balance)
+            | (Class::Balance, Class::Withdrawal)
+            | (Class::Look, Class::Count | Class::Raise | Class::Change)
+            | (Class::Count | Class::Raise | Class::Change, Class::Look)
+            | (Class::Size, Class::Change)
+            | (Class::Change, Class::Size | Class::Change) => false,
+            _ => true,
         }
     }
-}
 
-/// Which list of an index has the places of an object's entries of a class.
-pub fn list_of(object: u32, class: Class) -> usize
-    ensures { result ≡ list_of object class }
-{
-    object as usize * CLASSES + class.number()
-}
-
-/// Which list of an index has the place of the entry.
-pub fn filed_at(entry: &Entry) -> usize
-    ensures { result ≡ filed_at entry.now }
-{
-    list_of(entry.object, Class::of(entry))
+    /// Whether entries of the class are compared with those of their own item alone, where they are
+    /// about items.
+    pub fn is_by_item(self) -> bool
+        ensures { result ≡ is_by_item self }
+    {
+        matches!(self, Class::Look | Class::Change)
+    }
 }
 
 fn account_class(call: &AccountCall, reply: &AccountReply) -> Class
@@ -101,6 +109,8 @@ fn account_class(call: &AccountCall, reply: &AccountReply) -> Class
     match (*call, *reply) {
         (AccountCall::Deposit(_), AccountReply::Ok) => Class::Deposit,
         (AccountCall::Withdraw(_), AccountReply::Ok) => Class::Withdrawal,
+        (AccountCall::Withdraw(_), AccountReply::No) => Class::Refusal,
+        (AccountCall::Balance, AccountReply::Number(_)) => Class::Balance,
         _ => Class::Look,
     }
 }
@@ -121,6 +131,7 @@ fn set_class(call: &SetCall, reply: &SetReply) -> Class
         (SetCall::Insert(_), SetReply::Added) | (SetCall::Remove(_), SetReply::Removed) => {
             Class::Change
         }
+        (SetCall::Size, SetReply::Number(_)) => Class::Size,
         _ => Class::Look,
     }
 }

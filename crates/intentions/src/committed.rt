@@ -1,23 +1,26 @@
 //! The list of what was committed.
-ghost use Rattle.std.specs.Prelude.{◌≡◌, ◌↔◌, ◌<◌, ◌≤◌, ◌-◌, ℕ, [], ◌∷◌, ◌++◌, length, map, take, slice_range, slice_index, vec_len, IsTrue, OnOk, OnErr};
+ghost use Rattle.std.specs.Prelude.{◌≡◌, ◌↔◌, ◌<◌, ◌≤◌, ◌-◌, ℕ, [], ◌∷◌, ◌++◌, length, take, slice_range, slice_index, IsTrue, OnOk, OnErr};
 ghost use Rattle.intentions.specs.Committed.{CommutesWith, AllStand};
-ghost use Rattle.intentions.specs.Index.{IsRising, list_at, list_of, CommutesAtPlaces, CommutesInList};
+ghost use Rattle.intentions.specs.Index.{places, CommutesAtPlaces, CommutesUnder, IsRising, AreWithin, AreRuns};
 
-use crate::classes::{Class, filed_at, list_of};
+use crate::classes::Class;
+use crate::headings::Heading;
+use crate::index::{Index, Listed};
+use crate::listing::{list_entry, unlist_entry};
 use crate::reserved::push_reserved;
 use objects::{Entry, NoMemory, commute};
 use std::alloc::Global;
 use std::marker::Model;
 
-/// The entries of committed transactions in the order of commit, with an index by object
-/// and class, so that an entry is compared with entries of its own object alone, and with none of
-/// a class that it always commutes with. Entries that commute forward with all
-/// that was committed since their snapshot have the same replies after it (Weihl 1988).
+/// The entries of committed transactions in the order of commit, with an index by object, item
+/// and class, so that an entry is compared with entries of its own object and item alone, with none of
+/// a class that it always commutes with, and with one of each run of equal entries. Entries that commute
+/// forward with all that was committed since their snapshot have the same replies after it (Weihl 1988).
 #[derive(Drop)]
 pub struct Committed {
     entries: Vec<Entry>,
-    /// For each object and class, the places of their entries, in order.
-    places: Vec<Vec<usize>>,
+    /// For each heading, the places of the entries under it, in order.
+    index: Index,
 }
 
 impl Model for Committed {
@@ -32,11 +35,9 @@ impl Model for Committed {
 
     ghost view = { λ committed. committed.entries.items };
 
-    ghost use Rattle.std.specs.Prelude.{◌≡◌, ℕ, map};
-    ghost use Rattle.std.specs.declared.vec.Vec.{Vec};
-    ghost use Rattle.intentions.specs.Index.{places_of, list_at};
+    ghost use Rattle.intentions.specs.Index.{IsIndexOf};
 
-    ghost invariant = { λ committed. (n : ℕ) → list_at (map (λ list. list.items) committed.places.items) n ≡ places_of n 0 committed.entries.items };
+    ghost invariant = { λ committed. IsIndexOf committed.entries.items committed.index };
 }
 
 impl Committed {
@@ -46,7 +47,7 @@ impl Committed {
     {
         Committed {
             entries: Vec::new(alloc),
-            places: Vec::new(alloc),
+            index: Index::new(alloc),
         }
     }
 
@@ -78,9 +79,7 @@ impl Committed {
         ensures err { OnErr result (self.new ≡ self.old) }
     {
         self.entries.reserve(1)?;
-        let list = filed_at(&entry);
-        reach(&mut self.places, list)?;
-        self.places[list].push(self.entries.len())?;
+        list_entry(&mut self.index, &self.entries, &entry)?;
         push_reserved(&mut self.entries, entry);
         Ok(())
     }
@@ -99,7 +98,7 @@ impl Committed {
         ensures { self.new ≡ take (length self.old - 1) self.old }
     {
         if let Some(entry) = self.entries.pop() {
-            let _place = self.places[filed_at(&entry)].pop();
+            unlist_entry(&mut self.index, &entry);
         }
     }
 
@@ -119,84 +118,70 @@ impl Committed {
     }
 
     /// Whether the entry commutes forward with each listed one from place `since` to before
-    /// place `upto`. Only entries of its own object are looked at, class by class.
+    /// place `upto`. Only entries of its own object are looked at, class by class, and none of a class
+    /// that it commutes with.
     fn commutes_with(&self, entry: &Entry, since: usize, upto: usize) -> bool
         requires ordered { since ≤ upto }
         requires within { upto ≤ length self.now }
         ensures { IsTrue result ↔ CommutesWith entry.now (slice_range self.now since upto) }
     {
+        let own = Class::of(entry);
         for class in &Class::ALL {
-            if !self.commutes_with_class(entry, *class, since, upto) {
-                return false;
+            if !own.always_commutes(*class) {
+                let heading = Heading::against(entry, *class);
+                if !self.commutes_under(entry, &heading, since, upto) {
+                    return false;
+                }
             }
         }
         true
     }
 
-    /// Whether the entry commutes forward with each listed one of its object and this class from
-    /// place `since` to before place `upto`. None is looked at where it commutes with all of them.
-    fn commutes_with_class(&self, entry: &Entry, class: Class, since: usize, upto: usize) -> bool
+    /// Whether the entry commutes forward with each one under the heading from place `since` to
+    /// before place `upto`.
+    fn commutes_under(&self, entry: &Entry, heading: &Heading, since: usize, upto: usize) -> bool
         requires ordered { since ≤ upto }
         requires within { upto ≤ length self.now }
-        ensures { IsTrue result ↔ CommutesInList entry.now self.now (list_of entry.now.object class) since upto }
+        ensures { IsTrue result ↔ CommutesUnder entry.now self.now heading.now since upto }
     {
-        if Class::of(entry).always_commutes(class) {
-            return true;
-        }
-        match self.places.get(list_of(entry.object, class)) {
-            Some(places) => commutes_at(entry, &self.entries, places, since, upto),
-            None => true,
-        }
+        commutes_at(entry, &self.entries, self.index.list(heading), since, upto)
     }
 }
 
-/// Makes an index that has this list.
-fn reach(index: &mut Vec<Vec<usize>>, list: usize) -> Result<(), NoMemory>
-    ensures reached { OnOk result (list < vec_len index.new) }
-    ensures same { (o : ℕ) → list_at (map (λ list. list.items) index.new.items) o ≡ list_at (map (λ list. list.items) index.old.items) o }
-{
-    while index.len() <= list {
-        let empty = Vec::new(*index.allocator());
-        index.push(empty)?;
-    }
-    Ok(())
-}
-
-/// Whether the entry commutes forward with those at the places from `since` to before `upto`.
-fn commutes_at(
-    entry: &Entry,
-    entries: &[Entry],
-    places: &[usize],
-    since: usize,
-    upto: usize,
-) -> bool
-    requires rising { IsRising places.now }
+/// Whether the entry commutes forward with the listed ones from place `since` to before `upto`. Of
+/// each run of equal ones it looks at the last.
+fn commutes_at(entry: &Entry, entries: &[Entry], list: &[Listed], since: usize, upto: usize) -> bool
+    requires rising { IsRising (places list.now) }
+    requires places { AreWithin entries.now list.now }
+    requires runs { AreRuns entries.now list.now }
     requires ordered { since ≤ upto }
     requires within { upto ≤ length entries.now }
-    ensures { IsTrue result ↔ CommutesAtPlaces entry.now entries.now places.now since upto }
+    ensures { IsTrue result ↔ CommutesAtPlaces entry.now entries.now (places list.now) since upto }
 {
-    let first = first_from(places, since);
-    let last = first_from(places, upto);
-    for place in &places[first..last] {
-        if !commute(entry, &entries[*place]) {
+    let first = first_from(list, since);
+    let mut end = first_from(list, upto);
+    while first < end {
+        let last = list[end - 1];
+        if !commute(entry, &entries[last.place]) {
             return false;
         }
+        end = last.run;
     }
     true
 }
 
-/// How many of the places come before `since`.
-fn first_from(places: &[usize], since: usize) -> usize
-    requires { IsRising places.now }
-    ensures within { result ≤ length places.now }
-    ensures before { (j : ℕ) → j < result → slice_index places.now j < since }
-    ensures from { (j : ℕ) → result ≤ j → j < length places.now → since ≤ slice_index places.now j }
+/// How many of the listed places come before `since`.
+fn first_from(list: &[Listed], since: usize) -> usize
+    requires { IsRising (places list.now) }
+    ensures within { result ≤ length list.now }
+    ensures before { (j : ℕ) → j < result → slice_index (places list.now) j < since }
+    ensures from { (j : ℕ) → result ≤ j → j < length list.now → since ≤ slice_index (places list.now) j }
 {
     let mut low = 0;
-    let mut high = places.len();
+    let mut high = list.len();
     while low < high {
         let middle = low + (high - low) / 2;
-        if places[middle] < since {
+        if list[middle].place < since {
             low = middle + 1;
         } else {
             high = middle;

@@ -1,10 +1,11 @@
 //! Drafts of changed values over a snapshot, in levels.
-ghost use Rattle.std.specs.Prelude.{◌≡◌, ◌<◌, ◌≤◌, ◌^◌, ℕ, [], ◌∷◌, ◌++◌, length, reverse, slice_get, slice_set, Some, IfOk, IfSome, IsSome, OnOk, OnErr, MatchOption, drop, option_map};
+ghost use Rattle.std.specs.Prelude.{◌≡◌, ◌<◌, ◌≤◌, List, [], ◌∷◌, length, reverse, slice_get, Some, IfOk, IfSome, IsSome, IsNone, OnOk, OnErr, take, drop, option_map};
 ghost use Rattle.drafts.specs.Shown.{shown_value};
 ghost use Rattle.objects.specs.Objects.{objects, Fits, ObjectHasRoom};
+ghost use Rattle.objects.specs.Changes.{objects_undoing};
 ghost use Rattle.intentions.specs.Levels.{after_entries, AllEntriesLegal, AllHaveRoom};
-ghost use Rattle.intentions.specs.Starts.{innermost_start};
-ghost use Rattle.intentions.specs.Layers.{States, IsUnchanged, IsLatest, ArePlaces};
+ghost use Rattle.objects.specs.declared.value.Value.{Value};
+ghost use Rattle.intentions.specs.Layers.{States, drafts_in, histories, rewound};
 
 use drafts::{Draft, Shown};
 use objects::{Call, Entry, NoMemory, Objects, Reply};
@@ -12,21 +13,15 @@ use std::alloc::Global;
 use std::collections::BTreeMap;
 use std::marker::Model;
 
-/// What the value of an object became in a level.
-#[derive(Drop)]
-struct Version<'s> {
-    object: u32,
-    value: Draft<'s>,
-}
-
 /// The values of a snapshot and of what was changed since, by levels.
 #[derive(Drop)]
 pub struct Layers<'s> {
     snapshot: &'s Objects,
-    versions: Vec<Version<'s>>,
-    /// For each object that was changed, where its last version was put, which may be gone again.
-    places: BTreeMap<u32, usize>,
-    /// For each open level, how many versions there were at its begin.
+    /// A draft of each object that was changed. It stays where its changes are taken back.
+    drafts: BTreeMap<u32, Draft<'s>>,
+    /// The object of each change, the oldest first.
+    journal: Vec<u32>,
+    /// For each open level, how long the journal was at its begin.
     starts: Vec<usize>,
 }
 
@@ -42,15 +37,12 @@ impl<'s> Model for Layers<'s> {
 
     ghost coded = { code_by (List OneValue × List (List OneValue)) (coded× (coded_list one_value_type.the_row.coded) (coded_list (coded_list one_value_type.the_row.coded))) (λ s. (s.shown, s.begun)) (λ p. record { shown = p.0; begun = p.1 }) (λ _. refl) };
 
-    ghost use Rattle.intentions.specs.Starts.{IsNested, at_starts};
-    ghost use Rattle.intentions.specs.Layers.{overlaid, ArePlaces};
+    ghost use Rattle.intentions.specs.Starts.{IsNested};
+    ghost use Rattle.intentions.specs.Layers.{layered, histories, drafts_in};
 
-    ghost view = { λ layers. record {
-      shown = overlaid layers.snapshot.now layers.versions.items;
-      begun = at_starts (overlaid layers.snapshot.now) (reverse layers.starts.items) layers.versions.items;
-    } };
+    ghost view = { λ layers. layered (histories layers.snapshot.now (drafts_in layers.drafts.entries)) (reverse layers.starts.items) layers.journal.items };
 
-    ghost invariant = { λ layers. IsNested (reverse layers.starts.items) (length layers.versions.items) × ArePlaces layers.versions.items layers.places.entries };
+    ghost invariant = { λ layers. IsNested (reverse layers.starts.items) (length layers.journal.items) };
 }
 
 impl<'s> Layers<'s> {
@@ -60,8 +52,8 @@ impl<'s> Layers<'s> {
     {
         Layers {
             snapshot,
-            versions: Vec::new(alloc),
-            places: BTreeMap::new(alloc),
+            drafts: BTreeMap::new(alloc),
+            journal: Vec::new(alloc),
             starts: Vec::new(alloc),
         }
     }
@@ -78,16 +70,16 @@ impl<'s> Layers<'s> {
         ensures { option_map shown_value result ≡ slice_get self.now.shown object }
     {
         match self.snapshot.value(object) {
-            Some(original) => match latest(&self.versions, &self.places, object) {
-                Some(place) => Some(Shown::Changed(&self.versions[place].value)),
+            Some(original) => match self.drafts.get(&object) {
+                Some(draft) => Some(Shown::Changed(draft)),
                 None => Some(Shown::Lent(original)),
             },
             None => None,
         }
     }
 
-    /// Performs a call on the object. The first change of an object in a level copies what differs
-    /// from the snapshot, and nothing else does.
+    /// Performs a call on the object. The first change of an object makes a draft of it, and
+    /// nothing is copied.
     pub fn perform(&mut self, object: u32, call: &Call) -> Result<Reply, NoMemory>
         requires fits { Fits self.old.shown object call.now }
         requires room { ObjectHasRoom self.old.shown object call.now }
@@ -98,13 +90,21 @@ impl<'s> Layers<'s> {
         if let Some(reply) = self.look(object, call) {
             return Ok(reply);
         }
-        let start = innermost_start(&self.starts);
-        match latest(&self.versions, &self.places, object) {
-            Some(place) if start <= place => self.versions[place].value.perform(call),
-            _ => {
-                let (value, reply) = self.changed_draft(object, call)?;
-                self.places.insert(object, self.versions.len())?;
-                self.versions.push(Version { object, value })?;
+        let Some(lent) = self.snapshot.value(object) else {
+            unreachable!()
+        };
+        self.journal.reserve(1)?;
+        match self.drafts.get_mut(&object) {
+            Some(draft) => {
+                let reply = draft.perform(call)?;
+                self.journal.push_reserved(object);
+                Ok(reply)
+            }
+            None => {
+                let mut draft = Draft::of(*self.starts.allocator(), lent);
+                let reply = draft.perform(call)?;
+                self.drafts.insert(object, draft)?;
+                self.journal.push_reserved(object);
                 Ok(reply)
             }
         }
@@ -159,31 +159,16 @@ impl<'s> Layers<'s> {
         Ok(state)
     }
 
-    /// The reply of a call that leaves the object as it is. None for a call that may change it.
+    /// The reply of a call that leaves the object as it is. None for a call that changes it.
     fn look(&self, object: u32, call: &Call) -> Option<Reply>
         ensures reply { IfSome result (λ reply. objects.reply self.now.shown (object, call.now) ≡ Some reply) }
         ensures same { IsSome result → objects.after self.now.shown (object, call.now) ≡ self.now.shown }
+        ensures answers { Fits self.now.shown object call.now
+            → IsNone result → IsSome (objects_undoing.change self.now.shown (object, call.now)) }
     {
         match self.value(object) {
-            Some(value) => value.look(*self.versions.allocator(), call),
+            Some(value) => value.look(*self.starts.allocator(), call),
             None => None,
-        }
-    }
-
-    /// What a call makes of the object's value, and its reply.
-    fn changed_draft(&self, object: u32, call: &Call) -> Result<(Draft<'s>, Reply), NoMemory>
-        requires fits { Fits self.now.shown object call.now }
-        requires room { ObjectHasRoom self.now.shown object call.now }
-        ensures reply { IfOk result (λ made. objects.reply self.now.shown (object, call.now) ≡ Some made.1) }
-        ensures value { IfOk result (λ made. objects.after self.now.shown (object, call.now) ≡ slice_set self.now.shown object made.0) }
-    {
-        match self.value(object) {
-            Some(value) => {
-                let mut changed = value.draft(*self.versions.allocator())?;
-                let reply = changed.perform(call)?;
-                Ok((changed, reply))
-            }
-            None => unreachable!(),
         }
     }
 
@@ -192,7 +177,7 @@ impl<'s> Layers<'s> {
         ensures ok { OnOk result (self.new ≡ record self.old { begun = self.old.shown ∷ self.old.begun }) }
         ensures err { OnErr result (self.new ≡ self.old) }
     {
-        self.starts.push(self.versions.len())?;
+        self.starts.push(self.journal.len())?;
         Ok(())
     }
 
@@ -201,7 +186,7 @@ impl<'s> Layers<'s> {
         requires { 0 < length self.old.begun }
         ensures { self.new ≡ record self.old { begun = drop 1 self.old.begun } }
     {
-        // The level's versions stand behind those of the level around it.
+        // The level's changes stand in the journal behind those of the level around it.
         let Some(_start) = self.starts.pop() else {
             unreachable!()
         };
@@ -215,49 +200,22 @@ impl<'s> Layers<'s> {
         let Some(start) = self.starts.pop() else {
             unreachable!()
         };
-        self.versions.truncate(start);
+        undo_from(&mut self.drafts, &mut self.journal, start);
     }
 }
 
-/// The innermost start, or 0 where there is none.
-fn innermost_start(starts: &[usize]) -> usize
-    ensures { result ≡ innermost_start (reverse starts.now) }
+/// Takes the changes from this place of the journal on back, the newest first. It takes no memory.
+fn undo_from(drafts: &mut BTreeMap<u32, Draft<'_>>, journal: &mut Vec<u32>, start: usize)
+    requires { start ≤ length journal.old.items }
+    ensures drafts { (snapshot : List Value) → histories snapshot (drafts_in drafts.new.entries)
+        ≡ rewound (histories snapshot (drafts_in drafts.old.entries)) (reverse (drop start journal.old.items)) }
+    ensures journal { journal.new.items ≡ take start journal.old.items }
 {
-    match starts.last() {
-        Some(start) => *start,
-        None => 0,
-    }
-}
-
-/// The place of the object's last version. The first place that is looked at is where one was put
-/// last.
-fn latest(versions: &[Version<'_>], places: &BTreeMap<u32, usize>, object: u32) -> Option<usize>
-    requires { ArePlaces versions.now places.now.entries }
-    ensures { MatchOption result
-        (IsUnchanged versions.now object)
-        (λ place. IsLatest versions.now object place) }
-{
-    match places.get(&object) {
-        Some(last) if *last < versions.len() => latest_below(versions, *last + 1, object),
-        Some(_) => latest_below(versions, versions.len(), object),
-        None => None,
-    }
-}
-
-/// The place of the object's last version, where none stands from the end on.
-fn latest_below(versions: &[Version<'_>], end: usize, object: u32) -> Option<usize>
-    requires within { end ≤ length versions.now }
-    requires rest { IsUnchanged (drop end versions.now) object }
-    ensures { MatchOption result
-        (IsUnchanged versions.now object)
-        (λ place. IsLatest versions.now object place) }
-{
-    let mut place = end;
-    while place > 0 {
-        place -= 1;
-        if versions[place].object == object {
-            return Some(place);
+    while journal.len() > start {
+        if let Some(object) = journal.pop() {
+            if let Some(draft) = drafts.get_mut(&object) {
+                draft.undo();
+            }
         }
     }
-    None
 }

@@ -8,7 +8,10 @@
 
 mod classes;
 mod committed;
+mod headings;
+mod index;
 mod layers;
+mod listing;
 mod reserved;
 mod view;
 

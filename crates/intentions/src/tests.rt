@@ -148,9 +148,11 @@ fn every_kind_is_taken_back(rt: HostRuntime) -> Result<(), Fail> {
         Reply::Max(MaxReply::Number(5)),
     ];
     view.begin()?;
+    view.begin()?;
     for (object, call) in changes {
         let _reply = perform(&rt, &mut view, object, call)?;
     }
+    commit(&rt, &mut view)?;
     for ((object, call), reply) in looks.into_iter().zip(after) {
         assert_eq!(rt; perform(&rt, &mut view, object, call)?, reply);
     }
@@ -210,5 +212,78 @@ fn stands(rt: HostRuntime) -> Result<(), Fail> {
     assert!(rt; !committed.stands(&[deposit], 0, 4));
     assert!(rt; committed.stands(&[balance], 3, 4));
     assert!(rt; !committed.stands(&[balance], 2, 4));
+    Ok(())
+}
+
+#[test]
+fn operations_on_other_items_stand(rt: HostRuntime) -> Result<(), Fail> {
+    let set = |call: SetCall, reply: SetReply| -> Entry {
+        Entry {
+            object: 2,
+            call: Call::Set(call),
+            reply: Reply::Set(reply),
+        }
+    };
+    let first = set(SetCall::Insert(Item(1)), SetReply::Added);
+    let second = set(SetCall::Insert(Item(2)), SetReply::Added);
+    let absent = set(SetCall::Has(Item(1)), SetReply::No);
+    let size = set(SetCall::Size, SetReply::Number(0));
+    let put = Entry {
+        object: 3,
+        call: Call::Directory(DirectoryCall::Put(Item(1), Item(5))),
+        reply: Reply::Directory(DirectoryReply::Ok),
+    };
+    let lookup = Entry {
+        object: 3,
+        call: Call::Directory(DirectoryCall::Lookup(Item(1))),
+        reply: Reply::Directory(DirectoryReply::Missing),
+    };
+    let mut committed = Committed::new(rt.alloc());
+    committed.append(&[first, put])?;
+    assert!(rt; committed.stands(&[second, put], 0, 2));
+    assert!(rt; !committed.stands(&[first], 0, 2));
+    assert!(rt; committed.stands(&[first], 1, 2));
+    assert!(rt; !committed.stands(&[absent], 0, 2));
+    assert!(rt; !committed.stands(&[size], 0, 2));
+    assert!(rt; !committed.stands(&[lookup], 0, 2));
+    committed.append(&[size])?;
+    assert!(rt; !committed.stands(&[second], 0, 3));
+    assert!(rt; committed.stands(&[absent, size], 1, 3));
+    Ok(())
+}
+
+#[test]
+fn runs_of_equal_entries_are_searched(rt: HostRuntime) -> Result<(), Fail> {
+    let enq = |item: u32| -> Entry {
+        Entry {
+            object: 1,
+            call: Call::Queue(QueueCall::Enq(Item(item))),
+            reply: Reply::Queue(QueueReply::Ok),
+        }
+    };
+    let refused = Entry {
+        object: 0,
+        call: Call::Account(AccountCall::Withdraw(amount(&rt, 9))),
+        reply: Reply::Account(AccountReply::No),
+    };
+    let mut committed = Committed::new(rt.alloc());
+    committed.append(&[
+        enq(7),
+        enq(7),
+        refused,
+        enq(7),
+        enq(8),
+        enq(7),
+        enq(7),
+        refused,
+    ])?;
+    assert_eq!(rt; committed.len(), 8);
+    assert!(rt; committed.stands(&[enq(7), refused], 0, 4));
+    assert!(rt; !committed.stands(&[enq(7)], 0, 8));
+    assert!(rt; !committed.stands(&[enq(7)], 4, 5));
+    assert!(rt; committed.stands(&[enq(7)], 5, 8));
+    assert!(rt; !committed.stands(&[enq(8)], 6, 8));
+    assert!(rt; committed.stands(&[enq(8)], 4, 5));
+    assert!(rt; !committed.stands(&[enq(8)], 1, 5));
     Ok(())
 }

@@ -1,52 +1,82 @@
-use Rattle.std.proofs.Common.{◌≡◌, ◌+◌, ◌-◌, ◌<◌, ◌≤◌, ℕ, get_or, length, refl, sym, ◌∙◌, subst, arith, below_more, inl, inr}
+use Rattle.std.proofs.Common.{rules, ◌≡◌, ◌-◌, ◌<◌, ◌≤◌, ℕ, get_or, length, refl, sym, ap, ◌∙◌, subst, arith, inl, inr}
 use Rattle.std.proofs.lemmas.Bool.{false≢true, cases_lt}
-use Rattle.intentions.specs.Index.{Commute}
-use Rattle.intentions.proofs.IndexLemmas.{entry_at, length-range}
+use Rattle.std.proofs.lemmas.List.{length-map, get_or_default}
+use Rattle.intentions.specs.declared.index.Listed.{Listed}
+use Rattle.intentions.specs.Index.{places, runs, Commute}
+use Rattle.intentions.proofs.StandsLemmas.{place_at, run_at, run_commutes}
 use Rattle.intentions.proofs.committed.commutes_at.Goals as goal
 
-pub loop-place-preserved : goal.loop-place-preserved
-loop-place-preserved c =
-    let e = c.args.entry.now in
-    let es = c.args.entries.now in
-    let ps = c.args.places.now in
-    let first = c.first_from-first.result in
-    let last = c.first_from-last.result in
-    let n = c.loop-place.place-index in
-    let short : n < last - first = omega (arith, length-range ps first last c.first_from-last.ensures.within, c.loop-place-test.true) in
-    let early : get_or ps (first + n) 0 < c.args.upto = c.first_from-last.ensures.before (first + n) (omega arith) in
-    let read : get_or es (get_or ps (first + n) 0) e ≡ c.index-entries-place.result =
-    entry_at e c.index-entries-place.result es ps first last n (omega arith) short c.index-entries-place.is in
-    below_more (λ (k : ℕ). Commute e (get_or es (get_or ps (first + k) 0) e)) n c.loop-place.invariant (subst (Commute e) (sym read) (c.commute.ensures.0 c.if-not-commute.false))
+pub bounds-entries-last : goal.bounds-entries-last
+bounds-entries-last c =
+    let list = c.args.list.now in
+    let last : ℕ = c.loop-end.end - 1 in
+    let inside : last < length list = omega (arith, c.loop-end-test.true, c.loop-end.invariant.within, c.first_from-end.ensures.within) in
+    omega (arith, place_at list last (record { place = 0; run = 0 }) inside, c.requires.places last inside)
+
+pub offset_bounds-entries-last : goal.offset_bounds-entries-last
+offset_bounds-entries-last c =
+    let list = c.args.list.now in
+    let last : ℕ = c.loop-end.end - 1 in
+    let inside : last < length list = omega (arith, c.loop-end-test.true, c.loop-end.invariant.within, c.first_from-end.ensures.within) in
+    let within : (get_or list last (record { place = 0; run = 0 })).place < length c.args.entries.now = omega (arith, place_at list last (record { place = 0; run = 0 }) inside, c.requires.places last inside) in
+    search (rules, within)
 
 pub returns-then-not-commute : goal.returns-then-not-commute
 returns-then-not-commute c =
     let e = c.args.entry.now in
     let es = c.args.entries.now in
-    let ps = c.args.places.now in
-    let first = c.first_from-first.result in
-    let last = c.first_from-last.result in
-    let n = c.loop-place.place-index in
-    let short : n < last - first = omega (arith, length-range ps first last c.first_from-last.ensures.within, c.loop-place-test.true) in
-    let early : get_or ps (first + n) 0 < c.args.upto = c.first_from-last.ensures.before (first + n) (omega arith) in
-    let there : first + n < length ps = omega (arith, c.first_from-last.ensures.within) in
-    let late : c.args.since ≤ get_or ps (first + n) 0 = c.first_from-first.ensures.from (first + n) (omega arith) there in
-    let read : get_or es (get_or ps (first + n) 0) e ≡ c.index-entries-place.result =
-    entry_at e c.index-entries-place.result es ps first last n (omega arith) short c.index-entries-place.is in (
+    let list = c.args.list.now in
+    let last : ℕ = c.loop-end.end - 1 in
+    let inside : last < length list = omega (arith, c.loop-end-test.true, c.loop-end.invariant.within, c.first_from-end.ensures.within) in
+    let place_is : (get_or list last (record { place = 0; run = 0 })).place ≡ get_or (places list) last 0 = place_at list last (record { place = 0; run = 0 }) inside in
+    let within : get_or (places list) last 0 < length es = c.requires.places last inside in
+    let early : get_or (places list) last 0 < c.args.upto = c.first_from-end.ensures.before last (omega (arith, c.loop-end-test.true, c.loop-end.invariant.within)) in
+    let late : c.args.since ≤ get_or (places list) last 0 = c.first_from-first.ensures.from last (omega (arith, c.loop-end-test.true)) inside in
+    let read : get_or es (get_or (places list) last 0) e ≡ c.index-entries-last.result =
+    get_or_default es (get_or (places list) last 0) e c.index-entries-last.result within ∙ ap (λ k. get_or es k c.index-entries-last.result) (sym place_is) ∙ sym c.index-entries-last.is in (
       λ h. absurd (false≢true h),
-      λ h. absurd (false≢true (sym c.if-not-commute.true ∙ c.commute.ensures.1 (subst (Commute e) read (h (first + n) there late early)))),
+      λ h. absurd (false≢true (sym c.if-not-commute.true ∙ c.commute.ensures.1 (subst (Commute e) read (h last (omega (arith, length-map list (λ (x : Listed). x.place))) late early)))),
     )
+
+pub loop-end-smaller : goal.loop-end-smaller
+loop-end-smaller c =
+    let list = c.args.list.now in
+    let last : ℕ = c.loop-end.end - 1 in
+    let inside : last < length list = omega (arith, c.loop-end-test.true, c.loop-end.invariant.within, c.first_from-end.ensures.within) in
+    omega (arith, run_at list last (record { place = 0; run = 0 }) inside, (c.requires.runs last inside).0, c.loop-end-test.true)
+
+pub loop-end-preserved : goal.loop-end-preserved
+loop-end-preserved c =
+    let e = c.args.entry.now in
+    let es = c.args.entries.now in
+    let list = c.args.list.now in
+    let last : ℕ = c.loop-end.end - 1 in
+    let inside : last < length list = omega (arith, c.loop-end-test.true, c.loop-end.invariant.within, c.first_from-end.ensures.within) in
+    let run_is : (get_or list last (record { place = 0; run = 0 })).run ≡ get_or (runs list) last 0 = run_at list last (record { place = 0; run = 0 }) inside in
+    let place_is : (get_or list last (record { place = 0; run = 0 })).place ≡ get_or (places list) last 0 = place_at list last (record { place = 0; run = 0 }) inside in
+    let within : get_or (places list) last 0 < length es = c.requires.places last inside in
+    let begun : get_or (runs list) last 0 ≤ last = (c.requires.runs last inside).0 in
+    let read : get_or es (get_or (places list) last 0) e ≡ c.index-entries-last.result =
+    get_or_default es (get_or (places list) last 0) e c.index-entries-last.result within ∙ ap (λ k. get_or es k c.index-entries-last.result) (sym place_is) ∙ sym c.index-entries-last.is in
+    let commutes : Commute e (get_or es (get_or (places list) last 0) e) = subst (Commute e) (sym read) (c.commute.ensures.0 c.if-not-commute.false) in
+    record {
+      within = omega (arith, c.loop-end.invariant.within, c.loop-end-test.true);
+      passed = λ j from before. elim (cases_lt j c.loop-end.end) [
+        | inl here ↦ run_commutes e es (places list) (get_or (runs list) last 0) last j (c.requires.runs last inside) (omega arith) (omega arith) commutes
+        | inr passed ↦ c.loop-end.invariant.passed j passed before
+      ];
+    }
 
 pub returns : goal.returns
 returns c =
     let e = c.args.entry.now in
     let es = c.args.entries.now in
-    let ps = c.args.places.now in
+    let list = c.args.list.now in
     let first = c.first_from-first.result in
-    let last = c.first_from-last.result in (
-      λ _ j l from before. (let after_first : first ≤ j = elim (cases_lt j first) [ inl lt ↦ (let early : get_or ps j 0 < c.args.since = c.first_from-first.ensures.before j lt in absurd (omega arith)) | inr ge ↦ ge ] in
-          let before_last : j < last = elim (cases_lt j last) [ inl lt ↦ lt | inr ge ↦ (let late : c.args.upto ≤ get_or ps j 0 = c.first_from-last.ensures.from j ge l in absurd (omega arith)) ] in
-          let passed : j - first < c.loop-place.place-index = omega (arith, length-range ps first last c.first_from-last.ensures.within, c.loop-place-test.false) in
-          let is : first + (j - first) ≡ j = omega arith in
-          subst (λ k. Commute e (get_or es (get_or ps k 0) e)) is (c.loop-place.invariant (j - first) passed)),
+    let last = c.first_from-end.result in (
+      λ _ j l from before. (let inside : j < length list = omega (arith, length-map list (λ (x : Listed). x.place)) in
+          let after_first : first ≤ j = elim (cases_lt j first) [ inl lt ↦ (let early : get_or (places list) j 0 < c.args.since = c.first_from-first.ensures.before j lt in absurd (omega arith)) | inr ge ↦ ge ] in
+          let before_last : j < last = elim (cases_lt j last) [ inl lt ↦ lt | inr ge ↦ (let late : c.args.upto ≤ get_or (places list) j 0 = c.first_from-end.ensures.from j ge inside in absurd (omega arith)) ] in
+          c.loop-end.invariant.passed j (omega (arith, c.loop-end-test.false)) before_last),
       λ _. refl,
     )

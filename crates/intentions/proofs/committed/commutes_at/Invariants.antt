@@ -1,6 +1,12 @@
-use Rattle.std.proofs.Common.{ℕ, ◌+◌, ◌<◌, get_or}
-use Rattle.intentions.specs.Index.{Commute}
+use Rattle.std.proofs.Common.{ℕ, ◌<◌, ◌≤◌, get_or}
+use Rattle.intentions.specs.Index.{places, Commute}
 use Rattle.intentions.proofs.committed.commutes_at.Given as goal
 
-abbrev pub invariant-loop-place : goal.invariant-loop-place
-invariant-loop-place l = (n : ℕ) → n < l.place-index → Commute l.entry (get_or l.entries (get_or l.places (l.first + n) 0) l.entry)
+abbrev pub invariant-loop-end : goal.invariant-loop-end
+invariant-loop-end l = record {
+  within : l.end ≤ l.initial.end;
+  passed : (j : ℕ) → l.end ≤ j → j < l.initial.end → Commute l.entry (get_or l.entries (get_or (places l.list) j 0) l.entry);
+}
+
+abbrev pub decreases-loop-end : goal.decreases-loop-end
+decreases-loop-end l = l.end

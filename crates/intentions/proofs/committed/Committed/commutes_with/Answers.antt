@@ -1,30 +1,39 @@
-use Rattle.std.proofs.Common.{ℕ, refl, sym, ◌∙◌, subst, arith, get_or, below_more}
+use Rattle.std.proofs.Common.{◌≡◌, ℕ, true, false, refl, sym, ap, ◌∙◌, subst, arith, get_or, below_more}
 use Rattle.std.proofs.lemmas.Bool.{false≢true}
 use Rattle.intentions.specs.declared.classes.Class.{Class}
 use Rattle.intentions.specs.declared.classes.Class.TheVariants.{Look}
-use Rattle.intentions.specs.Classes.{number_of}
-use Rattle.intentions.specs.Index.{list_of, CommutesInList}
-use Rattle.intentions.proofs.IndexLemmas.{classes, class_at, number-bound, all_classes, one_list}
+use Rattle.intentions.specs.Classes.{class_of, number_of, always_commute}
+use Rattle.intentions.specs.Headings.{heading_against}
+use Rattle.intentions.specs.Index.{CommutesUnder}
+use Rattle.intentions.proofs.ListsLemmas.{classes, class_at, number-bound}
+use Rattle.intentions.proofs.StandsLemmas.{all_headings, one_heading_stands}
 use Rattle.intentions.proofs.committed.Committed.commutes_with.Goals as goal
+use Rattle.intentions.proofs.committed.Committed.commutes_with.Goals.{then-not-always_commutes+else-not-commutes_under, else-not-always_commutes}
 
-pub returns-then-not-commutes_with_class : goal.returns-then-not-commutes_with_class
-returns-then-not-commutes_with_class c =
-    let e = c.args.entry.now in
-    let list = list_of e.object (get_or classes c.loop-class.class-index Look) in (
-      λ h. absurd (false≢true h),
-      λ h. absurd (false≢true (sym c.if-not-commutes_with_class.true ∙ c.commutes_with_class.ensures.1 (one_list e c.args.self.now list c.args.since c.args.upto c.requires.within h))),
-    )
+pub returns-then-not-commutes_under : goal.returns-then-not-commutes_under
+returns-then-not-commutes_under c = (
+  λ h. absurd (false≢true h),
+  λ h. absurd (false≢true (sym c.if-not-commutes_under.true ∙ c.commutes_under.ensures.1 (one_heading_stands c.args.entry.now c.args.self.now c.against-heading.result c.args.since c.args.upto c.requires.within h))),
+)
 
 pub loop-class-preserved : goal.loop-class-preserved
 loop-class-preserved c =
-    below_more (λ (n : ℕ). CommutesInList c.args.entry.now c.args.self.now (list_of c.args.entry.now.object (get_or classes n Look)) c.args.since c.args.upto) c.loop-class.class-index
-    c.loop-class.invariant (c.commutes_with_class.ensures.0 c.if-not-commutes_with_class.false)
+    let e = c.args.entry.now in
+    let es = c.args.self.now in
+    let class : Class = get_or classes c.loop-class.class-index Look in
+    let here : always_commute (class_of e.call e.reply) class ≡ false → CommutesUnder e es (heading_against e class) c.args.since c.args.upto =
+    λ may. elim c.if-not-always_commutes.branch [
+      | then-not-always_commutes+else-not-commutes_under w ↦ subst (λ o. CommutesUnder e es o c.args.since c.args.upto) w.against-heading.ensures (w.commutes_under.ensures.0 w.if-not-commutes_under.false)
+      | else-not-always_commutes w ↦ (let always : always_commute (class_of e.call e.reply) class ≡ true = ap (λ k. always_commute k class) (sym c.of-own.ensures) ∙ sym c.always_commutes.ensures ∙ w.if-not-always_commutes.false in
+          absurd (false≢true (sym may ∙ always)))
+    ] in
+    below_more (λ (n : ℕ). always_commute (class_of e.call e.reply) (get_or classes n Look) ≡ false → CommutesUnder e es (heading_against e (get_or classes n Look)) c.args.since c.args.upto) c.loop-class.class-index c.loop-class.invariant here
 
 pub returns : goal.returns
 returns c =
     let e = c.args.entry.now in
     let es = c.args.self.now in (
-      λ _. all_classes e es c.args.since c.args.upto c.requires.within (λ (k : Class). subst (λ d. CommutesInList e es (list_of e.object d) c.args.since c.args.upto) (class_at k)
-          (c.loop-class.invariant (number_of k) (omega (arith, number-bound k)))),
+      λ _. all_headings e es c.args.since c.args.upto c.requires.within (λ (k : Class) may. subst (λ d. CommutesUnder e es (heading_against e d) c.args.since c.args.upto) (class_at k)
+          (c.loop-class.invariant (number_of k) (omega (arith, number-bound k, c.loop-class-test.false)) (ap (always_commute (class_of e.call e.reply)) (class_at k) ∙ may))),
       λ _. refl,
     )

@@ -1,7 +1,10 @@
-use Rattle.std.proofs.Common.{ℕ, ◌<◌, get_or}
+use Rattle.std.proofs.Common.{◌≡◌, false, ℕ, ◌<◌, get_or}
 use Rattle.intentions.specs.declared.classes.Class.TheVariants.{Look}
-use Rattle.intentions.specs.Index.{list_of, CommutesInList}
+use Rattle.intentions.specs.Classes.{class_of, always_commute}
+use Rattle.intentions.specs.Headings.{heading_against}
+use Rattle.intentions.specs.Index.{CommutesUnder}
 use Rattle.intentions.proofs.committed.Committed.commutes_with.Given as goal
 
 abbrev pub invariant-loop-class : goal.invariant-loop-class
-invariant-loop-class l = (n : ℕ) → n < l.class-index → CommutesInList l.entry l.self (list_of l.entry.object (get_or l.class-items n Look)) l.since l.upto
+invariant-loop-class l =
+    (n : ℕ) → n < l.class-index → always_commute (class_of l.entry.call l.entry.reply) (get_or l.class-items n Look) ≡ false → CommutesUnder l.entry l.self (heading_against l.entry (get_or l.class-items n Look)) l.since l.upto

@@ -1,6 +1,6 @@
 use Rattle.std.proofs.Common.{◌≡◌, ◌∷◌, reverse, subst}
 use Rattle.intentions.specs.Layers.{IsKept}
-use Rattle.intentions.proofs.StartsLemmas.{reverse_push}
+use Rattle.drafts.proofs.HistoryLemmas.{reverse_push}
 use Rattle.intentions.proofs.ViewLemmas.{kept_aborting}
 use Rattle.intentions.proofs.view.View.abort.Goals as goal
 

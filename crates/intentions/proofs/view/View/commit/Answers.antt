@@ -1,6 +1,6 @@
 use Rattle.std.proofs.Common.{◌≡◌, ◌∷◌, length, reverse, sym, ap, ◌∙◌, subst}
 use Rattle.intentions.specs.Starts.{IsNested}
-use Rattle.intentions.proofs.StartsLemmas.{reverse_push}
+use Rattle.drafts.proofs.HistoryLemmas.{reverse_push}
 use Rattle.intentions.proofs.ViewLemmas.{view_parts, committed_view}
 use Rattle.intentions.proofs.view.View.commit.Goals as goal
 

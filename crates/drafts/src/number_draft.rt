@@ -1,0 +1,52 @@
+//! Numbers with what they were.
+ghost use Rattle.std.specs.Prelude.{◌≡◌, IfOk, OnOk, OnErr};
+ghost use Rattle.drafts.specs.History.{unchanged, changed, undone};
+ghost use Rattle.drafts.specs.Numbers.{number_history};
+
+use objects::NoMemory;
+use serial::Atom;
+use std::alloc::Global;
+
+/// The number of an account, a counter or a register, with what it was.
+#[derive(Drop)]
+pub struct NumberDraft<T: Drop> {
+    /// The number now.
+    pub number: T,
+    /// The number before each change, the oldest first.
+    pub before: Vec<T>,
+}
+
+impl<T: Copy + Drop> NumberDraft<T> {
+    /// A number with no change. It takes no memory.
+    pub fn of(alloc: Global, number: T) -> NumberDraft<T>
+        ensures { number_history result ≡ unchanged number }
+    {
+        NumberDraft {
+            number,
+            before: Vec::new(alloc),
+        }
+    }
+
+    /// Performs a call, and answers its reply. On `NoMemory` the number is as before.
+    pub fn perform<A: Atom<Value = T>>(&mut self, call: &A::Call) -> Result<A::Reply, NoMemory>
+        requires { A.HasRoom self.old.number call.now }
+        ensures reply { IfOk result (λ reply. reply ≡ A.serial.reply self.old.number call.now) }
+        ensures ok { OnOk result (number_history self.new ≡ changed (number_history self.old) (A.serial.after self.old.number call.now)) }
+        ensures err { OnErr result (number_history self.new ≡ number_history self.old) }
+    {
+        self.before.reserve(1)?;
+        let before = self.number;
+        let reply = A::perform(&mut self.number, call)?;
+        self.before.push_reserved(before);
+        Ok(reply)
+    }
+
+    /// Takes the last change back, if there is one. It takes no memory.
+    pub fn undo(&mut self)
+        ensures { number_history self.new ≡ undone (number_history self.old) }
+    {
+        if let Some(before) = self.before.pop() {
+            self.number = before;
+        }
+    }
+}
