@@ -48,7 +48,7 @@ def spread(count=10_000, operations=20, objects=1_000, seed=1):
                     blocks)
 
 
-def collections(size=100_000, count=5_000, seed=2):
+def collections(size=100_000, count=10_000, seed=2):
     """Transactions that each touch one item of a set, a queue and a directory of so many items."""
     chosen = random.Random(seed)
     third = size // 3
@@ -68,6 +68,28 @@ def collections(size=100_000, count=5_000, seed=2):
     return document(objects, blocks)
 
 
+def distinct(count=100_000):
+    """Transactions that each insert and bind items that no other touches, so many in all."""
+    transactions = min(count, 10_000)
+    each = count // transactions
+    objects = ['{"name":"s","kind":"set","start":[]}',
+               '{"name":"d","kind":"directory","start":[]}']
+    blocks = []
+    for number in range(transactions):
+        steps = []
+        for item in range(number * each, (number + 1) * each):
+            steps.append(operation("s", "insert", "n%d" % item))
+            steps.append(operation("d", "bind", "n%d" % item, "w"))
+        blocks.append(block(steps))
+    return document(objects, blocks)
+
+
+def enqueues(count=100_000, transactions=10_000):
+    """Transactions that enqueue one item, so often in all."""
+    return document(['{"name":"q","kind":"queue","start":[]}'],
+                    [block([operation("q", "enq", "e")] * (count // transactions))] * transactions)
+
+
 def transfers(count=10_000, accounts=2_000, seed=3):
     """A ledger of transfers, each a subaction with a handler that books a failure."""
     chosen = random.Random(seed)
@@ -85,6 +107,17 @@ def transfers(count=10_000, accounts=2_000, seed=3):
             '"handlers":{"short":[{"op":["failed","add",1]}]}}]'
             % (source, amount, target, amount))
     return document(objects, blocks)
+
+
+def levels(count=20_000):
+    """A transaction of so many subactions, each of which inserts an item into one set; one in ten aborts."""
+    steps = []
+    for number in range(count):
+        body = [operation("s", "insert", "n%d" % number)]
+        if number % 10 == 0:
+            body.append('{"abort":true}')
+        steps.append('{"sub":%s}' % block(body))
+    return document(['{"name":"s","kind":"set","start":[]}'], [block(steps)])
 
 
 def wide(children=200, operations=100):

@@ -1,6 +1,8 @@
-//! How long each stage of `ordtx serial` takes. `bench_stages FILE` prints the milliseconds of making a JSON value of
-//! the file's bytes (`serde_json` alone) and of freeing it, of reading a batch (the value and what the reader adds), of
-//! running it on one thread, and of writing its report into a text. With no argument it prints nothing.
+//! How long each stage of `ordtx serial` takes. `bench_stages read FILE` prints the milliseconds of reading a batch (making
+//! the JSON value of the file's bytes, what the reader adds, and freeing the value), of running it on one thread, and of
+//! writing its report into a text. `bench_stages value FILE` prints those of making the JSON value alone (`serde_json`) and
+//! of freeing it: in a process of its own, since a second value would be made on the heap that the first one left. With no
+//! argument it prints nothing.
 #![tactic(auto)]
 
 use lang::read;
@@ -22,13 +24,18 @@ fn since<R: Clock>(rt: &R, start: Instant) -> u64 {
     }
 }
 
-fn time_stages(rt: &HostRuntime, alloc: Global, bytes: &[u8]) -> Option<()> {
+fn time_value(rt: &HostRuntime, alloc: Global, bytes: &[u8]) -> Option<()> {
     let start = Instant::now(rt).ok()?;
     let value = Value::from_slice(alloc, bytes).ok()?;
     let parsed = since(rt, start);
     let start = Instant::now(rt).ok()?;
     drop(value);
     let freed = since(rt, start);
+    let _ = println!(rt; "value {parsed} ms (freed in {freed} ms)");
+    Some(())
+}
+
+fn time_stages(rt: &HostRuntime, alloc: Global, bytes: &[u8]) -> Option<()> {
     let start = Instant::now(rt).ok()?;
     let batch = read(alloc, bytes).ok()?;
     let read = since(rt, start);
@@ -42,9 +49,7 @@ fn time_stages(rt: &HostRuntime, alloc: Global, bytes: &[u8]) -> Option<()> {
     let text = render_plain(alloc, &batch, &answer).ok()?;
     let written = since(rt, start);
     let size = text.len();
-    let _ = println!(rt;
-        "value {parsed} ms (freed in {freed} ms), read {read} ms, run {run} ms, text {written} ms ({size} bytes)"
-    );
+    let _ = println!(rt; "read {read} ms, run {run} ms, text {written} ms ({size} bytes)");
     Some(())
 }
 
@@ -52,13 +57,21 @@ fn main(rt: HostRuntime) -> ExitCode {
     let Ok(mut words) = env::args(&rt) else {
         return ExitCode::FAILURE;
     };
-    let Some(path) = words.nth(1) else {
+    let Some(stage) = words.nth(1) else {
         return ExitCode::SUCCESS;
+    };
+    let Some(path) = words.next() else {
+        return ExitCode::FAILURE;
     };
     let Ok(bytes) = fs::read(&rt, path.as_str()) else {
         return ExitCode::FAILURE;
     };
-    match time_stages(&rt, rt.alloc(), bytes.as_slice()) {
+    let timed = match stage.as_str() {
+        "value" => time_value(&rt, rt.alloc(), bytes.as_slice()),
+        "read" => time_stages(&rt, rt.alloc(), bytes.as_slice()),
+        _ => None,
+    };
+    match timed {
         Some(()) => ExitCode::SUCCESS,
         None => ExitCode::FAILURE,
     }

@@ -18,7 +18,7 @@ use Rattle.lang.specs.declared.steps.Sort.TheVariants as sort
 use Rattle.lang.specs.Faults.{memory_fault, number_of}
 use Rattle.lang.specs.Demand.{Demand, holds, one_more_start, one_more_operation, one_more_node, in_transaction, and_then, check, check_one, fault_of, first_fault, most_operations, no_counts}
 use Rattle.lang.specs.Scope.{Table, Setting, Scope, with_label, with_text}
-use Rattle.lang.specs.Asked.{Asks, abort_asked, abort_shape_asked, amount_asked, arguments_asked, array_asked, array_start_asked, asked, block_asked, block_asked_if, call_named, children_asked, children_in, document_shape_asked, element_asked, elements_asked, entries_asked, entry_asked, handlers_asked, handlers_in, holds_item, holds_number, holds_word, if_asked, if_label, if_shape_asked, item_asked, key_of, kind_in, label_asked, label_in, member_asked, members_asked, object_asked, object_name, object_name_asked, object_of, object_shape_asked, objects_asked, objects_in, operation_asked, operation_shape_asked, pair_asked, pairs_asked, parallel_asked, parallel_shape_asked, part, reason_asked, scope_after, seen_asked, setting_in, sort_of, start_asked, step_asked, step_asked_by, steps_asked, sub_asked, sub_shape_asked, subject_of, target_asked, test_asked, text_of, transactions_asked, transactions_in, verb_in, version_in}
+use Rattle.lang.specs.Asked.{Asks, abort_asked, abort_shape_asked, amount_asked, arguments_asked, array_asked, array_start_asked, asked, block_asked, block_asked_if, call_named, children_asked, children_in, document_shape_asked, element_asked, elements_asked, entries_asked, entry_asked, handlers_asked, handlers_in, holds_item, holds_number, holds_word, if_asked, if_label, if_shape_asked, item_asked, key_of, kind_in, label_asked, label_in, members_asked, object_asked, object_name, object_name_asked, object_of, object_shape_asked, objects_asked, objects_in, operation_asked, operation_shape_asked, pair_asked, pairs_asked, parallel_asked, parallel_shape_asked, part, reason_asked, scope_after, seen_asked, setting_in, sort_of, start_asked, step_asked, step_asked_by, steps_asked, sub_asked, sub_shape_asked, subject_of, target_asked, test_asked, text_of, transactions_asked, transactions_in, verb_in, version_in}
 
 -- the demand fails with a code of documents
 HasCode : Demand → Type 0

@@ -8,7 +8,8 @@ use Rattle.std.proofs.Math.Nat.{max-le}
 use Rattle.serde_json.specs.Data.{Data, Items, no_items, item}
 use Rattle.serde_json.specs.Find.{as_array}
 use Rattle.serde_json.specs.Events.{items_len}
-use Rattle.atoms.specs.Item.{item_cmp, items_total}
+use Rattle.atoms.specs.Item.{item_cmp}
+use Rattle.atoms.proofs.Items.{items_total}
 use Rattle.atoms.specs.declared.item.Item.{Item}
 use Rattle.objects.specs.declared.kind.Kind.{Kind}
 use Rattle.objects.specs.declared.kind.Kind.TheVariants as kind

@@ -1,10 +1,20 @@
 -- An object's members beside the entries of its map.
-use Rattle.std.proofs.Common.{◌≡◌, ℕ, List, [], ◌∷◌, ◌&&◌, string_bytes, refl, ap}
+use Rattle.std.proofs.Common.{◌≡◌, ℕ, Bool, true, false, List, [], ◌∷◌, ◌&&◌, Some, Ordering, Less, Equal, Greater, string_bytes, refl, sym, ap, ◌∙◌}
+use Rattle.std.specs.Prelude.{codes, is_some}
+use Rattle.std.specs.Ordering.{nat_cmp, match_ordering, is_eq}
+use Rattle.std.specs.Cmp.Lexicographic.{slice_cmp}
 use Rattle.std.specs.List.{list_all}
 use Rattle.std.specs.Map.{keys_of}
+use Rattle.std.proofs.lemmas.Bool.{false≢true}
+use Rattle.std.proofs.lemmas.Map.Text.{is_eq-slice_cmp}
+use Rattle.std.proofs.lemmas.Slice.Eq.{bytes_eq-Decides}
+use Rattle.serde_json.specs.Data.{Data, Members, no_members, member, null, boolean, number, string, array, object}
+use Rattle.serde_json.specs.Find.{get_member}
 use Rattle.serde_json.specs.View.{members_view}
 use Rattle.serde_json.proofs.Views.{Entry, items_len-items_view}
-use Rattle.lang.specs.Look.{is_among, members_among}
+use Rattle.lang.specs.Asked.{sort_of}
+use Rattle.lang.specs.Look.{has, has_only, is_among, members_among}
+use Rattle.lang.specs.declared.steps.Sort.TheVariants.{Operation}
 
 pub members_among-keys : (names : List (List ℕ)) (es : List Entry) → members_among names (members_view es) ≡ list_all (λ k. is_among (string_bytes k) names) (keys_of es)
 members_among-keys names [] = refl
@@ -12,3 +22,44 @@ members_among-keys names (e ∷ es) = ap (λ rest. is_among (string_bytes e.0) n
 
 -- the lemma on sizes under a name that an attribute can cite
 pub ruleset array_sizes = items_len-items_view
+
+-- what is true together is true of each
+both : (a b : Bool) → (a && b) ≡ true → (a ≡ true) × (b ≡ true)
+both true true h = (refl, refl)
+both true false h = absurd (false≢true h)
+both false b h = absurd (false≢true h)
+
+-- a name that isn't among those of all members is no member's
+absent_member : (names : List (List ℕ)) (q : List ℕ) (ms : Members) → members_among names ms ≡ true → is_among q names ≡ false → is_some (get_member q ms) ≡ false
+absent_member names q no_members only out = refl
+absent_member names q (member k d ms) only out =
+    let parts : (is_among k names ≡ true) × (members_among names ms ≡ true) = both _ _ only in
+    by parts.0 (absent_member names q ms parts.1 out) (slice_cmp nat_cmp q k) refl
+  where
+    by : is_among k names ≡ true → is_some (get_member q ms) ≡ false → (o : Ordering) → slice_cmp nat_cmp q k ≡ o
+        → is_some (match_ordering o (get_member q ms) (Some d) (get_member q ms)) ≡ false
+    by listed later Less e = later
+    by listed later Greater e = later
+    by listed later Equal e =
+        let same : q ≡ k = (bytes_eq-Decides q k).0 (sym (is_eq-slice_cmp q k) ∙ ap is_eq e) in
+        absurd (false≢true (sym out ∙ ap (λ name. is_among name names) same ∙ listed))
+
+-- nor is it a member of the value
+pub absent : (names : List (List ℕ)) (q : List ℕ) (d : Data) → has_only names d ≡ true → is_among q names ≡ false → has q d ≡ false
+absent names q (object ms) only out = absent_member names q ms only out
+absent names q null only out = absurd (false≢true only)
+absent names q (boolean b) only out = absurd (false≢true only)
+absent names q (number n) only out = absurd (false≢true only)
+absent names q (string s) only out = absurd (false≢true only)
+absent names q (array ds) only out = absurd (false≢true only)
+
+-- a step with an operation and no other part than a label is an operation
+pub only_operation : (d : Data) → has (codes "op") d ≡ true → has_only (codes "op" ∷ codes "as" ∷ []) d ≡ true → sort_of d ≡ Some Operation
+unfolding sort_of
+only_operation d op only = rw (op, none (codes "if") refl, none (codes "sub") refl, none (codes "abort") refl, none (codes "parallel") refl) refl
+  where
+    none : (q : List ℕ) → is_among q (codes "op" ∷ codes "as" ∷ []) ≡ false → has q d ≡ false
+    none q out = absent (codes "op" ∷ codes "as" ∷ []) q d only out
+
+-- the lemma on operations under a name that an attribute can cite
+pub ruleset operations = only_operation

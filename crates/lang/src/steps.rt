@@ -36,11 +36,15 @@ pub(crate) enum Sort {
     Parallel,
 }
 
-#[tactic(auto, unfolding(crate::specs::Asked::sort_of))]
+#[tactic(auto, using(crate::proofs::Members::operations), unfolding(crate::specs::Asked::sort_of))]
 fn sort_of(step: &Value) -> Option<Sort>
     ensures { result ≡ sort_of (view step.now) }
 {
     let op = has(step, "op");
+    // Most steps are operations: one look at the names of their members tells that they have no other.
+    if op && has_only(step, &["op", "as"]) {
+        return Some(Sort::Operation);
+    }
     let condition = has(step, "if");
     let sub = has(step, "sub");
     let abort = has(step, "abort");
