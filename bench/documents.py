@@ -90,6 +90,27 @@ def enqueues(count=100_000, transactions=10_000):
                     [block([operation("q", "enq", "e")] * (count // transactions))] * transactions)
 
 
+def relay(count=100_000):
+    """A transaction that enqueues so many items, all different, and one that dequeues as many older ones."""
+    older = ",".join('"x%d"' % number for number in range(count))
+    return document(['{"name":"q","kind":"queue","start":[%s]}' % older],
+                    [block([operation("q", "enq", "n%d" % number) for number in range(count)]),
+                     block([operation("q", "deq")] * count)])
+
+
+def register(count=10_000, operations=10):
+    """Transactions that raise a register to falling amounts below its number, and read its top."""
+    peak = count * operations
+    blocks = []
+    for number in range(count):
+        steps = []
+        for place in range(operations // 2):
+            steps.append(operation("m", "raise", peak - number * operations - place))
+            steps.append(operation("m", "top"))
+        blocks.append(block(steps))
+    return document(['{"name":"m","kind":"max","start":%d}' % peak], blocks)
+
+
 def transfers(count=10_000, accounts=2_000, seed=3):
     """A ledger of transfers, each a subaction with a handler that books a failure."""
     chosen = random.Random(seed)

@@ -44,7 +44,7 @@ use Rattle.objects.proofs.CommuteLemmas.{entries_exact}
 use Rattle.intentions.specs.declared.classes.Class.{Class}
 use Rattle.intentions.specs.Classes.{account_class, counter_class, set_class, queue_class, directory_class, max_class, class_of, number_of, always_commute, is_by_item}
 use Rattle.intentions.specs.Headings.{set_item, item_of, has_item, heading_against, is_under}
-use Rattle.intentions.specs.Index.{Commute}
+use Rattle.intentions.specs.Strictness.{Commute}
 
 by_classes : (k l m n : Class) → k ≡ m → l ≡ n → always_commute k l ≡ true → always_commute m n ≡ true
 by_classes k l m n e f h = sym (ap (always_commute m) f) ∙ sym (ap (λ x. always_commute x l) e) ∙ h
@@ -395,11 +395,22 @@ set_never SetNever = refl
 set_counts_nothing : (c : SetCall) (r : SetReply) → set_effects_commute (set_effect (c, r)) (set_effect (set_as SetNever)) ≡ true
 set_counts_nothing c r = let p = does_set c r in ap (λ e. set_effects_commute e (set_effect (set_as SetNever))) p.effect ∙ set_never p.deed
 
+queue_never : (e : QueueDeed) → queue_effects_commute (queue_effect (queue_as e)) (queue_effect (queue_as QueueNever)) ≡ true
+unfolding queue_as
+queue_never (QueueEnqueued x) = refl
+queue_never (QueueDequeued x) = refl
+queue_never QueueFoundEmpty = refl
+queue_never (QueueCounted n) = refl
+queue_never QueueNever = refl
+
+queue_takes_nothing : (c : QueueCall) (r : QueueReply) → queue_effects_commute (queue_effect (c, r)) (queue_effect (queue_as QueueNever)) ≡ true
+queue_takes_nothing c r = let p = does_queue c r in ap (λ e. queue_effects_commute e (queue_effect (queue_as QueueNever))) p.effect ∙ queue_never p.deed
+
 keys_apart : (b c : Bool) → b ≡ false → (if b then c else true) ≡ true
 keys_apart true c h = cc
 keys_apart false c h = refl
 
-apart : (c : Call) (r : Reply) (d : Call) (s : Reply) (x y : Item) → item_of c ≡ Some x → item_of d ≡ Some y → nat_eq x.0 y.0 ≡ false → operations_commute c r d s ≡ true
+apart : (c : Call) (r : Reply) (d : Call) (s : Reply) (x y : Item) → item_of c r ≡ Some x → item_of d s ≡ Some y → nat_eq x.0 y.0 ≡ false → operations_commute c r d s ≡ true
 apart (call.Set c) (reply.Set r) (call.Set d) (reply.Set s) x y of_c of_d h =
     let p = does_set c r in
     let q = does_set d s in
@@ -410,13 +421,17 @@ apart (call.Directory c) (reply.Directory r) (call.Directory d) (reply.Directory
     keys_apart (nat_eq (key_of c).0 (key_of d).0) (key_effects_commute (key_effect (c, r)) (key_effect (d, s))) (ap (λ z. nat_eq z.0 (key_of d).0) key_c ∙ ap (λ z. nat_eq x.0 z.0) key_d ∙ h)
 apart (call.Account c) (reply.Account r) (call.Account d) (reply.Account s) x y of_c of_d h = absurd cc
 apart (call.Counter c) (reply.Counter r) (call.Counter d) (reply.Counter s) x y of_c of_d h = absurd cc
+apart (call.Queue queue_call.Deq) (reply.Queue (queue_reply.Got a)) (call.Queue queue_call.Deq) (reply.Queue (queue_reply.Got b)) x y of_c of_d h =
+    let is_x : a ≡ x = cc in
+    let is_y : b ≡ y = cc in
+    differ a b x y is_x is_y h
 apart (call.Queue c) (reply.Queue r) (call.Queue d) (reply.Queue s) x y of_c of_d h = absurd cc
 apart (call.Max c) (reply.Max r) (call.Max d) (reply.Max s) x y of_c of_d h = absurd cc
 apart c r d s x y of_c of_d h = refl
 
 -- of a class whose entries stand by item, an entry without one
-no_item : (c : Call) (r : Reply) (d : Call) (s : Reply) (x : Item) → item_of c ≡ Some x → item_of d ≡ None → is_by_item (class_of d s) ≡ true → operations_commute c r d s ≡ true
-unfolding set_as
+no_item : (c : Call) (r : Reply) (d : Call) (s : Reply) (x : Item) → item_of c r ≡ Some x → item_of d s ≡ None → is_by_item (class_of d s) ≡ true → operations_commute c r d s ≡ true
+unfolding set_as queue_as
 no_item (call.Set c) (reply.Set r) (call.Set set_call.Size) (reply.Set (set_reply.Number n)) x of_c of_d h = cc
 no_item (call.Set c) (reply.Set r) (call.Set set_call.Size) (reply.Set s) x of_c of_d h = set_counts_nothing c r
 no_item (call.Set c) (reply.Set r) (call.Set (set_call.Insert y)) (reply.Set s) x of_c of_d h = absurd cc
@@ -425,12 +440,16 @@ no_item (call.Set c) (reply.Set r) (call.Set (set_call.Has y)) (reply.Set s) x o
 no_item (call.Directory c) (reply.Directory r) (call.Directory d) (reply.Directory s) x of_c of_d h = absurd cc
 no_item (call.Account c) (reply.Account r) (call.Account d) (reply.Account s) x of_c of_d h = absurd cc
 no_item (call.Counter c) (reply.Counter r) (call.Counter d) (reply.Counter s) x of_c of_d h = absurd cc
-no_item (call.Queue c) (reply.Queue r) (call.Queue d) (reply.Queue s) x of_c of_d h = absurd cc
+no_item (call.Queue c) (reply.Queue r) (call.Queue (queue_call.Enq y)) (reply.Queue queue_reply.Ok) x of_c of_d h = absurd cc
+no_item (call.Queue c) (reply.Queue r) (call.Queue queue_call.Deq) (reply.Queue (queue_reply.Got y)) x of_c of_d h = absurd cc
+no_item (call.Queue c) (reply.Queue r) (call.Queue queue_call.Deq) (reply.Queue queue_reply.Empty) x of_c of_d h = absurd cc
+no_item (call.Queue c) (reply.Queue r) (call.Queue queue_call.Length) (reply.Queue (queue_reply.Number n)) x of_c of_d h = absurd cc
+no_item (call.Queue c) (reply.Queue r) (call.Queue d) (reply.Queue s) x of_c of_d h = queue_takes_nothing c r
 no_item (call.Max c) (reply.Max r) (call.Max d) (reply.Max s) x of_c of_d h = absurd cc
 no_item c r d s x of_c of_d h = refl
 
 -- two entries where the second is of a class that stands by item, and hasn't the first one's item
-other_item : (c : Call) (r : Reply) (d : Call) (s : Reply) (b : Bool) (i j : Option Item) → is_by_item (class_of d s) ≡ b → item_of c ≡ i → item_of d ≡ j
+other_item : (c : Call) (r : Reply) (d : Call) (s : Reply) (b : Bool) (i j : Option Item) → is_by_item (class_of d s) ≡ b → item_of c r ≡ i → item_of d s ≡ j
     → has_item (if b then i else None) j ≡ false → operations_commute c r d s ≡ true
 other_item c r d s true (Some x) (Some y) by_item of_c of_d h = apart c r d s x y of_c of_d h
 other_item c r d s true (Some x) None by_item of_c of_d h = no_item c r d s x of_c of_d by_item
@@ -440,14 +459,14 @@ other_item c r d s false i j by_item of_c of_d h = cc
 -- an entry that isn't where another looks for those of its class
 pub elsewhere : (p q : Entry) → is_under q (heading_against p (class_of q.call q.reply)) ≡ false → Commute p q
 unfolding is_under
-elsewhere p q h = by_table p q (λ same. other_item p.call p.reply q.call q.reply (is_by_item class) (item_of p.call) (item_of q.call) refl refl refl (
-    sym (one_object (nat_eq q.object p.object) (nat_eq (number_of class) (number_of class)) (has_item wanted (item_of q.call)) (eq-eqb q.object p.object (sym (eqb-true p.object q.object same))) (eq-eqb (number_of class) (number_of class) refl)) ∙ h))
+elsewhere p q h = by_table p q (λ same. other_item p.call p.reply q.call q.reply (is_by_item class) (item_of p.call p.reply) (item_of q.call q.reply) refl refl refl (
+    sym (one_object (nat_eq q.object p.object) (nat_eq (number_of class) (number_of class)) (has_item wanted (item_of q.call q.reply)) (eq-eqb q.object p.object (sym (eqb-true p.object q.object same))) (eq-eqb (number_of class) (number_of class) refl)) ∙ h))
   where
     class : Class
     class = class_of q.call q.reply
 
     wanted : Option Item
-    wanted = if is_by_item class then item_of p.call else None
+    wanted = if is_by_item class then item_of p.call p.reply else None
 
     one_object : (a b c : Bool) → a ≡ true → b ≡ true → ((a && b) && c) ≡ c
     one_object a b c ha hb = rw (ha, hb) refl

@@ -1,7 +1,7 @@
--- The lists of an index: the places that they have, and the runs of equal entries in them.
+-- The lists of an index, and the places that they have.
 use Rattle.std.proofs.Common.{◌≡◌, ◌≢◌, ◌⊎◌, ◌&&◌, ℕ, zero, suc, ◌+◌, ◌-◌, ◌<◌, ◌≤◌, arith, Bool, true, false, cond, nat_eq, Option, Some, None, List, [], ◌∷◌, ◌++◌, length, take, get_or, refl, sym, ap, ◌∙◌, subst, inl, inr, add-zero}
-use Rattle.std.proofs.lemmas.Bool.{eqb-true, eq-eqb, false≢true, cases_lt}
-use Rattle.std.proofs.lemmas.List.{get_or-take, get_or_append_left, get_or_at, length-take, length-map, length-append, map_push, take-map, take_at, append-nil}
+use Rattle.std.proofs.lemmas.Bool.{eqb-true, eq-eqb, false≢true}
+use Rattle.std.proofs.lemmas.List.{length-map, length-append, map_push, take-map, take_at, append-nil}
 use Rattle.atoms.specs.declared.item.Item.{Item}
 use Rattle.objects.specs.declared.entry.Entry.{Entry}
 use Rattle.intentions.specs.declared.headings.Heading.{Heading}
@@ -9,9 +9,10 @@ use Rattle.intentions.specs.declared.index.Index.{Index}
 use Rattle.intentions.specs.declared.index.Listed.{Listed}
 use Rattle.intentions.specs.Classes.{class_of, number_of}
 use Rattle.intentions.specs.Headings.{item_of, heading_of, item_heading, item_heading_of, has_item, is_under}
-use Rattle.intentions.specs.Index.{places_of, places, runs, list_under, IsRising, AreRuns, IsListOf, IsIndexOf}
+use Rattle.intentions.specs.Index.{places_of, places, list_under, IsRising, AreSpans, IsListOf, IsIndexOf}
 use Rattle.atoms.proofs.Items.{one_item}
 use Rattle.intentions.proofs.ListsLemmas.{one_class, one_heading}
+use Rattle.intentions.proofs.SpansLemmas.{spans_longer, spans_shorter, spans_front}
 
 -- ---- what the places are
 
@@ -111,73 +112,13 @@ own_push o es e h = places_of-push o 0 es e ∙ ap (λ b. places_of o 0 es ++ co
 other_push : (o : Heading) (es : List Entry) (e : Entry) → is_under e o ≡ false → places_of o 0 (es ++ e ∷ []) ≡ places_of o 0 es
 other_push o es e h = places_of-push o 0 es e ∙ ap (λ b. places_of o 0 es ++ cond b ((0 + length es) ∷ []) []) h ∙ append-nil (places_of o 0 es)
 
--- ---- runs
-
--- with one more entry or without it, the entries at places before it are the same
-same_runs : (xs ys : List Entry) (list : List Listed) → ((j : ℕ) → j < length list → (d : Entry) → get_or xs (get_or (places list) j 0) d ≡ get_or ys (get_or (places list) j 0) d) → AreRuns xs list → AreRuns ys list
-same_runs xs ys list same h j l =
-    ((h j l).0, λ i from to d. sym (same i (omega arith) d) ∙ (h j l).1 i from to d ∙ same j l d)
-
-runs_longer : (es : List Entry) (e : Entry) (list : List Listed) → ((j : ℕ) → j < length list → get_or (places list) j 0 < length es) → AreRuns es list → AreRuns (es ++ e ∷ []) list
-runs_longer es e list within = same_runs es (es ++ e ∷ []) list (λ j l d. sym (get_or_append_left es (e ∷ []) d (get_or (places list) j 0) (within j l)))
-
-runs_shorter : (es : List Entry) (e : Entry) (list : List Listed) → ((j : ℕ) → j < length list → get_or (places list) j 0 < length es) → AreRuns (es ++ e ∷ []) list → AreRuns es list
-runs_shorter es e list within = same_runs (es ++ e ∷ []) es list (λ j l d. get_or_append_left es (e ∷ []) d (get_or (places list) j 0) (within j l))
-
-runs_front : (es : List Entry) (list : List Listed) (n : ℕ) → AreRuns es list → AreRuns es (take n list)
-runs_front es list n h j l =
-    let short : j < n = omega (arith, length-take n list) in
-    let there : j < length list = omega (arith, length-take n list) in
-    let run_is : get_or (runs (take n list)) j 0 ≡ get_or (runs list) j 0 =
-    ap (λ rs. get_or rs j 0) (sym (take-map (λ (x : Listed). x.run) n list)) ∙ get_or-take n (runs list) j 0 short in
-    let place_is : (i : ℕ) → i ≤ j → get_or (places (take n list)) i 0 ≡ get_or (places list) i 0 =
-    λ i to. ap (λ ps. get_or ps i 0) (sym (take-map (λ (x : Listed). x.place) n list)) ∙ get_or-take n (places list) i 0 (omega arith) in
-    let begun : get_or (runs list) j 0 ≤ j = (h j there).0 in (
-      omega arith,
-      λ i from to d. ap (λ k. get_or es k d) (place_is i to) ∙ (h j there).1 i (omega arith) to d ∙ ap (λ k. get_or es k d) (sym (place_is j (omega arith))),
-    )
-
--- one more in a list, with a run of entries that are equal to the next one
-pub runs_next : (es : List Entry) (e : Entry) (list : List Listed) (run : ℕ) → ((j : ℕ) → j < length list → get_or (places list) j 0 < length es) → AreRuns es list → run ≤ length list
-    → ((i : ℕ) → run ≤ i → i < length list → (d : Entry) → get_or es (get_or (places list) i 0) d ≡ e) → AreRuns (es ++ e ∷ []) (list ++ record { place = length es; run = run } ∷ [])
-runs_next es e list run within h begun equal j l = elim (cases_lt j (length list)) [
-  | inl before ↦ (
-      let old = runs_longer es e list within h j before in
-      let run_is : get_or (runs longer) j 0 ≡ get_or (runs list) j 0 = ap (λ rs. get_or rs j 0) (map_push (λ (x : Listed). x.run) list next) ∙ get_or_append_left (runs list) (run ∷ []) 0 j (omega (arith, length-map list (λ (x : Listed). x.run))) in
-      let begins : get_or (runs list) j 0 ≤ j = old.0 in (
-        omega arith,
-        λ i from to d. ap (λ k. get_or (es ++ e ∷ []) k d) (place_is i (omega arith)) ∙ old.1 i (omega arith) to d ∙ ap (λ k. get_or (es ++ e ∷ []) k d) (sym (place_is j before)),
-      ))
-  | inr after ↦ (
-      let j_is : j ≡ length list = omega (arith, length-append list (next ∷ [])) in
-      let run_is : get_or (runs longer) j 0 ≡ run = ap (λ rs. get_or rs j 0) (map_push (λ (x : Listed). x.run) list next) ∙ get_or_at (runs list) run [] 0 j (length-map list (λ (x : Listed). x.run) ∙ sym j_is) in
-      let last_is : (d : Entry) → get_or (es ++ e ∷ []) (get_or (places longer) j 0) d ≡ e =
-      λ d. ap (λ k. get_or (es ++ e ∷ []) k d) (ap (λ ps. get_or ps j 0) (map_push (λ (x : Listed). x.place) list next) ∙ get_or_at (places list) (length es) [] 0 j (length-map list (λ (x : Listed). x.place) ∙ sym j_is)) ∙ get_or_at es e [] d (length es) refl in (
-        omega arith,
-        λ i from to d. elim (cases_lt i (length list)) [
-          | inl earlier ↦ ap (λ k. get_or (es ++ e ∷ []) k d) (place_is i earlier) ∙ get_or_append_left es (e ∷ []) d (get_or (places list) i 0) (within i earlier) ∙ equal i (omega arith) earlier d ∙ sym (last_is d)
-          | inr here ↦ (let same : i ≡ j = omega arith in ap (λ n. get_or (es ++ e ∷ []) (get_or (places longer) n 0) d) same)
-        ],
-      ))
-]
-  where
-    next : Listed
-    next = record { place = length es; run = run }
-
-    longer : List Listed
-    longer = list ++ next ∷ []
-
-    place_is : (i : ℕ) → i < length list → get_or (places longer) i 0 ≡ get_or (places list) i 0
-    place_is i h = ap (λ ps. get_or ps i 0) (map_push (λ (x : Listed). x.place) list next) ∙ get_or_append_left (places list) (length es ∷ []) 0 i (omega (arith, length-map list (λ (x : Listed). x.place)))
-
 -- ---- the list of a heading, with one more entry and without the last one
 
-pub listed : (o : Heading) (es : List Entry) (e : Entry) (list : List Listed) (run : ℕ) → is_under e o ≡ true → IsListOf o es list → AreRuns (es ++ e ∷ []) (list ++ record { place = length es; run = run } ∷ [])
-    → IsListOf o (es ++ e ∷ []) (list ++ record { place = length es; run = run } ∷ [])
-listed o es e list run under h are_runs = (map_push (λ (x : Listed). x.place) list (record { place = length es; run = run }) ∙ ap (λ ps. ps ++ length es ∷ []) h.0 ∙ sym (own_push o es e under), are_runs)
+pub listed : (o : Heading) (es : List Entry) (e : Entry) (list : List Listed) (next : Listed) → is_under e o ≡ true → IsListOf o es list → next.place ≡ length es → AreSpans (es ++ e ∷ []) (list ++ next ∷ []) → IsListOf o (es ++ e ∷ []) (list ++ next ∷ [])
+listed o es e list next under h at are_spans = (map_push (λ (x : Listed). x.place) list next ∙ ap (λ p. places list ++ p ∷ []) at ∙ ap (λ ps. ps ++ length es ∷ []) h.0 ∙ sym (own_push o es e under), are_spans)
 
 pub not_listed : (o : Heading) (es : List Entry) (e : Entry) (list : List Listed) → is_under e o ≡ false → IsListOf o es list → IsListOf o (es ++ e ∷ []) list
-not_listed o es e list under h = (h.0 ∙ sym (other_push o es e under), runs_longer es e list (below o es list h.0) h.1)
+not_listed o es e list under h = (h.0 ∙ sym (other_push o es e under), spans_longer es e list (below o es list h.0) h.1)
 
 -- all but the last
 abbrev pub front : List Listed → List Listed
@@ -189,12 +130,12 @@ taken_out o es e list under h =
     let count : length list - 1 ≡ length (places_of o 0 es) = omega (arith, length-map list (λ (x : Listed). x.place), ap length is, length-append (places_of o 0 es) (length es ∷ [])) in
     let own : places (front list) ≡ places_of o 0 es =
     sym (take-map (λ (x : Listed). x.place) (length list - 1) list) ∙ ap (take (length list - 1)) is ∙ take_at (places_of o 0 es) (length es ∷ []) (length list - 1) (sym count) in
-    (own, runs_shorter es e (front list) (below o es (front list) own) (runs_front (es ++ e ∷ []) list (length list - 1) h.1))
+    (own, spans_shorter es e (front list) (below o es (front list) own) (spans_front (es ++ e ∷ []) list (length list - 1) h.1))
 
 pub not_taken_out : (o : Heading) (es : List Entry) (e : Entry) (list : List Listed) → is_under e o ≡ false → IsListOf o (es ++ e ∷ []) list → IsListOf o es list
 not_taken_out o es e list under h =
     let own : places list ≡ places_of o 0 es = h.0 ∙ other_push o es e under in
-    (own, runs_shorter es e list (below o es list own) h.1)
+    (own, spans_shorter es e list (below o es list own) h.1)
 
 -- ---- the headings of an entry
 
@@ -207,9 +148,9 @@ under_own e = both_true (nat_eq e.object e.object) (nat_eq (number_of (class_of 
 
 pub under_item : (e : Entry) (o : Heading) → item_heading_of e ≡ Some o → is_under e o ≡ true
 unfolding is_under
-under_item e o h = of_item (item_of e.call) refl h
+under_item e o h = of_item (item_of e.call e.reply) refl h
   where
-    of_item : (i : Option Item) → item_of e.call ≡ i → item_heading e i ≡ Some o → is_under e o ≡ true
+    of_item : (i : Option Item) → item_of e.call e.reply ≡ i → item_heading e i ≡ Some o → is_under e o ≡ true
     of_item None is h = cc
     of_item (Some x) is h =
         let made : Heading = record { object = e.object; item = Some x; class = class_of e.call e.reply } in
@@ -218,14 +159,14 @@ under_item e o h = of_item (item_of e.call) refl h
 
 pub under_cases : (e : Entry) (o : Heading) → is_under e o ≡ true → (o ≡ heading_of e) ⊎ (item_heading_of e ≡ Some o)
 unfolding is_under
-under_cases e o h = by_item o.item (item_of e.call) refl refl rest.1
+under_cases e o h = by_item o.item (item_of e.call e.reply) refl refl rest.1
   where
     and_parts : (a b : Bool) → (a && b) ≡ true → (a ≡ true) × (b ≡ true)
     and_parts true b h = (refl, h)
     and_parts false b h = absurd (false≢true h)
 
-    rest : ((nat_eq e.object o.object && nat_eq (number_of (class_of e.call e.reply)) (number_of o.class)) ≡ true) × (has_item o.item (item_of e.call) ≡ true)
-    rest = and_parts (nat_eq e.object o.object && nat_eq (number_of (class_of e.call e.reply)) (number_of o.class)) (has_item o.item (item_of e.call)) h
+    rest : ((nat_eq e.object o.object && nat_eq (number_of (class_of e.call e.reply)) (number_of o.class)) ≡ true) × (has_item o.item (item_of e.call e.reply) ≡ true)
+    rest = and_parts (nat_eq e.object o.object && nat_eq (number_of (class_of e.call e.reply)) (number_of o.class)) (has_item o.item (item_of e.call e.reply)) h
 
     parts : (nat_eq e.object o.object ≡ true) × (nat_eq (number_of (class_of e.call e.reply)) (number_of o.class) ≡ true)
     parts = and_parts (nat_eq e.object o.object) (nat_eq (number_of (class_of e.call e.reply)) (number_of o.class)) rest.0
@@ -236,7 +177,7 @@ under_cases e o h = by_item o.item (item_of e.call) refl refl rest.1
     class : o.class ≡ class_of e.call e.reply
     class = one_class o.class (class_of e.call e.reply) (sym (eqb-true (number_of (class_of e.call e.reply)) (number_of o.class) parts.1))
 
-    by_item : (i j : Option Item) → o.item ≡ i → item_of e.call ≡ j → has_item i j ≡ true → (o ≡ heading_of e) ⊎ (item_heading_of e ≡ Some o)
+    by_item : (i j : Option Item) → o.item ≡ i → item_of e.call e.reply ≡ j → has_item i j ≡ true → (o ≡ heading_of e) ⊎ (item_heading_of e ≡ Some o)
     by_item None j of_o of_e same = inl (one_heading o (heading_of e) object of_o class)
     by_item (Some x) None of_o of_e same = absurd (false≢true same)
     by_item (Some x) (Some y) of_o of_e same =
@@ -246,7 +187,7 @@ under_cases e o h = by_item o.item (item_of e.call) refl refl rest.1
 
 -- a heading with an item is no heading without one
 pub item_heading_apart : (e : Entry) (o : Heading) → item_heading_of e ≡ Some o → o ≢ heading_of e
-item_heading_apart e o h same = of_item (item_of e.call) h
+item_heading_apart e o h same = of_item (item_of e.call e.reply) h
   where
     of_item : (i : Option Item) → item_heading e i ≡ Some o → ⊥
     of_item None is = absurd cc

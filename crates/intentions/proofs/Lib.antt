@@ -4,7 +4,9 @@ pub mod LayersLemmas
 pub mod LookLemmas
 pub mod ViewLemmas
 pub mod ListsLemmas
+pub mod SpansLemmas
 pub mod IndexLemmas
 pub mod SameLemmas
 pub mod ClassesLemmas
+pub mod StrictnessLemmas
 pub mod StandsLemmas

@@ -3,7 +3,7 @@ use Rattle.std.proofs.Common.{◌≡◌, ◌≢◌, ℕ, suc, zero, Bool, true, 
 use Rattle.std.proofs.lemmas.List.{map-append, map-set, length-map}
 use Rattle.atoms.specs.declared.item.Item.{Item}
 use Rattle.intentions.specs.declared.classes.Class.{Class}
-use Rattle.intentions.specs.declared.classes.Class.TheVariants.{Look, Deposit, Withdrawal, Refusal, Balance, Count, Raise, Size, Change}
+use Rattle.intentions.specs.declared.classes.Class.TheVariants.{Deposit, Withdrawal, Refusal, Balance, Count, Raise, Change, Enqueue, Dequeue, Size, Look}
 use Rattle.intentions.specs.declared.headings.Heading.{Heading}
 use Rattle.intentions.specs.declared.index.Listed.{Listed}
 use Rattle.intentions.specs.Classes.{number_of}
@@ -70,32 +70,36 @@ written_again f (x ∷ lists) (suc o) (suc k) v h e = written_again f lists o k 
 
 -- every class, in the order of the numbers
 abbrev pub classes : List Class
-classes = Look ∷ Deposit ∷ Withdrawal ∷ Refusal ∷ Balance ∷ Count ∷ Raise ∷ Size ∷ Change ∷ []
+classes = Deposit ∷ Withdrawal ∷ Refusal ∷ Balance ∷ Count ∷ Raise ∷ Change ∷ Enqueue ∷ Dequeue ∷ Size ∷ Look ∷ []
 
-pub class_at : (c : Class) → get_or classes (number_of c) Look ≡ c
-class_at Look = refl
+pub class_at : (c : Class) → get_or classes (number_of c) Deposit ≡ c
 class_at Deposit = refl
 class_at Withdrawal = refl
 class_at Refusal = refl
 class_at Balance = refl
 class_at Count = refl
 class_at Raise = refl
-class_at Size = refl
 class_at Change = refl
+class_at Enqueue = refl
+class_at Dequeue = refl
+class_at Size = refl
+class_at Look = refl
 
-pub number-bound : (c : Class) → number_of c < 9
-number-bound Look = omega arith
+pub number-bound : (c : Class) → number_of c < 11
 number-bound Deposit = omega arith
 number-bound Withdrawal = omega arith
 number-bound Refusal = omega arith
 number-bound Balance = omega arith
 number-bound Count = omega arith
 number-bound Raise = omega arith
-number-bound Size = omega arith
 number-bound Change = omega arith
+number-bound Enqueue = omega arith
+number-bound Dequeue = omega arith
+number-bound Size = omega arith
+number-bound Look = omega arith
 
 pub one_class : (c d : Class) → number_of c ≡ number_of d → c ≡ d
-one_class c d e = sym (class_at c) ∙ ap (λ n. get_or classes n Look) e ∙ class_at d
+one_class c d e = sym (class_at c) ∙ ap (λ n. get_or classes n Deposit) e ∙ class_at d
 
 -- headings with the same parts
 pub one_heading : (h g : Heading) → h.object ≡ g.object → h.item ≡ g.item → h.class ≡ g.class → h ≡ g
@@ -107,13 +111,13 @@ one_heading h g object item class =
 -- headings with no item that have one list
 pub same_list : (h g : Heading) → h.item ≡ None → g.item ≡ None → list_of h.object h.class ≡ list_of g.object g.class → h ≡ g
 same_list h g no_h no_g e =
-    let bound_h : number_of h.class < 9 = number-bound h.class in
-    let bound_g : number_of g.class < 9 = number-bound g.class in
+    let bound_h : number_of h.class < 11 = number-bound h.class in
+    let bound_g : number_of g.class < 11 = number-bound g.class in
     let object : h.object ≡ g.object = (by_numbers h.object g.object (number_of h.class) (number_of g.class) bound_h bound_g e).0 in
     let number : number_of h.class ≡ number_of g.class = (by_numbers h.object g.object (number_of h.class) (number_of g.class) bound_h bound_g e).1 in
     one_heading h g object (no_h ∙ sym no_g) (one_class h.class g.class number)
   where
-    by_numbers : (o p m n : ℕ) → m < 9 → n < 9 → o * 9 + m ≡ p * 9 + n → (o ≡ p) × (m ≡ n)
+    by_numbers : (o p m n : ℕ) → m < 11 → n < 11 → o * 11 + m ≡ p * 11 + n → (o ≡ p) × (m ≡ n)
     by_numbers o p m n bm bn h = (omega arith, omega arith)
 
 -- ---- the order of headings
@@ -130,15 +134,17 @@ items_exact (Some x) None h = absurd cc
 items_exact (Some x) (Some y) h = ap Some (items_antisymmetric x y h)
 
 classes_exact : (c d : Class) → class_order.ghosts.cmp c d ≡ Equal → c ≡ d
-classes_exact Look Look h = refl
 classes_exact Deposit Deposit h = refl
 classes_exact Withdrawal Withdrawal h = refl
 classes_exact Refusal Refusal h = refl
 classes_exact Balance Balance h = refl
 classes_exact Count Count h = refl
 classes_exact Raise Raise h = refl
-classes_exact Size Size h = refl
 classes_exact Change Change h = refl
+classes_exact Enqueue Enqueue h = refl
+classes_exact Dequeue Dequeue h = refl
+classes_exact Size Size h = refl
+classes_exact Look Look h = refl
 classes_exact c d h = absurd cc
 
 headings_exact : (h g : Heading) → heading_cmp h g ≡ Equal → h ≡ g

@@ -10,8 +10,10 @@ use Rattle.intentions.specs.declared.headings.Heading.{Heading}
 use Rattle.intentions.specs.declared.index.Listed.{Listed}
 use Rattle.intentions.specs.Classes.{class_of, always_commute}
 use Rattle.intentions.specs.Headings.{heading_against, is_under}
-use Rattle.intentions.specs.Index.{places_of, places, runs, IsRising, IsRun, Commute, CommutesAtPlaces, CommutesUnder}
+use Rattle.intentions.specs.Index.{places_of, places, starts, strictests, IsRising, IsSpan, AreSpans, CommutesAtPlaces, CommutesUnder}
+use Rattle.intentions.specs.Strictness.{Commute}
 use Rattle.intentions.proofs.ClassesLemmas.{always_commutes, elsewhere}
+use Rattle.intentions.proofs.SpansLemmas.{span_of}
 use Rattle.intentions.proofs.IndexLemmas.{HasPlace, IsListed, sound, complete}
 
 all_commute : (e : Entry) (xs : List Entry) → ((n : ℕ) → n < length xs → Commute e (get_or xs n e)) → CommutesWith e xs
@@ -23,6 +25,7 @@ one_commutes e [] n l h = absurd (omega arith)
 one_commutes e (x ∷ xs) zero l h = h.0
 one_commutes e (x ∷ xs) (suc n) l h = one_commutes e xs n (omega arith) h.1
 
+-- an item of a range
 get_or-range : {A : Type 0} (xs : List A) (a b n : ℕ) (d : A) → n < b - a → get_or (slice_range xs a b) n d ≡ get_or xs (a + n) d
 get_or-range xs a b n d h = get_or-take (b - a) (drop a xs) n d h ∙ get_or-drop a xs n d
 
@@ -66,17 +69,25 @@ one_heading_stands e es o since upto within h k from before under =
     let k_is : since + (k - since) ≡ k = omega arith in
     subst (Commute e) (get_or-range es since upto (k - since) e short ∙ ap (λ j. get_or es j e) k_is) (one_commutes e (slice_range es since upto) (k - since) in_range h)
 
--- an entry that commutes forward with the last one of a run commutes forward with each of it
-pub run_commutes : (e : Entry) (es : List Entry) (ps : List ℕ) (run last i : ℕ) → IsRun es ps run last → run ≤ i → i ≤ last → Commute e (get_or es (get_or ps last 0) e) → Commute e (get_or es (get_or ps i 0) e)
-run_commutes e es ps run last i h from to commutes = subst (Commute e) (sym (h.1 i from to e)) commutes
-
 -- ---- reading a list
+
+-- what is read behind a list's end
+abbrev pub nowhere : Listed
+nowhere = record { place = 0; start = 0; strictest = 0 }
 
 pub place_at : (list : List Listed) (i : ℕ) (d : Listed) → i < length list → (get_or list i d).place ≡ get_or (places list) i 0
 place_at list i d h = sym (get_or-map (λ (x : Listed). x.place) list i d 0 h)
 
-pub run_at : (list : List Listed) (i : ℕ) (d : Listed) → i < length list → (get_or list i d).run ≡ get_or (runs list) i 0
-run_at list i d h = sym (get_or-map (λ (x : Listed). x.run) list i d 0 h)
+start_at : (list : List Listed) (i : ℕ) (d : Listed) → i < length list → (get_or list i d).start ≡ get_or (starts list) i 0
+start_at list i d h = sym (get_or-map (λ (x : Listed). x.start) list i d 0 h)
+
+strictest_at : (list : List Listed) (i : ℕ) (d : Listed) → i < length list → (get_or list i d).strictest ≡ get_or (strictests list) i 0
+strictest_at list i d h = sym (get_or-map (λ (x : Listed). x.strictest) list i d 0 h)
+
+-- the span that a listed entry ends, read from it
+pub span_at : (es : List Entry) (list : List Listed) (j : ℕ) (d x : Listed) → AreSpans es list → j < length list → x ≡ get_or list j d → IsSpan es (places list) x.start x.strictest j
+span_at es list j d x spans inside is =
+    span_of es (places list) x.start (get_or (starts list) j 0) x.strictest (get_or (strictests list) j 0) j (ap (λ (l : Listed). l.start) is ∙ start_at list j d inside) (ap (λ (l : Listed). l.strictest) is ∙ strictest_at list j d inside) (spans j inside)
 
 -- in a rising list no earlier place is above a later one
 pub not_above : (ps : List ℕ) (i j : ℕ) → IsRising ps → i ≤ j → j < length ps → get_or ps i 0 ≤ get_or ps j 0

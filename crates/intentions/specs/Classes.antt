@@ -29,7 +29,7 @@ use Rattle.objects.specs.declared.call.Call.TheVariants as call
 use Rattle.objects.specs.declared.call.Reply.{Reply}
 use Rattle.objects.specs.declared.call.Reply.TheVariants as reply
 use Rattle.intentions.specs.declared.classes.Class.{Class}
-use Rattle.intentions.specs.declared.classes.Class.TheVariants.{Look, Deposit, Withdrawal, Refusal, Balance, Count, Raise, Size, Change}
+use Rattle.intentions.specs.declared.classes.Class.TheVariants.{Deposit, Withdrawal, Refusal, Balance, Count, Raise, Change, Enqueue, Dequeue, Size, Look}
 
 abbrev pub account_class : AccountCall → AccountReply → Class
 account_class (account_call.Deposit a) account_reply.Ok = Deposit
@@ -50,8 +50,10 @@ set_class set_call.Size (set_reply.Number n) = Size
 set_class c r = Look
 
 abbrev pub queue_class : QueueCall → QueueReply → Class
-queue_class (queue_call.Enq x) queue_reply.Ok = Change
-queue_class queue_call.Deq (queue_reply.Got x) = Change
+queue_class (queue_call.Enq x) queue_reply.Ok = Enqueue
+queue_class queue_call.Deq (queue_reply.Got x) = Dequeue
+queue_class queue_call.Deq queue_reply.Empty = Size
+queue_class queue_call.Length (queue_reply.Number n) = Size
 queue_class c r = Look
 
 abbrev pub directory_class : DirectoryCall → DirectoryReply → Class
@@ -75,15 +77,17 @@ class_of (call.Max c) (reply.Max r) = max_class c r
 class_of c r = Look
 
 abbrev pub number_of : Class → ℕ
-number_of Look = 0
-number_of Deposit = 1
-number_of Withdrawal = 2
-number_of Refusal = 3
-number_of Balance = 4
-number_of Count = 5
-number_of Raise = 6
-number_of Size = 7
-number_of Change = 8
+number_of Deposit = 0
+number_of Withdrawal = 1
+number_of Refusal = 2
+number_of Balance = 3
+number_of Count = 4
+number_of Raise = 5
+number_of Change = 6
+number_of Enqueue = 7
+number_of Dequeue = 8
+number_of Size = 9
+number_of Look = 10
 
 -- any two operations of these classes commute forward
 abbrev pub always_commute : Class → Class → Bool
@@ -101,12 +105,19 @@ always_commute Count Look = false
 always_commute Raise Look = false
 always_commute Change Look = false
 always_commute Size Change = false
+always_commute Size Enqueue = false
+always_commute Size Dequeue = false
 always_commute Change Size = false
+always_commute Enqueue Size = false
+always_commute Dequeue Size = false
 always_commute Change Change = false
+always_commute Enqueue Enqueue = false
+always_commute Dequeue Dequeue = false
 always_commute c d = true
 
 -- of the class, two operations on different items of an object commute forward
 abbrev pub is_by_item : Class → Bool
-is_by_item Look = true
 is_by_item Change = true
+is_by_item Dequeue = true
+is_by_item Look = true
 is_by_item c = false

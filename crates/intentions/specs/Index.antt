@@ -3,8 +3,6 @@ use Rattle.std.specs.Prelude.{◌≡◌, List, [], ◌∷◌, ℕ, zero, suc, �
 use Rattle.std.specs.declared.vec.Vec.{Vec}
 use Rattle.std.specs.BTreeMap as tree
 use Rattle.std.specs.declared.cmp.Ordering.{Ordering}
-use Rattle.serial.specs.Serial.{CommuteForward}
-use Rattle.objects.specs.Objects.{objects, operation_of}
 use Rattle.atoms.specs.declared.item.Item.{Item}
 use Rattle.objects.specs.declared.entry.Entry.{Entry}
 use Rattle.intentions.specs.declared.classes.Class.{Class}
@@ -14,10 +12,11 @@ use Rattle.intentions.specs.declared.index.Index.{Index}
 use Rattle.intentions.specs.declared.index.Listed.{Listed}
 use Rattle.intentions.specs.Classes.{number_of}
 use Rattle.intentions.specs.Headings.{is_under}
+use Rattle.intentions.specs.Strictness.{Commute, IsAsStrict}
 
 -- which list has the entries of an object's class
 abbrev pub list_of : ℕ → Class → ℕ
-list_of object class = object * 9 + number_of class
+list_of object class = object * 11 + number_of class
 
 -- a list of lists, empty where there is none
 abbrev pub list_at : {A : Type 0} → List (List A) → ℕ → List A
@@ -50,8 +49,11 @@ places_of heading from (entry ∷ entries) = cond (is_under entry heading) (from
 abbrev pub places : List Listed → List ℕ
 places list = map (λ listed. listed.place) list
 
-abbrev pub runs : List Listed → List ℕ
-runs list = map (λ listed. listed.run) list
+abbrev pub starts : List Listed → List ℕ
+starts list = map (λ listed. listed.start) list
+
+abbrev pub strictests : List Listed → List ℕ
+strictests list = map (λ listed. listed.strictest) list
 
 -- each place is before the next
 abbrev pub IsRising : List ℕ → Type 0
@@ -61,25 +63,23 @@ IsRising places = (i j : ℕ) → i < j → j < length places → slice_index pl
 abbrev pub AreWithin : List Entry → List Listed → Type 0
 AreWithin entries list = (j : ℕ) → j < length list → slice_index (places list) j < length entries
 
--- from `run` to `last`, the entries at these places are equal
-abbrev pub IsRun : List Entry → List ℕ → ℕ → ℕ → Type 0
-IsRun entries places run last =
-    (run ≤ last) × ((i : ℕ) → run ≤ i → i ≤ last → (e : Entry) → slice_index_or entries (slice_index places i) e ≡ slice_index_or entries (slice_index places last) e)
+-- from `start` to `last`, the entry at `strictest` is as strict as each
+abbrev pub IsSpan : List Entry → List ℕ → ℕ → ℕ → ℕ → Type 0
+IsSpan entries places start strictest last =
+    (start ≤ strictest) × (strictest ≤ last)
+    × ((i : ℕ) → start ≤ i → i ≤ last → (d : Entry) → IsAsStrict (slice_index_or entries (slice_index places strictest) d) (slice_index_or entries (slice_index places i) d))
 
--- each listed entry ends the run that is kept with it
-abbrev pub AreRuns : List Entry → List Listed → Type 0
-AreRuns entries list = (j : ℕ) → j < length list → IsRun entries (places list) (slice_index (runs list) j) j
+-- each listed entry ends the span that is kept with it
+abbrev pub AreSpans : List Entry → List Listed → Type 0
+AreSpans entries list = (j : ℕ) → j < length list → IsSpan entries (places list) (slice_index (starts list) j) (slice_index (strictests list) j) j
 
 -- what the list of a heading is to be
 abbrev pub IsListOf : Heading → List Entry → List Listed → Type 0
-IsListOf heading entries list = (places list ≡ places_of heading 0 entries) × AreRuns entries list
+IsListOf heading entries list = (places list ≡ places_of heading 0 entries) × AreSpans entries list
 
 -- what an index is to be
 abbrev pub IsIndexOf : List Entry → Index → Type 0
 IsIndexOf entries index = (heading : Heading) → IsListOf heading entries (list_under index heading)
-
-abbrev pub Commute : Entry → Entry → Type 0
-Commute p q = CommuteForward objects (operation_of p) (operation_of q)
 
 -- the entry commutes forward with those at the places from `since` to before `upto`
 abbrev pub CommutesAtPlaces : Entry → List Entry → List ℕ → ℕ → ℕ → Type 0

@@ -4,4 +4,5 @@ pub mod Starts
 pub mod Classes
 pub mod Layers
 pub mod Headings
+pub mod Strictness
 pub mod Index

@@ -10,8 +10,6 @@ use objects::{
 /// What an operation did, as far as it decides with which others it always commutes forward.
 #[derive(Clone, Copy, Debug, PartialEq, Eq, PartialOrd, Ord)]
 pub enum Class {
-    /// It left the value as it was, and is of no other class.
-    Look,
     Deposit,
     Withdrawal,
     /// A withdrawal that was refused.
@@ -22,27 +20,34 @@ pub enum Class {
     Count,
     /// It raised a register, or found it higher.
     Raise,
-    /// It told the number of a set's members.
-    Size,
-    /// It changed a set, a queue or a directory.
+    /// It changed a set or a directory.
     Change,
+    Enqueue,
+    /// It took an item out of a queue.
+    Dequeue,
+    /// It told how many items a set or a queue has, or that a queue has none.
+    Size,
+    /// It left the value as it was, and is of no other class.
+    Look,
 }
 
 /// How many classes there are.
-pub const CLASSES: usize = 9;
+pub const CLASSES: usize = 11;
 
 impl Class {
     /// Every class, in the order of the numbers.
     pub const ALL: [Class; CLASSES] = [
-        Class::Look,
         Class::Deposit,
         Class::Withdrawal,
         Class::Refusal,
         Class::Balance,
         Class::Count,
         Class::Raise,
-        Class::Size,
         Class::Change,
+        Class::Enqueue,
+        Class::Dequeue,
+        Class::Size,
+        Class::Look,
     ];
 
     /// The class of an entry's operation.
@@ -65,15 +70,17 @@ impl Class {
         ensures { result ≡ number_of self }
     {
         match self {
-            Class::Look => 0,
-            Class::Deposit => 1,
-            Class::Withdrawal => 2,
-            Class::Refusal => 3,
-            Class::Balance => 4,
-            Class::Count => 5,
-            Class::Raise => 6,
-            Class::Size => 7,
-            Class::Change => 8,
+            Class::Deposit => 0,
+            Class::Withdrawal => 1,
+            Class::Refusal => 2,
+            Class::Balance => 3,
+            Class::Count => 4,
+            Class::Raise => 5,
+            Class::Change => 6,
+            Class::Enqueue => 7,
+            Class::Dequeue => 8,
+            Class::Size => 9,
+            Class::Look => 10,
         }
     }
 
@@ -88,8 +95,11 @@ impl Class {
             | (Class::Balance, Class::Withdrawal)
             | (Class::Look, Class::Count | Class::Raise | Class::Change)
             | (Class::Count | Class::Raise | Class::Change, Class::Look)
-            | (Class::Size, Class::Change)
-            | (Class::Change, Class::Size | Class::Change) => false,
+            | (Class::Size, Class::Change | Class::Enqueue | Class::Dequeue)
+            | (Class::Change | Class::Enqueue | Class::Dequeue, Class::Size)
+            | (Class::Change, Class::Change)
+            | (Class::Enqueue, Class::Enqueue)
+            | (Class::Dequeue, Class::Dequeue) => false,
             _ => true,
         }
     }
@@ -99,7 +109,7 @@ impl Class {
     pub fn is_by_item(self) -> bool
         ensures { result ≡ is_by_item self }
     {
-        matches!(self, Class::Look | Class::Change)
+        matches!(self, Class::Change | Class::Dequeue | Class::Look)
     }
 }
 
@@ -140,7 +150,11 @@ fn queue_class(call: &QueueCall, reply: &QueueReply) -> Class
     ensures { result ≡ queue_class call.now reply.now }
 {
     match (*call, *reply) {
-        (QueueCall::Enq(_), QueueReply::Ok) | (QueueCall::Deq, QueueReply::Got(_)) => Class::Change,
+        (QueueCall::Enq(_), QueueReply::Ok) => Class::Enqueue,
+        (QueueCall::Deq, QueueReply::Got(_)) => Class::Dequeue,
+        (QueueCall::Deq, QueueReply::Empty) | (QueueCall::Length, QueueReply::Number(_)) => {
+            Class::Size
+        }
         _ => Class::Look,
     }
 }

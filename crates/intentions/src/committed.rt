@@ -1,20 +1,21 @@
 //! The list of what was committed.
 ghost use Rattle.std.specs.Prelude.{◌≡◌, ◌↔◌, ◌<◌, ◌≤◌, ◌-◌, ℕ, [], ◌∷◌, ◌++◌, length, take, slice_range, slice_index, IsTrue, OnOk, OnErr};
 ghost use Rattle.intentions.specs.Committed.{CommutesWith, AllStand};
-ghost use Rattle.intentions.specs.Index.{places, CommutesAtPlaces, CommutesUnder, IsRising, AreWithin, AreRuns};
+ghost use Rattle.intentions.specs.Index.{places, CommutesAtPlaces, CommutesUnder, IsRising, AreWithin, AreSpans};
 
 use crate::classes::Class;
 use crate::headings::Heading;
 use crate::index::{Index, Listed};
 use crate::listing::{list_entry, unlist_entry};
 use crate::reserved::push_reserved;
+use crate::spans::listed_entry;
 use objects::{Entry, NoMemory, commute};
 use std::alloc::Global;
 use std::marker::Model;
 
 /// The entries of committed transactions in the order of commit, with an index by object, item
 /// and class, so that an entry is compared with entries of its own object and item alone, with none of
-/// a class that it always commutes with, and with one of each run of equal entries. Entries that commute
+/// a class that it always commutes with, and in a span of a list with the strictest alone. Entries that commute
 /// forward with all that was committed since their snapshot have the same replies after it (Weihl 1988).
 #[derive(Drop)]
 pub struct Committed {
@@ -149,11 +150,11 @@ impl Committed {
 }
 
 /// Whether the entry commutes forward with the listed ones from place `since` to before `upto`. Of
-/// each run of equal ones it looks at the last.
+/// a span whose strictest entry is among them it looks at that one alone.
 fn commutes_at(entry: &Entry, entries: &[Entry], list: &[Listed], since: usize, upto: usize) -> bool
     requires rising { IsRising (places list.now) }
     requires places { AreWithin entries.now list.now }
-    requires runs { AreRuns entries.now list.now }
+    requires spans { AreSpans entries.now list.now }
     requires ordered { since ≤ upto }
     requires within { upto ≤ length entries.now }
     ensures { IsTrue result ↔ CommutesAtPlaces entry.now entries.now (places list.now) since upto }
@@ -162,10 +163,17 @@ fn commutes_at(entry: &Entry, entries: &[Entry], list: &[Listed], since: usize, 
     let mut end = first_from(list, upto);
     while first < end {
         let last = list[end - 1];
-        if !commute(entry, &entries[last.place]) {
-            return false;
+        if first <= last.strictest {
+            if !commute(entry, listed_entry(list, entries, last.strictest)) {
+                return false;
+            }
+            end = last.start;
+        } else {
+            if !commute(entry, &entries[last.place]) {
+                return false;
+            }
+            end -= 1;
         }
-        end = last.run;
     }
     true
 }

@@ -1,9 +1,9 @@
 //! What an index lists entries under.
 ghost use Rattle.std.specs.Prelude.{◌≡◌};
-ghost use Rattle.intentions.specs.Headings.{item_of, set_item, heading_of, item_heading_of, heading_against};
+ghost use Rattle.intentions.specs.Headings.{item_of, set_item, taken_item, heading_of, item_heading_of, heading_against};
 
 use crate::classes::Class;
-use objects::{Call, DirectoryCall, Entry, Item, SetCall};
+use objects::{Call, DirectoryCall, Entry, Item, QueueCall, QueueReply, Reply, SetCall};
 
 /// What an index lists entries under: their object and class, or their item too.
 #[derive(Clone, Copy, Debug, PartialEq, Eq, PartialOrd, Ord)]
@@ -25,11 +25,11 @@ impl Heading {
         }
     }
 
-    /// The entry's object, class and item, where its call is about an item.
+    /// The entry's object, class and item, where it is about an item.
     pub fn of_item(entry: &Entry) -> Option<Heading>
         ensures { result ≡ item_heading_of entry.now }
     {
-        match item_of(&entry.call) {
+        match item_of(&entry.call, &entry.reply) {
             Some(item) => Some(Heading {
                 object: entry.object,
                 item: Some(item),
@@ -47,7 +47,7 @@ impl Heading {
         Heading {
             object: entry.object,
             item: if class.is_by_item() {
-                item_of(&entry.call)
+                item_of(&entry.call, &entry.reply)
             } else {
                 None
             },
@@ -56,18 +56,32 @@ impl Heading {
     }
 }
 
-/// The item that a call is about, where it is about no other part of its object.
-fn item_of(call: &Call) -> Option<Item>
-    ensures { result ≡ item_of call.now }
+/// The item that an operation is about, where it is about no other part of its object. A dequeue is
+/// about the item that it took.
+fn item_of(call: &Call, reply: &Reply) -> Option<Item>
+    ensures { result ≡ item_of call.now reply.now }
 {
-    match call {
-        Call::Set(call) => set_item(call),
-        Call::Directory(
-            DirectoryCall::Bind(key, _)
-            | DirectoryCall::Put(key, _)
-            | DirectoryCall::Unbind(key)
-            | DirectoryCall::Lookup(key),
+    match (call, reply) {
+        (Call::Set(call), _) => set_item(call),
+        (
+            Call::Directory(
+                DirectoryCall::Bind(key, _)
+                | DirectoryCall::Put(key, _)
+                | DirectoryCall::Unbind(key)
+                | DirectoryCall::Lookup(key),
+            ),
+            _,
         ) => Some(*key),
+        (Call::Queue(QueueCall::Deq), Reply::Queue(reply)) => taken_item(reply),
+        _ => None,
+    }
+}
+
+fn taken_item(reply: &QueueReply) -> Option<Item>
+    ensures { result ≡ taken_item reply.now }
+{
+    match reply {
+        QueueReply::Got(item) => Some(*item),
         _ => None,
     }
 }

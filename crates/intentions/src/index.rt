@@ -15,8 +15,10 @@ use std::collections::BTreeMap;
 pub struct Listed {
     /// Its place among all entries.
     pub place: usize,
-    /// Where in the list the run of equal entries began that it ends.
-    pub run: usize,
+    /// Where in the list the span begins that it ends.
+    pub start: usize,
+    /// Where in the span an entry stands that commutes forward with no more than each of it does.
+    pub strictest: usize,
 }
 
 /// A list for each heading.

@@ -13,6 +13,8 @@ mod index;
 mod layers;
 mod listing;
 mod reserved;
+mod spans;
+mod strictness;
 mod view;
 
 pub use committed::Committed;

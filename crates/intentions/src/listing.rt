@@ -1,12 +1,13 @@
 //! Entries put under their headings, and taken out.
-ghost use Rattle.std.specs.Prelude.{◌≡◌, ◌≢◌, true, List, [], ◌∷◌, ◌++◌, length, OnOk, OnErr};
+ghost use Rattle.std.specs.Prelude.{◌≡◌, ◌≢◌, true, List, [], ◌∷◌, ◌++◌, OnOk, OnErr};
 ghost use Rattle.objects.specs.declared.entry.Entry.{Entry as OneEntry};
 ghost use Rattle.intentions.specs.Headings.{is_under};
-ghost use Rattle.intentions.specs.Index.{list_under, AreWithin, AreRuns, IsListOf, IsIndexOf};
+ghost use Rattle.intentions.specs.Index.{list_under, IsListOf, IsIndexOf};
 ghost use Rattle.intentions.specs.declared.headings.Heading.{Heading as OneHeading};
 
 use crate::headings::Heading;
-use crate::index::{Index, Listed};
+use crate::index::Index;
+use crate::spans::listed_next;
 use objects::{Entry, NoMemory};
 
 /// Puts the entry that comes next under its headings. On `NoMemory` it is under none.
@@ -52,25 +53,7 @@ fn list_next(
     ensures others { (other : OneHeading) → other ≢ heading → list_under index.new other ≡ list_under index.old other }
     ensures err { OnErr result ((other : OneHeading) → list_under index.new other ≡ list_under index.old other) }
 {
-    let run = run_of_next(index.list(&heading), entries, entry);
-    index.push(
-        heading,
-        Listed {
-            place: entries.len(),
-            run,
-        },
-    )?;
+    let listed = listed_next(index.list(&heading), entries, entry);
+    index.push(heading, listed)?;
     Ok(())
-}
-
-/// Where in the list the run of equal entries begins that the entry ends, if it comes next.
-fn run_of_next(list: &[Listed], entries: &[Entry], entry: &Entry) -> usize
-    requires within { AreWithin entries.now list.now }
-    requires runs { AreRuns entries.now list.now }
-    ensures { AreRuns (entries.now ++ entry.now ∷ []) (list.now ++ record { place = length entries.now; run = result } ∷ []) }
-{
-    match list.last() {
-        Some(last) if entries[last.place] == *entry => last.run,
-        _ => list.len(),
-    }
 }

@@ -287,3 +287,68 @@ fn runs_of_equal_entries_are_searched(rt: HostRuntime) -> Result<(), Fail> {
     assert!(rt; !committed.stands(&[enq(8)], 1, 5));
     Ok(())
 }
+
+#[test]
+fn spans_of_raises_are_searched(rt: HostRuntime) -> Result<(), Fail> {
+    let raise = |number: u64| -> Entry {
+        Entry {
+            object: 5,
+            call: Call::Max(MaxCall::Raise(amount(&rt, number))),
+            reply: Reply::Max(MaxReply::Ok),
+        }
+    };
+    let top = |number: u64| -> Entry {
+        Entry {
+            object: 5,
+            call: Call::Max(MaxCall::Top),
+            reply: Reply::Max(MaxReply::Number(number)),
+        }
+    };
+    let mut committed = Committed::new(rt.alloc());
+    committed.append(&[
+        raise(5),
+        raise(3),
+        raise(9),
+        raise(1),
+        raise(7),
+        raise(2),
+        raise(8),
+    ])?;
+    assert!(rt; committed.stands(&[top(9), raise(6)], 0, 7));
+    assert!(rt; !committed.stands(&[top(8)], 0, 7));
+    assert!(rt; committed.stands(&[top(8)], 3, 7));
+    assert!(rt; !committed.stands(&[top(7)], 3, 7));
+    assert!(rt; committed.stands(&[top(7)], 3, 6));
+    assert!(rt; !committed.stands(&[top(6)], 3, 6));
+    assert!(rt; committed.stands(&[top(2)], 5, 6));
+    assert!(rt; !committed.stands(&[top(1)], 5, 6));
+    Ok(())
+}
+
+#[test]
+fn dequeues_are_searched_by_item(rt: HostRuntime) -> Result<(), Fail> {
+    let operation = |call: QueueCall, reply: QueueReply| -> Entry {
+        Entry {
+            object: 1,
+            call: Call::Queue(call),
+            reply: Reply::Queue(reply),
+        }
+    };
+    let enq = operation(QueueCall::Enq(Item(3)), QueueReply::Ok);
+    let first = operation(QueueCall::Deq, QueueReply::Got(Item(1)));
+    let second = operation(QueueCall::Deq, QueueReply::Got(Item(2)));
+    let third = operation(QueueCall::Deq, QueueReply::Got(Item(3)));
+    let none = operation(QueueCall::Deq, QueueReply::Empty);
+    let length = operation(QueueCall::Length, QueueReply::Number(2));
+    let mut committed = Committed::new(rt.alloc());
+    committed.append(&[first, enq, second])?;
+    assert!(rt; committed.stands(&[third, enq], 0, 3));
+    assert!(rt; !committed.stands(&[second], 0, 3));
+    assert!(rt; committed.stands(&[first, none], 2, 3));
+    assert!(rt; !committed.stands(&[none], 0, 3));
+    assert!(rt; !committed.stands(&[length], 2, 3));
+    committed.append(&[none, length])?;
+    assert!(rt; !committed.stands(&[first], 2, 5));
+    assert!(rt; committed.stands(&[first, second, length], 3, 4));
+    Ok(())
+}

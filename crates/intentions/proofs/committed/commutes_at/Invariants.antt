@@ -1,5 +1,6 @@
 use Rattle.std.proofs.Common.{ℕ, ◌<◌, ◌≤◌, get_or}
-use Rattle.intentions.specs.Index.{places, Commute}
+use Rattle.intentions.specs.Index.{places}
+use Rattle.intentions.specs.Strictness.{Commute}
 use Rattle.intentions.proofs.committed.commutes_at.Given as goal
 
 abbrev pub invariant-loop-end : goal.invariant-loop-end

@@ -2,7 +2,7 @@ use Rattle.std.proofs.Common.{ℕ, ◌+◌, ◌-◌, ◌/◌, ◌<◌, ◌≤◌
 use Rattle.std.proofs.lemmas.List.{length-map}
 use Rattle.intentions.specs.declared.index.Listed.{Listed}
 use Rattle.intentions.specs.Index.{places}
-use Rattle.intentions.proofs.StandsLemmas.{place_at, not_above}
+use Rattle.intentions.proofs.StandsLemmas.{nowhere, place_at, not_above}
 use Rattle.intentions.proofs.committed.first_from.Goals as goal
 
 pub loop-low-preserved-then-list-middle : goal.loop-low-preserved-then-list-middle
@@ -10,7 +10,7 @@ loop-low-preserved-then-list-middle c =
     let list = c.args.list.now in
     let middle : ℕ = c.loop-low.low + (c.loop-low.high - c.loop-low.low) / 2 in
     let there : middle < length list = omega (arith, c.loop-low-test.true, c.loop-low.invariant.within) in
-    let here : get_or (places list) middle 0 < c.args.since = omega (arith, c.if-list-middle.true, place_at list middle (record { place = 0; run = 0 }) there) in
+    let here : get_or (places list) middle 0 < c.args.since = omega (arith, c.if-list-middle.true, place_at list middle nowhere there) in
     record {
       ordered = omega (arith, c.loop-low-test.true);
       within = c.loop-low.invariant.within;
@@ -23,7 +23,7 @@ loop-low-preserved c =
     let list = c.args.list.now in
     let middle : ℕ = c.loop-low.low + (c.loop-low.high - c.loop-low.low) / 2 in
     let there : middle < length list = omega (arith, c.loop-low-test.true, c.loop-low.invariant.within) in
-    let here : c.args.since ≤ get_or (places list) middle 0 = omega (arith, c.if-list-middle.false, place_at list middle (record { place = 0; run = 0 }) there) in
+    let here : c.args.since ≤ get_or (places list) middle 0 = omega (arith, c.if-list-middle.false, place_at list middle nowhere there) in
     record {
       ordered = omega arith;
       within = omega arith;

@@ -12,6 +12,14 @@ list_next-requires-clause-under c = subst (λ o. is_under c.args.entry.now o ≡
 pub list_next-requires-in-Some-clause-under : goal.list_next-requires-in-Some-clause-under
 list_next-requires-in-Some-clause-under c = under_item c.args.entry.now c.in-Some.own (sym c.of_item.ensures ∙ c.in-Some.is)
 
+pub list_next-requires-in-Some-clause-listed : goal.list_next-requires-in-Some-clause-listed
+list_next-requires-in-Some-clause-listed c =
+    let es = c.args.entries.now in
+    let e = c.args.entry.now in
+    let item = c.in-Some.own in
+    let item_is : item_heading_of e ≡ Some item = sym c.of_item.ensures ∙ c.in-Some.is in
+    subst (IsListOf item es) (sym (c.list_next.ensures.others item (λ same. item_heading_apart e item item_is (same ∙ c.of-heading.ensures)))) (c.requires item)
+
 pub returns-then-is_err-clause-err : goal.returns-then-is_err-clause-err
 returns-then-is_err-clause-err c =
     let es = c.args.entries.now in

@@ -1,7 +1,7 @@
 use Rattle.std.proofs.Common.{◌≡◌, ℕ, true, false, refl, sym, ap, ◌∙◌, subst, arith, get_or, below_more}
 use Rattle.std.proofs.lemmas.Bool.{false≢true}
 use Rattle.intentions.specs.declared.classes.Class.{Class}
-use Rattle.intentions.specs.declared.classes.Class.TheVariants.{Look}
+use Rattle.intentions.specs.declared.classes.Class.TheVariants.{Deposit}
 use Rattle.intentions.specs.Classes.{class_of, number_of, always_commute}
 use Rattle.intentions.specs.Headings.{heading_against}
 use Rattle.intentions.specs.Index.{CommutesUnder}
@@ -20,14 +20,14 @@ pub loop-class-preserved : goal.loop-class-preserved
 loop-class-preserved c =
     let e = c.args.entry.now in
     let es = c.args.self.now in
-    let class : Class = get_or classes c.loop-class.class-index Look in
+    let class : Class = get_or classes c.loop-class.class-index Deposit in
     let here : always_commute (class_of e.call e.reply) class ≡ false → CommutesUnder e es (heading_against e class) c.args.since c.args.upto =
     λ may. elim c.if-not-always_commutes.branch [
       | then-not-always_commutes+else-not-commutes_under w ↦ subst (λ o. CommutesUnder e es o c.args.since c.args.upto) w.against-heading.ensures (w.commutes_under.ensures.0 w.if-not-commutes_under.false)
       | else-not-always_commutes w ↦ (let always : always_commute (class_of e.call e.reply) class ≡ true = ap (λ k. always_commute k class) (sym c.of-own.ensures) ∙ sym c.always_commutes.ensures ∙ w.if-not-always_commutes.false in
           absurd (false≢true (sym may ∙ always)))
     ] in
-    below_more (λ (n : ℕ). always_commute (class_of e.call e.reply) (get_or classes n Look) ≡ false → CommutesUnder e es (heading_against e (get_or classes n Look)) c.args.since c.args.upto) c.loop-class.class-index c.loop-class.invariant here
+    below_more (λ (n : ℕ). always_commute (class_of e.call e.reply) (get_or classes n Deposit) ≡ false → CommutesUnder e es (heading_against e (get_or classes n Deposit)) c.args.since c.args.upto) c.loop-class.class-index c.loop-class.invariant here
 
 pub returns : goal.returns
 returns c =

@@ -1,5 +1,5 @@
 use Rattle.std.proofs.Common.{◌≡◌, false, ℕ, ◌<◌, get_or}
-use Rattle.intentions.specs.declared.classes.Class.TheVariants.{Look}
+use Rattle.intentions.specs.declared.classes.Class.TheVariants.{Deposit}
 use Rattle.intentions.specs.Classes.{class_of, always_commute}
 use Rattle.intentions.specs.Headings.{heading_against}
 use Rattle.intentions.specs.Index.{CommutesUnder}
@@ -7,4 +7,4 @@ use Rattle.intentions.proofs.committed.Committed.commutes_with.Given as goal
 
 abbrev pub invariant-loop-class : goal.invariant-loop-class
 invariant-loop-class l =
-    (n : ℕ) → n < l.class-index → always_commute (class_of l.entry.call l.entry.reply) (get_or l.class-items n Look) ≡ false → CommutesUnder l.entry l.self (heading_against l.entry (get_or l.class-items n Look)) l.since l.upto
+    (n : ℕ) → n < l.class-index → always_commute (class_of l.entry.call l.entry.reply) (get_or l.class-items n Deposit) ≡ false → CommutesUnder l.entry l.self (heading_against l.entry (get_or l.class-items n Deposit)) l.since l.upto
