@@ -9,7 +9,9 @@ use objects::{AccountCall, AccountReply, Call, Entry, MaxCall, MaxReply, Reply};
 /// balances, of two balances the larger with fewer withdrawals, of two raises the larger with fewer
 /// tops, and of two tops the smaller with fewer raises.
 pub fn is_as_strict(first: &Entry, second: &Entry) -> bool
-    ensures { IsTrue result → IsAsStrict first.now second.now }
+    ensures strict { IsTrue result → IsAsStrict first.now second.now }
+    ensures equal { first.now ≡ second.now → IsTrue result }
+    ensures numbers { first.now.object ≡ second.now.object → IsTrue (is_strict_by_number first.now.call first.now.reply second.now.call second.now.reply) → IsTrue result }
 {
     first == second || first.object == second.object && is_strict_by_number(first, second)
 }

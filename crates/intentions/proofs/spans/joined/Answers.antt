@@ -19,7 +19,7 @@ returns-then-is_as_strict c found is =
     let same : last.strictest ≡ found = cc in
     subst (λ s. IsSpan es ps before.start s (length c.args.list.now - 1)) same
     (second_strictest es ps before.start before.strictest last.start last.strictest (length c.args.list.now - 1) (omega (arith, c.requires.within)) c.requires.before c.requires.last c.requires.apart
-    (λ d. subst (λ p. IsAsStrict p (at es ps before.strictest d)) (c.listed_entry-second.ensures d) (subst (IsAsStrict c.listed_entry-second.result.now) (c.listed_entry-first.ensures d) (c.is_as_strict.ensures c.if-is_as_strict.true))))
+    (λ d. subst (λ p. IsAsStrict p (at es ps before.strictest d)) (c.listed_entry-second.ensures d) (subst (IsAsStrict c.listed_entry-second.result.now) (c.listed_entry-first.ensures d) (c.is_as_strict.ensures.strict c.if-is_as_strict.true))))
 
 pub returns-then-is_as_strict-2 : goal.returns-then-is_as_strict-2
 returns-then-is_as_strict-2 c found is =
@@ -30,7 +30,7 @@ returns-then-is_as_strict-2 c found is =
     let same : before.strictest ≡ found = cc in
     subst (λ s. IsSpan es ps before.start s (length c.args.list.now - 1)) same
     (first_strictest es ps before.start before.strictest last.start last.strictest (length c.args.list.now - 1) (omega (arith, c.requires.within)) c.requires.before c.requires.last c.requires.apart
-    (λ d. subst (λ p. IsAsStrict p (at es ps last.strictest d)) (c.listed_entry-first.ensures d) (subst (IsAsStrict c.listed_entry-first.result.now) (c.listed_entry-second.ensures d) (c.is_as_strict-else-is_as_strict.ensures c.if-is_as_strict-2.true))))
+    (λ d. subst (λ p. IsAsStrict p (at es ps last.strictest d)) (c.listed_entry-first.ensures d) (subst (IsAsStrict c.listed_entry-first.result.now) (c.listed_entry-second.ensures d) (c.is_as_strict-else-is_as_strict.ensures.strict c.if-is_as_strict-2.true))))
 
 pub returns-else-is_as_strict-2 : goal.returns-else-is_as_strict-2
 returns-else-is_as_strict-2 c found is = absurd cc

@@ -9,12 +9,12 @@ listed_entry-found-requires-clause-within c = omega (arith, c.requires.span.1, c
 pub returns-then-is_as_strict-clause-spans : goal.returns-then-is_as_strict-clause-spans
 returns-then-is_as_strict-clause-spans c =
     strictest_next c.args.entries.now c.args.entry.now c.args.list.now c.args.start c.args.strictest c.requires.places c.requires.spans c.requires.within c.requires.span
-    (λ d. subst (IsAsStrict c.args.entry.now) (c.listed_entry-found.ensures d) (c.is_as_strict.ensures c.if-is_as_strict.true))
+    (λ d. subst (IsAsStrict c.args.entry.now) (c.listed_entry-found.ensures d) (c.is_as_strict.ensures.strict c.if-is_as_strict.true))
 
 pub returns-then-is_as_strict-2-clause-spans : goal.returns-then-is_as_strict-2-clause-spans
 returns-then-is_as_strict-2-clause-spans c =
     behind_strictest c.args.entries.now c.args.entry.now c.args.list.now c.args.start c.args.strictest c.requires.places c.requires.spans c.requires.within c.requires.span
-    (λ d. subst (λ p. IsAsStrict p c.args.entry.now) (c.listed_entry-found.ensures d) (c.is_as_strict-else-is_as_strict.ensures c.if-is_as_strict-2.true))
+    (λ d. subst (λ p. IsAsStrict p c.args.entry.now) (c.listed_entry-found.ensures d) (c.is_as_strict-else-is_as_strict.ensures.strict c.if-is_as_strict-2.true))
 
 pub returns-else-is_as_strict-2-clause-spans : goal.returns-else-is_as_strict-2-clause-spans
 returns-else-is_as_strict-2-clause-spans c = alone c.args.entries.now c.args.entry.now c.args.list.now c.requires.places c.requires.spans
