@@ -62,9 +62,6 @@ pub record ArePartUndone {V C D : Type 0} (u : Undoing V C D) (start : V) (journ
   pub undone : undone_all u now (drop mark rest) ≡ undone_all u start (drop mark journal)
   pub kept : take mark rest ≡ take mark journal
 
-pub part_undone-start : {V C D : Type 0} (u : Undoing V C D) (start : V) (journal : List D) (mark : ℕ) → mark ≤ length journal → ArePartUndone u start journal mark start journal
-part_undone-start u start journal mark le = record { within = le; undone = refl; kept = refl }
-
 pub part_undone-more : {V C D : Type 0} (u : Undoing V C D) (start : V) (journal : List D) (mark : ℕ) (now next : V) (rest fewer : List D) (change : D)
     → ArePartUndone u start journal mark now rest → mark < length rest → rest ≡ fewer ++ change ∷ [] → next ≡ u.undone now change → ArePartUndone u start journal mark next fewer
 unfolding undone_all

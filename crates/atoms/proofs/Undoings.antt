@@ -85,7 +85,7 @@ get_set [] o v w e = cc
 get_set (x ∷ vs) zero v w e = refl
 get_set (x ∷ vs) (suc o) v w e = get_set vs o v w e
 
-set_itself : {V : Type 0} (vs : List V) (o : ℕ) (v : V) → slice_get vs o ≡ Some v → slice_set vs o v ≡ vs
+pub set_itself : {V : Type 0} (vs : List V) (o : ℕ) (v : V) → slice_get vs o ≡ Some v → slice_set vs o v ≡ vs
 set_itself [] o v e = cc
 set_itself (x ∷ vs) zero v e = let same : x ≡ v = cc in ap (λ y. y ∷ vs) (sym same)
 set_itself (x ∷ vs) (suc o) v e = ap (λ ys. x ∷ ys) (set_itself vs o v e)

@@ -1,5 +1,5 @@
 -- Where the parts of a tree can be run, so can theirs.
-use Rattle.std.proofs.Common.{◌≡◌, ℕ, ◌+◌, ◌<◌, ◌≤◌, Bool, List, [], ◌∷◌, ◌++◌, map, length, get_or, take, sym, ap, subst, ◌∙◌, arith, append_assoc, Vec, Global, zero, suc}
+use Rattle.std.proofs.Common.{◌≡◌, ℕ, ◌+◌, ◌<◌, ◌≤◌, Bool, List, [], ◌∷◌, ◌++◌, map, length, get_or, take, sym, ap, subst, ◌∙◌, arith, append_assoc, zero, suc}
 use Rattle.std.proofs.lemmas.List.{append-nil, get_or-map}
 use Rattle.std.proofs.lemmas.Option.{slice_get_within, get_or_from_slice_get}
 use Rattle.objects.specs.declared.call.Call.{Call}
@@ -10,21 +10,20 @@ use Rattle.meaning.specs.declared.test.Test.{Test}
 use Rattle.meaning.specs.Entries.{State, kinds}
 use Rattle.meaning.specs.Labels.{holds, holds_of, if_there}
 use Rattle.meaning.specs.Trees as meant
-use Rattle.meaning.specs.Trees.{Handlers, Children, NoStep, Child}
+use Rattle.meaning.specs.Trees.{Children, NoStep, Child}
 use Rattle.meaning.specs.OneThread.{outcome_of, labels_of, state_of, one, one_step, one_handler}
 use Rattle.meaning.specs.Batch.{block_at, state_at}
 use Rattle.meaning.specs.WellFormed.{IsWellFormed, AreWellFormed, added_by, operations, operations_of_handlers}
 use Rattle.meaning.specs.Running.{CanPerform, IsBound, Keeps, all_operations}
 use Rattle.meaning.proofs.HeldLabels.{more_labels, step_labels, test}
 use Rattle.meaning.proofs.Keeping.{perform, step_keeps, block_keeps, handlers_keep, act_keeps, limit, batch_keeps}
-use Rattle.batch.specs.Views.{Tried, block_view, step_view, subaction_view, children_view}
+use Rattle.batch.specs.Views.{Tried, block_view, step_view}
 use Rattle.batch.specs.Names.{Texts}
 use Rattle.batch.specs.Limits.{AllWellFormed, IsBatch}
-use Rattle.batch.specs.Running.{CanRunHere, CanStepHere, CanHandleHere, CanTryHere, CanRunAllHere, StillSeen, acted}
+use Rattle.batch.specs.Running.{CanRunHere, CanStepHere, CanTryHere, CanRunAllHere, StillSeen, acted}
 use Rattle.batch.specs.declared.tree.Block.{Block}
-use Rattle.batch.specs.declared.tree.Step.{Step, Op, If, Sub, Parallel}
-use Rattle.batch.specs.declared.tree.Subaction.{Subaction}
-use Rattle.batch.proofs.ViewLemmas.{step_view-Op, step_view-If, step_view-Sub, step_view-Parallel}
+use Rattle.batch.specs.declared.tree.Step.{Step, Op, If}
+use Rattle.batch.proofs.ViewLemmas.{step_view-Op, step_view-If}
 
 -- ---- steps one after the other
 
@@ -77,35 +76,6 @@ pub if-holds : (step : Step) (label : ℕ) (t : Test) (then otherwise : Block) (
 if-holds step label t then otherwise held state read is h reads =
     let b = bound step label t then otherwise held state is h in
     ap (λ o. if_there o (holds_of t)) b.is ∙ ap (holds_of t) (sym (reads ∙ get_or_from_slice_get held label b.found read b.is))
-
-if-can : (label : ℕ) (t : Test) (then otherwise : meant.Block) (held : List Held) (state : State) → CanStepHere (meant.If label t then otherwise) held state → CanRunHere then held state × CanRunHere otherwise held state
-if-can label t then otherwise held state h = (
-  record { labels = h.labels; held_by = h.held_by; well_formed = h.well_formed.1; room = omega (arith, h.room) },
-  record { labels = h.labels; held_by = h.held_by; well_formed = h.well_formed.2; room = omega (arith, h.room) },
-)
-
--- the branches can be run
-pub if-can_run : (step : Step) (label : ℕ) (t : Test) (then otherwise : Block) (held : List Held) (state : State) → step ≡ If label t then otherwise → CanStepHere (step_view step) held state
-    → CanRunHere (block_view then) held state × CanRunHere (block_view otherwise) held state
-if-can_run step label t then otherwise held state is h =
-    if-can label t (block_view then) (block_view otherwise) held state (can_as step (meant.If label t (block_view then) (block_view otherwise)) held state (ap step_view is ∙ step_view-If label t then otherwise) h)
-
-sub_can : (body : meant.Block) (handlers : meant.Handlers) (labelled : Bool) (held : List Held) (state : State) → CanStepHere (meant.Subaction body handlers labelled) held state → CanRunHere body held state × CanHandleHere handlers held state
-sub_can body handlers labelled held state h = (
-  record { labels = h.labels; held_by = h.held_by; well_formed = h.well_formed.0; room = omega (arith, h.room) },
-  record { labels = h.labels; held_by = h.held_by; well_formed = h.well_formed.1; room = omega (arith, h.room) },
-)
-
-pub sub-can_try : (step : Step) (child : Subaction) (held : List Held) (state : State) → step ≡ Sub child → CanStepHere (step_view step) held state → CanTryHere (subaction_view child) held state
-sub-can_try step child held state is h =
-    let tried = subaction_view child in
-    let can = sub_can tried.body tried.handlers tried.labelled held state (can_as step (meant.Subaction tried.body tried.handlers tried.labelled) held state (ap step_view is ∙ step_view-Sub child) h) in
-    record { body = can.0; handlers = can.1 }
-
-pub parallel-can_run : (step : Step) (children : Vec Subaction Global) (held : List Held) (state : State) → step ≡ Parallel children → CanStepHere (step_view step) held state → CanRunAllHere (children_view children.items) held state
-parallel-can_run step children held state is h =
-    let here = can_as step (meant.Parallel (children_view children.items)) held state (ap step_view is ∙ step_view-Parallel children) h in
-    record { labels = here.labels; held_by = here.held_by; well_formed = here.well_formed; room = here.room }
 
 -- ---- children
 

@@ -3,7 +3,7 @@ use Rattle.std.proofs.Common.{◌≡◌, ℕ, suc, ◌+◌, ◌<◌, ◌≤◌, 
 use Rattle.std.proofs.Math.ListN.{drop_of_length-le}
 use Rattle.std.specs.Prelude.{option_map}
 use Rattle.meaning.specs.Trees as meant
-use Rattle.meaning.specs.Trees.{Handlers, Otherwise, GoOn, Pass, for_reasons, handlers_of}
+use Rattle.meaning.specs.Trees.{Handlers, Otherwise, Pass, for_reasons, handlers_of}
 use Rattle.meaning.specs.Running.{all_operations}
 use Rattle.meaning.specs.WellFormed.{operations, operations_of_step, operations_of_handlers, operations_of_children}
 use Rattle.batch.specs.Counting.{operations_of}

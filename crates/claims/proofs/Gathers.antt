@@ -1,5 +1,7 @@
 -- Seats that are joined, one after the other, and what is known once all are.
-use Rattle.std.proofs.Common.{◌≡◌, ◌≢◌, ℕ, zero, suc, ◌<◌, ◌≤◌, min, Bool, true, false, true≢false, ◌||◌, List, [], ◌∷◌, ◌++◌, length, get_or, set, sym, refl, ap, ◌∙◌, subst, ⊎_elim, arith}
+use Rattle.std.proofs.Common.{◌≡◌, ◌≢◌, ℕ, zero, suc, ◌<◌, ◌≤◌, min, true, ◌||◌, List, [], ◌∷◌, ◌++◌, length, get_or, set, sym, refl, ap, ◌∙◌, subst, ⊎_elim, arith}
+use Rattle.std.proofs.Math.Bool.{or-false}
+use Rattle.std.proofs.lemmas.Bool.{or_left, or_right}
 use Rattle.std.proofs.lemmas.List.{append-nil}
 use Rattle.std.proofs.lemmas.List.Elements.{All-cons}
 use Rattle.std.specs.List.{All, list_any}
@@ -16,20 +18,6 @@ use Rattle.claims.specs.Board.{Together}
 use Rattle.claims.proofs.Counted.{Counted, counted}
 use Rattle.claims.proofs.Folds.{total, most, total_set, total_ge, total_idle, most_at, most_idle, least_at, least_idle}
 
--- false adds nothing to a disjunction
-or_false : (b : Bool) → b ≡ (b || false)
-or_false true = refl
-or_false false = refl
-
--- either side makes a disjunction true
-or_left : (a b : Bool) → a ≡ true → (a || b) ≡ true
-or_left true b h = refl
-or_left false b h = absurd (true≢false (sym h))
-
-or_right : (a b : Bool) → b ≡ true → (a || b) ≡ true
-or_right true b h = refl
-or_right false b h = h
-
 -- what a view that has taken in u says of it
 abbrev Covers : View → View → Type 0
 Covers v u = (u.done ≤ v.done) × (u.stopped ≡ true → v.stopped ≡ true) × (v.told ≤ u.told)
@@ -43,7 +31,7 @@ pub alone : (pieces : ℕ) (v : View) → v.shares ≡ 1 → Together pieces (v 
 alone pieces v share = record {
   shares = share;
   drawn = sym (append-nil v.drawn);
-  raised = or_false v.raised;
+  raised = sym (or-false v.raised);
   low = omega arith;
   each = All-cons (Covers v) v [] (omega arith, (λ h. h), omega arith) (λ k d lt. absurd (omega arith));
 }

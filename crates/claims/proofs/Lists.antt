@@ -11,7 +11,7 @@ times-append x [] zs = omega arith
 times-append x (y ∷ ys) zs = omega (arith, times-append x ys zs)
 
 -- a number that stands at the head stands there once
-same_once : (x : ℕ) → bit (eqb x x) ≡ 1
+pub same_once : (x : ℕ) → bit (eqb x x) ≡ 1
 same_once x = grind (arith, nat_tests)
 
 -- a fact of each number that stands in the list

@@ -50,10 +50,6 @@ pub touched_more : {B D : Type 0} (item_of : D → Item) (slots written : List (
 touched_more item_of slots written content journal pushed change h t is =
     subst (AreTouched item_of written) (sym is) (touched_here slots written (item_of change) content h, touched_still item_of slots written (item_of change) content journal h t)
 
--- the newest change has its slot, and the others stay touched where it is written
-pub touched_newest : {B D : Type 0} (item_of : D → Item) (slots : List (Item × B)) (journal rest : List D) (change : D) → AreTouched item_of slots journal → journal ≡ change ∷ rest → IsSome (slot_at slots (item_of change))
-touched_newest item_of slots journal rest change t is = let all : AreTouched item_of slots (change ∷ rest) = subst (AreTouched item_of slots) is t in all.0
-
 pub touched_less : {B D : Type 0} (item_of : D → Item) (slots written : List (Item × B)) (content : B) (journal rest : List D) (change : D) → IsWritten slots written (item_of change) content
     → AreTouched item_of slots journal → journal ≡ change ∷ rest → AreTouched item_of written rest
 touched_less item_of slots written content journal rest change h t is =

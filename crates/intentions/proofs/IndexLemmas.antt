@@ -1,6 +1,6 @@
 -- The lists of an index, and the places that they have.
 use Rattle.std.proofs.Common.{◌≡◌, ◌≢◌, ◌⊎◌, ◌&&◌, ℕ, zero, suc, ◌+◌, ◌-◌, ◌<◌, ◌≤◌, arith, Bool, true, false, cond, nat_eq, Option, Some, None, List, [], ◌∷◌, ◌++◌, length, take, get_or, refl, sym, ap, ◌∙◌, subst, inl, inr, add-zero}
-use Rattle.std.proofs.lemmas.Bool.{eqb-true, eq-eqb, false≢true}
+use Rattle.std.proofs.lemmas.Bool.{eqb-true, eq-eqb, false≢true, and_parts}
 use Rattle.std.proofs.lemmas.List.{length-map, length-append, map_push, take-map, take_at, append-nil}
 use Rattle.atoms.specs.declared.item.Item.{Item}
 use Rattle.objects.specs.declared.entry.Entry.{Entry}
@@ -161,10 +161,6 @@ pub under_cases : (e : Entry) (o : Heading) → is_under e o ≡ true → (o ≡
 unfolding is_under
 under_cases e o h = by_item o.item (item_of e.call e.reply) refl refl rest.1
   where
-    and_parts : (a b : Bool) → (a && b) ≡ true → (a ≡ true) × (b ≡ true)
-    and_parts true b h = (refl, h)
-    and_parts false b h = absurd (false≢true h)
-
     rest : ((nat_eq e.object o.object && nat_eq (number_of (class_of e.call e.reply)) (number_of o.class)) ≡ true) × (has_item o.item (item_of e.call e.reply) ≡ true)
     rest = and_parts (nat_eq e.object o.object && nat_eq (number_of (class_of e.call e.reply)) (number_of o.class)) (has_item o.item (item_of e.call e.reply)) h
 

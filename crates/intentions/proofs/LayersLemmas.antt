@@ -51,12 +51,6 @@ get_set_other (y ∷ xs) zero (suc j) x ne = refl
 get_set_other (y ∷ xs) (suc i) zero x ne = refl
 get_set_other (y ∷ xs) (suc i) (suc j) x ne = get_set_other xs i j x (λ e. ne (ap suc e))
 
--- the value that is there, put there
-pub set_found : {A : Type 0} (xs : List A) (i : ℕ) (x : A) → slice_get xs i ≡ Some x → slice_set xs i x ≡ xs
-set_found [] i x h = refl
-set_found (y ∷ xs) zero x h = let same : y ≡ x = cc in ap (λ z. z ∷ xs) (sym same)
-set_found (y ∷ xs) (suc i) x h = ap (λ ys. y ∷ ys) (set_found xs i x h)
-
 -- ---- what each object became
 
 -- a draft, or the value that is lent

@@ -1,7 +1,6 @@
 pub mod StartsLemmas
 pub mod EntriesLemmas
 pub mod LayersLemmas
-pub mod LookLemmas
 pub mod ViewLemmas
 pub mod ListsLemmas
 pub mod SpansLemmas

@@ -1,11 +1,10 @@
 -- Entries that `==` finds equal are equal.
-use Rattle.std.proofs.Common.{◌≡◌, ◌&&◌, ℕ, ℤ, Bool, true, false, nat_eq, refl, ap, subst, ◌∙◌}
-use Rattle.std.proofs.Props.{props}
+use Rattle.std.proofs.Common.{◌≡◌, ◌&&◌, ℕ, ℤ, true, nat_eq, refl, ap, ◌∙◌}
 use Rattle.std.proofs.lemmas.Bool.Decides.{Decides-int_eq}
 use Rattle.std.specs.Ordering.{int_eq}
-use Rattle.std.proofs.lemmas.Bool.{eqb-true, false≢true}
+use Rattle.std.proofs.lemmas.Bool.{eqb-true, and_parts}
+use Rattle.atoms.proofs.Amounts.{one_amount}
 use Rattle.atoms.proofs.Items.{one_item}
-use Rattle.atoms.specs.Amount.{IsAmount}
 use Rattle.atoms.specs.declared.amount.Amount.{Amount}
 use Rattle.atoms.specs.declared.item.Item.{Item}
 use Rattle.atoms.specs.declared.account.AccountCall.{AccountCall}
@@ -54,26 +53,13 @@ use Rattle.objects.specs.declared.entry.Entry.{Entry}
 use Rattle.objects.specs.contracts.entry.EntryPartialEq.TheImpl as entry_eq
 
 same_amount : (a b : Amount) → nat_eq a.value b.value ≡ true → a ≡ b
-same_amount a b h = at_number a.value b.value a.in_range (eqb-true a.value b.value h) b.in_range
-  where
-    made : (n : ℕ) → IsAmount n → Amount
-    made n in_range = record { value = n; in_range = in_range }
-
-    one_proof : (n : ℕ) (p q : IsAmount n) → made n p ≡ made n q
-    one_proof n p q = let one : IsProp (IsAmount n) = hlevel props in ap (made n) (one p q)
-
-    at_number : (n m : ℕ) (p : IsAmount n) → n ≡ m → (q : IsAmount m) → made n p ≡ made m q
-    at_number n m p e = subst (λ k. (q : IsAmount k) → made n p ≡ made k q) e (one_proof n p)
+same_amount a b h = one_amount a b (eqb-true a.value b.value h)
 
 same_int : (m n : ℤ) → int_eq m n ≡ true → m ≡ n
 same_int m n h = (Decides-int_eq m n).0 h
 
 same_item : (x y : Item) → nat_eq x.0 y.0 ≡ true → x ≡ y
 same_item x y h = one_item x y (eqb-true x.0 y.0 h)
-
-both : (a b : Bool) → (a && b) ≡ true → (a ≡ true) × (b ≡ true)
-both true b h = (refl, h)
-both false b h = absurd (false≢true h)
 
 same_account_call : (c d : AccountCall) → account_call_eq.ghosts.eq c d ≡ true → c ≡ d
 same_account_call (account_call.Deposit a) (account_call.Deposit b) h = ap account_call.Deposit (same_amount a b h)
@@ -130,10 +116,10 @@ same_queue_reply c d h = absurd cc
 
 same_directory_call : (c d : DirectoryCall) → directory_call_eq.ghosts.eq c d ≡ true → c ≡ d
 same_directory_call (directory_call.Bind x v) (directory_call.Bind y w) h =
-    let parts = both (nat_eq x.0 y.0) (nat_eq v.0 w.0) h in
+    let parts = and_parts (nat_eq x.0 y.0) (nat_eq v.0 w.0) h in
     ap (λ z. directory_call.Bind z v) (same_item x y parts.0) ∙ ap (directory_call.Bind y) (same_item v w parts.1)
 same_directory_call (directory_call.Put x v) (directory_call.Put y w) h =
-    let parts = both (nat_eq x.0 y.0) (nat_eq v.0 w.0) h in
+    let parts = and_parts (nat_eq x.0 y.0) (nat_eq v.0 w.0) h in
     ap (λ z. directory_call.Put z v) (same_item x y parts.0) ∙ ap (directory_call.Put y) (same_item v w parts.1)
 same_directory_call (directory_call.Unbind x) (directory_call.Unbind y) h = ap directory_call.Unbind (same_item x y h)
 same_directory_call (directory_call.Lookup x) (directory_call.Lookup y) h = ap directory_call.Lookup (same_item x y h)
@@ -178,8 +164,8 @@ same_reply c d h = absurd cc
 
 pub same_entry : (p q : Entry) → entry_eq.ghosts.eq p q ≡ true → p ≡ q
 same_entry p q h =
-    let parts = both (nat_eq p.object q.object) (call_eq.ghosts.eq p.call q.call && reply_eq.ghosts.eq p.reply q.reply) h in
-    let rest = both (call_eq.ghosts.eq p.call q.call) (reply_eq.ghosts.eq p.reply q.reply) parts.1 in
+    let parts = and_parts (nat_eq p.object q.object) (call_eq.ghosts.eq p.call q.call && reply_eq.ghosts.eq p.reply q.reply) h in
+    let rest = and_parts (call_eq.ghosts.eq p.call q.call) (reply_eq.ghosts.eq p.reply q.reply) parts.1 in
     let object : p.object ≡ q.object = eqb-true p.object q.object parts.0 in
     let call : p.call ≡ q.call = same_call p.call q.call rest.0 in
     let reply : p.reply ≡ q.reply = same_reply p.reply q.reply rest.1 in

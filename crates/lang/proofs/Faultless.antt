@@ -1,5 +1,6 @@
 -- What a document with no fault spells can be run: labels are bound, tests and calls fit, and what is counted is what is spelled.
-use Rattle.std.proofs.Common.{◌≡◌, ℕ, zero, suc, ◌+◌, ◌≤◌, ◌<◌, Bool, true, false, cond, not, ◌||◌, List, [], ◌∷◌, ◌++◌, length, map, Option, None, Some, refl, sym, ap, subst, ◌∙◌, arith}
+use Rattle.std.proofs.Common.{◌≡◌, ℕ, zero, suc, ◌+◌, ◌≤◌, ◌<◌, Bool, true, false, cond, ◌||◌, List, [], ◌∷◌, ◌++◌, length, map, Option, None, Some, refl, sym, ap, subst, ◌∙◌, arith}
+use Rattle.std.proofs.lemmas.Bool.{not-true, or_parts, or_from}
 use Rattle.std.specs.Prelude.{codes, is_some, unwrap_or, option_and_then}
 use Rattle.std.specs.Str.{bytes_eq}
 use Rattle.std.proofs.Math.Nat.{max-le}
@@ -9,9 +10,9 @@ use Rattle.objects.specs.declared.kind.Kind.{Kind}
 use Rattle.meaning.specs.declared.test.Test.{Test}
 use Rattle.meaning.specs.declared.test.Word.{Word}
 use Rattle.meaning.specs.Trees as tree
-use Rattle.meaning.specs.Trees.{Handlers, Children, NoChild, Child, GoOn, Otherwise, Pass, for_reasons, handlers_of}
+use Rattle.meaning.specs.Trees.{Handlers, Children, for_reasons, handlers_of}
 use Rattle.meaning.specs.WellFormed as well
-use Rattle.meaning.specs.WellFormed.{Label, OfCall, OfSubaction, IsWellFormed, IsWellFormedStep, AreWellFormed, AreWellFormedHandlers, CallFits, added_by, added_if, added_by_children, test_fits, has_word, has_number, has_item}
+use Rattle.meaning.specs.WellFormed.{Label, OfCall, OfSubaction, IsWellFormed, IsWellFormedStep, AreWellFormed, AreWellFormedHandlers, added_by, added_if, added_by_children}
 use Rattle.batch.specs.Limits as limits
 use Rattle.batch.specs.Views.{Tried, steps_of, children_of}
 use Rattle.lang.specs.declared.words.Verb.{Verb}
@@ -24,12 +25,12 @@ use Rattle.lang.specs.Look.{has, text_member}
 use Rattle.lang.specs.Scope.{Numbers, Scope, Setting, is_named, named, with_label, with_labels, with_reason}
 use Rattle.lang.specs.Words.{fits_word, word_of}
 use Rattle.lang.specs.Asked
-use Rattle.lang.specs.Asked.{part, label_in, object_of, call_named, verb_at, verb_in, target_asked, operation_asked, operation_shape_asked, arguments_asked, amount_asked, item_asked, label_asked, amount_item, name_item}
+use Rattle.lang.specs.Asked.{part, label_in, object_of, call_named, verb_in, target_asked, operation_asked, operation_shape_asked, arguments_asked, amount_asked, item_asked, label_asked}
 use Rattle.lang.specs.Spelled.{call_of, operation_of}
 use Rattle.lang.proofs.MetLemmas.{AllMet, What, count, count-append, first_met, rest_met}
 use Rattle.std.proofs.lemmas.List.{append-nil, map-append, length-append}
 use Rattle.std.proofs.Common.{append_assoc}
-use Rattle.meaning.specs.Trees.{Abort, If, NoStep, Operation, Parallel, Steps, Subaction}
+use Rattle.meaning.specs.Trees.{NoStep, Steps}
 use Rattle.lang.specs.declared.steps.Sort.{Sort}
 use Rattle.lang.specs.declared.steps.Sort.TheVariants.{Operation as an_operation, If as an_if, Sub as a_sub, Abort as an_abort, Parallel as a_parallel}
 use Rattle.lang.specs.Asked.{abort_asked, abort_shape_asked, array_asked, block_asked, block_asked_if, children_asked, children_in, handlers_asked, handlers_in, holds_item, holds_number, holds_word, if_asked, if_label, if_shape_asked, labels_of, member_asked, members_asked, or_no_items, parallel_asked, parallel_shape_asked, reason_asked, scope_after, scope_after_by, seen_asked, sort_of, step_asked, step_asked_by, steps_asked, sub_asked, sub_shape_asked, subject_of, test_asked, tested_word}
@@ -81,9 +82,6 @@ most_labels = 4_000_000_000
 
 count_three : (x : What) (A B C : List Demand) → count x (A ++ B ++ C) ≡ count x A + count x B + count x C
 count_three x A B C = simp count-append
-
-count_four : (x : What) (A B C D : List Demand) → count x (A ++ B ++ C ++ D) ≡ count x A + count x B + count x C + count x D
-count_four x A B C D = simp count-append
 
 count_five : (x : What) (A B C D E : List Demand) → count x (A ++ B ++ C ++ D ++ E) ≡ count x A + count x B + count x C + count x D + count x E
 count_five x A B C D E = simp count-append
@@ -145,15 +143,10 @@ reason_counts x (Some reason) = refl
 
 -- ---- labels behind a step
 
-is_new : (a b : Bool) → not (a || b) ≡ true → (a ≡ false) × (b ≡ false)
-is_new true b e = cc
-is_new false true e = cc
-is_new false false e = (refl, refl)
-
 -- a checked label is seen neither here nor among the elder
 label_is_new : (scope elder : Scope) (name : List ℕ) → AllMet (label_asked scope elder (Some name)) → (is_named name scope ≡ false) × (is_named name elder ≡ false)
 unfolding label_asked
-label_is_new scope elder name met = is_new (is_named name scope) (is_named name elder) met.1.0
+label_is_new scope elder name met = or_parts (is_named name scope) (is_named name elder) (not-true (is_named name scope || is_named name elder) met.1.0)
 
 with_new : (name : List ℕ) (subject : Subject) (scope : Scope) → is_named name scope ≡ false → with_label (Some name) subject scope ≡ scope ++ (name, subject) ∷ []
 with_new name subject scope new = ap (λ b. cond b scope (scope ++ (name, subject) ∷ [])) new
@@ -189,9 +182,6 @@ with_labels-append : (xs ys scope : Scope) → with_labels (xs ++ ys) scope ≡ 
 with_labels-append [] ys scope = refl
 with_labels-append (x ∷ xs) ys scope = with_labels-append xs ys (with_label (Some x.0) x.1 scope)
 
-neither : (a b : Bool) → a ≡ false → b ≡ false → (a || b) ≡ false
-neither a b p q = cc
-
 -- the elder siblings' labels, none of which is seen, stand behind the others
 abbrev AreNew : Scope → Scope → Type 0
 AreNew scope elder = with_labels elder scope ≡ scope ++ elder
@@ -201,7 +191,7 @@ new_label : (scope elder : Scope) (o : Option (List ℕ)) → AllMet (label_aske
 new_label scope elder None met new = new
 new_label scope elder (Some name) met new =
     let fresh = label_is_new scope elder name met in
-    let here = is_named-append name scope elder ∙ neither (is_named name scope) (is_named name elder) fresh.0 fresh.1 in
+    let here = is_named-append name scope elder ∙ or_from (is_named name scope) (is_named name elder) fresh.0 fresh.1 in
     ap (λ xs. with_labels xs scope) (with_new name Outcome elder fresh.1) ∙ with_labels-append elder ((name, Outcome) ∷ []) scope ∙ ap (with_label (Some name) Outcome) new
     ∙ with_new name Outcome (scope ++ elder) here ∙ append_assoc scope elder ((name, Outcome) ∷ []) ∙ ap (λ xs. scope ++ xs) (sym (with_new name Outcome elder fresh.1))
 

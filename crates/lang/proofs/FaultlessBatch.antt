@@ -3,7 +3,7 @@ use Rattle.std.specs.FinMap as finite_map
 use Rattle.std.specs.FinSet as finite_set
 use Rattle.std.proofs.Common.{◌≡◌, ℕ, ◌+◌, ◌≤◌, ◌<◌, Bool, true, false, cond, ◌&&◌, List, [], ◌∷◌, ◌++◌, length, Option, None, Some, refl, sym, subst, ◌∙◌, arith}
 use Rattle.std.specs.Prelude.{ℤ, pos, negsuc, nat_abs, nat_le, codes, unwrap_or, option_and_then}
-use Rattle.std.proofs.lemmas.Bool.{leb-true}
+use Rattle.std.proofs.lemmas.Bool.{leb-true, and_parts}
 use Rattle.std.proofs.Math.Nat.{max-le}
 use Rattle.serde_json.specs.Data.{Data, Items, no_items, item}
 use Rattle.serde_json.specs.Find.{as_array}
@@ -168,10 +168,6 @@ starts_count version names numbers (item d ds) =
 
 -- ---- starting numbers
 
-second_is : (a b : Bool) → (a && b) ≡ true → b ≡ true
-second_is true b e = e
-second_is false b e = cc
-
 -- a number that is there within bounds is at most the upper one
 at_most : (high : ℕ) (o : Option ℤ) → or_zero (option_and_then (Look.within 0 high) o) ≤ high
 at_most high None = omega arith
@@ -179,7 +175,7 @@ at_most high (Some (negsuc n)) = omega arith
 at_most high (Some (pos n)) = by (nat_le 0 n && nat_le n high) refl
   where
     by : (b : Bool) → (nat_le 0 n && nat_le n high) ≡ b → or_zero (cond b (Some n) None) ≤ high
-    by true e = leb-true n high (second_is (nat_le 0 n) (nat_le n high) e)
+    by true e = leb-true n high (and_parts (nat_le 0 n) (nat_le n high) e).1
     by false e = omega arith
 
 signed_at_most : (most : ℕ) (o : Option ℤ) → nat_abs (unwrap_or (option_and_then (signed_within most) o) (pos 0)) ≤ most

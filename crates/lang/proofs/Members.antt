@@ -1,11 +1,11 @@
 -- An object's members beside the entries of its map.
-use Rattle.std.proofs.Common.{◌≡◌, ℕ, Bool, true, false, List, [], ◌∷◌, ◌&&◌, Some, Ordering, Less, Equal, Greater, string_bytes, refl, sym, ap, ◌∙◌}
+use Rattle.std.proofs.Common.{◌≡◌, ℕ, true, false, List, [], ◌∷◌, ◌&&◌, Some, Ordering, Less, Equal, Greater, string_bytes, refl, sym, ap, ◌∙◌}
 use Rattle.std.specs.Prelude.{codes, is_some}
 use Rattle.std.specs.Ordering.{nat_cmp, match_ordering, is_eq}
 use Rattle.std.specs.Cmp.Lexicographic.{slice_cmp}
 use Rattle.std.specs.List.{list_all}
 use Rattle.std.specs.Map.{keys_of}
-use Rattle.std.proofs.lemmas.Bool.{false≢true}
+use Rattle.std.proofs.lemmas.Bool.{false≢true, and_parts}
 use Rattle.std.proofs.lemmas.Map.Text.{is_eq-slice_cmp}
 use Rattle.std.proofs.lemmas.Slice.Eq.{bytes_eq-Decides}
 use Rattle.serde_json.specs.Data.{Data, Members, no_members, member, null, boolean, number, string, array, object}
@@ -23,17 +23,11 @@ members_among-keys names (e ∷ es) = ap (λ rest. is_among (string_bytes e.0) n
 -- the lemma on sizes under a name that an attribute can cite
 pub ruleset array_sizes = items_len-items_view
 
--- what is true together is true of each
-both : (a b : Bool) → (a && b) ≡ true → (a ≡ true) × (b ≡ true)
-both true true h = (refl, refl)
-both true false h = absurd (false≢true h)
-both false b h = absurd (false≢true h)
-
 -- a name that isn't among those of all members is no member's
 absent_member : (names : List (List ℕ)) (q : List ℕ) (ms : Members) → members_among names ms ≡ true → is_among q names ≡ false → is_some (get_member q ms) ≡ false
 absent_member names q no_members only out = refl
 absent_member names q (member k d ms) only out =
-    let parts : (is_among k names ≡ true) × (members_among names ms ≡ true) = both _ _ only in
+    let parts : (is_among k names ≡ true) × (members_among names ms ≡ true) = and_parts _ _ only in
     by parts.0 (absent_member names q ms parts.1 out) (slice_cmp nat_cmp q k) refl
   where
     by : is_among k names ≡ true → is_some (get_member q ms) ≡ false → (o : Ordering) → slice_cmp nat_cmp q k ≡ o

@@ -3,8 +3,8 @@ ghost use Rattle.std.specs.Prelude.{◌≡◌, codes, None, Some, IfErr, IfOk, O
 ghost use Rattle.serde_json.specs.View.{view};
 ghost use Rattle.lang.specs.Answer.{IsFirst, IsMet};
 ghost use Rattle.lang.specs.Asked.{has_one_test, if_label, if_shape_asked, part, test_asked, tested_word};
-ghost use Rattle.lang.specs.Look.{or_empty, text_member};
-ghost use Rattle.lang.specs.Scope.{numbers_of, with_item};
+ghost use Rattle.lang.specs.Look.{text_member};
+ghost use Rattle.lang.specs.Scope.{numbers_of};
 ghost use Rattle.lang.specs.Spelled.{item_of, test_of};
 
 use crate::counts::Counts;

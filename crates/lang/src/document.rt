@@ -1,9 +1,9 @@
 //! Reads a document.
-ghost use Rattle.std.specs.Prelude.{◌≡◌, ◌≢◌, ◌≤◌, [], map, codes, length, None, Some, Ok, Err, IfErr, IfOk, OnOk};
+ghost use Rattle.std.specs.Prelude.{◌≡◌, ◌≢◌, ◌≤◌, [], map, length, None, Some, Ok, Err, IfErr, IfOk, OnOk};
 ghost use Rattle.serde_json.specs.View.{items_view, view};
 ghost use Rattle.batch.specs.Views.{block_view};
 ghost use Rattle.lang.specs.Answer.{IsFirst, IsMet};
-ghost use Rattle.lang.specs.Asked.{asked, document_shape_asked, names_of, objects_in, setting_in, transactions_in, version_in, version_of};
+ghost use Rattle.lang.specs.Asked.{asked, document_shape_asked, names_of, objects_in, transactions_in, version_in, version_of};
 ghost use Rattle.lang.specs.Demand.{first_fault};
 ghost use Rattle.lang.specs.Faults.{fault_outside, memory_fault, number_of};
 ghost use Rattle.lang.specs.Reading.{document_of, reading, value_of};

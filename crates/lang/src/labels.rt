@@ -1,5 +1,5 @@
 //! Labels, and the demands on them.
-ghost use Rattle.std.specs.Prelude.{◌≡◌, codes, option_map, true, false, IfErr, IfOk, MatchResult, OnOk};
+ghost use Rattle.std.specs.Prelude.{◌≡◌, option_map, true, false, IfErr, IfOk, MatchResult, OnOk};
 ghost use Rattle.serde_json.specs.View.{view};
 ghost use Rattle.lang.specs.Answer.{IsFirst, IsMet};
 ghost use Rattle.lang.specs.Asked.{label_asked, label_in, label_is_text, seen_asked, subject_of};

@@ -1,7 +1,7 @@
 // Looking into the value of a document.
 ghost use Rattle.std.specs.Prelude.{◌≡◌, map, option_map};
 ghost use Rattle.serde_json.specs.View.{view, items_view};
-ghost use Rattle.lang.specs.Look.{count, has, has_only, is_among, list_member, text_item, text_member, whole, whole_item, whole_member};
+ghost use Rattle.lang.specs.Look.{count, has, has_only, is_among, list_member, text_item, text_member, whole_item, whole_member};
 
 use serde_json::Value;
 

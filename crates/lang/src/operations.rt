@@ -1,5 +1,5 @@
 //! Reads an operation.
-ghost use Rattle.std.specs.Prelude.{◌≡◌, codes, is_some, option_map, true, false, None, Some, IfErr, IfOk, MatchResult, OnOk};
+ghost use Rattle.std.specs.Prelude.{◌≡◌, codes, is_some, option_map, None, Some, IfErr, IfOk, OnOk};
 ghost use Rattle.serde_json.specs.View.{view};
 ghost use Rattle.batch.specs.Names.{texts_of};
 ghost use Rattle.batch.specs.Views.{step_view};

@@ -2,7 +2,6 @@
 ghost use Rattle.std.specs.FinMap as finite_map;
 ghost use Rattle.std.specs.FinSet as finite_set;
 ghost use Rattle.std.specs.Prelude.{◌≡◌, ◌≤◌, ◌++◌, ◌∷◌, [], codes, length, Some, IfErr, IfOk, OnOk};
-ghost use Rattle.serde_json.specs.Find.{as_array};
 ghost use Rattle.serde_json.specs.View.{items_view, view};
 ghost use Rattle.batch.specs.Names.{texts_of};
 ghost use Rattle.lang.specs.Answer.{IsFirst, IsMet};

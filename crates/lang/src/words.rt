@@ -1,7 +1,6 @@
 //! Names, and the words of the language.
-ghost use Rattle.std.specs.Prelude.{◌≡◌, option_and_then};
+ghost use Rattle.std.specs.Prelude.{◌≡◌};
 ghost use Rattle.std.specs.List.{list_all};
-ghost use Rattle.meaning.specs.WellFormed.{has_word, has_number, has_item};
 ghost use Rattle.lang.specs.Words.{account_verb, counter_verb, directory_verb, fits_item, fits_number, fits_word, is_name, is_name_byte, kind_of, max_verb, queue_verb, set_verb, verb_of, word_of};
 
 use batch::{Kind, Word};

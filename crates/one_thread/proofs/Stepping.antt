@@ -1,5 +1,5 @@
 -- What the steps of a block show, kind by kind.
-use Rattle.std.proofs.Common.{◌≡◌, ℕ, Bool, true, false, List, [], ◌++◌, get_or, refl, sym, ap, subst, ◌∙◌, Option, Some, Vec, Global}
+use Rattle.std.proofs.Common.{◌≡◌, ℕ, Bool, true, false, List, ◌++◌, get_or, refl, sym, ap, subst, ◌∙◌, Option, Some, Vec, Global}
 use Rattle.std.proofs.lemmas.List.{append-nil}
 use Rattle.objects.specs.declared.call.Call.{Call}
 use Rattle.objects.specs.declared.call.Reply.{Reply}
@@ -8,12 +8,10 @@ use Rattle.meaning.specs.declared.end.End.TheVariants.{Ended, Aborted}
 use Rattle.meaning.specs.declared.held.Held.{Held}
 use Rattle.meaning.specs.declared.held.Held.TheVariants.{Replied, Outcome}
 use Rattle.meaning.specs.declared.test.Test.{Test}
-use Rattle.meaning.specs.Entries.{State, reply_at, after_call}
-use Rattle.meaning.specs.Labels.{holds, holds_of}
-use Rattle.meaning.specs.Trees as meant
-use Rattle.meaning.specs.Records.{Performed, Acted, InParallel, TakenStep}
+use Rattle.meaning.specs.Entries.{reply_at}
+use Rattle.meaning.specs.Labels.{holds_of}
 use Rattle.meaning.specs.Shown.{ShownStep}
-use Rattle.meaning.specs.OneThread.{Run, Ran, label_if, operate, choose, as_branch, act, as_step, one, one_step, one_handler, one_children}
+use Rattle.meaning.specs.OneThread.{Run, label_if, as_branch, one, one_step, one_children}
 use Rattle.batch.specs.Views.{block_view, step_view, subaction_view, children_view}
 use Rattle.batch.specs.Running.{CanStepHere, acted}
 use Rattle.batch.specs.declared.tree.Block.{Block}
@@ -21,29 +19,20 @@ use Rattle.batch.specs.declared.tree.Step.{Step, Op, If, Sub, Abort, Parallel}
 use Rattle.batch.specs.declared.tree.Subaction.{Subaction}
 use Rattle.batch.specs.declared.record.Record.{Record}
 use Rattle.batch.specs.declared.record.Taken as taken
-use Rattle.batch.proofs.ViewLemmas.{step_view-Op, step_view-If, step_view-Sub, step_view-Abort, step_view-Parallel, taken_view-Op, taken_view-If, taken_view-Sub, taken_view-Abort, taken_view-Parallel}
-use Rattle.batch.proofs.CanRun.{if-holds}
+use Rattle.batch.proofs.ViewLemmas.{taken_view-Op, taken_view-If, taken_view-Sub, taken_view-Abort, taken_view-Parallel}
+use Rattle.batch.proofs.Stepping.{op-runs, if-runs, sub-runs, abort-runs, parallel-runs}
 use Rattle.one_thread.specs.Journaled.{Journaled, performed, LeadsBack}
 use Rattle.one_thread.specs.Running.{ShowsRun, ShowsStep, ShowsTried, ShowsChildren}
 use Rattle.one_thread.specs.declared.executor.Tried as executed
 use Rattle.one_thread.proofs.Journals.{leads_back-same, leads_back-performed}
 
--- what a step is, seen as a tree
-shows_as : (step : Step) (tree : meant.Step) (held : List Held) (state : State) (run : Run TakenStep) → step_view step ≡ tree → one_step tree held state ≡ run → run ≡ one_step (step_view step) held state
-shows_as step tree held state run is runs = sym (ap (λ s. one_step s held state) is ∙ runs)
-
 -- ---- operations
-
-operation_runs : (object : ℕ) (call : Call) (labelled : Bool) (held : List Held) (state : State) (reply : Reply) → reply_at state object call ≡ Some reply
-    → one_step (meant.Operation object call labelled) held state ≡ Ran (Performed (record { object = object; call = call; reply = reply })) Ended (label_if labelled (Replied reply)) (after_call state object call)
-unfolding one
-operation_runs object call labelled held state reply is = ap (operate object call labelled state) is
 
 pub op-shows : (step : Step) (object : ℕ) (call : Call) (labelled : Bool) (held seen : List Held) (before now : Journaled) (reply : Reply)
     → step ≡ Op object call labelled → reply_at before.state object call ≡ Some reply → now ≡ performed before object call → seen ≡ held ++ label_if labelled (Replied reply)
     → ShowsStep (one_step (step_view step) held before.state) (taken.Op reply) Ended held seen before now
 op-shows step object call labelled held seen before now reply is replies performs labels =
-    let run = shows_as step (meant.Operation object call labelled) held before.state _ (ap step_view is ∙ step_view-Op object call labelled) (operation_runs object call labelled held before.state reply replies) in
+    let run = op-runs step object call labelled held before.state reply is replies in
     subst (λ r. ShowsStep r (taken.Op reply) Ended held seen before now) run (record {
       tree = taken_view-Op reply;
       end = refl;
@@ -53,11 +42,6 @@ op-shows step object call labelled held seen before now reply is replies perform
     })
 
 -- ---- ifs
-
-if_runs : (label : ℕ) (t : Test) (then otherwise : meant.Block) (held : List Held) (state : State) (chosen : Bool) → holds held label t ≡ chosen
-    → one_step (meant.If label t then otherwise) held state ≡ choose chosen (one then held) (one otherwise held) state
-unfolding one
-if_runs label t then otherwise held state chosen is = ap (λ b. choose b (one then held) (one otherwise held) state) is
 
 branch_shows : (chosen : Bool) (run : Run _) (held seen : List Held) (before now : Journaled) (done : Record) → ShowsRun run done before now → seen ≡ held → ShowsStep (as_branch chosen run) (taken.If chosen done) done.outcome held seen before now
 branch_shows chosen run held seen before now done shows labels =
@@ -69,8 +53,7 @@ pub if-shows_then : (step : Step) (label : ℕ) (t : Test) (then otherwise : Blo
     → ShowsStep (one_step (step_view step) held before.state) (taken.If chosen done) done.outcome held seen before now
 if-shows_then step label t then otherwise held seen before now read chosen done is h reads tests yes_it_is shows labels =
     let state = before.state in
-    let run = shows_as step (meant.If label t (block_view then) (block_view otherwise)) held state _ (ap step_view is ∙ step_view-If label t then otherwise)
-    (if_runs label t (block_view then) (block_view otherwise) held state true (if-holds step label t then otherwise held state read is h reads ∙ sym tests ∙ yes_it_is)) in
+    let run = if-runs step label t then otherwise held state read true is h reads (sym tests ∙ yes_it_is) in
     subst (λ r. ShowsStep r (taken.If chosen done) done.outcome held seen before now) run
     (subst (λ b. ShowsStep (as_branch true (one (block_view then) held state)) (taken.If b done) done.outcome held seen before now) (sym yes_it_is) (branch_shows true _ held seen before now done shows labels))
 
@@ -80,25 +63,18 @@ pub if-shows_else : (step : Step) (label : ℕ) (t : Test) (then otherwise : Blo
     → ShowsStep (one_step (step_view step) held before.state) (taken.If chosen done) done.outcome held seen before now
 if-shows_else step label t then otherwise held seen before now read chosen done is h reads tests no_it_is shows labels =
     let state = before.state in
-    let run = shows_as step (meant.If label t (block_view then) (block_view otherwise)) held state _ (ap step_view is ∙ step_view-If label t then otherwise)
-    (if_runs label t (block_view then) (block_view otherwise) held state false (if-holds step label t then otherwise held state read is h reads ∙ sym tests ∙ no_it_is)) in
+    let run = if-runs step label t then otherwise held state read false is h reads (sym tests ∙ no_it_is) in
     subst (λ r. ShowsStep r (taken.If chosen done) done.outcome held seen before now) run
     (subst (λ b. ShowsStep (as_branch false (one (block_view otherwise) held state)) (taken.If b done) done.outcome held seen before now) (sym no_it_is) (branch_shows false _ held seen before now done shows labels))
 
 -- ---- subactions
-
-sub_runs : (body : meant.Block) (handlers : meant.Handlers) (labelled : Bool) (held : List Held) (state : State)
-    → one_step (meant.Subaction body handlers labelled) held state ≡ as_step Acted (act labelled (one body held state) (one_handler handlers held) state)
-unfolding one
-sub_runs body handlers labelled held state = refl
 
 pub sub-shows : (step : Step) (child : Subaction) (held seen : List Held) (before now : Journaled) (done : executed.Tried)
     → step ≡ Sub child → ShowsTried (subaction_view child) (acted (subaction_view child) held before.state) done before now
     → seen ≡ held ++ label_if (subaction_view child).labelled (Outcome done.body.outcome)
     → ShowsStep (one_step (step_view step) held before.state) (taken.Sub done.body done.handler) done.end held seen before now
 sub-shows step child held seen before now done is shows labels =
-    let tried = subaction_view child in
-    let run = shows_as step (meant.Subaction tried.body tried.handlers tried.labelled) held before.state _ (ap step_view is ∙ step_view-Sub child) (sub_runs tried.body tried.handlers tried.labelled held before.state) in
+    let run = sub-runs step child held before.state is in
     subst (λ r. ShowsStep r (taken.Sub done.body done.handler) done.end held seen before now) run (record {
       tree = taken_view-Sub done.body done.handler ∙ ap ShownStep.Acted shows.tree;
       end = shows.end;
@@ -109,26 +85,18 @@ sub-shows step child held seen before now done is shows labels =
 
 -- ---- aborts
 
-abort_runs : (reason : Option ℕ) (held : List Held) (state : State) → one_step (meant.Abort reason) held state ≡ Ran TakenStep.Abort (Aborted reason) [] state
-unfolding one
-abort_runs reason held state = refl
-
 pub abort-shows : (step : Step) (reason : Option ℕ) (held : List Held) (before : Journaled) → step ≡ Abort reason → ShowsStep (one_step (step_view step) held before.state) taken.Abort (Aborted reason) held held before before
 abort-shows step reason held before is =
-    let run = shows_as step (meant.Abort reason) held before.state _ (ap step_view is ∙ step_view-Abort reason) (abort_runs reason held before.state) in
+    let run = abort-runs step reason held before.state is in
     subst (λ r. ShowsStep r taken.Abort (Aborted reason) held held before before) run (record { tree = taken_view-Abort; end = refl; labels = λ _. sym (append-nil held); state = refl; back = leads_back-same before })
 
 -- ---- parallel steps
-
-parallel_runs : (children : meant.Children) (held : List Held) (state : State) → one_step (meant.Parallel children) held state ≡ as_step InParallel (one_children children held state)
-unfolding one
-parallel_runs children held state = refl
 
 pub parallel-shows : (step : Step) (children : Vec Subaction Global) (held seen outcomes : List Held) (before now : Journaled) (done : Vec (Record × Option Record) Global) (how : End)
     → step ≡ Parallel children → ShowsChildren (one_children (children_view children.items) held before.state) done.items how outcomes before now → seen ≡ held ++ outcomes
     → ShowsStep (one_step (step_view step) held before.state) (taken.Parallel done) how held seen before now
 parallel-shows step children held seen outcomes before now done how is shows labels =
-    let run = shows_as step (meant.Parallel (children_view children.items)) held before.state _ (ap step_view is ∙ step_view-Parallel children) (parallel_runs (children_view children.items) held before.state) in
+    let run = parallel-runs step children held before.state is in
     subst (λ r. ShowsStep r (taken.Parallel done) how held seen before now) run (record {
       tree = taken_view-Parallel done ∙ ap ShownStep.InParallel shows.tree;
       end = shows.end;

@@ -1,8 +1,8 @@
 //! The command line.
 ghost use Rattle.std.specs.Prelude.{◌≡◌, ◌↔◌, Some, None, codes, map, option_map, IfOk, IfSome, IsErr, IsTrue, false, string_bytes};
-ghost use Rattle.clap.specs.Words.{app_of, first_of, found_of, new_app, one_of, rows_of, rule_of};
+ghost use Rattle.clap.specs.Words.{app_of, first_of, found_of, one_of, rows_of, rule_of};
 ghost use Rattle.clap.specs.declared.builder.command.Command.TheViews.{out-Command};
-ghost use Rattle.ordtx.specs.CommandLine.{HoldsLine, HoldsNumber, IsLineOf, audit_rule, command_name, file_app, file_rule, number_rule, ordtx_app, run_app};
+ghost use Rattle.ordtx.specs.CommandLine.{HoldsLine, HoldsNumber, IsLineOf, command_name, file_app, number_rule, ordtx_app, run_app};
 
 use crate::asked::{Command, Line, Refused};
 use clap::error::ErrorKind;

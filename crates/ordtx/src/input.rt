@@ -1,6 +1,6 @@
 //! The bytes of a source.
-ghost use Rattle.std.specs.Prelude.{◌≡◌, ◌+◌, ◌<◌, ◌≤◌, ◌⊎◌, ◌↔◌, ◌||◌, true, false, Err, IfOk, OnOk, IfErr, MatchResult, is_err, length, take, drop, vec_len};
-ghost use Rattle.std.specs.Io.KnownBytes.{Consumes, IsAtEnd, Keeps};
+ghost use Rattle.std.specs.Prelude.{◌≡◌, ◌+◌, ◌<◌, ◌≤◌, ◌⊎◌, ◌↔◌, ◌||◌, true, false, Err, IfOk, OnOk, IfErr, is_err, take, drop, vec_len};
+ghost use Rattle.std.specs.Io.KnownBytes.{Consumes, IsAtEnd};
 ghost use Rattle.lang.specs.Faults.{input_fault, memory_fault};
 ghost use Rattle.ordtx.specs.Streams.{ReadsInput};
 

@@ -1,5 +1,5 @@
 //! Sources and sinks over memory, which give and take a few bytes a call, and fail after some.
-ghost use Rattle.std.specs.Prelude.{◌≡◌, ◌<◌, false, Some, length};
+ghost use Rattle.std.specs.Prelude.{◌≡◌, ◌<◌, false, Some};
 
 use crate::sink::Sink;
 use crate::source::{Failed, Source};

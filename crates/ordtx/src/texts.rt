@@ -1,5 +1,5 @@
 //! The texts that answer a document.
-ghost use Rattle.std.specs.Prelude.{◌≡◌, ◌≢◌, ◌≤◌, IfErr, IfOk, string_bytes};
+ghost use Rattle.std.specs.Prelude.{◌≢◌, ◌≤◌, IfErr, IfOk, string_bytes};
 ghost use Rattle.lang.specs.Faults.{memory_fault, number_of};
 ghost use Rattle.ordtx.specs.Answers.{IsAuditOf, IsCheckOf, IsFaultOf, IsPlainReportOf, IsReportOf};
 

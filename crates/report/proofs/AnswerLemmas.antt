@@ -9,7 +9,7 @@ use Rattle.objects.specs.declared.value.Value.{Value}
 use Rattle.meaning.specs.Trees as meant
 use Rattle.meaning.specs.Shown.{Shown}
 use Rattle.meaning.specs.Words.{Names, kind_text, value_text}
-use Rattle.meaning.specs.Texts.{line, outcome_text, steps_text, transactions_text, objects_text, counts_text, check_text}
+use Rattle.meaning.specs.Texts.{line, outcome_text, steps_text, transactions_text, objects_text, check_text}
 use Rattle.batch.specs.Views.{block_view, record_view}
 use Rattle.batch.specs.declared.tree.Block.{Block}
 use Rattle.batch.specs.declared.record.Record.{Record}
@@ -60,13 +60,6 @@ module _ (names : Names) where
 
   pub objects_text-end : (i : ℕ) (values : List Value) → length values ≤ i → objects_text names i (drop i values) ≡ []
   objects_text-end i values le = ap (objects_text names i) (drop_of_length-le values le)
-
-pub counts_text-more : (i : ℕ) (counts : List ℕ) (count : ℕ) → i < length counts → count ≡ get_or counts i count
-    → counts_text (i + 1) (drop i counts) ≡ line (codes "runs " ++ decimal (i + 1) ++ codes " " ++ decimal count) ++ counts_text (i + 1 + 1) (drop (i + 1) counts)
-counts_text-more i counts count lt is = ap (counts_text (i + 1)) (left counts i count lt is)
-
-pub counts_text-end : (i : ℕ) (counts : List ℕ) → length counts ≤ i → counts_text (i + 1) (drop i counts) ≡ []
-counts_text-end i counts le = ap (counts_text (i + 1)) (drop_of_length-le counts le)
 
 -- the line of what a document holds
 counted_line : (objects transactions operations : ℕ) → check_text objects transactions operations

@@ -24,6 +24,11 @@ moved r s made is taken outcome = record {
   net = is.net ∙ (ap (λ t. net t (outcome_of r)) (sym taken) ∙ ap (λ o. net (record_of s) o) (sym outcome));
 }
 
+-- where a run stands there is one
+pub some_run : (P : Type 0) (runs : List Run) (i : ℕ) → i < length runs → (Run → P) → P
+some_run P [] i lt use_run = absurd (omega arith)
+some_run P (run ∷ runs) i lt use_run = use_run run
+
 module _ (start : State) (blocks : List Block) where
   pub stands_past : (i b : ℕ) (since : List Entry) (run : Run) → IsRunOf (alone start blocks i b) run → StandsPast since run → AllCommute (entries (record_of (alone start blocks i b))) since
   stands_past i b since run is stands = subst (λ es. AllCommute es since) is.entries stands
@@ -84,14 +89,10 @@ module _ (start : State) (blocks : List Block) where
   pub left : (b : ℕ) (runs : List Run) (first : ℕ) → AreAlone b runs → IsFirstConflict runs first → nets_of (take first runs) ≡ nets start blocks b first
   left b runs first are conflict = agree b first runs conflict.within (λ k d lt. (clear b first runs are conflict.within conflict.clear k d lt).1)
 
-  some_run : (P : Type 0) (runs : List Run) → 0 < length runs → (Run → P) → P
-  some_run P [] lt use_run = absurd (omega arith)
-  some_run P (run ∷ runs) lt use_run = use_run run
-
   no_later : (b : ℕ) (runs : List Run) (first m : ℕ) → AreAlone b runs → IsFirstConflict runs first → m ≤ b + length runs → AllKeep start blocks b m → ¬ (b + first < m)
   no_later b runs first m are conflict within keep later =
       let more : first < length runs = omega arith in
-      some_run ⊥ runs (omega arith) (λ d. conflict.conflict d more (keeps_here b first runs d are more (left b runs first are conflict) (keep (b + first) (omega arith) later)))
+      some_run ⊥ runs first more (λ d. conflict.conflict d more (keeps_here b first runs d are more (left b runs first are conflict) (keep (b + first) (omega arith) later)))
 
   pub next_opening : (b : ℕ) (runs : List Run) (first : ℕ) → b + length runs ≡ length blocks → AreAlone b runs → IsFirstConflict runs first → IsNextOpening start blocks b (b + first)
   next_opening b runs first all are conflict = record {
@@ -99,7 +100,7 @@ module _ (start : State) (blocks : List Block) where
     all_keep = λ i low high. let same : b + (i - b) ≡ i = omega arith in
         let lt : i - b < first = omega arith in
         let more : i - b < length runs = let le = conflict.within in omega arith in
-        some_run (Keeps start blocks i b) runs (omega arith) (λ d. subst (λ k. Keeps start blocks k b) same (clear b first runs are conflict.within conflict.clear (i - b) d lt).0);
+        some_run (Keeps start blocks i b) runs (i - b) more (λ d. subst (λ k. Keeps start blocks k b) same (clear b first runs are conflict.within conflict.clear (i - b) d lt).0);
     largest = λ m within keep. elim (dec_le m (b + first)) [
       | yes le ↦ le
       | no over ↦ absurd (no_later b runs first m are conflict (omega arith) keep (omega arith))

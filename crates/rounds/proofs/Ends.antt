@@ -13,11 +13,8 @@ use Rattle.speculate.specs.declared.speculated.Run.{Run}
 use Rattle.batch.specs.declared.record.Record.{Record}
 use Rattle.batch.specs.declared.batch.Batch.{Batch}
 use Rattle.rounds.specs.Openings.{AreCounts}
+use Rattle.rounds.proofs.Conflicts.{some_run}
 use Rattle.rounds.proofs.Reached.{AtOpening, IsRecordOf, AreAnswers}
-
-a_run : (P : Type 0) (runs : List Run) (i : ℕ) → i < length runs → (Run → P) → P
-a_run P [] i lt use_run = absurd (omega arith)
-a_run P (run ∷ runs) i lt use_run = use_run run
 
 module _ (batch : Batch) (b rounds : ℕ) (state : State) (runs : List Run) (counts stale : List ℕ) where
   abbrev pub AtTheEnd : Type 0
@@ -31,7 +28,7 @@ module _ (batch : Batch) (b rounds : ℕ) (state : State) (runs : List Run) (cou
     all = ap length are ∙ (length-map runs (λ r. r.tree) ∙ done.0.all);
     each = λ i d lt.
         let over = done.1 in let all = done.0.all in
-        a_run (IsRecordOf (answer (start_of batch) (blocks_of batch) i) (get_or records i d)) runs i (omega arith) (λ run.
+        some_run (IsRecordOf (answer (start_of batch) (blocks_of batch) i) (get_or records i d)) runs i (omega arith) (λ run.
         let place : i < length runs = omega arith in
         let read : get_or records i d ≡ (get_or runs i run).tree = ap (λ rs. get_or rs i d) are ∙ get_or-map (λ r. r.tree) runs i run d place in
         subst (IsRecordOf (answer (start_of batch) (blocks_of batch) i)) (sym read) (done.0.committed i run (omega arith)).tree);

@@ -10,7 +10,7 @@ use Rattle.speculate.specs.Runs.{IsRunOf}
 use Rattle.speculate.specs.declared.speculated.Run.{Run}
 use Rattle.batch.specs.declared.batch.Batch.{Batch}
 use Rattle.rounds.specs.declared.make.Made.{Made}
-use Rattle.rounds.specs.Passes.{bit, times, numbers_of, AreMade, AreRenewed}
+use Rattle.rounds.specs.Passes.{bit, times, numbers_of, AreMade}
 use Rattle.rounds.proofs.Times.{times_append, times_one, times_none, times_sum}
 use Rattle.std.specs.Fork.{slice_chunk}
 use Rattle.std.specs.Int.{div_ceil}
@@ -63,26 +63,6 @@ pub record ArePut (batch : Batch) (state : State) (numbers : List ℕ) (old runs
   pub same : (i : ℕ) (d : Run) → times i (numbers_of left) ≡ times i numbers → get_or runs i d ≡ get_or old i d
   pub made : (i : ℕ) (d : Run) → times i (numbers_of left) < times i numbers → IsRunOf (meaning batch i state) (get_or runs i d)
   pub told : (i : ℕ) → i < length was → get_or counts i 0 + times i (numbers_of left) ≡ get_or was i 0 + times i numbers
-
-pub none_put : (batch : Batch) (state : State) (numbers : List ℕ) (runs : List Run) (counts : List ℕ) (made : List Made) → AreMade batch state numbers made → ArePut batch state numbers runs runs counts counts made
-none_put batch state numbers runs counts made are = record {
-  each = are.each;
-  runs_all = refl;
-  counts_all = refl;
-  few = λ i. let e = are.dealt i in omega arith;
-  same = λ i d e. refl;
-  made = λ i d lt. let e = are.dealt i in absurd (omega arith);
-  told = λ i lt. ap (λ n. get_or counts i 0 + n) (are.dealt i);
-}
-
-pub all_put : (batch : Batch) (state : State) (numbers : List ℕ) (old runs : List Run) (was counts : List ℕ) (left : List Made) → left ≡ [] → ArePut batch state numbers old runs was counts left → AreRenewed batch state numbers old runs was counts
-all_put batch state numbers old runs was counts left none put = record {
-  runs = put.runs_all;
-  counted = put.counts_all;
-  same = λ i d e. put.same i d (ap (λ ms. times i (numbers_of ms)) none ∙ sym e);
-  made = λ i d lt. let empty : times i (numbers_of left) ≡ 0 = ap (λ ms. times i (numbers_of ms)) none in put.made i d (omega arith);
-  told = λ i lt. let empty : times i (numbers_of left) ≡ 0 = ap (λ ms. times i (numbers_of ms)) none in let told = put.told i lt in omega arith;
-}
 
 pub put_inside : (batch : Batch) (state : State) (numbers : List ℕ) (old runs : List Run) (was counts : List ℕ) (left rest : List Made) (m : Made) → left ≡ rest ++ m ∷ [] → ArePut batch state numbers old runs was counts left → 0 < times m.number numbers
 put_inside batch state numbers old runs was counts left rest m popped put =

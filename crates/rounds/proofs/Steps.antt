@@ -1,5 +1,5 @@
 -- The loop of openings from one opening to the next.
-use Rattle.std.proofs.Common.{◌≡◌, ℕ, zero, suc, ◌+◌, ◌-◌, ◌<◌, ◌≤◌, ◌⊎◌, inl, inr, ⊎_elim, List, [], ◌∷◌, ◌++◌, length, get_or, take, drop, refl, sym, ap, ◌∙◌, subst, arith}
+use Rattle.std.proofs.Common.{◌≡◌, ℕ, zero, suc, ◌+◌, ◌-◌, ◌<◌, ◌≤◌, ◌⊎◌, inl, inr, ⊎_elim, List, [], ◌++◌, length, get_or, take, drop, refl, sym, ap, ◌∙◌, subst, arith}
 use Rattle.std.proofs.lemmas.List.{get_or_past, get_or-drop, take_all, drop_at}
 use Rattle.std.proofs.Math.ListN.{length-drop}
 use native.Mathlib.Decide.{dec_le}
@@ -22,7 +22,7 @@ use Rattle.rounds.proofs.Room.{kinds_at, made_at, nets_have_room}
 use Rattle.rounds.proofs.Times.{times_read}
 use Rattle.rounds.specs.Passes.{CanBeMade, nets_of, times, Kept, StandsPast, AreRefuted, AreRenewed, IsFirstConflict}
 use Rattle.rounds.proofs.Reached.{AtOpening}
-use Rattle.rounds.proofs.Conflicts.{AreAlone, left, stands_past, still_stands, keeps_answers, next_opening}
+use Rattle.rounds.proofs.Conflicts.{some_run, AreAlone, left, stands_past, still_stands, keeps_answers, next_opening}
 
 none_or_some : (n : ℕ) → (n ≡ 0) ⊎ (0 < n)
 none_or_some zero = inl refl
@@ -92,10 +92,6 @@ opens batch b rounds first state runs counts at conflict =
 
 kept_once : (since : List Entry) (told : ℕ) (run : Run) → Kept since told run → told ≤ 1
 kept_once since told run kept = ⊎_elim (λ (stands : StandsPast since run × (told ≡ 0)). omega arith) (λ (fails : (¬ StandsPast since run) × (told ≡ 1)). omega arith) kept
-
-some_run : (P : Type 0) (runs : List Run) (i : ℕ) → i < length runs → (Run → P) → P
-some_run P [] i lt use_run = absurd (omega arith)
-some_run P (run ∷ runs) i lt use_run = use_run run
 
 module _ (batch : Batch) (b m : ℕ) (rounds : ℕ) (state next : State) (runs : List Run) (counts stale : List ℕ) (since : List Entry) where
   few_stale : AreRefuted runs since m (length runs) stale → (i : ℕ) → times i stale ≤ 1

@@ -1,5 +1,5 @@
 //! The runs that no longer stand after a commit.
-ghost use Rattle.std.specs.Prelude.{ℕ, ◌+◌, ◌<◌, ◌≤◌, IfOk, length, drop};
+ghost use Rattle.std.specs.Prelude.{◌+◌, ◌<◌, ◌≤◌, IfOk, length, drop};
 ghost use Rattle.rounds.specs.Passes.{AreRefuted, IsDecided};
 
 use crate::crew::{Crew, checkers};

@@ -15,8 +15,8 @@ use Rattle.meaning.specs.OneThread.{Run, Ran, record_of, outcome_of, labels_of, 
 use Rattle.meaning.proofs.Nets.{block_leads, handlers_lead, act_leads}
 use Rattle.meaning.proofs.Parts.{act-ended, act-aborted, one_children-NoChild, one_children-Child, GoesOn, go_on_children-ended, go_on_children-aborted}
 use Rattle.batch.specs.Views as views
-use Rattle.batch.specs.Views.{Tried, subaction_view, children_view, record_view, tried_view, all_tried_view, before_younger}
-use Rattle.batch.specs.Running.{CanRunHere, CanHandleHere, CanTryHere, CanRunAllHere, acted}
+use Rattle.batch.specs.Views.{Tried, subaction_view, children_view, record_view, tried_view, before_younger}
+use Rattle.batch.specs.Running.{CanHandleHere, CanTryHere, CanRunAllHere, acted}
 use Rattle.batch.specs.declared.tree.Subaction.{Subaction}
 use Rattle.batch.specs.declared.record.Record.{Record}
 use Rattle.batch.proofs.CanRun.{can_try, can_run_younger}
@@ -28,10 +28,6 @@ use Rattle.speculate.specs.declared.executor.Tried as executed
 use Rattle.speculate.proofs.Absorbed.{absorbed-none, absorbed-then, shown-absorbed, shown-begun, committed-begun, aborted-begun, shown-aborted}
 
 -- ---- one subaction
-
--- a subaction's body, run in a level of its own
-pub body_can_run : (child : Tried) (held : List Held) (before : View) → CanTryHere child held (state_of_view before) → CanRunHere child.body held (state_of_view (begun before))
-body_can_run child held before h = subst (CanRunHere child.body held) (sym (shown-begun before)) h.body
 
 -- the run of a body in a level of its own is that on what the parent shows
 in_level : (child : Tried) (held : List Held) (before mid : View) (body : Record) → ShowsRun (one child.body held (state_of_view (begun before))) body (begun before) mid → ShowsRun (one child.body held (state_of_view before)) body (begun before) mid

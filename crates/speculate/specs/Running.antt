@@ -6,7 +6,7 @@ use Rattle.meaning.specs.declared.held.Held.{Held}
 use Rattle.meaning.specs.declared.held.Held.TheVariants.{Outcome}
 use Rattle.meaning.specs.Records.{Taken, TakenStep, TakenChild, TakenHandler, TakenChildren, entries, entries_of_step, entries_of_child, entries_of_handler, entries_of_children, kept, kept_of_step, kept_of_child, kept_of_handler, kept_of_children}
 use Rattle.meaning.specs.Shown as shown
-use Rattle.meaning.specs.Shown.{Shown, shown_step, shown_child, shown_children}
+use Rattle.meaning.specs.Shown.{shown_step, shown_child, shown_children}
 use Rattle.meaning.specs.OneThread.{Run, record_of, outcome_of, labels_of, label_if}
 use Rattle.batch.specs.Views.{Tried, record_view, taken_view, tried_view, all_tried_view}
 use Rattle.batch.specs.Running.{shown_handler}

@@ -1,5 +1,6 @@
 -- What is known of the seats of a board once all are back.
 use Rattle.std.proofs.Common.{◌≡◌, ◌⊎◌, ℕ, zero, suc, ◌+◌, ◌<◌, ◌≤◌, Bool, true, false, true≢false, ◌||◌, ltb, eqb, ne_eqb, List, [], ◌∷◌, length, replicate, sym, refl, ap, ◌∙◌, subst, inl, inr, ⊎_elim, arith}
+use Rattle.std.proofs.lemmas.List.Elements.{All-tail}
 use native.Mathlib.Decide.{ℕ_discrete}
 use Rattle.std.proofs.lemmas.Bool.Decides.{nat_tests}
 use Rattle.std.proofs.lemmas.List.{length-replicate}
@@ -8,14 +9,10 @@ use Rattle.claims.specs.Views.{is_over, bit, times, once_below, all_drawn}
 use Rattle.claims.specs.Seated.{Seated, views_of}
 use Rattle.claims.proofs.Lists.{times-append}
 
--- a fact of each element is one of each but the first
-pub all_rest : {A : Type 0} (P : A → Type 0) (x : A) (xs : List A) → All P (x ∷ xs) → All P xs
-all_rest P x xs h k d lt = h (suc k) d (omega arith)
-
 -- nobody raised
 pub none_raised : (seats : List Seated) → All (λ s. s.view.raised ≡ false) seats → list_any (λ v. v.raised) (views_of seats) ≡ false
 none_raised [] each = refl
-none_raised (s ∷ seats) each = ap (λ b. b || list_any (λ v. v.raised) (views_of seats)) (each 0 s (omega arith)) ∙ none_raised seats (all_rest (λ u. u.view.raised ≡ false) s seats each)
+none_raised (s ∷ seats) each = ap (λ b. b || list_any (λ v. v.raised) (views_of seats)) (each 0 s (omega arith)) ∙ none_raised seats (All-tail (λ u. u.view.raised ≡ false) s seats each)
 
 -- a seat that is over and was not told Stopped was told Done
 done_of_over : (n : ℕ) (b : Bool) → (ltb 0 n || b) ≡ true → ¬ (b ≡ true) → 0 < n
@@ -34,7 +31,7 @@ pub in_list : (Q : ℕ → Type 0) (xs : List ℕ) (k : ℕ) → All Q xs → 0 
 in_list Q [] k each some = absurd (omega arith)
 in_list Q (x ∷ xs) k each some = elim (ℕ_discrete x k) [
   | yes same ↦ subst Q same (each 0 x (omega arith))
-  | no other ↦ in_list Q xs k (all_rest Q x xs each) (let none : bit (eqb x k) ≡ 0 = ap bit (ne_eqb x k other) in omega arith)
+  | no other ↦ in_list Q xs k (All-tail Q x xs each) (let none : bit (eqb x k) ≡ 0 = ap bit (ne_eqb x k other) in omega arith)
 ]
 
 -- a sum that is not 0 has a part that isn't
@@ -47,7 +44,7 @@ pub in_some : (Q : Type 0) (seats : List Seated) (k : ℕ) → All (λ s. 0 < ti
 in_some Q [] k each some = absurd (omega arith)
 in_some Q (s ∷ seats) k each some =
     ⊎_elim (λ (here : 0 < times k s.view.drawn). each 0 s (omega arith) here)
-    (λ (there : 0 < times k (all_drawn (views_of seats))). in_some Q seats k (all_rest (λ u. 0 < times k u.view.drawn → Q) s seats each) there)
+    (λ (there : 0 < times k (all_drawn (views_of seats))). in_some Q seats k (All-tail (λ u. 0 < times k u.view.drawn → Q) s seats each) there)
     (either_some (times k s.view.drawn) (times k (all_drawn (views_of seats))) (omega (arith, times-append k s.view.drawn (all_drawn (views_of seats)))))
 
 -- a piece below the number of pieces is there once

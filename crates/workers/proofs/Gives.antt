@@ -1,5 +1,7 @@
 -- What the items of some pieces are, and what workers have given once they are back.
-use Rattle.std.proofs.Common.{◌≡◌, ℕ, zero, suc, ◌<◌, ◌||◌, Bool, true, false, true≢false, List, [], ◌∷◌, ◌++◌, length, map, sym, refl, ap, ◌∙◌, subst, append_assoc, append-nil, arith}
+use Rattle.std.proofs.Common.{◌≡◌, ℕ, zero, suc, ◌<◌, Bool, true, false, true≢false, List, [], ◌∷◌, ◌++◌, length, map, sym, refl, ap, ◌∙◌, subst, append_assoc, append-nil, arith}
+use Rattle.std.proofs.lemmas.Bool.{or_parts}
+use Rattle.std.proofs.lemmas.List.Elements.{All-tail}
 use Rattle.std.proofs.lemmas.List.{length-map}
 use Rattle.std.specs.List.{All, list_any, flat_map}
 use Rattle.std.specs.declared.vec.Vec.{Vec}
@@ -13,16 +15,7 @@ use Rattle.claims.specs.Steps.{with_piece}
 use Rattle.claims.specs.Seated.{Seated, Opened, IsSeatOf, views_of}
 use Rattle.workers.specs.declared.work.Worked.{Worked}
 use Rattle.workers.specs.Working.{Gives, AreGiven, AreGivenOnce, HasWorked}
-use Rattle.workers.proofs.Boards.{all_rest, all_pieces}
-
--- either part of a disjunction that is false is false
-or_none : (a b : Bool) → (a || b) ≡ false → a ≡ false
-or_none true b h = h
-or_none false b h = refl
-
-or_rest : (a b : Bool) → (a || b) ≡ false → b ≡ false
-or_rest true b h = absurd (true≢false h)
-or_rest false b h = h
+use Rattle.workers.proofs.Boards.{all_pieces}
 
 module _ {X : Type 0} (giving : ℕ → List X → Type 0) where
   -- the items of some pieces, and then of others
@@ -42,14 +35,14 @@ module _ {X : Type 0} (giving : ℕ → List X → Type 0) where
   -- where the seats together did not raise, none did
   none_raised : (all : List (Worked X)) → list_any (λ v. v.raised) (views_of (seats_of all)) ≡ false → All (λ w. w.seat.view.raised ≡ false) all
   none_raised [] none k d lt = absurd (omega arith)
-  none_raised (w ∷ all) none zero d lt = or_none w.seat.view.raised (list_any (λ v. v.raised) (views_of (seats_of all))) none
-  none_raised (w ∷ all) none (suc k) d lt = none_raised all (or_rest w.seat.view.raised (list_any (λ v. v.raised) (views_of (seats_of all))) none) k d (omega arith)
+  none_raised (w ∷ all) none zero d lt = (or_parts w.seat.view.raised (list_any (λ v. v.raised) (views_of (seats_of all))) none).0
+  none_raised (w ∷ all) none (suc k) d lt = none_raised all (or_parts w.seat.view.raised (list_any (λ v. v.raised) (views_of (seats_of all))) none).1 k d (omega arith)
 
   -- a fact of each worker is one of each seat
   each_seat : (P : Seated → Type 0) (all : List (Worked X)) → All (λ w. P w.seat) all → All P (seats_of all)
   each_seat P [] each k d lt = absurd (omega arith)
   each_seat P (w ∷ all) each zero d lt = each 0 w (omega arith)
-  each_seat P (w ∷ all) each (suc k) d lt = each_seat P all (all_rest (λ u. P u.seat) w all each) k d (omega arith)
+  each_seat P (w ∷ all) each (suc k) d lt = each_seat P all (All-tail (λ u. P u.seat) w all each) k d (omega arith)
 
   -- each seat is the board's
   pub all_own : (board : Opened) (all : List (Worked X)) → All (HasWorked giving board) all → All (IsSeatOf board) (seats_of all)
@@ -60,7 +53,7 @@ module _ {X : Type 0} (giving : ℕ → List X → Type 0) where
   all_given [] each = refl
   all_given (w ∷ all) each =
       given_append w.seat.view.drawn (all_drawn (views_of (seats_of all))) w.items.items (flat_map (λ u. u.items.items) all) (each 0 w (omega arith))
-      (all_given all (all_rest (λ u. AreGiven giving u.seat.view.drawn u.items.items) w all each))
+      (all_given all (All-tail (λ u. AreGiven giving u.seat.view.drawn u.items.items) w all each))
 
   -- where no worker raised, all pieces were given once
   pub given_once : (board : Opened) (all : List (Worked X)) (seats : List Seated) (items : List X) (drawn : ℕ) (stopped : Bool) → seats ≡ seats_of all → items ≡ flat_map (λ w. w.items.items) all → All (HasWorked giving board) all

@@ -10,13 +10,9 @@ use Rattle.std.proofs.lemmas.List.Sorted.{IsPermutation-refl, IsPermutation-sym,
 use Rattle.std.specs.List.{All, range_with_len, sum_by}
 use Rattle.std.specs.List.Sorted.{IsPermutation}
 use Rattle.claims.specs.Views.{bit, times, once_below, HoldsEachBelow}
-use Rattle.claims.proofs.Lists.{below_of_once, times-append, once_below_next}
+use Rattle.claims.proofs.Lists.{same_once, below_of_once, times-append, once_below_next}
 use Rattle.workers.specs.Working.{AreGiven, AreGivenOnce}
 use Rattle.workers.proofs.Boards.{once_some, once_here}
-
--- a number that stands at the head counts, and no other does
-same_once : (x : ℕ) → bit (eqb x x) ≡ 1
-same_once x = grind (arith, nat_tests)
 
 bit_other : (x y : ℕ) → y ≢ x → bit (eqb y x) ≡ 0
 bit_other x y other = grind (arith, nat_tests)

@@ -1,5 +1,6 @@
 -- What seats that seek the least failing piece know once they are back.
 use Rattle.std.proofs.Common.{◌≡◌, ◌⊎◌, ℕ, zero, suc, ◌<◌, ◌≤◌, min, Bool, true, List, [], ◌∷◌, ◌++◌, length, get_or, sym, refl, ap, ◌∙◌, subst, inl, ⊎_elim, arith}
+use Rattle.std.proofs.lemmas.List.Elements.{All-tail}
 use native.Mathlib.Decide.{dec_le}
 use Rattle.std.specs.List.{All, list_any}
 use Rattle.claims.specs.declared.view.View.{View}
@@ -7,7 +8,7 @@ use Rattle.claims.specs.Views.{is_over, claims_left, HoldsEachBelow, all_drawn, 
 use Rattle.claims.specs.Seated.{Seated, Opened, IsSeatOf, views_of}
 use Rattle.claims.specs.Steps.{with_piece}
 use Rattle.workers.specs.Testing.{Judged, LowFails, Sought, LowAndTold}
-use Rattle.workers.proofs.Boards.{all_rest, none_raised, all_pieces, in_list, in_some, once_some}
+use Rattle.workers.proofs.Boards.{none_raised, all_pieces, in_list, in_some, once_some}
 
 -- seats that have sought and are over
 abbrev pub Back : (ℕ → Type 0) → (ℕ → Type 0) → Opened → List Seated → Type 0
@@ -24,7 +25,7 @@ min_either Q m n left right = elim (dec_le m n) [
 attained : (Q : ℕ → Type 0) (pieces : ℕ) (seats : List Seated) → Q pieces → All (λ s. Q s.view.low) seats → Q (least (λ v. v.low) pieces (views_of seats))
 attained Q pieces [] start each = start
 attained Q pieces (s ∷ seats) start each =
-    min_either Q s.view.low (least (λ v. v.low) pieces (views_of seats)) (each 0 s (omega arith)) (attained Q pieces seats start (all_rest (λ u. Q u.view.low) s seats each))
+    min_either Q s.view.low (least (λ v. v.low) pieces (views_of seats)) (each 0 s (omega arith)) (attained Q pieces seats start (All-tail (λ u. Q u.view.low) s seats each))
 
 -- the least is at most each
 least_below : (pieces : ℕ) (seats : List Seated) → All (λ s. least (λ v. v.low) pieces (views_of seats) ≤ s.view.low) seats
@@ -58,7 +59,7 @@ all_push : (Q : ℕ → Type 0) (xs : List ℕ) (k : ℕ) → All Q xs → Q k �
 all_push Q [] k each here zero d lt = here
 all_push Q [] k each here (suc i) d lt = absurd (omega arith)
 all_push Q (x ∷ xs) k each here zero d lt = each 0 x (omega arith)
-all_push Q (x ∷ xs) k each here (suc i) d lt = all_push Q xs k (all_rest Q x xs each) here i d (omega arith)
+all_push Q (x ∷ xs) k each here (suc i) d lt = all_push Q xs k (All-tail Q x xs each) here i d (omega arith)
 
 -- a piece more is drawn and judged
 pub sought_next : (passing failing : ℕ → Type 0) (board : Opened) (before mid after : Seated) (k : ℕ) → Sought passing failing board before → mid.view ≡ with_piece before.view k → IsSeatOf board after → LowAndTold mid.view after.view
