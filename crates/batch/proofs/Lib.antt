@@ -5,3 +5,4 @@ pub mod CanRun
 pub mod Stepping
 pub mod TakenLemmas
 pub mod Handling
+pub mod Soundness

@@ -5,3 +5,4 @@ pub mod LimitsProps
 pub mod Counting
 pub mod Running
 pub mod Parts
+pub mod Soundness

@@ -7,6 +7,7 @@ mod batch;
 mod counting;
 mod handlers;
 mod labels;
+pub mod laws;
 mod names;
 mod record;
 mod tree;
