@@ -8,4 +8,5 @@ pub mod IndexLemmas
 pub mod SameLemmas
 pub mod ClassesLemmas
 pub mod StrictnessLemmas
+pub mod FilterLemmas
 pub mod StandsLemmas

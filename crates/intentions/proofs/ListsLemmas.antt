@@ -3,10 +3,10 @@ use Rattle.std.proofs.Common.{◌≡◌, ◌≢◌, ℕ, suc, zero, Bool, true, 
 use Rattle.std.proofs.lemmas.List.{map-append, map-set, length-map}
 use Rattle.atoms.specs.declared.item.Item.{Item}
 use Rattle.intentions.specs.declared.classes.Class.{Class}
-use Rattle.intentions.specs.declared.classes.Class.TheVariants.{Deposit, Withdrawal, Refusal, Balance, Count, Raise, Change, Enqueue, Dequeue, Size, Look}
+use Rattle.intentions.specs.declared.classes.Class.TheVariants.{Deposit, Withdrawal, Refusal, Balance, Count, Raise, Change, Put, Enqueue, Dequeue, Size, Look, Taken}
 use Rattle.intentions.specs.declared.headings.Heading.{Heading}
 use Rattle.intentions.specs.declared.index.Listed.{Listed}
-use Rattle.intentions.specs.Classes.{number_of}
+use Rattle.intentions.specs.Classes.{number_of, classes}
 use Rattle.intentions.specs.Index.{list_of, list_at, found_list, heading_cmp}
 use Rattle.intentions.specs.contracts.classes.ClassOrd.TheImpl as class_order
 use Rattle.std.specs.Prelude.{OnOk, OnErr, is_err}
@@ -68,10 +68,6 @@ written_again f (x ∷ lists) (suc o) (suc k) v h e = written_again f lists o k 
 
 -- ---- the numbers of classes, and of objects' classes
 
--- every class, in the order of the numbers
-abbrev pub classes : List Class
-classes = Deposit ∷ Withdrawal ∷ Refusal ∷ Balance ∷ Count ∷ Raise ∷ Change ∷ Enqueue ∷ Dequeue ∷ Size ∷ Look ∷ []
-
 pub class_at : (c : Class) → get_or classes (number_of c) Deposit ≡ c
 class_at Deposit = refl
 class_at Withdrawal = refl
@@ -84,8 +80,10 @@ class_at Enqueue = refl
 class_at Dequeue = refl
 class_at Size = refl
 class_at Look = refl
+class_at Put = refl
+class_at Taken = refl
 
-pub number-bound : (c : Class) → number_of c < 11
+pub number-bound : (c : Class) → number_of c < 13
 number-bound Deposit = omega arith
 number-bound Withdrawal = omega arith
 number-bound Refusal = omega arith
@@ -97,6 +95,8 @@ number-bound Enqueue = omega arith
 number-bound Dequeue = omega arith
 number-bound Size = omega arith
 number-bound Look = omega arith
+number-bound Put = omega arith
+number-bound Taken = omega arith
 
 pub one_class : (c d : Class) → number_of c ≡ number_of d → c ≡ d
 one_class c d e = sym (class_at c) ∙ ap (λ n. get_or classes n Deposit) e ∙ class_at d
@@ -111,13 +111,13 @@ one_heading h g object item class =
 -- headings with no item that have one list
 pub same_list : (h g : Heading) → h.item ≡ None → g.item ≡ None → list_of h.object h.class ≡ list_of g.object g.class → h ≡ g
 same_list h g no_h no_g e =
-    let bound_h : number_of h.class < 11 = number-bound h.class in
-    let bound_g : number_of g.class < 11 = number-bound g.class in
+    let bound_h : number_of h.class < 13 = number-bound h.class in
+    let bound_g : number_of g.class < 13 = number-bound g.class in
     let object : h.object ≡ g.object = (by_numbers h.object g.object (number_of h.class) (number_of g.class) bound_h bound_g e).0 in
     let number : number_of h.class ≡ number_of g.class = (by_numbers h.object g.object (number_of h.class) (number_of g.class) bound_h bound_g e).1 in
     one_heading h g object (no_h ∙ sym no_g) (one_class h.class g.class number)
   where
-    by_numbers : (o p m n : ℕ) → m < 11 → n < 11 → o * 11 + m ≡ p * 11 + n → (o ≡ p) × (m ≡ n)
+    by_numbers : (o p m n : ℕ) → m < 13 → n < 13 → o * 13 + m ≡ p * 13 + n → (o ≡ p) × (m ≡ n)
     by_numbers o p m n bm bn h = (omega arith, omega arith)
 
 -- ---- the order of headings
@@ -145,6 +145,8 @@ classes_exact Enqueue Enqueue h = refl
 classes_exact Dequeue Dequeue h = refl
 classes_exact Size Size h = refl
 classes_exact Look Look h = refl
+classes_exact Put Put h = refl
+classes_exact Taken Taken h = refl
 classes_exact c d h = absurd cc
 
 headings_exact : (h g : Heading) → heading_cmp h g ≡ Equal → h ≡ g

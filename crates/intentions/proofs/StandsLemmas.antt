@@ -46,12 +46,16 @@ under_heading e es ps o since upto ps_are within = (
       h (get_or ps j 0) from before (subst (λ n. is_under (get_or es n e) o ≡ true) (sym is) own.of)),
 )
 
+-- an entry that commutes with each one of a range stands past it
+pub all_in_range : (e : Entry) (es : List Entry) (since upto : ℕ) → upto ≤ length es → ((k : ℕ) → since ≤ k → k < upto → Commute e (get_or es k e)) → CommutesWith e (slice_range es since upto)
+all_in_range e es since upto within h = all_commute e (slice_range es since upto) (λ n l.
+    let short : n < upto - since = omega (arith, length-range es since upto within) in
+    subst (Commute e) (sym (get_or-range es since upto n e short)) (h (since + n) (omega arith) (omega arith)))
+
 -- an entry that stands, class by class, under the headings that it is compared with stands
 pub all_headings : (e : Entry) (es : List Entry) (since upto : ℕ) → upto ≤ length es
     → ((c : Class) → always_commute (class_of e.call e.reply) c ≡ false → CommutesUnder e es (heading_against e c) since upto) → CommutesWith e (slice_range es since upto)
-all_headings e es since upto within h = all_commute e (slice_range es since upto) (λ n l.
-    let short : n < upto - since = omega (arith, length-range es since upto within) in
-    subst (Commute e) (sym (get_or-range es since upto n e short)) (one (since + n) (omega arith) (omega arith) (always_commute (class_of e.call e.reply) (class (since + n))) refl (is_under (get_or es (since + n) e) (heading_against e (class (since + n)))) refl))
+all_headings e es since upto within h = all_in_range e es since upto within (λ k from before. one k from before (always_commute (class_of e.call e.reply) (class k)) refl (is_under (get_or es k e) (heading_against e (class k))) refl)
   where
     class : ℕ → Class
     class k = class_of (get_or es k e).call (get_or es k e).reply

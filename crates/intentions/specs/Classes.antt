@@ -1,5 +1,5 @@
 -- Classes of operations that always commute forward.
-use Rattle.std.specs.Prelude.{ℕ, Bool, true, false}
+use Rattle.std.specs.Prelude.{ℕ, ◌+◌, ◌^◌, Bool, true, false, not, cond, List, [], ◌∷◌}
 use Rattle.atoms.specs.declared.account.AccountCall.{AccountCall}
 use Rattle.atoms.specs.declared.account.AccountReply.{AccountReply}
 use Rattle.atoms.specs.declared.account.AccountCall.TheVariants as account_call
@@ -29,7 +29,7 @@ use Rattle.objects.specs.declared.call.Call.TheVariants as call
 use Rattle.objects.specs.declared.call.Reply.{Reply}
 use Rattle.objects.specs.declared.call.Reply.TheVariants as reply
 use Rattle.intentions.specs.declared.classes.Class.{Class}
-use Rattle.intentions.specs.declared.classes.Class.TheVariants.{Deposit, Withdrawal, Refusal, Balance, Count, Raise, Change, Enqueue, Dequeue, Size, Look}
+use Rattle.intentions.specs.declared.classes.Class.TheVariants.{Deposit, Withdrawal, Refusal, Balance, Count, Raise, Change, Put, Enqueue, Dequeue, Size, Look, Taken}
 
 abbrev pub account_class : AccountCall → AccountReply → Class
 account_class (account_call.Deposit a) account_reply.Ok = Deposit
@@ -58,7 +58,8 @@ queue_class c r = Look
 
 abbrev pub directory_class : DirectoryCall → DirectoryReply → Class
 directory_class (directory_call.Bind k v) directory_reply.Bound = Change
-directory_class (directory_call.Put k v) directory_reply.Ok = Change
+directory_class (directory_call.Put k v) directory_reply.Ok = Put
+directory_class (directory_call.Bind k v) directory_reply.Taken = Taken
 directory_class (directory_call.Unbind k) directory_reply.Gone = Change
 directory_class c r = Look
 
@@ -84,10 +85,12 @@ number_of Balance = 3
 number_of Count = 4
 number_of Raise = 5
 number_of Change = 6
-number_of Enqueue = 7
-number_of Dequeue = 8
-number_of Size = 9
-number_of Look = 10
+number_of Put = 7
+number_of Enqueue = 8
+number_of Dequeue = 9
+number_of Size = 10
+number_of Look = 11
+number_of Taken = 12
 
 -- any two operations of these classes commute forward
 abbrev pub always_commute : Class → Class → Bool
@@ -111,13 +114,35 @@ always_commute Change Size = false
 always_commute Enqueue Size = false
 always_commute Dequeue Size = false
 always_commute Change Change = false
+always_commute Put Put = false
+always_commute Put Change = false
+always_commute Put Look = false
+always_commute Change Put = false
+always_commute Look Put = false
+always_commute Taken Change = false
+always_commute Change Taken = false
 always_commute Enqueue Enqueue = false
 always_commute Dequeue Dequeue = false
 always_commute c d = true
 
+-- every class, in the order of the numbers
+abbrev pub classes : List Class
+classes = Deposit ∷ Withdrawal ∷ Refusal ∷ Balance ∷ Count ∷ Raise ∷ Change ∷ Put ∷ Enqueue ∷ Dequeue ∷ Size ∷ Look ∷ Taken ∷ []
+
+-- a set of classes as a number, with a bit for each
+abbrev pub set_of : (Class → Bool) → List Class → ℕ
+set_of p [] = 0
+set_of p (c ∷ cs) = cond (p c) (2 ^ number_of c) 0 + set_of p cs
+
+-- the classes that one doesn't always commute with
+abbrev pub conflicts_of : Class → ℕ
+conflicts_of c = set_of (λ d. not (always_commute c d)) classes
+
 -- of the class, two operations on different items of an object commute forward
 abbrev pub is_by_item : Class → Bool
 is_by_item Change = true
+is_by_item Put = true
 is_by_item Dequeue = true
 is_by_item Look = true
+is_by_item Taken = true
 is_by_item c = false

@@ -16,7 +16,7 @@ use Rattle.intentions.specs.Strictness.{Commute, IsAsStrict}
 
 -- which list has the entries of an object's class
 abbrev pub list_of : ℕ → Class → ℕ
-list_of object class = object * 11 + number_of class
+list_of object class = object * 13 + number_of class
 
 -- a list of lists, empty where there is none
 abbrev pub list_at : {A : Type 0} → List (List A) → ℕ → List A

@@ -6,3 +6,4 @@ pub mod Layers
 pub mod Headings
 pub mod Strictness
 pub mod Index
+pub mod Filter

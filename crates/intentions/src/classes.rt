@@ -1,6 +1,6 @@
 //! Classes of operations that always commute forward, whatever their arguments and replies are.
-ghost use Rattle.std.specs.Prelude.{◌≡◌};
-ghost use Rattle.intentions.specs.Classes.{account_class, counter_class, set_class, queue_class, directory_class, max_class, class_of, number_of, always_commute, is_by_item};
+ghost use Rattle.std.specs.Prelude.{◌≡◌, ◌^◌};
+ghost use Rattle.intentions.specs.Classes.{account_class, counter_class, set_class, queue_class, directory_class, max_class, class_of, number_of, conflicts_of, always_commute, is_by_item};
 
 use objects::{
     AccountCall, AccountReply, Call, CounterCall, CounterReply, DirectoryCall, DirectoryReply,
@@ -20,8 +20,10 @@ pub enum Class {
     Count,
     /// It raised a register, or found it higher.
     Raise,
-    /// It changed a set or a directory.
+    /// It changed a set, or bound or freed a key.
     Change,
+    /// It wrote a key, whatever that was bound to.
+    Put,
     Enqueue,
     /// It took an item out of a queue.
     Dequeue,
@@ -29,10 +31,12 @@ pub enum Class {
     Size,
     /// It left the value as it was, and is of no other class.
     Look,
+    /// It found a key bound that it was to bind.
+    Taken,
 }
 
 /// How many classes there are.
-pub const CLASSES: usize = 11;
+pub const CLASSES: usize = 13;
 
 impl Class {
     /// Every class, in the order of the numbers.
@@ -44,11 +48,16 @@ impl Class {
         Class::Count,
         Class::Raise,
         Class::Change,
+        Class::Put,
         Class::Enqueue,
         Class::Dequeue,
         Class::Size,
         Class::Look,
+        Class::Taken,
     ];
+
+    /// The set of those classes whose entries are compared with those of their own item alone.
+    pub const BY_ITEM: u16 = 0b1_1010_1100_0000;
 
     /// The class of an entry's operation.
     pub fn of(entry: &Entry) -> Class
@@ -77,10 +86,49 @@ impl Class {
             Class::Count => 4,
             Class::Raise => 5,
             Class::Change => 6,
-            Class::Enqueue => 7,
-            Class::Dequeue => 8,
-            Class::Size => 9,
-            Class::Look => 10,
+            Class::Put => 7,
+            Class::Enqueue => 8,
+            Class::Dequeue => 9,
+            Class::Size => 10,
+            Class::Look => 11,
+            Class::Taken => 12,
+        }
+    }
+
+    /// The set of this class alone. A set of classes is a number, whose bits stand for the classes
+    /// of their numbers.
+    pub fn bit(self) -> u16
+        ensures { result ≡ 2 ^ number_of self }
+    {
+        1u16 << self.number()
+    }
+
+    /// The set of the classes that it doesn't always commute with.
+    pub fn conflicts(self) -> u16
+        ensures { result ≡ conflicts_of self }
+    {
+        match self {
+            Class::Deposit => Class::Refusal.bit() | Class::Balance.bit(),
+            Class::Withdrawal => Class::Withdrawal.bit() | Class::Balance.bit(),
+            Class::Refusal => Class::Deposit.bit(),
+            Class::Balance => Class::Deposit.bit() | Class::Withdrawal.bit(),
+            Class::Count => Class::Look.bit(),
+            Class::Raise => Class::Look.bit(),
+            Class::Change => {
+                Class::Change.bit()
+                    | Class::Put.bit()
+                    | Class::Size.bit()
+                    | Class::Look.bit()
+                    | Class::Taken.bit()
+            }
+            Class::Put => Class::Change.bit() | Class::Put.bit() | Class::Look.bit(),
+            Class::Enqueue => Class::Enqueue.bit() | Class::Size.bit(),
+            Class::Dequeue => Class::Dequeue.bit() | Class::Size.bit(),
+            Class::Size => Class::Change.bit() | Class::Enqueue.bit() | Class::Dequeue.bit(),
+            Class::Look => {
+                Class::Count.bit() | Class::Raise.bit() | Class::Change.bit() | Class::Put.bit()
+            }
+            Class::Taken => Class::Change.bit(),
         }
     }
 
@@ -98,6 +146,10 @@ impl Class {
             | (Class::Size, Class::Change | Class::Enqueue | Class::Dequeue)
             | (Class::Change | Class::Enqueue | Class::Dequeue, Class::Size)
             | (Class::Change, Class::Change)
+            | (Class::Put, Class::Put | Class::Change | Class::Look)
+            | (Class::Change | Class::Look, Class::Put)
+            | (Class::Taken, Class::Change)
+            | (Class::Change, Class::Taken)
             | (Class::Enqueue, Class::Enqueue)
             | (Class::Dequeue, Class::Dequeue) => false,
             _ => true,
@@ -109,7 +161,10 @@ impl Class {
     pub fn is_by_item(self) -> bool
         ensures { result ≡ is_by_item self }
     {
-        matches!(self, Class::Change | Class::Dequeue | Class::Look)
+        matches!(
+            self,
+            Class::Change | Class::Put | Class::Dequeue | Class::Look | Class::Taken
+        )
     }
 }
 
@@ -164,8 +219,9 @@ fn directory_class(call: &DirectoryCall, reply: &DirectoryReply) -> Class
 {
     match (*call, *reply) {
         (DirectoryCall::Bind(_, _), DirectoryReply::Bound)
-        | (DirectoryCall::Put(_, _), DirectoryReply::Ok)
         | (DirectoryCall::Unbind(_), DirectoryReply::Gone) => Class::Change,
+        (DirectoryCall::Put(_, _), DirectoryReply::Ok) => Class::Put,
+        (DirectoryCall::Bind(_, _), DirectoryReply::Taken) => Class::Taken,
         _ => Class::Look,
     }
 }

@@ -4,6 +4,7 @@ ghost use Rattle.intentions.specs.Committed.{CommutesWith, AllStand};
 ghost use Rattle.intentions.specs.Index.{places, CommutesAtPlaces, CommutesUnder, IsRising, AreWithin, AreSpans};
 
 use crate::classes::Class;
+use crate::filter::Filter;
 use crate::headings::Heading;
 use crate::index::{Index, Listed};
 use crate::listing::{list_entry, unlist_entry};
@@ -22,6 +23,8 @@ pub struct Committed {
     entries: Vec<Entry>,
     /// For each heading, the places of the entries under it, in order.
     index: Index,
+    /// Clears most of the entries that commute forward with all that are listed.
+    filter: Filter,
 }
 
 impl Model for Committed {
@@ -37,8 +40,9 @@ impl Model for Committed {
     ghost view = { λ committed. committed.entries.items };
 
     ghost use Rattle.intentions.specs.Index.{IsIndexOf};
+    ghost use Rattle.intentions.specs.Filter.{IsFilterOf};
 
-    ghost invariant = { λ committed. IsIndexOf committed.entries.items committed.index };
+    ghost invariant = { λ committed. record { index : IsIndexOf committed.entries.items committed.index; filter : IsFilterOf committed.entries.items committed.filter } };
 }
 
 impl Committed {
@@ -49,6 +53,7 @@ impl Committed {
         Committed {
             entries: Vec::new(alloc),
             index: Index::new(alloc),
+            filter: Filter::new(alloc),
         }
     }
 
@@ -80,6 +85,7 @@ impl Committed {
         ensures err { OnErr result (self.new ≡ self.old) }
     {
         self.entries.reserve(1)?;
+        self.filter.push(&self.entries, &entry)?;
         list_entry(&mut self.index, &self.entries, &entry)?;
         push_reserved(&mut self.entries, entry);
         Ok(())
@@ -94,7 +100,7 @@ impl Committed {
         }
     }
 
-    /// Drops the last entry.
+    /// Drops the last entry. The filter may have more than the entries that are left.
     fn pop(&mut self)
         ensures { self.new ≡ take (length self.old - 1) self.old }
     {
@@ -119,13 +125,16 @@ impl Committed {
     }
 
     /// Whether the entry commutes forward with each listed one from place `since` to before
-    /// place `upto`. Only entries of its own object are looked at, class by class, and none of a class
-    /// that it commutes with.
+    /// place `upto`. Where the filter doesn't clear it, entries of its own object are looked at,
+    /// class by class, and none of a class that it commutes with.
     fn commutes_with(&self, entry: &Entry, since: usize, upto: usize) -> bool
         requires ordered { since ≤ upto }
         requires within { upto ≤ length self.now }
         ensures { IsTrue result ↔ CommutesWith entry.now (slice_range self.now since upto) }
     {
+        if self.filter.clears(entry) {
+            return true;
+        }
         let own = Class::of(entry);
         for class in &Class::ALL {
             if !own.always_commutes(*class) {

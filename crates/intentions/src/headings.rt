@@ -58,7 +58,7 @@ impl Heading {
 
 /// The item that an operation is about, where it is about no other part of its object. A dequeue is
 /// about the item that it took.
-fn item_of(call: &Call, reply: &Reply) -> Option<Item>
+pub fn item_of(call: &Call, reply: &Reply) -> Option<Item>
     ensures { result ≡ item_of call.now reply.now }
 {
     match (call, reply) {

@@ -8,6 +8,7 @@
 
 mod classes;
 mod committed;
+mod filter;
 mod headings;
 mod index;
 mod layers;

@@ -1,14 +1,24 @@
-use Rattle.std.proofs.Common.{◌≡◌, ℕ, true, false, refl, sym, ap, ◌∙◌, subst, arith, get_or, below_more}
+use Rattle.std.proofs.Common.{◌≡◌, ◌≤◌, length, ℕ, true, false, refl, sym, ap, ◌∙◌, subst, arith, get_or, below_more}
 use Rattle.std.proofs.lemmas.Bool.{false≢true}
 use Rattle.intentions.specs.declared.classes.Class.{Class}
 use Rattle.intentions.specs.declared.classes.Class.TheVariants.{Deposit}
-use Rattle.intentions.specs.Classes.{class_of, number_of, always_commute}
+use Rattle.intentions.specs.Classes.{class_of, number_of, classes, always_commute}
 use Rattle.intentions.specs.Headings.{heading_against}
+use Rattle.std.specs.Prelude.{slice_range}
+use Rattle.intentions.specs.Committed.{CommutesWith}
 use Rattle.intentions.specs.Index.{CommutesUnder}
-use Rattle.intentions.proofs.ListsLemmas.{classes, class_at, number-bound}
-use Rattle.intentions.proofs.StandsLemmas.{all_headings, one_heading_stands}
+use Rattle.intentions.proofs.ListsLemmas.{class_at, number-bound}
+use Rattle.intentions.proofs.StandsLemmas.{all_in_range, all_headings, one_heading_stands}
 use Rattle.intentions.proofs.committed.Committed.commutes_with.Goals as goal
 use Rattle.intentions.proofs.committed.Committed.commutes_with.Goals.{then-not-always_commutes+else-not-commutes_under, else-not-always_commutes}
+
+pub returns-then-clears : goal.returns-then-clears
+returns-then-clears c =
+    let es = c.self.inside.entries.items in
+    let within : c.args.upto ≤ length es = subst (λ xs. c.args.upto ≤ length xs) (sym c.self.view_is) c.requires.within in
+    let all : CommutesWith c.args.entry.now (slice_range es c.args.since c.args.upto) =
+    all_in_range c.args.entry.now es c.args.since c.args.upto within (λ k from before. c.clears.ensures c.if-clears.true (get_or es k c.args.entry.now) (c.self.invariant.filter k c.args.entry.now (omega (arith, within, before)))) in
+    (λ _. subst (λ xs. CommutesWith c.args.entry.now (slice_range xs c.args.since c.args.upto)) c.self.view_is all, λ _. refl)
 
 pub returns-then-not-commutes_under : goal.returns-then-not-commutes_under
 returns-then-not-commutes_under c = (

@@ -1,0 +1,130 @@
+-- What a filter has, and which entries it clears.
+use Rattle.std.proofs.Common.{◌&&◌, ◌||◌, nat_eq, zero, suc, ◌≡◌, ◌≢◌, ◌⊎◌, ℕ, ◌^◌, ◌<◌, arith, max, Bool, true, false, None, List, [], ◌∷◌, ◌++◌, length, get_or, set, refl, sym, ap, ◌∙◌, subst, inl, inr, bit_and, bit_or}
+use Rattle.std.specs.Prelude.{if◌then◌else◌}
+use Rattle.std.specs.Int.{bit_at}
+use Rattle.std.proofs.lemmas.Bool.{cases_eq, eqb-true, and_parts, false≢true}
+use Rattle.std.proofs.lemmas.List.{length-set, get_or-set_same, get_or-set_other, get_or_append_left, get_or_default, length-append}
+use Rattle.std.proofs.lemmas.Nat.Bits.{bit_at_and, bit_at_or, bit_at-lt, bit_at-zero, bit_at-pow_same}
+use Rattle.objects.specs.declared.entry.Entry.{Entry}
+use Rattle.intentions.specs.declared.classes.Class.{Class}
+use Rattle.intentions.specs.declared.classes.Class.TheVariants.{Deposit}
+use Rattle.intentions.specs.declared.filter.Filter.{Filter}
+use Rattle.intentions.specs.declared.headings.Heading.{Heading}
+use Rattle.intentions.specs.Classes.{class_of, number_of, classes, conflicts_of, always_commute, is_by_item}
+use Rattle.intentions.specs.Headings.{item_of, heading_against, is_under}
+use Rattle.intentions.specs.Filter.{slot_of, HasIn, set_at, Has, IsMarked, IsFilterOf}
+use Rattle.intentions.specs.Strictness.{Commute}
+use Rattle.intentions.proofs.ClassesLemmas.{always_commutes, elsewhere}
+use Rattle.intentions.proofs.ListsLemmas.{class_at, number-bound}
+
+-- ---- a class put into a set
+
+-- where a set stands is not changed by what the sets are
+same_slot : (sets : List ℕ) (slot value : ℕ) (o : Heading) → slot_of (length (set sets slot value)) o.object o.item ≡ slot_of (length sets) o.object o.item
+same_slot sets slot value o = ap (λ n. slot_of n o.object o.item) (length-set sets slot value)
+
+-- a class put into a set leaves those that the sets have
+pub kept_in : (sets : List ℕ) (slot old more : ℕ) (o : Heading) → slot < length sets → old ≡ get_or sets slot old → HasIn sets o → HasIn (set sets slot (bit_or old more)) o
+kept_in sets slot old more o within was has = ap (λ n. bit_at (get_or (set sets slot (bit_or old more)) n 65535) (number_of o.class)) (same_slot sets slot (bit_or old more) o) ∙ by_place (cases_eq at slot)
+  where
+    at : ℕ
+    at = slot_of (length sets) o.object o.item
+
+    by_place : (at ≡ slot) ⊎ (at ≢ slot) → bit_at (get_or (set sets slot (bit_or old more)) at 65535) (number_of o.class) ≡ 1
+    by_place (inl same) =
+        let read : get_or sets at 65535 ≡ old = get_or_default sets at 65535 old (subst (λ n. n < length sets) (sym same) within) ∙ ap (λ n. get_or sets n old) same ∙ sym was in
+        let had : bit_at old (number_of o.class) ≡ 1 = ap (λ s. bit_at s (number_of o.class)) (sym read) ∙ has in
+        ap (λ n. bit_at (get_or (set sets slot (bit_or old more)) n 65535) (number_of o.class)) same ∙ ap (λ s. bit_at s (number_of o.class)) (get_or-set_same sets slot (bit_or old more) 65535 within)
+        ∙ bit_at_or old more (number_of o.class) ∙ omega (arith, had, bit_at-lt more (number_of o.class))
+    by_place (inr other) = ap (λ s. bit_at s (number_of o.class)) (get_or-set_other sets slot at (bit_or old more) 65535 other) ∙ has
+
+-- it is in its own
+pub own_in : (sets : List ℕ) (slot old more : ℕ) (o : Heading) → slot < length sets → slot ≡ slot_of (length sets) o.object o.item → more ≡ 2 ^ number_of o.class → HasIn (set sets slot (bit_or old more)) o
+own_in sets slot old more o within is own =
+    ap (λ n. bit_at (get_or (set sets slot (bit_or old more)) n 65535) (number_of o.class)) (same_slot sets slot (bit_or old more) o ∙ sym is) ∙ ap (λ s. bit_at s (number_of o.class)) (get_or-set_same sets slot (bit_or old more) 65535 within)
+    ∙ bit_at_or old more (number_of o.class) ∙ omega (arith, ap (λ s. bit_at s (number_of o.class)) own ∙ bit_at-pow_same (number_of o.class), bit_at-lt old (number_of o.class))
+
+-- ---- a list of entries
+
+-- a filter of a longer list is one of the list
+pub filter_shorter : (es : List Entry) (e : Entry) (filter : Filter) → IsFilterOf (es ++ e ∷ []) filter → IsFilterOf es filter
+filter_shorter es e filter h k d l = subst (IsMarked filter) (get_or_append_left es (e ∷ []) d k l) (h k d (omega (arith, length-append es (e ∷ []))))
+
+-- ---- the entries that a filter clears
+
+-- a check of all classes, one by one
+every : (Class → Bool) → List Class → Bool
+every p [] = true
+every p (c ∷ cs) = p c && every p cs
+
+every_at : (p : Class → Bool) (cs : List Class) (n : ℕ) → every p cs ≡ true → n < length cs → p (get_or cs n Deposit) ≡ true
+unfolding every
+every_at p [] n h l = absurd (omega arith)
+every_at p (c ∷ cs) zero h l = (and_parts (p c) (every p cs) h).0
+every_at p (c ∷ cs) (suc n) h l = every_at p cs n (and_parts (p c) (every p cs) h).1 (omega arith)
+
+every_class : (p : Class → Bool) (c : Class) → every p classes ≡ true → p c ≡ true
+every_class p c h = subst (λ d. p d ≡ true) (class_at c) (every_at p classes (number_of c) h (number-bound c))
+
+-- the set of conflicts has each class that one doesn't always commute with
+conflict_bit : (c d : Class) → always_commute c d ≡ false → bit_at (conflicts_of c) (number_of d) ≡ 1
+unfolding every
+conflict_bit c d may = eqb-true (bit_at (conflicts_of c) (number_of d)) 1 (in_set (always_commute c d) may (every_class (λ y. always_commute c y || nat_eq (bit_at (conflicts_of c) (number_of y)) 1) d (every_class (λ x. every (λ y. always_commute x y || nat_eq (bit_at (conflicts_of x) (number_of y)) 1) classes) c refl)))
+  where
+    in_set : (b : Bool) → b ≡ false → (b || nat_eq (bit_at (conflicts_of c) (number_of d)) 1) ≡ true → nat_eq (bit_at (conflicts_of c) (number_of d)) 1 ≡ true
+    in_set true f h = absurd (false≢true (sym f))
+    in_set false f h = h
+
+item_bit : (c : Class) → bit_at 6848 (number_of c) ≡ (if is_by_item c then 1 else 0)
+unfolding every
+item_bit c = eqb-true _ _ (every_class (λ d. nat_eq (bit_at 6848 (number_of d)) (if is_by_item d then 1 else 0)) c refl)
+
+object_bit : (c : Class) → bit_at 58687 (number_of c) ≡ (if is_by_item c then 0 else 1)
+unfolding every
+object_bit c = eqb-true _ _ (every_class (λ d. nat_eq (bit_at 58687 (number_of d)) (if is_by_item d then 0 else 1)) c refl)
+
+-- the classes that an entry may meet, from the sets of its item and of its object
+abbrev pub met : ℕ → ℕ → ℕ
+met of_item of_object = bit_or (bit_and of_item 6848) (bit_and of_object 58687)
+
+meets : (filter : Filter) (e : Entry) (c : Class) → Has filter (heading_against e c) → bit_at (met (set_at filter e.object (item_of e.call e.reply)) (set_at filter e.object None)) (number_of c) ≡ 1
+meets filter e c has = bit_at_or (bit_and i 6848) (bit_and o 58687) n ∙ by_class (is_by_item c) refl
+  where
+    n : ℕ
+    n = number_of c
+
+    i : ℕ
+    i = set_at filter e.object (item_of e.call e.reply)
+
+    o : ℕ
+    o = set_at filter e.object None
+
+    by_class : (b : Bool) → is_by_item c ≡ b → max (bit_at (bit_and i 6848) n) (bit_at (bit_and o 58687) n) ≡ 1
+    by_class true by_item =
+        let has_it : bit_at i n ≡ 1 = ap (λ b. bit_at (set_at filter e.object (if b then item_of e.call e.reply else None)) n) (sym by_item) ∙ has in
+        let bit : bit_at 6848 n ≡ 1 = item_bit c ∙ ap (λ b. if b then 1 else 0) by_item in
+        omega (arith, bit_at_and i 6848 n, has_it, bit, bit_at-lt (bit_and o 58687) n)
+    by_class false by_object =
+        let has_it : bit_at o n ≡ 1 = ap (λ b. bit_at (set_at filter e.object (if b then item_of e.call e.reply else None)) n) (sym by_object) ∙ has in
+        let bit : bit_at 58687 n ≡ 1 = object_bit c ∙ ap (λ b. if b then 0 else 1) by_object in
+        omega (arith, bit_at_and o 58687 n, has_it, bit, bit_at-lt (bit_and i 6848) n)
+
+-- an entry that meets no class of its conflicts commutes with each one of the filter
+pub cleared : (filter : Filter) (p q : Entry) → bit_and (met (set_at filter p.object (item_of p.call p.reply)) (set_at filter p.object None)) (conflicts_of (class_of p.call p.reply)) ≡ 0 → IsMarked filter q → Commute p q
+cleared filter p q none marked = by_class (always_commute (class_of p.call p.reply) class) refl (is_under q (heading_against p class)) refl
+  where
+    class : Class
+    class = class_of q.call q.reply
+
+    seen : ℕ
+    seen = met (set_at filter p.object (item_of p.call p.reply)) (set_at filter p.object None)
+
+    by_class : (b : Bool) → always_commute (class_of p.call p.reply) class ≡ b → (u : Bool) → is_under q (heading_against p class) ≡ u → Commute p q
+    by_class true always u under = always_commutes p q always
+    by_class false may false under = elsewhere p q under
+    by_class false may true under =
+        let n : ℕ = number_of class in
+        let conflict : bit_at (conflicts_of (class_of p.call p.reply)) n ≡ 1 = conflict_bit (class_of p.call p.reply) class may in
+        let there : bit_at seen n ≡ 1 = meets filter p class (marked (heading_against p class) under) in
+        let nothing : bit_at (bit_and seen (conflicts_of (class_of p.call p.reply))) n ≡ 0 = ap (λ s. bit_at s n) none ∙ bit_at-zero n in
+        absurd (omega (arith, nothing, bit_at_and seen (conflicts_of (class_of p.call p.reply)) n, conflict, there))
