@@ -1,5 +1,5 @@
 -- Runs are committed one after the other.
-use Rattle.std.proofs.Common.{◌≡◌, ℕ, suc, ◌+◌, ◌<◌, List, [], ◌∷◌, ◌++◌, length, get_or, take, drop, refl, sym, ap, subst, ◌∙◌, append_assoc, add-one, drop-cons}
+use Rattle.std.proofs.Common.{◌≡◌, ℕ, suc, ◌+◌, ◌<◌, List, [], ◌∷◌, ◌++◌, length, get_or, drop, refl, sym, ap, subst, ◌∙◌, add-one, drop-cons}
 use Rattle.objects.specs.declared.value.Value.{Value}
 use Rattle.objects.specs.declared.entry.Entry.{Entry}
 use Rattle.intentions.specs.Levels.{after_entries, AllEntriesLegal, AllHaveRoom}
@@ -7,7 +7,6 @@ use Rattle.intentions.proofs.EntriesLemmas.{after_entries-append}
 use Rattle.objects.specs.Objects.{objects}
 use Rattle.speculate.specs.declared.speculated.Run.{Run}
 use Rattle.rounds.specs.Passes.{nets_of}
-use Rattle.rounds.proofs.Firsts.{next_nets}
 
 -- two lists, one after the other
 split_legal : (values : List Value) (xs ys : List Entry) → AllEntriesLegal values (xs ++ ys) → AllEntriesLegal values xs × AllEntriesLegal (after_entries values xs) ys
@@ -19,19 +18,18 @@ split_room values [] ys h = (tt, h)
 split_room values (x ∷ xs) ys h = let rest = split_room (objects.after values (x.object, x.call)) xs ys h.1 in ((h.0, rest.0), rest.1)
 
 -- of these runs the first i are committed
-pub record ArePartCommitted (runs : List Run) (start : List Value) (list : List Entry) (i : ℕ) (now : List Value) (list_now : List Entry) : Type 0 where
+pub record ArePartCommitted (runs : List Run) (start : List Value) (i : ℕ) (now : List Value) : Type 0 where
   pub legal : AllEntriesLegal now (nets_of (drop i runs))
   pub room : AllHaveRoom now (nets_of (drop i runs))
   pub leads : after_entries now (nets_of (drop i runs)) ≡ after_entries start (nets_of runs)
-  pub listed : list_now ≡ list ++ nets_of (take i runs)
 
 -- the runs from the next one on
 next_run : (runs : List Run) (i : ℕ) (x : Run) → i < length runs → x ≡ get_or runs i x → nets_of (drop i runs) ≡ x.net.items ++ nets_of (drop (i + 1) runs)
 next_run runs i x lt is =
     ap nets_of (drop-cons runs i x lt) ∙ ap (λ (y : Run). y.net.items ++ nets_of (drop (suc i) runs)) (sym is) ∙ rw add-one refl
 
-module _ (runs : List Run) (start : List Value) (list : List Entry) (i : ℕ) (now : List Value) (list_now : List Entry) (x : Run) (net : List Entry)
-    (part : ArePartCommitted runs start list i now list_now) (lt : i < length runs) (is : x ≡ get_or runs i x) (these : net ≡ x.net.items) where
+module _ (runs : List Run) (start : List Value) (i : ℕ) (now : List Value) (x : Run) (net : List Entry)
+    (part : ArePartCommitted runs start i now) (lt : i < length runs) (is : x ≡ get_or runs i x) (these : net ≡ x.net.items) where
   rest : nets_of (drop i runs) ≡ net ++ nets_of (drop (i + 1) runs)
   rest = next_run runs i x lt is ∙ ap (λ es. es ++ nets_of (drop (i + 1) runs)) (sym these)
 
@@ -47,10 +45,9 @@ module _ (runs : List Run) (start : List Value) (list : List Entry) (i : ℕ) (n
   pub next_room : AllHaveRoom now net
   next_room = both_have_room.0
 
-  pub part_committed-more : (next : List Value) (list_next : List Entry) → next ≡ after_entries now net → list_next ≡ list_now ++ net → ArePartCommitted runs start list (i + 1) next list_next
-  part_committed-more next list_next on more = record {
+  pub part_committed-more : (next : List Value) → next ≡ after_entries now net → ArePartCommitted runs start (i + 1) next
+  part_committed-more next on = record {
     legal = subst (λ v. AllEntriesLegal v (nets_of (drop (i + 1) runs))) (sym on) both_legal.1;
     room = subst (λ v. AllHaveRoom v (nets_of (drop (i + 1) runs))) (sym on) both_have_room.1;
     leads = ap (λ v. after_entries v (nets_of (drop (i + 1) runs))) on ∙ sym (after_entries-append now net (nets_of (drop (i + 1) runs))) ∙ ap (after_entries now) (sym rest) ∙ part.leads;
-    listed = more ∙ ap (λ es. es ++ net) part.listed ∙ append_assoc list (nets_of (take i runs)) net ∙ ap (λ es. list ++ (nets_of (take i runs) ++ es)) these ∙ ap (λ es. list ++ es) (sym (next_nets runs i x lt is));
   }

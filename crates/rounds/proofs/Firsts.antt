@@ -1,14 +1,15 @@
 -- The first run that does not stand, and the nets that runs are checked against.
 use Rattle.std.proofs.Common.{◌≡◌, ℕ, ◌+◌, ◌<◌, ◌≤◌, List, [], ◌∷◌, ◌++◌, length, get_or, take, drop, ◌-◌, arith, refl, sym, ap, ◌∙◌, subst, append_assoc, append-nil}
 use Rattle.std.specs.Prelude.{slice_range, IsTrue, ◌↔◌, Bool}
-use Rattle.std.proofs.lemmas.List.{take_more, get_or_default, take-append-drop, length-append}
+use Rattle.std.proofs.lemmas.List.{take_more, get_or_default, take-append-drop, length-append, take-take, get_or-take, length-take-le, length_push, take_rest, get_or-drop, get_or_read}
 use Rattle.std.proofs.Math.Seq.{take-append_seam, get_or-append_seam}
-use Rattle.std.proofs.Math.ListN.{get_or-append}
+use Rattle.std.proofs.Math.ListN.{get_or-append, length-drop}
 use native.Mathlib.Decide.{dec_le}
 use Rattle.meaning.specs.Entries.{AllCommute}
 use Rattle.objects.specs.declared.entry.Entry.{Entry}
 use Rattle.speculate.specs.declared.speculated.Run.{Run}
-use Rattle.rounds.specs.Passes.{nets_of, StandsPast, StandsAt, IsFirstConflict}
+use Rattle.rounds.specs.Passes.{nets_of, StandsPast, StandsAt, IsFirstConflict, IsFirstFrom, AreStarts}
+use Rattle.rounds.specs.Checks.{IsSeen}
 
 -- the nets of two lists of runs
 nets_append : (xs ys : List Run) → nets_of (xs ++ ys) ≡ nets_of xs ++ nets_of ys
@@ -16,7 +17,7 @@ nets_append [] ys = refl
 nets_append (run ∷ xs) ys = ap (λ ns. run.net.items ++ ns) (nets_append xs ys) ∙ sym (append_assoc run.net.items (nets_of xs) (nets_of ys))
 
 -- one more run
-pub next_nets : (runs : List Run) (i : ℕ) (run : Run) → i < length runs → run ≡ get_or runs i run → nets_of (take (i + 1) runs) ≡ nets_of (take i runs) ++ run.net.items
+next_nets : (runs : List Run) (i : ℕ) (run : Run) → i < length runs → run ≡ get_or runs i run → nets_of (take (i + 1) runs) ≡ nets_of (take i runs) ++ run.net.items
 next_nets runs i run lt is =
     let last : nets_of (run ∷ []) ≡ run.net.items = append-nil run.net.items in
     ap nets_of (take_more runs i run lt) ∙ (nets_append (take i runs) (get_or runs i run ∷ []) ∙ (ap (λ r. nets_of (take i runs) ++ nets_of (r ∷ [])) (sym is) ∙ ap (λ ns. nets_of (take i runs) ++ ns) last))
@@ -40,8 +41,11 @@ first_nets : (runs : List Run) (i : ℕ) → nets_of runs ≡ nets_of (take i ru
 first_nets runs i = ap nets_of (sym (take-append-drop i runs)) ∙ nets_append (take i runs) (drop i runs)
 
 -- they are those of the list's front
+pub front_taken : (runs : List Run) (i n : ℕ) (nets : List Entry) → nets ≡ nets_of runs → n ≡ length (nets_of (take i runs)) → take n nets ≡ nets_of (take i runs)
+front_taken runs i n nets are size = ap (take n) (are ∙ first_nets runs i) ∙ (ap (λ m. take m (nets_of (take i runs) ++ nets_of (drop i runs))) size ∙ take-append_seam (nets_of (take i runs)) (nets_of (drop i runs)))
+
 pub front_nets : (runs : List Run) (i n : ℕ) (nets : List Entry) → nets ≡ nets_of runs → n ≡ length (nets_of (take i runs)) → slice_range nets 0 n ≡ nets_of (take i runs)
-front_nets runs i n nets are size = let whole : n - 0 ≡ n = omega arith in ap (λ m. take m nets) whole ∙ (ap (take n) (are ∙ first_nets runs i) ∙ (ap (λ m. take m (nets_of (take i runs) ++ nets_of (drop i runs))) size ∙ take-append_seam (nets_of (take i runs)) (nets_of (drop i runs))))
+front_nets runs i n nets are size = let whole : n - 0 ≡ n = omega arith in ap (λ m. take m nets) whole ∙ front_taken runs i n nets are size
 
 -- which is no longer than the list
 pub front_within : (runs : List Run) (i n : ℕ) (nets : List Entry) → nets ≡ nets_of runs → n ≡ length (nets_of (take i runs)) → n ≤ length nets
@@ -63,3 +67,58 @@ first_found runs first within clear fails = record {
   clear = clear;
   conflict = λ d lt past. fails lt (λ e. subst (StandsPast (nets_of (take first runs))) (get_or_default runs first d e lt) past);
 }
+
+-- ---- the first runs alone
+
+module _ (runs : List Run) (n i : ℕ) (lt : i < n) where
+  -- those before a run are the same
+  pub before_front : nets_of (take i (take n runs)) ≡ nets_of (take i runs)
+  before_front = ap nets_of (take-take i n runs (omega arith))
+
+  -- what stands among them stands among all, and the other way round
+  pub front_stands : StandsAt (take n runs) i → StandsAt runs i
+  front_stands stands d = subst (λ ns. StandsPast ns (get_or runs i d)) before_front (subst (StandsPast (nets_of (take i (take n runs)))) (get_or-take n runs i d lt) (stands d))
+
+  pub stands_front : StandsAt runs i → StandsAt (take n runs) i
+  stands_front stands d = subst (StandsPast (nets_of (take i (take n runs)))) (sym (get_or-take n runs i d lt)) (subst (λ ns. StandsPast ns (get_or runs i d)) (sym before_front) (stands d))
+
+-- the starts of one run more
+pub front_starts : (runs : List Run) (i : ℕ) (starts more : List ℕ) (nets : List Entry) → i < length runs → more ≡ starts ++ length nets ∷ [] → nets ≡ nets_of (take i runs) → AreStarts (take i runs) starts → AreStarts (take (i + 1) runs) more
+front_starts runs i starts more nets lt pushed so_far are =
+    let size : length starts ≡ i = are.all ∙ length-take-le i runs (omega arith) in
+    record {
+      all = omega (arith, ap length pushed, length_push starts (length nets), size, length-take-le (i + 1) runs (omega arith));
+      each = λ k low.
+          let within : k < i + 1 = omega (arith, low, length-take-le (i + 1) runs (omega arith)) in
+          starts_more runs i starts more nets pushed size so_far (λ j below. are.each j (omega (arith, below, length-take-le i runs (omega arith))) ∙ ap length (before_front runs i j below)) k within ∙ sym (ap length (before_front runs (i + 1) k within));
+    }
+
+-- ---- the runs from one place on
+
+module _ (runs : List Run) (from i : ℕ) where
+  pub rest_within : i < length (take (length runs - from) (drop from runs)) → from + i < length runs
+  rest_within lt = omega (arith, lt, ap length (take_rest runs from), length-drop from runs)
+
+  pub rest_is : (run : Run) → run ≡ get_or (take (length runs - from) (drop from runs)) i run → run ≡ get_or runs (from + i) run
+  rest_is run is = is ∙ (ap (λ rs. get_or rs i run) (take_rest runs from) ∙ get_or-drop from runs i run)
+
+-- ---- a block of runs, which ends at place n
+
+-- what stands before it and in it
+pub block_clear : (runs : List Run) (n from first : ℕ) → ((k : ℕ) → k < from → StandsAt runs k) → IsFirstFrom (take n runs) from first → (k : ℕ) → k < n → k < first → StandsAt runs k
+block_clear runs n from first before told k inside low = elim (dec_le from k) [
+  | yes le ↦ front_stands runs n k inside (told.clear k le low)
+  | no less ↦ before k (omega arith)
+]
+
+-- its first conflict is that of all runs
+pub block_seen : (runs : List Run) (n from first upto : ℕ) (nets : List Entry) (starts : List ℕ) → n ≤ length runs → first < n → nets ≡ nets_of (take n runs) → AreStarts (take n runs) starts → upto ≡ get_or starts first upto
+    → ((k : ℕ) → k < from → StandsAt runs k) → IsFirstFrom (take n runs) from first → IsSeen runs (record { first = first; nets = nets; upto = upto })
+block_seen runs n from first upto nets starts within inside listed are is before told =
+    let lt : first < length (take n runs) = omega (arith, inside, length-take-le n runs within) in
+    let size = get_or_read starts first upto (omega (arith, lt, are.all)) is 0 ∙ are.each first lt in
+    record {
+      first = first_found runs first (omega arith) (λ k low. block_clear runs n from first before told k (omega arith) low) (λ _ stands. told.conflict lt (stands_front runs n first inside stands));
+      within = front_within (take n runs) first upto nets listed size;
+      nets = front_taken (take n runs) first upto nets listed size ∙ before_front runs n first inside;
+    }

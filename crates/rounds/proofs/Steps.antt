@@ -1,6 +1,6 @@
 -- The loop of openings from one opening to the next.
-use Rattle.std.proofs.Common.{◌≡◌, ℕ, zero, suc, ◌+◌, ◌-◌, ◌<◌, ◌≤◌, ◌⊎◌, inl, inr, ⊎_elim, List, [], ◌++◌, length, get_or, take, drop, refl, sym, ap, ◌∙◌, subst, arith}
-use Rattle.std.proofs.lemmas.List.{get_or_past, get_or-drop, take_all, drop_at}
+use Rattle.std.proofs.Common.{◌≡◌, ℕ, zero, suc, ◌+◌, ◌-◌, ◌<◌, ◌≤◌, ◌⊎◌, inl, inr, ⊎_elim, List, [], length, get_or, take, drop, refl, sym, ap, ◌∙◌, subst, arith}
+use Rattle.std.proofs.lemmas.List.{get_or_past, get_or-drop, take_all}
 use Rattle.std.proofs.Math.ListN.{length-drop}
 use native.Mathlib.Decide.{dec_le}
 use Rattle.meaning.specs.Entries.{State}
@@ -21,6 +21,8 @@ use Rattle.batch.specs.declared.batch.Batch.{Batch}
 use Rattle.rounds.proofs.Room.{kinds_at, made_at, nets_have_room}
 use Rattle.rounds.proofs.Times.{times_read}
 use Rattle.rounds.specs.Passes.{CanBeMade, nets_of, times, Kept, StandsPast, AreRefuted, AreRenewed, IsFirstConflict}
+use Rattle.rounds.specs.Checks.{IsSeen}
+use Rattle.rounds.specs.declared.check.Seen.{Seen}
 use Rattle.rounds.proofs.Reached.{AtOpening}
 use Rattle.rounds.proofs.Conflicts.{some_run, AreAlone, left, stands_past, still_stands, keeps_answers, next_opening}
 
@@ -172,11 +174,6 @@ module _ (batch : Batch) (b m : ℕ) (rounds : ℕ) (state next : State) (runs :
 rest_of : (runs : List Run) (b : ℕ) → take (length runs - b) (drop b runs) ≡ drop b runs
 rest_of runs b = let size = length-drop b runs in take_all (length runs - b) (drop b runs) (omega arith)
 
--- what was committed since the round began
-since_then : (before now : List Entry) (n : ℕ) (nets : List Entry) → n ≡ length before → now ≡ before ++ nets → (drop n now) ≡ nets
-since_then before now n nets size all =
-    ap (drop n) all ∙ drop_at before nets n (sym size)
-
 -- what a round commits is legal on the objects of its opening, and has room
 pub round_commits : (batch : Batch) (b rounds passed : ℕ) (state : State) (old new first_of prefix_of : List Run) (was counts given stale : List ℕ)
     → AtOpening batch b rounds state old was stale
@@ -210,28 +207,25 @@ pub same_kinds : (batch : Batch) (b rounds : ℕ) (state : State) (runs : List R
 same_kinds batch b rounds state runs counts stale at = ap kinds at.reached ∙ kinds_at batch b at.within
 
 -- one round: runs are made, the first that doesn't stand is sought, those before it are committed, and the kept are told
-pub one_round : (batch : Batch) (b rounds passed n : ℕ) (state next : State) (old new first_of prefix_of kept_of : List Run) (was counts given stale later : List ℕ) (before now : List Entry)
+pub one_round : (batch : Batch) (b rounds : ℕ) (seen : Seen) (state next : State) (old new first_of prefix_of kept_of : List Run) (was counts given stale later : List ℕ)
     → AtOpening batch b rounds state old was stale
     → given ≡ stale
     → AreRenewed batch state given old new was counts
     → first_of ≡ new
-    → IsFirstConflict (take (length first_of - b) (drop b first_of)) passed
+    → IsSeen (take (length first_of - b) (drop b first_of)) seen
     → prefix_of ≡ new
-    → next ≡ after state (nets_of (take ((b + passed) - b) (drop b prefix_of)))
-    → now ≡ before ++ nets_of (take ((b + passed) - b) (drop b prefix_of))
-    → n ≡ length before
+    → next ≡ after state (nets_of (take ((b + seen.first) - b) (drop b prefix_of)))
     → kept_of ≡ new
-    → AreRefuted kept_of ((drop n now)) (b + passed) (length kept_of) later
+    → AreRefuted kept_of (take seen.upto seen.nets) (b + seen.first) (length kept_of) later
     → b < length (blocks_of batch)
-    → IsNextOpening (start_of batch) (blocks_of batch) b (b + passed) × AtOpening batch (b + passed) (rounds + 1) next new counts later
-one_round batch b rounds passed n state next old new first_of prefix_of kept_of was counts given stale later before now at stale_is put first_is first prefix_is moved all since kept_is told going =
+    → IsNextOpening (start_of batch) (blocks_of batch) b (b + seen.first) × AtOpening batch (b + seen.first) (rounds + 1) next new counts later
+one_round batch b rounds seen state next old new first_of prefix_of kept_of was counts given stale later at stale_is put first_is saw prefix_is moved kept_is told going =
     let fresh = renewed batch b rounds state old new was counts stale at (subst (λ ns. AreRenewed batch state ns old new was counts) stale_is put) in
-    let conflict = subst (λ rs. IsFirstConflict rs passed) (rest_of new b) (subst (λ rs. IsFirstConflict (take (length rs - b) (drop b rs)) passed) first_is first) in
-    let opening = opens batch b rounds passed state new counts fresh conflict in
-    let count : (b + passed) - b ≡ passed = omega arith in
-    let prefix : nets_of (take ((b + passed) - b) (drop b prefix_of)) ≡ nets_of (take passed (drop b new)) = ap (λ k. nets_of (take k (drop b prefix_of))) count ∙ ap (λ rs. nets_of (take passed (drop b rs))) prefix_is in
-    let since_is = since_then before now n (nets_of (take passed (drop b new))) since (all ∙ ap (λ ns. before ++ ns) prefix) in
-    let one_thread = left (start_of batch) (blocks_of batch) b (drop b new) passed (alone_from batch b rounds state new counts fresh) conflict in
-    let nets_are : nets_of (take passed (drop b new)) ≡ nets (start_of batch) (blocks_of batch) b ((b + passed) - b) = one_thread ∙ ap (nets (start_of batch) (blocks_of batch) b) (sym count) in
-    let told_here = subst (λ ns. AreRefuted new ns (b + passed) (length new) later) since_is (subst (λ rs. AreRefuted rs ((drop n now)) (b + passed) (length rs) later) kept_is told) in
-    (opening, moves_on batch b (b + passed) rounds state next new counts later (nets_of (take passed (drop b new))) fresh going opening nets_are (moved ∙ ap (after state) prefix) told_here)
+    let here = subst (λ rs. IsSeen rs seen) (rest_of new b) (subst (λ rs. IsSeen (take (length rs - b) (drop b rs)) seen) first_is saw) in
+    let opening = opens batch b rounds seen.first state new counts fresh here.first in
+    let count : (b + seen.first) - b ≡ seen.first = omega arith in
+    let prefix : nets_of (take ((b + seen.first) - b) (drop b prefix_of)) ≡ nets_of (take seen.first (drop b new)) = ap (λ k. nets_of (take k (drop b prefix_of))) count ∙ ap (λ rs. nets_of (take seen.first (drop b rs))) prefix_is in
+    let one_thread = left (start_of batch) (blocks_of batch) b (drop b new) seen.first (alone_from batch b rounds state new counts fresh) here.first in
+    let nets_are : nets_of (take seen.first (drop b new)) ≡ nets (start_of batch) (blocks_of batch) b ((b + seen.first) - b) = one_thread ∙ ap (nets (start_of batch) (blocks_of batch) b) (sym count) in
+    let told_here = subst (λ ns. AreRefuted new ns (b + seen.first) (length new) later) here.nets (subst (λ rs. AreRefuted rs (take seen.upto seen.nets) (b + seen.first) (length rs) later) kept_is told) in
+    (opening, moves_on batch b (b + seen.first) rounds state next new counts later (nets_of (take seen.first (drop b new))) fresh going opening nets_are (moved ∙ ap (after state) prefix) told_here)

@@ -2,3 +2,4 @@ pub mod Plans
 pub mod Views
 pub mod Passes
 pub mod Openings
+pub mod Checks

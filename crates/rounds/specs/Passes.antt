@@ -33,6 +33,13 @@ pub record IsFirstConflict (runs : List Run) (first : ℕ) : Type 0 where
   pub clear : (i : ℕ) → i < first → StandsAt runs i
   pub conflict : (d : Run) → first < length runs → ¬ StandsPast (nets_of (take first runs)) (slice_index_or runs first d)
 
+-- the first run from one place on that doesn't stand, or their number
+pub record IsFirstFrom (runs : List Run) (from first : ℕ) : Type 0 where
+  pub beyond : from ≤ first
+  pub within : first ≤ length runs
+  pub clear : (i : ℕ) → from ≤ i → i < first → StandsAt runs i
+  pub conflict : first < length runs → ¬ StandsAt runs first
+
 -- for each run, how many entries the runs before it leave
 pub record AreStarts (runs : List Run) (starts : List ℕ) : Type 0 where
   pub all : length starts ≡ length runs

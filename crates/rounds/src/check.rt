@@ -1,26 +1,47 @@
 //! The first run that doesn't stand past those before it, which ends its round.
-ghost use Rattle.std.specs.Prelude.{◌≡◌, ◌↔◌, ◌<◌, ◌≤◌, IfOk, IsTrue, length};
-ghost use Rattle.rounds.specs.Passes.{nets_of, StandsAt, IsFirstConflict, AreStarts};
+ghost use Rattle.std.specs.Prelude.{◌≡◌, ◌↔◌, ◌+◌, ◌<◌, ◌≤◌, IfOk, OnOk, IsTrue, length, take};
+ghost use Rattle.rounds.specs.Passes.{nets_of, StandsAt, IsFirstConflict, IsFirstFrom, AreStarts};
+ghost use Rattle.rounds.specs.Checks.{IsSeen};
 
+use crate::crew::{Crew, checkers};
+use crate::plan::Plan;
 use intentions::Committed;
 use speculate::{Gate, NoMemory, Run};
 use std::alloc::Global;
 use std::thread::Threads;
 use workers::first_failing;
 
-// The nets of all runs, one after the other, and for each run how many entries come before its
-// net.
-fn list_nets(alloc: Global, runs: &[Run]) -> Result<(Committed, Vec<usize>), NoMemory>
-    ensures nets { IfOk result (λ listed. listed.0 ≡ nets_of runs.now) }
-    ensures starts { IfOk result (λ listed. AreStarts runs.now listed.1.items) }
+/// What a check saw: the first conflict, a list that begins with the nets of the runs before it, and
+/// how many entries of the list these are.
+#[derive(Drop)]
+pub(crate) struct Seen {
+    pub(crate) first: usize,
+    pub(crate) nets: Committed,
+    pub(crate) upto: usize,
+}
+
+/// How many runs a check looks at, at first, above those that are expected to stand.
+const SPARE: usize = 8;
+
+// Lists the nets of the runs from one place on behind those of the runs before it, and for each how
+// many entries come before its net.
+fn list_nets(
+    runs: &[Run],
+    from: usize,
+    nets: &mut Committed,
+    starts: &mut Vec<usize>,
+) -> Result<(), NoMemory>
+    requires from { from ≤ length runs.now }
+    requires nets { nets.old ≡ nets_of (take from runs.now) }
+    requires starts { AreStarts (take from runs.now) starts.old.items }
+    ensures nets { OnOk result (nets.new ≡ nets_of runs.now) }
+    ensures starts { OnOk result (AreStarts runs.now starts.new.items) }
 {
-    let mut nets = Committed::new(alloc);
-    let mut starts = Vec::with_capacity(alloc, runs.len())?;
-    for run in runs {
+    for run in &runs[from..] {
         starts.push(nets.len())?;
         nets.append(&run.net)?;
     }
-    Ok((nets, starts))
+    Ok(())
 }
 
 // Whether a run stands past the nets of those before it.
@@ -31,6 +52,79 @@ fn stands_at(runs: &[Run], place: usize, nets: &Committed, starts: &[usize]) -> 
     ensures { IsTrue result ↔ StandsAt runs.now place }
 {
     nets.stands(&runs[place].entries, 0, starts[place])
+}
+
+// The first conflict from one place on. The workers check the runs side by side, a run as a piece.
+fn first_from<R: Threads + Sync, G: Gate>(
+    crew: &Crew<R, G>,
+    runs: &[Run],
+    from: usize,
+    nets: &Committed,
+    starts: &[usize],
+) -> Result<usize, NoMemory>
+    requires few { length runs.now ≤ 10000 }
+    requires from { from ≤ length runs.now }
+    requires nets { nets.now ≡ nets_of runs.now }
+    requires starts { AreStarts runs.now starts.now }
+    ensures { IfOk result (λ first. IsFirstFrom runs.now from first) }
+{
+    let Crew {
+        threads,
+        alloc,
+        plan,
+        gate,
+        ..
+    } = *crew;
+    let passed = first_failing(
+        threads,
+        alloc,
+        (runs.len() - from) as u32,
+        checkers(plan, &runs[from..]),
+        &|piece: u32| -> bool
+            requires { (from + piece < length runs.now) × (length runs.now ≤ 10000) × (nets.now ≡ nets_of runs.now) × AreStarts runs.now starts.now }
+            ensures { IsTrue result ↔ StandsAt runs.entry.now (from + piece) }
+        {
+            let place = from + piece as usize;
+            gate.pass(0, place as u32 + 1);
+            stands_at(runs, place, nets, starts)
+        },
+    )?;
+    Ok(from + passed as usize)
+}
+
+/// The first conflict, and the nets of the runs before it. The runs are looked at in blocks, each
+/// twice as long as the one before it, until one has a conflict: the first block has a few more runs
+/// than are expected to stand.
+///
+/// `NoMemory` is answered where a growth of memory was refused.
+pub(crate) fn seek_conflict<R: Threads + Sync, G: Gate>(
+    crew: &Crew<R, G>,
+    runs: &[Run],
+    expected: usize,
+) -> Result<Seen, NoMemory>
+    requires few { length runs.now ≤ 10000 }
+    ensures { IfOk result (λ seen. IsSeen runs.now seen) }
+{
+    let mut nets = Committed::new(crew.alloc);
+    let mut starts = Vec::new(crew.alloc);
+    let mut from: usize = 0;
+    'looking: while from < runs.len() {
+        let end = expected.saturating_add(2 * from + SPARE).min(runs.len());
+        let block = &runs[..end];
+        list_nets(block, from, &mut nets, &mut starts)?;
+        let first = first_from(crew, block, from, &nets, &starts)?;
+        if first < end {
+            let upto = starts[first];
+            return Ok(Seen { first, nets, upto });
+        }
+        from = end;
+    }
+    let upto = nets.len();
+    Ok(Seen {
+        first: from,
+        nets,
+        upto,
+    })
 }
 
 /// The least place (from 0) of a run of which some entry doesn't commute forward with some net
@@ -49,19 +143,13 @@ pub fn first_conflict<R: Threads + Sync, G: Gate>(
     requires workers { (1 ≤ workers) × (workers ≤ 64) }
     ensures { IfOk result (λ first. IsFirstConflict runs.now first) }
 {
-    let (nets, starts) = list_nets(alloc, runs)?;
-    let first = first_failing(
+    let crew = Crew {
         threads,
         alloc,
-        runs.len() as u32,
-        workers,
-        &|piece: u32| -> bool
-            requires { (piece < length runs.now) × (length runs.now ≤ 10000) × (nets ≡ nets_of runs.now) × AreStarts runs.now starts.items }
-            ensures { IsTrue result ↔ StandsAt runs.entry.now piece }
-        {
-            gate.pass(0, piece + 1);
-            stands_at(runs, piece as usize, &nets, &starts)
-        },
-    )?;
-    Ok(first as usize)
+        plan: Plan { workers, cut: 1 },
+        gate,
+        operations_each: 1,
+    };
+    let seen = seek_conflict(&crew, runs, 0)?;
+    Ok(seen.first)
 }

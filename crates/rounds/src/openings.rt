@@ -1,6 +1,6 @@
 //! The loop of openings: each round makes the runs that are needed, seeks the first that doesn't
 //! stand, commits those before it, and tells which of the others are kept.
-ghost use Rattle.std.specs.Prelude.{◌≡◌, ◌+◌, ◌<◌, ◌≤◌, ◌++◌, ℕ, length, IfOk, OnOk, map, slice_index_or};
+ghost use Rattle.std.specs.Prelude.{◌≡◌, ◌+◌, ◌<◌, ◌≤◌, ℕ, length, IfOk, OnOk, map, slice_index_or};
 ghost use Rattle.std.specs.List.{All};
 ghost use Rattle.meaning.specs.Entries.{after, kinds};
 ghost use Rattle.meaning.specs.Batch.{all_shown, final_state, nets};
@@ -11,13 +11,13 @@ ghost use Rattle.rounds.specs.Views.{start_of, blocks_of};
 ghost use Rattle.rounds.specs.Passes.{CanBeMade, nets_of, times, AreRenewed};
 ghost use Rattle.rounds.specs.Openings.{AreCounts};
 
-use crate::check::first_conflict;
-use crate::crew::{Crew, checkers, operations_each};
+use crate::check::seek_conflict;
+use crate::crew::{Crew, operations_each};
 use crate::keep::keep_all;
 use crate::make::{Made, make_all};
 use crate::plan::Plan;
 use batch::{Batch, Outcome, Record};
-use intentions::{Committed, perform_each};
+use intentions::perform_each;
 use meaning::End;
 use speculate::{Gate, NoMemory, Objects, Run};
 use std::alloc::Global;
@@ -50,16 +50,14 @@ fn renew<R: Threads + Sync, G: Gate>(
     Ok(())
 }
 
-// Commits runs in order: their nets are performed on the objects, and listed.
-fn commit(runs: &[Run], objects: &mut Objects, committed: &mut Committed) -> Result<(), NoMemory>
+// Commits runs in order: their nets are performed on the objects.
+fn commit(runs: &[Run], objects: &mut Objects) -> Result<(), NoMemory>
     requires legal { AllEntriesLegal objects.old (nets_of runs.now) }
     requires room { AllHaveRoom objects.old (nets_of runs.now) }
-    ensures state { OnOk result (objects.new ≡ after objects.old (nets_of runs.now)) }
-    ensures committed { OnOk result (committed.new ≡ committed.old ++ nets_of runs.now) }
+    ensures { OnOk result (objects.new ≡ after objects.old (nets_of runs.now)) }
 {
     for run in runs {
         perform_each(objects, &run.net)?;
-        committed.append(&run.net)?;
     }
     Ok(())
 }
@@ -149,8 +147,8 @@ pub fn execute<R: Threads + Sync, G: Gate>(
     let mut runs = blank_runs(alloc, count)?;
     let mut counts = no_counts(alloc, count)?;
     let mut stale = all_numbers(alloc, count)?;
-    let mut committed = Committed::new(alloc);
     let mut opened: usize = 0;
+    let mut passed: usize = 0;
     let mut rounds: u32 = 0;
     let crew = Crew {
         threads,
@@ -161,14 +159,13 @@ pub fn execute<R: Threads + Sync, G: Gate>(
     };
     'opening: while opened < count {
         renew(&crew, batch, &objects, &stale, &mut runs, &mut counts)?;
-        let since = committed.len();
-        let pending = &runs[opened..];
-        let workers = checkers(plan, pending);
-        let passed = first_conflict(threads, alloc, pending, workers, gate)?;
-        commit(&runs[opened..opened + passed], &mut objects, &mut committed)?;
+        // As many are expected to stand as in the round before.
+        let seen = seek_conflict(&crew, &runs[opened..], passed)?;
+        passed = seen.first;
+        commit(&runs[opened..opened + passed], &mut objects)?;
         opened += passed;
         rounds += 1;
-        stale = keep_all(&crew, &runs, opened, &committed, since)?;
+        stale = keep_all(&crew, &runs, opened, &seen.nets, seen.upto)?;
     }
     let records = records_of(alloc, runs)?;
     Ok(Outcome {

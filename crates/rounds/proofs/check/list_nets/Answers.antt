@@ -1,13 +1,18 @@
-use Rattle.std.proofs.Common.{◌≡◌, ◌++◌, ◌∷◌, [], length, ap, ◌∙◌, arith}
-use Rattle.rounds.proofs.Firsts.{nets_more, starts_more}
+use Rattle.std.proofs.Common.{◌≡◌, ◌+◌, ◌<◌, ◌++◌, ◌∷◌, [], get_or, length, take, ap, ◌∙◌, subst, arith}
+use Rattle.rounds.specs.Passes.{nets_of, AreStarts}
+use Rattle.rounds.proofs.Firsts.{nets_more, front_starts, rest_within, rest_is}
 use Rattle.rounds.proofs.check.list_nets.Goals as goal
 
 pub loop-run-preserved : goal.loop-run-preserved
 loop-run-preserved c =
+    let runs = c.args.runs.now in
+    let place = c.args.from + c.loop-run.run-index in
+    let next : place + 1 ≡ c.args.from + (c.loop-run.run-index + 1) = omega arith in
+    let lt : place < length runs = rest_within runs c.args.from c.loop-run.run-index c.loop-run-test.true in
+    let is : c.run-item.result ≡ get_or runs place c.run-item.result = rest_is runs c.args.from c.loop-run.run-index c.run-item.result c.run-item.is in
     let so_far = c.loop-run.invariant.nets in
     let pushed : c.push.new.self.items ≡ c.loop-run.starts.items ++ length c.loop-run.nets ∷ [] = c.in_ok-push.ensures.items ∙ ap (λ n. c.loop-run.starts.items ++ n ∷ []) c.len.ensures in
     record {
-      nets = nets_more c.args.runs.now c.loop-run.run-index c.run-item.result c.loop-run.nets c.append.new.self c.deref.result.now c.loop-run-test.true c.run-item.is c.deref.ensures.value c.in_ok-append.ensures.ok so_far;
-      all = omega (arith, c.in_ok-push.ensures.len, c.loop-run.invariant.all);
-      each = starts_more c.args.runs.now c.loop-run.run-index c.loop-run.starts.items c.push.new.self.items c.loop-run.nets pushed c.loop-run.invariant.all so_far c.loop-run.invariant.each;
+      nets = subst (λ n. c.append.new.self ≡ nets_of (take n runs)) next (nets_more runs place c.run-item.result c.loop-run.nets c.append.new.self c.deref.result.now lt is c.deref.ensures.value c.in_ok-append.ensures.ok so_far);
+      starts = subst (λ n. AreStarts (take n runs) c.push.new.self.items) next (front_starts runs place c.loop-run.starts.items c.push.new.self.items c.loop-run.nets lt pushed so_far c.loop-run.invariant.starts);
     }

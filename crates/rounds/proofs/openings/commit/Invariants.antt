@@ -2,4 +2,4 @@ use Rattle.rounds.proofs.Commits.{ArePartCommitted}
 use Rattle.rounds.proofs.openings.commit.Given as goal
 
 abbrev pub invariant-loop-run : goal.invariant-loop-run
-invariant-loop-run l = ArePartCommitted l.runs l.initial.objects l.initial.committed l.run-index l.objects l.committed
+invariant-loop-run l = ArePartCommitted l.runs l.initial.objects l.run-index l.objects

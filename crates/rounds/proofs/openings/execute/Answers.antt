@@ -24,15 +24,15 @@ opening-preserved g c =
     let blocks : length (blocks_of c.args.batch.now) ≡ length c.args.batch.now.transactions.items = length-map c.args.batch.now.transactions.items block_view in
     let going = c.opening-test.true in
     let count = c.len-count.ensures in
-    record { few = c.in_ok-stale-2.ensures.few; at = (one_round c.args.batch.now c.opening.opened c.opening.rounds c.in_ok-passed.passed c.len-since.result (c.opening.objects) (c.commit.new.objects) c.opening.runs.items c.renew.new.runs.items c.deref-in-opening.result.now c.deref-in-opening-2.result.now c.deref-in-opening-3.result.now c.opening.counts.items c.renew.new.counts.items c.deref.result.now c.opening.stale.items c.in_ok-stale-2.stale.items c.opening.committed c.commit.new.committed c.opening.invariant.at c.deref.ensures.value c.in_ok-renew.ensures c.deref-in-opening.ensures.value c.in_ok-passed.ensures c.deref-in-opening-2.ensures.value c.in_ok-commit.ensures.state c.in_ok-commit.ensures.committed c.len-since.ensures c.deref-in-opening-3.ensures.value c.in_ok-stale-2.ensures.refuted (omega arith)).1 }
+    record { few = c.in_ok-stale-2.ensures.few; at = (one_round c.args.batch.now c.opening.opened c.opening.rounds c.in_ok-seen.seen c.opening.objects c.commit.new.objects c.opening.runs.items c.renew.new.runs.items c.deref-in-opening.result.now c.deref-in-opening-2.result.now c.deref-in-opening-3.result.now c.opening.counts.items c.renew.new.counts.items c.deref.result.now c.opening.stale.items c.in_ok-stale-2.stale.items c.opening.invariant.at c.deref.ensures.value c.in_ok-renew.ensures c.deref-in-opening.ensures.value c.in_ok-seen.ensures c.deref-in-opening-2.ensures.value c.in_ok-commit.ensures c.deref-in-opening-3.ensures.value c.in_ok-stale-2.ensures.refuted (omega arith)).1 }
 
 pub opening-smaller : goal.opening-smaller
 opening-smaller g c =
     let blocks : length (blocks_of c.args.batch.now) ≡ length c.args.batch.now.transactions.items = length-map c.args.batch.now.transactions.items block_view in
     let going = c.opening-test.true in
     let count = c.len-count.ensures in
-    let opening = (one_round c.args.batch.now c.opening.opened c.opening.rounds c.in_ok-passed.passed c.len-since.result (c.opening.objects) (c.commit.new.objects) c.opening.runs.items c.renew.new.runs.items c.deref-in-opening.result.now c.deref-in-opening-2.result.now c.deref-in-opening-3.result.now c.opening.counts.items c.renew.new.counts.items c.deref.result.now c.opening.stale.items c.in_ok-stale-2.stale.items c.opening.committed c.commit.new.committed c.opening.invariant.at c.deref.ensures.value c.in_ok-renew.ensures c.deref-in-opening.ensures.value c.in_ok-passed.ensures c.deref-in-opening-2.ensures.value c.in_ok-commit.ensures.state c.in_ok-commit.ensures.committed c.len-since.ensures c.deref-in-opening-3.ensures.value c.in_ok-stale-2.ensures.refuted (omega arith)).0 in
-    let on = comes_on (start_of c.args.batch.now) (blocks_of c.args.batch.now) c.opening.opened (c.opening.opened + c.in_ok-passed.passed) (omega arith) opening in
+    let opening = (one_round c.args.batch.now c.opening.opened c.opening.rounds c.in_ok-seen.seen c.opening.objects c.commit.new.objects c.opening.runs.items c.renew.new.runs.items c.deref-in-opening.result.now c.deref-in-opening-2.result.now c.deref-in-opening-3.result.now c.opening.counts.items c.renew.new.counts.items c.deref.result.now c.opening.stale.items c.in_ok-stale-2.stale.items c.opening.invariant.at c.deref.ensures.value c.in_ok-renew.ensures c.deref-in-opening.ensures.value c.in_ok-seen.ensures c.deref-in-opening-2.ensures.value c.in_ok-commit.ensures c.deref-in-opening-3.ensures.value c.in_ok-stale-2.ensures.refuted (omega arith)).0 in
+    let on = comes_on (start_of c.args.batch.now) (blocks_of c.args.batch.now) c.opening.opened (c.opening.opened + c.in_ok-seen.seen.first) (omega arith) opening in
     omega arith
 
 pub returns-clause-records : goal.returns-clause-records
@@ -71,8 +71,8 @@ renew-requires-clause-same_kinds g c κs lives = same_kinds c.args.batch.now c.o
 
 pub commit-requires-clause-legal : goal.commit-requires-clause-legal
 commit-requires-clause-legal g c =
-    (round_commits c.args.batch.now c.opening.opened c.opening.rounds c.in_ok-passed.passed c.opening.objects c.opening.runs.items c.renew.new.runs.items c.deref-in-opening.result.now c.deref-in-opening-2.result.now c.opening.counts.items c.renew.new.counts.items c.deref.result.now c.opening.stale.items c.opening.invariant.at c.deref.ensures.value c.in_ok-renew.ensures c.deref-in-opening.ensures.value c.in_ok-passed.ensures c.deref-in-opening-2.ensures.value).0
+    (round_commits c.args.batch.now c.opening.opened c.opening.rounds c.in_ok-seen.seen.first c.opening.objects c.opening.runs.items c.renew.new.runs.items c.deref-in-opening.result.now c.deref-in-opening-2.result.now c.opening.counts.items c.renew.new.counts.items c.deref.result.now c.opening.stale.items c.opening.invariant.at c.deref.ensures.value c.in_ok-renew.ensures c.deref-in-opening.ensures.value c.in_ok-seen.ensures.first c.deref-in-opening-2.ensures.value).0
 
 pub commit-requires-clause-room : goal.commit-requires-clause-room
 commit-requires-clause-room g c =
-    (round_commits c.args.batch.now c.opening.opened c.opening.rounds c.in_ok-passed.passed c.opening.objects c.opening.runs.items c.renew.new.runs.items c.deref-in-opening.result.now c.deref-in-opening-2.result.now c.opening.counts.items c.renew.new.counts.items c.deref.result.now c.opening.stale.items c.opening.invariant.at c.deref.ensures.value c.in_ok-renew.ensures c.deref-in-opening.ensures.value c.in_ok-passed.ensures c.deref-in-opening-2.ensures.value).1
+    (round_commits c.args.batch.now c.opening.opened c.opening.rounds c.in_ok-seen.seen.first c.opening.objects c.opening.runs.items c.renew.new.runs.items c.deref-in-opening.result.now c.deref-in-opening-2.result.now c.opening.counts.items c.renew.new.counts.items c.deref.result.now c.opening.stale.items c.opening.invariant.at c.deref.ensures.value c.in_ok-renew.ensures c.deref-in-opening.ensures.value c.in_ok-seen.ensures.first c.deref-in-opening-2.ensures.value).1
