@@ -6,3 +6,7 @@ pub mod Stepping
 pub mod TakenLemmas
 pub mod Handling
 pub mod Soundness
+pub mod StepShows
+pub mod HandlerShows
+pub mod PartRuns
+pub mod PartTried

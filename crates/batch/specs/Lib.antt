@@ -6,3 +6,5 @@ pub mod Counting
 pub mod Running
 pub mod Parts
 pub mod Soundness
+pub mod Grounds
+pub mod Shows

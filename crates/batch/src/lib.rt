@@ -11,6 +11,7 @@ pub mod laws;
 mod names;
 mod record;
 mod tree;
+mod tried;
 
 pub use answer::{Outcome, Plain};
 pub use batch::Batch;
@@ -21,6 +22,7 @@ pub use names::Names;
 pub use objects::{Call, Entry, Item, Kind, NoMemory, Objects, Reply, Value};
 pub use record::{Record, Taken};
 pub use tree::{Block, Handler, Step, Subaction};
+pub use tried::{Tried, handled};
 
 #[cfg(test)]
 mod tests;

@@ -1,6 +1,3 @@
 pub mod Journals
-pub mod Steps
-pub mod Children
-pub mod Stepping
-pub mod Handling
+pub mod InPlace
 pub mod Answered

@@ -1,50 +1,12 @@
--- What the executor shows of what it did.
-use Rattle.std.specs.Prelude.{◌≡◌, List, ◌++◌, Option, option_map}
-use Rattle.meaning.specs.declared.end.End.{End}
-use Rattle.meaning.specs.declared.end.End.TheVariants.{Ended}
-use Rattle.meaning.specs.declared.held.Held.{Held}
-use Rattle.meaning.specs.declared.held.Held.TheVariants.{Outcome}
-use Rattle.meaning.specs.Records.{Taken, TakenStep, TakenChild, TakenHandler, TakenChildren}
-use Rattle.meaning.specs.Shown.{shown, shown_step, shown_child, shown_children}
-use Rattle.meaning.specs.OneThread.{Run, record_of, outcome_of, labels_of, state_of, label_if}
-use Rattle.batch.specs.Views.{Tried, record_view, taken_view, tried_view, all_tried_view}
-use Rattle.batch.specs.Running.{shown_handler}
-use Rattle.batch.specs.declared.record.Record.{Record}
-use Rattle.batch.specs.declared.record.Taken as declared_taken
+-- The objects and their journal as what a block is run on.
+use Rattle.std.specs.Prelude.{◌≡◌}
+use Rattle.meaning.specs.Entries.{after}
+use Rattle.batch.specs.Grounds.{Ground}
 use Rattle.one_thread.specs.Journaled.{Journaled, LeadsBack}
-use Rattle.one_thread.specs.declared.executor.Tried as executed
 
--- what was done is what this run is: what its record shows, its end, and the state that it leaves, from which the
--- journal leads back
-pub record ShowsRun (run : Run Taken) (done : Record) (before now : Journaled) : Type 0 where
-  pub tree : record_view done ≡ shown (record_of run) (outcome_of run)
-  pub end : done.outcome ≡ outcome_of run
-  pub state : now.state ≡ state_of run
-  pub back : LeadsBack before now
-
-pub record ShowsStep (run : Run TakenStep) (done : declared_taken.Taken) (how : End) (seen seen_now : List Held) (before now : Journaled) : Type 0 where
-  pub tree : taken_view done ≡ shown_step (record_of run)
-  pub end : how ≡ outcome_of run
-  pub labels : how ≡ Ended → seen_now ≡ seen ++ labels_of run
-  pub state : now.state ≡ state_of run
-  pub back : LeadsBack before now
-
-pub record ShowsHandler (run : Run TakenHandler) (done : Option Record) (how : End) (before now : Journaled) : Type 0 where
-  pub tree : option_map record_view done ≡ shown_handler (record_of run)
-  pub end : how ≡ outcome_of run
-  pub state : now.state ≡ state_of run
-  pub back : LeadsBack before now
-
-pub record ShowsTried (child : Tried) (run : Run TakenChild) (done : executed.Tried) (before now : Journaled) : Type 0 where
-  pub tree : tried_view (done.body, done.handler) ≡ shown_child (record_of run)
-  pub end : done.end ≡ outcome_of run
-  pub labels : done.end ≡ Ended → labels_of run ≡ label_if child.labelled (Outcome done.body.outcome)
-  pub state : now.state ≡ state_of run
-  pub back : LeadsBack before now
-
-pub record ShowsChildren (run : Run TakenChildren) (done : List (Record × Option Record)) (how : End) (outcomes : List Held) (before now : Journaled) : Type 0 where
-  pub tree : all_tried_view done ≡ shown_children (record_of run)
-  pub end : how ≡ outcome_of run
-  pub labels : how ≡ Ended → outcomes ≡ labels_of run
-  pub state : now.state ≡ state_of run
-  pub back : LeadsBack before now
+-- what was kept is done to the objects, and the journal leads back
+abbrev pub in_place : Ground Journaled
+in_place = record {
+  state = λ j. j.state;
+  Took = λ before entries kept now. (now.state ≡ after before.state kept) × LeadsBack before now;
+}

@@ -1,22 +1,17 @@
 //! One thread runs a block, depth first, on objects that are changed in place.
-ghost use Rattle.std.specs.Prelude.{◌≡◌, [], Some, IfOk, OnOk};
+ghost use Rattle.std.specs.Prelude.{◌≡◌, [], IfOk, OnOk};
 ghost use Rattle.meaning.specs.OneThread.{one, one_step, one_children, one_handler};
 ghost use Rattle.batch.specs.Views.{block_view, steps_view, step_view, subaction_view, children_view};
 ghost use Rattle.batch.specs.Running.{CanRunHere, CanStepHere, CanTryHere, CanRunAllHere, CanHandleHere, StillSeen, acted};
-ghost use Rattle.one_thread.specs.Running.{ShowsRun, ShowsStep, ShowsTried, ShowsHandler, ShowsChildren};
+ghost use Rattle.batch.specs.Shows.{ShowsRun, ShowsStep, ShowsTried, ShowsHandler, ShowsChildren};
+ghost use Rattle.one_thread.specs.Running.{in_place};
 
 use crate::workspace::Workspace;
-use batch::{Block, NoMemory, Record, Step, Subaction, Taken, add_label, handler_for, test_holds};
+use batch::{
+    Block, NoMemory, Record, Step, Subaction, Taken, Tried, add_label, handled, handler_for, test_holds,
+};
 use meaning::{End, Held};
 use std::alloc::Global;
-
-/// What running a subaction gives: its body and its handler, and how the block goes on.
-#[derive(Drop)]
-struct Tried {
-    body: Record,
-    handler: Option<Record>,
-    end: End,
-}
 
 /// Runs a block. Its labels are forgotten at its end.
 #[cycle(run)]
@@ -28,7 +23,7 @@ pub(crate) fn run_block(
 ) -> Result<Record, NoMemory>
     requires { CanRunHere (block_view block.now) labels.old.items workspace.old.state }
     ensures shows { IfOk result
-        (λ r. ShowsRun (one (block_view block.now) labels.old.items workspace.old.state) r workspace.old workspace.new) }
+        (λ r. ShowsRun in_place (one (block_view block.now) labels.old.items workspace.old.state) r workspace.old workspace.new) }
     ensures labels { OnOk result (labels.new.items ≡ labels.old.items) }
 {
     let seen = labels.len();
@@ -46,7 +41,7 @@ fn run_steps(
 ) -> Result<Record, NoMemory>
     requires { CanRunHere (steps_view steps.now) labels.old.items workspace.old.state }
     ensures shows { IfOk result
-        (λ r. ShowsRun (one (steps_view steps.now) labels.old.items workspace.old.state) r workspace.old workspace.new) }
+        (λ r. ShowsRun in_place (one (steps_view steps.now) labels.old.items workspace.old.state) r workspace.old workspace.new) }
     ensures labels { OnOk result (StillSeen labels.old.items labels.new.items) }
 {
     let mut taken = Vec::with_capacity(alloc, steps.len())?;
@@ -78,7 +73,7 @@ fn run_step(
 ) -> Result<(Taken, End), NoMemory>
     requires { CanStepHere (step_view step.now) labels.old.items workspace.old.state }
     ensures shows { IfOk result
-        (λ r. ShowsStep (one_step (step_view step.now) labels.old.items workspace.old.state) r.0 r.1 labels.old.items labels.new.items workspace.old workspace.new) }
+        (λ r. ShowsStep in_place (one_step (step_view step.now) labels.old.items workspace.old.state) r.0 r.1 labels.old.items labels.new.items workspace.old workspace.new) }
     ensures labels { OnOk result (StillSeen labels.old.items labels.new.items) }
 {
     match step {
@@ -129,7 +124,7 @@ fn run_subaction(
     requires { CanTryHere (subaction_view child.now) labels.old.items workspace.old.state }
     ensures shows { IfOk result
         (λ r. let child = subaction_view child.now in
-        ShowsTried child (acted child labels.old.items workspace.old.state) r workspace.old workspace.new) }
+        ShowsTried in_place child (acted child labels.old.items workspace.old.state) r workspace.old workspace.new) }
     ensures labels { OnOk result (labels.new.items ≡ labels.old.items) }
 {
     let mark = workspace.mark();
@@ -161,7 +156,7 @@ fn run_handler(
 ) -> Result<(Option<Record>, End), NoMemory>
     requires { CanHandleHere (subaction_view child.now).handlers labels.old.items workspace.old.state }
     ensures shows { IfOk result
-        (λ r. ShowsHandler (one_handler (subaction_view child.now).handlers labels.old.items reason workspace.old.state) r.0 r.1 workspace.old workspace.new) }
+        (λ r. ShowsHandler in_place (one_handler (subaction_view child.now).handlers labels.old.items reason workspace.old.state) r.0 r.1 workspace.old workspace.new) }
     ensures labels { OnOk result (labels.new.items ≡ labels.old.items) }
 {
     match &child.handlers {
@@ -183,7 +178,7 @@ fn run_handler(
 }
 
 #[cycle(run)]
-#[tactic(auto, using(crate::proofs::Children::can_try_rules))]
+#[tactic(auto, using(batch::proofs::PartTried::can_try_rules))]
 fn run_children(
     alloc: Global,
     children: &[Subaction],
@@ -194,7 +189,7 @@ fn run_children(
     requires can { CanRunAllHere (children_view children.now) labels.old.items workspace.old.state }
     requires none_yet { outcomes.old.items ≡ [] }
     ensures shows { IfOk result
-        (λ r. ShowsChildren (one_children (children_view children.now) labels.old.items workspace.old.state) r.0.items r.1 outcomes.new.items workspace.old workspace.new) }
+        (λ r. ShowsChildren in_place (one_children (children_view children.now) labels.old.items workspace.old.state) r.0.items r.1 outcomes.new.items workspace.old workspace.new) }
     ensures labels { OnOk result (labels.new.items ≡ labels.old.items) }
 {
     let mut all = Vec::with_capacity(alloc, children.len())?;
@@ -209,13 +204,4 @@ fn run_children(
         }
     }
     Ok((all, End::Ended))
-}
-
-// A handler that ran, and how the block goes on.
-fn handled(done: Record) -> (Option<Record>, End)
-    ensures handler { result.0 ≡ Some done }
-    ensures end { result.1 ≡ done.outcome }
-{
-    let end = done.outcome;
-    (Some(done), end)
 }

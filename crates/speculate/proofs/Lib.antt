@@ -1,9 +1,6 @@
 pub mod Absorbed
-pub mod Steps
-pub mod Children
-pub mod Handling
 pub mod Measures
+pub mod InView
 pub mod Room
 pub mod Siblings
-pub mod Stepping
 pub mod Transactions

@@ -27,12 +27,13 @@ use Rattle.batch.proofs.CanRun.{can_try}
 use Rattle.intentions.specs.Levels.{Intentions as View, shown as state_of_view, AllEntriesLegal, AllHaveRoom, absorbed}
 use Rattle.intentions.specs.Committed.{AllStand}
 use Rattle.intentions.proofs.StandsLemmas.{length-range}
-use Rattle.speculate.specs.Running.{ShowsTried}
+use Rattle.batch.specs.Shows.{ShowsTried}
+use Rattle.speculate.specs.Running.{in_view}
 use Rattle.speculate.specs.Ahead.{CanAllTry, Leads, IsRunAhead, AreRunAhead, IsRunBefore}
 use Rattle.speculate.specs.declared.executor.Ahead.{Ahead}
-use Rattle.speculate.specs.declared.executor.Tried as executed
+use Rattle.batch.specs.declared.tried.Tried as executed
 use Rattle.speculate.proofs.Absorbed.{shown-absorbed}
-use Rattle.speculate.proofs.Children.{acted_leads}
+use Rattle.batch.proofs.PartTried.{acted_leads}
 use Rattle.speculate.proofs.Room.{child_has_room}
 
 -- ---- a child past what its elder siblings left
@@ -91,20 +92,20 @@ stand run since entries count stands exact so is all =
 module _ (child : Tried) (held : List Held) (since : List Entry) (state : State) (run : Ahead) (before : IsRunBefore child held since state run) (stand : AllStand run.entries.items since) where
   same_here : IsSameRun (acted child held before.from) (acted child held state)
   same_here =
-      let entries = ap (λ (v : View). v.entries) before.ahead.view in
+      let entries = ap (λ (v : View). v.entries) before.ahead.took in
       subst (λ s. IsSameRun (acted child held before.from) (acted child held s)) (sym before.leads.1)
       (child_moves child held before.from since before.leads.0 (subst (λ es. AllCommute es since) entries stand))
 
   -- so its net is what it leaves here
   net_here : run.net.items ≡ kept_of_child (record_of (acted child held state))
-  net_here = ap (λ (v : View). v.net) before.ahead.view ∙ ap kept_of_child (sym same_here.taken)
+  net_here = ap (λ (v : View). v.net) before.ahead.took ∙ ap kept_of_child (sym same_here.taken)
 
   -- and that is what is added to the list of what siblings left
   pub net_listed : (net later : List Entry) → net ≡ run.net.items → later ≡ since ++ net → later ≡ since ++ kept_of_child (record_of (acted child held state))
   net_listed net later is more = more ∙ ap (λ es. since ++ es) (is ∙ net_here)
 
   entries_here : run.entries.items ≡ entries_of_child (record_of (acted child held state))
-  entries_here = ap (λ (v : View). v.entries) before.ahead.view ∙ ap entries_of_child (sym same_here.taken)
+  entries_here = ap (λ (v : View). v.entries) before.ahead.took ∙ ap entries_of_child (sym same_here.taken)
 
   pub net_is_legal : AllEntriesLegal state run.net.items
   net_is_legal = subst (AllEntriesLegal state) (sym net_here) (acted_leads child held state).0
@@ -113,14 +114,14 @@ module _ (child : Tried) (held : List Held) (since : List Entry) (state : State)
   net_has_room can = subst (AllHaveRoom state) (sym net_here) (child_has_room child held state can (acted_leads child held state).0)
 
   -- and its run can be taken in
-  pub taken_in : (view next : View) (entries net : List Entry) → entries ≡ run.entries.items → net ≡ run.net.items → next ≡ absorbed view entries net → ShowsTried child (acted child held state) run.tried view next
+  pub taken_in : (view next : View) (entries net : List Entry) → entries ≡ run.entries.items → net ≡ run.net.items → next ≡ absorbed view entries net → ShowsTried in_view child (acted child held state) run.tried view next
   taken_in view next entries net entries_are net_is is =
       let shows = before.ahead in
       record {
         tree = shows.tree ∙ ap shown_child (sym same_here.taken);
         end = shows.end ∙ sym same_here.outcome;
         labels = λ ended. same_here.labels (sym shows.end ∙ ended) ∙ shows.labels ended;
-        view = is ∙ ap (λ es. absorbed view es net) (entries_are ∙ entries_here) ∙ ap (absorbed view (entries_of_child (record_of (acted child held state)))) (net_is ∙ net_here);
+        took = is ∙ ap (λ es. absorbed view es net) (entries_are ∙ entries_here) ∙ ap (absorbed view (entries_of_child (record_of (acted child held state)))) (net_is ∙ net_here);
       }
 
 -- ---- children from place to place
@@ -187,20 +188,20 @@ pub left-start : (children : List Subaction) (held : List Held) (state : State) 
 left-start children held state runs ahead = record { from = state; leads = (tt, refl); ahead = ahead }
 
 left-others : (child : Subaction) (children : List Subaction) (held : List Held) (since : List Entry) (view next : View) (tried : executed.Tried) (run : Ahead) (runs : List Ahead)
-    → AreLeft (child ∷ children) held since (state_of_view view) (run ∷ runs) → ShowsTried (subaction_view child) (acted (subaction_view child) held (state_of_view view)) tried view next
+    → AreLeft (child ∷ children) held since (state_of_view view) (run ∷ runs) → ShowsTried in_view (subaction_view child) (acted (subaction_view child) held (state_of_view view)) tried view next
     → AreLeft children held (since ++ kept_of_child (record_of (acted (subaction_view child) held (state_of_view view)))) (state_of_view next) runs
 left-others child children held since view next tried run runs left shows =
     let here = subaction_view child in
     let net = kept_of_child (record_of (acted here held (state_of_view view))) in
-    let there : state_of_view next ≡ after (state_of_view view) net = ap state_of_view shows.view ∙ shown-absorbed view (entries_of_child (record_of (acted here held (state_of_view view)))) net in
+    let there : state_of_view next ≡ after (state_of_view view) net = ap state_of_view shows.took ∙ shown-absorbed view (entries_of_child (record_of (acted here held (state_of_view view)))) net in
     record { from = left.from; leads = lead_on left.from (state_of_view view) (state_of_view next) since net left.leads ((acted_leads here held (state_of_view view)).0, there); ahead = left.ahead.1 }
 
 -- what a child adds to the net of its parent's level, listed
-pub added_listed : (child : Tried) (held : List Held) (view next : View) (tried : executed.Tried) (since later was now : List Entry) → ShowsTried child (acted child held (state_of_view view)) tried view next
+pub added_listed : (child : Tried) (held : List Held) (view next : View) (tried : executed.Tried) (since later was now : List Entry) → ShowsTried in_view child (acted child held (state_of_view view)) tried view next
     → was ≡ view.net → now ≡ next.net → later ≡ since ++ slice_range now (length was) (length now) → later ≡ since ++ kept_of_child (record_of (acted child held (state_of_view view)))
 added_listed child held view next tried since later was now shows was_is now_is listed =
     let net = kept_of_child (record_of (acted child held (state_of_view view))) in
-    let more : now ≡ was ++ net = now_is ∙ ap (λ (v : View). v.net) shows.view ∙ ap (λ es. es ++ net) (sym was_is) in
+    let more : now ≡ was ++ net = now_is ∙ ap (λ (v : View). v.net) shows.took ∙ ap (λ es. es ++ net) (sym was_is) in
     let count : length now - length was ≡ length net = omega (arith, ap length more, length-append was net) in
     listed ∙ ap (λ n. since ++ take n (drop (length was) now)) count ∙ ap (λ es. since ++ take (length net) (drop (length was) es)) more
     ∙ ap (λ es. since ++ take (length net) es) (drop-append_seam was net) ∙ ap (λ es. since ++ es) (take-length net)
@@ -216,7 +217,7 @@ module _ (children : List Subaction) (place : ℕ) (x : Subaction) (held : List 
       (subst (AreLeft (drop place children) held since (state_of_view view)) steps.0 (left (omega (arith, steps.1))))
 
   -- the runs behind the next one were made of the children behind the next child
-  pub left-more : (ahead : Option Ahead) (next : View) (tried : executed.Tried) (later : List Entry) → into_iter_steps before ahead after → ShowsTried (subaction_view x) (acted (subaction_view x) held (state_of_view view)) tried view next
+  pub left-more : (ahead : Option Ahead) (next : View) (tried : executed.Tried) (later : List Entry) → into_iter_steps before ahead after → ShowsTried in_view (subaction_view x) (acted (subaction_view x) held (state_of_view view)) tried view next
       → ForSome ahead (λ _. later ≡ since ++ kept_of_child (record_of (acted (subaction_view x) held (state_of_view view)))) → 0 < into_iter_len after → AreLeft (drop (place + 1) children) held later (state_of_view next) (into_iter_items after)
   left-more None next tried later steps shows kept some = absurd (omega (arith, steps.1))
   left-more (Some run) next tried later steps shows kept some =

@@ -9,7 +9,8 @@ use Rattle.batch.specs.Running.{CanTryHere, acted}
 use Rattle.batch.specs.declared.tree.Subaction.{Subaction}
 use Rattle.intentions.specs.Levels.{opened, absorbed}
 use Rattle.speculate.specs.declared.executor.Ahead.{Ahead}
-use Rattle.speculate.specs.Running.{ShowsTried}
+use Rattle.batch.specs.Shows.{ShowsTried}
+use Rattle.speculate.specs.Running.{in_view}
 
 -- each of the children can be tried here
 abbrev pub CanAllTry : List Subaction → List Held → State → Type 0
@@ -18,7 +19,7 @@ CanAllTry children held state = All (λ child. CanTryHere (subaction_view child)
 -- what a child did in a view of its own of this state, with all its entries and its net
 abbrev pub IsRunAhead : Tried → List Held → State → Ahead → Type 0
 IsRunAhead child held state run =
-    ShowsTried child (acted child held state) run.tried (opened state) (absorbed (opened state) run.entries.items run.net.items)
+    ShowsTried in_view child (acted child held state) run.tried (opened state) (absorbed (opened state) run.entries.items run.net.items)
 
 -- each of these runs is that of the child at its place
 abbrev pub AreRunAhead : List Subaction → List Held → State → List Ahead → Type 0

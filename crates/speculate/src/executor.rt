@@ -1,6 +1,6 @@
 //! A block is run depth first in a view of the objects. Children of a parallel step are run ahead,
 //! at once, where there is width for it, and are then kept in order.
-ghost use Rattle.std.specs.Prelude.{◌≡◌, ◌++◌, ◌-◌, ◌≤◌, ◌<◌, [], Some, IfOk, OnOk, length, slice_range};
+ghost use Rattle.std.specs.Prelude.{◌≡◌, ◌++◌, ◌-◌, ◌≤◌, ◌<◌, [], IfOk, OnOk, length, slice_range};
 ghost use Rattle.std.specs.Option.{ForSome};
 ghost use Rattle.std.specs.Thread.{IsSync};
 ghost use Rattle.intentions.specs.Levels.{shown as state_of_view};
@@ -8,11 +8,14 @@ ghost use Rattle.meaning.specs.Records.{kept_of_child};
 ghost use Rattle.meaning.specs.OneThread.{record_of, one, one_step, one_children, one_handler};
 ghost use Rattle.batch.specs.Views.{block_view, steps_view, step_view, subaction_view, children_view};
 ghost use Rattle.batch.specs.Running.{CanRunHere, CanStepHere, CanTryHere, CanRunAllHere, CanHandleHere, StillSeen, acted};
-ghost use Rattle.speculate.specs.Running.{ShowsRun, ShowsStep, ShowsTried, ShowsHandler, ShowsChildren};
+ghost use Rattle.batch.specs.Shows.{ShowsRun, ShowsStep, ShowsTried, ShowsHandler, ShowsChildren};
+ghost use Rattle.speculate.specs.Running.{in_view};
 ghost use Rattle.speculate.specs.Ahead.{CanAllTry, IsRunAhead, AreRunAhead, IsRunBefore};
 
 use crate::gate::Gate;
-use batch::{Block, Record, Step, Subaction, Taken, add_label, handler_for, test_holds};
+use batch::{
+    Block, Record, Step, Subaction, Taken, Tried, add_label, handled, handler_for, test_holds,
+};
 use intentions::{Committed, Entry, Lists, NoMemory, Objects, View};
 use meaning::{End, Held};
 use std::alloc::Global;
@@ -45,14 +48,6 @@ struct Fork {
     state: Objects,
 }
 
-/// What running a subaction gives: its body and its handler, and how the block goes on.
-#[derive(Drop)]
-struct Tried {
-    body: Record,
-    handler: Option<Record>,
-    end: End,
-}
-
 /// The run of a child in a view of its own, with all its entries and its net (Weihl 1988: an
 /// intentions list).
 #[derive(Drop)]
@@ -73,7 +68,7 @@ pub(crate) fn run_block<T: Threads + Sync, G: Gate>(
 ) -> Result<Record, NoMemory>
     requires { CanRunHere (block_view block.now) labels.old.items (state_of_view view.old) }
     ensures shows { IfOk result
-        (λ r. ShowsRun (one (block_view block.now) labels.old.items (state_of_view view.old)) r view.old view.new) }
+        (λ r. ShowsRun in_view (one (block_view block.now) labels.old.items (state_of_view view.old)) r view.old view.new) }
     ensures labels { OnOk result (labels.new.items ≡ labels.old.items) }
 {
     let seen = labels.len();
@@ -92,7 +87,7 @@ fn run_steps<T: Threads + Sync, G: Gate>(
 ) -> Result<Record, NoMemory>
     requires { CanRunHere (steps_view steps.now) labels.old.items (state_of_view view.old) }
     ensures shows { IfOk result
-        (λ r. ShowsRun (one (steps_view steps.now) labels.old.items (state_of_view view.old)) r view.old view.new) }
+        (λ r. ShowsRun in_view (one (steps_view steps.now) labels.old.items (state_of_view view.old)) r view.old view.new) }
     ensures labels { OnOk result (StillSeen labels.old.items labels.new.items) }
 {
     let mut taken = Vec::new(making.alloc);
@@ -125,7 +120,7 @@ fn run_step<T: Threads + Sync, G: Gate>(
 ) -> Result<(Taken, End), NoMemory>
     requires { CanStepHere (step_view step.now) labels.old.items (state_of_view view.old) }
     ensures shows { IfOk result
-        (λ r. ShowsStep (one_step (step_view step.now) labels.old.items (state_of_view view.old)) r.0 r.1 labels.old.items labels.new.items view.old view.new) }
+        (λ r. ShowsStep in_view (one_step (step_view step.now) labels.old.items (state_of_view view.old)) r.0 r.1 labels.old.items labels.new.items view.old view.new) }
     ensures labels { OnOk result (StillSeen labels.old.items labels.new.items) }
 {
     match step {
@@ -176,7 +171,7 @@ fn run_subaction<T: Threads + Sync, G: Gate>(
 ) -> Result<Tried, NoMemory>
     requires { CanTryHere (subaction_view child.now) labels.old.items (state_of_view view.old) }
     ensures shows { IfOk result
-        (λ r. ShowsTried (subaction_view child.now) (acted (subaction_view child.now) labels.old.items (state_of_view view.old)) r view.old view.new) }
+        (λ r. ShowsTried in_view (subaction_view child.now) (acted (subaction_view child.now) labels.old.items (state_of_view view.old)) r view.old view.new) }
     ensures labels { OnOk result (labels.new.items ≡ labels.old.items) }
 {
     view.begin()?;
@@ -212,7 +207,7 @@ fn run_handler<T: Threads + Sync, G: Gate>(
 ) -> Result<(Option<Record>, End), NoMemory>
     requires { CanHandleHere (subaction_view child.now).handlers labels.old.items (state_of_view view.old) }
     ensures shows { IfOk result
-        (λ r. ShowsHandler (one_handler (subaction_view child.now).handlers labels.old.items reason (state_of_view view.old)) r.0 r.1 view.old view.new) }
+        (λ r. ShowsHandler in_view (one_handler (subaction_view child.now).handlers labels.old.items reason (state_of_view view.old)) r.0 r.1 view.old view.new) }
     ensures labels { OnOk result (labels.new.items ≡ labels.old.items) }
 {
     match &child.handlers {
@@ -234,7 +229,7 @@ fn run_handler<T: Threads + Sync, G: Gate>(
 }
 
 #[cycle(run)]
-#[tactic(auto, using(crate::proofs::Children::can_try_rules))]
+#[tactic(auto, using(batch::proofs::PartTried::can_try_rules))]
 fn run_children<T: Threads + Sync, G: Gate>(
     making: &Making<'_, T, G>,
     children: &[Subaction],
@@ -246,7 +241,7 @@ fn run_children<T: Threads + Sync, G: Gate>(
     requires can { CanRunAllHere (children_view children.now) labels.old.items (state_of_view view.old) }
     requires none_yet { outcomes.old.items ≡ [] }
     ensures shows { IfOk result
-        (λ r. ShowsChildren (one_children (children_view children.now) labels.old.items (state_of_view view.old)) r.0.items r.1 outcomes.new.items view.old view.new) }
+        (λ r. ShowsChildren in_view (one_children (children_view children.now) labels.old.items (state_of_view view.old)) r.0.items r.1 outcomes.new.items view.old view.new) }
     ensures labels { OnOk result (labels.new.items ≡ labels.old.items) }
 {
     let mut all = Vec::with_capacity(making.alloc, children.len())?;
@@ -282,7 +277,7 @@ fn run_child<T: Threads + Sync, G: Gate>(
     requires can { CanTryHere (subaction_view child.now) labels.old.items (state_of_view view.old) }
     requires ahead { ForSome ahead (IsRunBefore (subaction_view child.now) labels.old.items kept.old (state_of_view view.old)) }
     ensures shows { IfOk result
-        (λ r. ShowsTried (subaction_view child.now) (acted (subaction_view child.now) labels.old.items (state_of_view view.old)) r view.old view.new) }
+        (λ r. ShowsTried in_view (subaction_view child.now) (acted (subaction_view child.now) labels.old.items (state_of_view view.old)) r view.old view.new) }
     ensures kept { OnOk result (ForSome ahead
         (λ _. kept.new ≡ kept.old ++ kept_of_child (record_of (acted (subaction_view child.now) labels.old.items (state_of_view view.old))))) }
     ensures labels { OnOk result (labels.new.items ≡ labels.old.items) }
@@ -432,13 +427,4 @@ fn run_alone<T: Threads + Sync, G: Gate>(
         entries,
         net,
     })
-}
-
-// A handler that ran, and how the block goes on.
-fn handled(done: Record) -> (Option<Record>, End)
-    ensures handler { result.0 ≡ Some done }
-    ensures end { result.1 ≡ done.outcome }
-{
-    let end = done.outcome;
-    (Some(done), end)
 }

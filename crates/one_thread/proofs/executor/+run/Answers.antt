@@ -1,32 +1,33 @@
 use Rattle.std.proofs.Common.{◌++◌, ◌∙◌, refl, sym, ap, arith}
 use Rattle.batch.proofs.SizeLemmas.{last-is_smaller, handler-is_smaller}
 use Rattle.batch.proofs.Handling.{place-within, each_can_run, last_can_run, found-runs, last-runs, abort-passes, plain-runs, plain-goes_on}
-use Rattle.one_thread.proofs.Handling.{shows_handler, shows_pass, shows_go_on}
+use Rattle.batch.proofs.HandlerShows.{shows_handler, shows_pass, shows_go_on}
 use Rattle.meaning.specs.OneThread.{label_if}
 use Rattle.meaning.specs.declared.held.Held.TheVariants.{Outcome}
 use Rattle.batch.proofs.ViewLemmas.{subaction_view-labelled}
-use Rattle.one_thread.proofs.Steps.{part_run-start, part_run-more, part_run-aborted, part_run-ended}
+use Rattle.batch.proofs.PartRuns.{part_run-start, part_run-more, part_run-aborted, part_run-ended}
 use Rattle.batch.proofs.CanRun.{op-can, if-bound}
-use Rattle.one_thread.proofs.Stepping.{op-shows, if-shows_then, if-shows_else, sub-shows, abort-shows, parallel-shows}
-use Rattle.one_thread.proofs.Children.{part_tried-start, part_tried-more, part_tried-aborted, part_tried-ended}
+use Rattle.batch.proofs.StepShows.{op-shows, if-shows_then, if-shows_else, sub-shows, abort-shows, parallel-shows}
+use Rattle.batch.proofs.PartTried.{part_tried-start, part_tried-more, part_tried-aborted, part_tried-ended}
+use Rattle.one_thread.proofs.InPlace.{ground, call_took}
 use Rattle.one_thread.proofs.executor.+run.Goals as goal
 use Rattle.one_thread.proofs.executor.+run.Goals.{run_step-then-holds, run_step-else-holds}
 
 -- ---- steps one after the other
 
 pub run_steps-loop-step-init : goal.run_steps-loop-step-init
-run_steps-loop-step-init t c = rw c.in_ok-taken.ensures.items (part_run-start c.args.steps.now c.args.labels.now.items c.args.workspace.now c.requires)
+run_steps-loop-step-init t c = rw c.in_ok-taken.ensures.items (part_run-start ground c.args.steps.now c.args.labels.now.items c.args.workspace.now c.requires)
 
 pub run_steps-returns-in-Aborted-clause-shows : goal.run_steps-returns-in-Aborted-clause-shows
 run_steps-returns-in-Aborted-clause-shows t c =
-    part_run-aborted _ _ _ _ _ _ _ c.step-item.result c.in_ok-done.done c.in_ok-done.end _ _ c.in-Aborted.field-0 _ c.loop-step.invariant c.loop-step-test.true c.step-item.is c.in_ok-done.ensures.shows c.in-Aborted.is c.in_ok-push.ensures.items refl
+    part_run-aborted ground _ _ _ _ _ _ _ c.step-item.result c.in_ok-done.done c.in_ok-done.end _ _ c.in-Aborted.field-0 _ c.loop-step.invariant c.loop-step-test.true c.step-item.is c.in_ok-done.ensures.shows c.in-Aborted.is c.in_ok-push.ensures.items refl
 
 pub run_steps-loop-step-preserved : goal.run_steps-loop-step-preserved
 run_steps-loop-step-preserved t c =
-    rw c.in_ok-push.ensures.items (part_run-more _ _ _ _ _ _ _ c.step-item.result c.in_ok-done.done c.in_ok-done.end _ _ c.loop-step.invariant c.loop-step-test.true c.step-item.is c.in_ok-done.ensures.shows c.in-Ended.is c.in_ok-done.ensures.labels)
+    rw c.in_ok-push.ensures.items (part_run-more ground _ _ _ _ _ _ _ c.step-item.result c.in_ok-done.done c.in_ok-done.end _ _ c.loop-step.invariant c.loop-step-test.true c.step-item.is c.in_ok-done.ensures.shows c.in-Ended.is c.in_ok-done.ensures.labels)
 
 pub run_steps-returns-clause-shows : goal.run_steps-returns-clause-shows
-run_steps-returns-clause-shows t c = part_run-ended _ _ _ _ _ _ _ _ c.loop-step.invariant c.loop-step-test.false refl refl
+run_steps-returns-clause-shows t c = part_run-ended ground _ _ _ _ _ _ _ _ c.loop-step.invariant c.loop-step-test.false refl refl
 
 -- ---- one step
 
@@ -38,48 +39,48 @@ run_step-index-requires t c = let below = if-bound c.args.step.now c.in-If.label
 
 pub run_step-returns-in_ok-add_label-in-Op-clause-shows : goal.run_step-returns-in_ok-add_label-in-Op-clause-shows
 run_step-returns-in_ok-add_label-in-Op-clause-shows t c =
-    op-shows c.args.step.now _ _ _ _ _ _ _ _ c.in-Op.is c.in_ok-reply-in-Op.ensures.reply c.in_ok-reply-in-Op.ensures.ok c.in_ok-add_label-in-Op.ensures
+    op-shows ground c.args.step.now _ _ _ _ _ _ _ _ c.in-Op.is c.in_ok-reply-in-Op.ensures.reply (call_took _ _ _ _ c.in_ok-reply-in-Op.reply c.in_ok-reply-in-Op.ensures.ok) c.in_ok-add_label-in-Op.ensures
 
 pub run_step-returns-in_ok-record-in-If-clause-shows : goal.run_step-returns-in_ok-record-in-If-clause-shows
 run_step-returns-in_ok-record-in-If-clause-shows t c =
     elim c.if-holds.branch [
-      | run_step-then-holds w ↦ if-shows_then c.args.step.now c.in-If.label c.in-If.test c.in-If.then c.in-If.otherwise c.args.labels.now.items _ c.args.workspace.now _ c.index.result.now c.test_holds-holds.result _ c.in-If.is c.requires c.index.ensures c.test_holds-holds.ensures w.if-holds.true
+      | run_step-then-holds w ↦ if-shows_then ground c.args.step.now c.in-If.label c.in-If.test c.in-If.then c.in-If.otherwise c.args.labels.now.items _ c.args.workspace.now _ c.index.result.now c.test_holds-holds.result _ c.in-If.is c.requires c.index.ensures c.test_holds-holds.ensures w.if-holds.true
           (rw w.branch'-is at c.in_ok-record-in-If.ensures.shows) c.in_ok-record-in-If.ensures.labels
-      | run_step-else-holds w ↦ if-shows_else c.args.step.now c.in-If.label c.in-If.test c.in-If.then c.in-If.otherwise c.args.labels.now.items _ c.args.workspace.now _ c.index.result.now c.test_holds-holds.result _ c.in-If.is c.requires c.index.ensures c.test_holds-holds.ensures w.if-holds.false
+      | run_step-else-holds w ↦ if-shows_else ground c.args.step.now c.in-If.label c.in-If.test c.in-If.then c.in-If.otherwise c.args.labels.now.items _ c.args.workspace.now _ c.index.result.now c.test_holds-holds.result _ c.in-If.is c.requires c.index.ensures c.test_holds-holds.ensures w.if-holds.false
           (rw w.branch'-is at c.in_ok-record-in-If.ensures.shows) c.in_ok-record-in-If.ensures.labels
     ]
 
 pub run_step-returns-in_ok-add_label-in-Sub-clause-shows : goal.run_step-returns-in_ok-add_label-in-Sub-clause-shows
 run_step-returns-in_ok-add_label-in-Sub-clause-shows t c =
-    sub-shows c.args.step.now c.in-Sub.child c.args.labels.now.items _ c.args.workspace.now _ c.in_ok-tried-in-Sub.tried c.in-Sub.is c.in_ok-tried-in-Sub.ensures.shows
+    sub-shows ground c.args.step.now c.in-Sub.child c.args.labels.now.items _ c.args.workspace.now _ c.in_ok-tried-in-Sub.tried c.in-Sub.is c.in_ok-tried-in-Sub.ensures.shows
     (rw (c.in_ok-add_label-in-Sub.ensures, c.in_ok-tried-in-Sub.ensures.labels, subaction_view-labelled c.in-Sub.child) refl)
 
 pub run_step-returns-in-Abort-clause-shows : goal.run_step-returns-in-Abort-clause-shows
-run_step-returns-in-Abort-clause-shows t c = abort-shows c.args.step.now c.in-Abort.reason c.args.labels.now.items c.args.workspace.now c.in-Abort.is
+run_step-returns-in-Abort-clause-shows t c = abort-shows ground c.args.step.now c.in-Abort.reason c.args.labels.now.items c.args.workspace.now c.in-Abort.is
 
 pub run_step-returns-in_ok-append-in-Parallel-clause-shows : goal.run_step-returns-in_ok-append-in-Parallel-clause-shows
 run_step-returns-in_ok-append-in-Parallel-clause-shows t c =
-    parallel-shows c.args.step.now c.in-Parallel.children c.args.labels.now.items _ c.run_children.new.outcomes.items c.args.workspace.now _ c.in_ok-tried-in-Parallel.tried c.in_ok-tried-in-Parallel.end c.in-Parallel.is (rw c.deref.ensures.value at c.in_ok-tried-in-Parallel.ensures.shows)
+    parallel-shows ground c.args.step.now c.in-Parallel.children c.args.labels.now.items _ c.run_children.new.outcomes.items c.args.workspace.now _ c.in_ok-tried-in-Parallel.tried c.in_ok-tried-in-Parallel.end c.in-Parallel.is (rw c.deref.ensures.value at c.in_ok-tried-in-Parallel.ensures.shows)
     (c.in_ok-append-in-Parallel.ensures.items ∙ ap (λ ls. ls ++ c.run_children.new.outcomes.items) c.in_ok-tried-in-Parallel.ensures.labels)
 
 -- ---- children one after the other
 
 pub run_children-loop-child-init : goal.run_children-loop-child-init
 run_children-loop-child-init t c =
-    record { same = refl; part = rw (c.in_ok-all.ensures.items, c.requires.none_yet) (part_tried-start c.args.children.now c.args.labels.now.items c.args.workspace.now c.requires.can) }
+    record { same = refl; part = rw (c.in_ok-all.ensures.items, c.requires.none_yet) (part_tried-start ground c.args.children.now c.args.labels.now.items c.args.workspace.now c.requires.can) }
 
 pub run_children-returns-in-Aborted-clause-shows : goal.run_children-returns-in-Aborted-clause-shows
 run_children-returns-in-Aborted-clause-shows t c =
     rw (c.in_ok-push.ensures.items, ← c.loop-child.invariant.same)
-    (part_tried-aborted _ _ _ _ _ _ _ c.child-item.result c.in_ok-tried.tried _ c.in-Aborted.field-0 (c.in_ok-tried.tried.body, c.in_ok-tried.tried.handler) _ c.loop-child.invariant.part c.loop-child-test.true c.child-item.is c.in_ok-tried.ensures.shows c.in-Aborted.is refl)
+    (part_tried-aborted ground _ _ _ _ _ _ _ c.child-item.result c.in_ok-tried.tried _ c.in-Aborted.field-0 (c.in_ok-tried.tried.body, c.in_ok-tried.tried.handler) _ c.loop-child.invariant.part c.loop-child-test.true c.child-item.is c.in_ok-tried.ensures.shows c.in-Aborted.is refl)
 
 pub run_children-loop-child-preserved : goal.run_children-loop-child-preserved
 run_children-loop-child-preserved t c =
-    let more = part_tried-more _ _ _ _ _ _ _ c.child-item.result c.in_ok-tried.tried _ (c.in_ok-tried.tried.body, c.in_ok-tried.tried.handler) _ c.loop-child.invariant.part c.loop-child-test.true c.child-item.is c.in_ok-tried.ensures.shows c.in-Ended.is refl (ap (λ b. label_if b (Outcome c.in_ok-tried.tried.body.outcome)) (sym (subaction_view-labelled c.child-item.result))) in
+    let more = part_tried-more ground _ _ _ _ _ _ _ c.child-item.result c.in_ok-tried.tried _ (c.in_ok-tried.tried.body, c.in_ok-tried.tried.handler) _ c.loop-child.invariant.part c.loop-child-test.true c.child-item.is c.in_ok-tried.ensures.shows c.in-Ended.is refl (ap (λ b. label_if b (Outcome c.in_ok-tried.tried.body.outcome)) (sym (subaction_view-labelled c.child-item.result))) in
     record { same = c.in_ok-tried.ensures.labels ∙ c.loop-child.invariant.same; part = rw (c.in_ok-push.ensures.items, c.in_ok-add_label.ensures, c.in_ok-tried.ensures.labels) more }
 
 pub run_children-returns-clause-shows : goal.run_children-returns-clause-shows
-run_children-returns-clause-shows t c = rw (← c.loop-child.invariant.same) (part_tried-ended _ _ _ _ _ _ _ c.loop-child.invariant.part c.loop-child-test.false)
+run_children-returns-clause-shows t c = rw (← c.loop-child.invariant.same) (part_tried-ended ground _ _ _ _ _ _ _ c.loop-child.invariant.part c.loop-child-test.false)
 
 -- ---- the handler that takes an abort
 
@@ -96,23 +97,23 @@ run_handler-run_block-requires-in-Some-handler t c =
 
 pub run_handler-returns-in_ok-run_block-in-Some-handler_for-clause-shows : goal.run_handler-returns-in_ok-run_block-in-Some-handler_for-clause-shows
 run_handler-returns-in_ok-run_block-in-Some-handler_for-clause-shows t c =
-    rw c.handled.ensures.handler (shows_handler _ _ c.in_ok-run_block-in-Some-handler_for.field-0 _ _ _ c.in_ok-run_block-in-Some-handler_for.ensures.shows c.handled.ensures.end
+    rw c.handled.ensures.handler (shows_handler ground _ _ c.in_ok-run_block-in-Some-handler_for.field-0 _ _ _ c.in_ok-run_block-in-Some-handler_for.ensures.shows c.handled.ensures.end
     (found-runs c.args.child.now c.in-Some.handlers c.args.labels.now.items c.args.reason _ c.in-Some-handler_for.place c.index.result.now c.requires c.in-Some.is (sym (rw c.deref.ensures.value at c.handler_for.ensures) ∙ c.in-Some-handler_for.is) c.index.ensures))
 
 pub run_handler-returns-in_ok-run_block-in-Some-handler-clause-shows : goal.run_handler-returns-in_ok-run_block-in-Some-handler-clause-shows
 run_handler-returns-in_ok-run_block-in-Some-handler-clause-shows t c =
-    rw c.handled-in-Some-handler.ensures.handler (shows_handler _ _ c.in_ok-run_block-in-Some-handler.field-0 _ _ _ c.in_ok-run_block-in-Some-handler.ensures.shows c.handled-in-Some-handler.ensures.end
+    rw c.handled-in-Some-handler.ensures.handler (shows_handler ground _ _ c.in_ok-run_block-in-Some-handler.field-0 _ _ _ c.in_ok-run_block-in-Some-handler.ensures.shows c.handled-in-Some-handler.ensures.end
     (last-runs c.args.child.now c.in-Some.handlers c.args.labels.now.items c.args.reason _ c.in-Some-handler.block c.requires c.in-Some.is (sym (rw c.deref.ensures.value at c.handler_for.ensures) ∙ c.in-None-handler_for.is) c.in-Some-handler.is))
 
 pub run_handler-returns-in-None-handler-clause-shows : goal.run_handler-returns-in-None-handler-clause-shows
 run_handler-returns-in-None-handler-clause-shows t c =
-    rw (abort-passes c.args.child.now c.in-Some.handlers c.args.labels.now.items c.args.reason _ c.requires c.in-Some.is (sym (rw c.deref.ensures.value at c.handler_for.ensures) ∙ c.in-None-handler_for.is) c.in-None-handler.is) (shows_pass c.args.labels.now.items c.args.reason c.args.workspace.now)
+    rw (abort-passes c.args.child.now c.in-Some.handlers c.args.labels.now.items c.args.reason _ c.requires c.in-Some.is (sym (rw c.deref.ensures.value at c.handler_for.ensures) ∙ c.in-None-handler_for.is) c.in-None-handler.is) (shows_pass ground c.args.labels.now.items c.args.reason c.args.workspace.now)
 
 pub run_handler-returns-in_ok-run_block-in-Some-handler-2-clause-shows : goal.run_handler-returns-in_ok-run_block-in-Some-handler-2-clause-shows
 run_handler-returns-in_ok-run_block-in-Some-handler-2-clause-shows t c =
-    rw c.handled-in-Some-handler-2.ensures.handler (shows_handler _ _ c.in_ok-run_block-in-Some-handler-2.field-0 _ _ _ c.in_ok-run_block-in-Some-handler-2.ensures.shows c.handled-in-Some-handler-2.ensures.end
+    rw c.handled-in-Some-handler-2.ensures.handler (shows_handler ground _ _ c.in_ok-run_block-in-Some-handler-2.field-0 _ _ _ c.in_ok-run_block-in-Some-handler-2.ensures.shows c.handled-in-Some-handler-2.ensures.end
     (plain-runs c.args.child.now c.args.labels.now.items c.args.reason _ c.in-Some-handler-2.block c.in-None.is c.in-Some-handler-2.is))
 
 pub run_handler-returns-in-None-handler-2-clause-shows : goal.run_handler-returns-in-None-handler-2-clause-shows
 run_handler-returns-in-None-handler-2-clause-shows t c =
-    rw (plain-goes_on c.args.child.now c.args.labels.now.items c.args.reason c.args.workspace.now.state c.in-None.is c.in-None-handler-2.is) (shows_go_on c.args.labels.now.items c.args.reason c.args.workspace.now)
+    rw (plain-goes_on c.args.child.now c.args.labels.now.items c.args.reason c.args.workspace.now.state c.in-None.is c.in-None-handler-2.is) (shows_go_on ground c.args.labels.now.items c.args.reason c.args.workspace.now)

@@ -7,8 +7,9 @@ use Rattle.batch.specs.declared.tree.Step.{size-Step}
 use Rattle.batch.specs.declared.tree.Subaction.{size-Subaction}
 use Rattle.intentions.specs.Levels.{shown as state_of_view}
 use Rattle.speculate.specs.Ahead.{AreRunAhead}
-use Rattle.speculate.proofs.Steps.{IsPartRun}
-use Rattle.speculate.proofs.Children.{ArePartTried}
+use Rattle.batch.proofs.PartRuns.{IsPartRun}
+use Rattle.batch.proofs.PartTried.{ArePartTried}
+use Rattle.speculate.specs.Running.{in_view}
 use Rattle.speculate.proofs.Siblings.{AreLeft}
 use Rattle.speculate.proofs.Measures.{deep, beyond_widths}
 use Rattle.speculate.proofs.executor.+run.Given as goal
@@ -54,12 +55,12 @@ decreases-run_children g l = deep (most size-Subaction l.children.now) (beyond_w
 
 abbrev pub invariant-run_steps-loop-step : goal.invariant-run_steps-loop-step
 invariant-run_steps-loop-step g l =
-    IsPartRun l.steps l.fn.labels.items l.fn.view l.step-index l.taken.items l.labels.items l.view
+    IsPartRun in_view l.steps l.fn.labels.items l.fn.view l.step-index l.taken.items l.labels.items l.view
 
 abbrev pub invariant-run_children-loop-place : goal.invariant-run_children-loop-place
 invariant-run_children-loop-place g l = record {
   same : l.labels.items ≡ l.fn.labels.items;
-  part : ArePartTried l.children l.labels.items l.fn.view l.place l.all.items l.outcomes.items l.view;
+  part : ArePartTried in_view l.children l.labels.items l.fn.view l.place l.all.items l.outcomes.items l.view;
   left : 0 < into_iter_len l.ahead → AreLeft (drop l.place l.children) l.labels.items l.kept (state_of_view l.view) (into_iter_items l.ahead);
 }
 
