@@ -23,9 +23,13 @@ bin/ordtx: $(SOURCES)
 run: bin/ordtx
 	bin/ordtx run examples/ledger.json
 
+# `rt ci` leaves the programs that it proved and built: those are tried.
 test:
 	@echo "Proving every crate from nothing, with its must-fail edits, tests and programs."
 	$(RT) ci
+	mkdir -p bin
+	cp crates/ordtx_cli/out/ordtx_cli bin/ordtx
+	cp crates/refusals/out/refusals bin/refusals
 	$(MAKE) try
 
 try: bin/ordtx bin/refusals
