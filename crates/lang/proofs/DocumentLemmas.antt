@@ -1,13 +1,12 @@
 -- A document that was read part by part.
-use Rattle.std.proofs.Common.{◌≡◌, ℕ, List, [], map, refl}
+use Rattle.std.proofs.Common.{◌≡◌, ℕ, List, Some, None, Ok, Err, refl, sym, ap, ◌∙◌}
 use Rattle.serde_json.specs.Data.{Data, Items}
 use Rattle.meaning.specs.Entries.{State}
 use Rattle.meaning.specs.Trees as tree
-use Rattle.batch.specs.Names.{Texts}
-use Rattle.batch.specs.Views.{block_view}
-use Rattle.batch.specs.declared.batch.Batch.{Batch}
 use Rattle.lang.specs.Asked.{declared_by, names_of, objects_in, setting_in, transactions_in, version_in}
-use Rattle.lang.specs.Reading.{document_of}
+use Rattle.lang.specs.declared.counts.Counts.{Counts}
+use Rattle.lang.specs.declared.fault.Fault.{Fault}
+use Rattle.lang.specs.Demand.{Demand, check, fault_of, first_fault, no_counts}
 use Rattle.lang.specs.Scope.{Numbers, Setting, Table, no_numbers}
 use Rattle.lang.specs.Spelled.{Document, blocks_of, document_in, parts_in, spelled, starts_of}
 
@@ -28,9 +27,10 @@ same_document d start blocks last objects numbers none names parts =
     let parts_here : spelled start blocks last ≡ parts_in no_numbers d = rw none at parts in
     rw (← parts_here, names) refl
 
-pub made : (batch : Batch) (start : State) (texts : Texts) (transactions : List tree.Block) → batch.objects ≡ start → batch.names ≡ texts → map block_view batch.transactions.items ≡ transactions
-    → (let read : Document = record { start = start; texts = texts; transactions = transactions } in document_of batch ≡ read)
-made batch start texts transactions a b e = rw (a, b, e) refl
+-- what is met before anything is read has no fault
+pub met_first : (start next : Counts) (ds : List Demand) → start ≡ no_counts → check start ds ≡ Ok next → first_fault ds ≡ None
+met_first start next ds begun met = ap (λ c. fault_of (check c ds)) (sym begun) ∙ ap fault_of met
 
-pub no_texts : (items reasons : Table) → items ≡ [] → reasons ≡ [] → (let numbers : Numbers = record { items = items; reasons = reasons } in numbers ≡ no_numbers)
-no_texts items reasons a b = rw (a, b) refl
+-- what fails before anything is read is the first fault
+pub failed_first : (start : Counts) (ds : List Demand) (fault : Fault) → start ≡ no_counts → check start ds ≡ Err fault → first_fault ds ≡ Some fault
+failed_first start ds fault begun failed = ap (λ c. fault_of (check c ds)) (sym begun) ∙ ap fault_of failed

@@ -4,7 +4,10 @@ use Rattle.std.specs.Str.{is_utf8}
 use Rattle.serde_json.specs.Data.{Data}
 use Rattle.serde_json.specs.Read.{read as read_text}
 use Rattle.batch.specs.declared.batch.Batch.{Batch}
+use Rattle.batch.specs.Names.{texts_of}
 use Rattle.batch.specs.Views.{block_view}
+use Rattle.lang.specs.declared.document.Parts.{Parts}
+use Rattle.lang.specs.declared.state.Numbering.{Numbering}
 use Rattle.lang.specs.declared.fault.Code.TheVariants.{NotJson, TooMany}
 use Rattle.lang.specs.declared.fault.Fault.{Fault}
 use Rattle.lang.specs.Faults.{fault_outside}
@@ -32,3 +35,15 @@ reading bytes = if nat_lt 67108864 (length bytes) then Err (fault_outside TooMan
 -- what a batch is seen as
 abbrev pub document_of : Batch → Document
 document_of batch = record { start = batch.objects; texts = batch.names; transactions = map block_view batch.transactions.items }
+
+-- what the parts of a document are seen as, with the texts that were numbered
+abbrev pub document_with : Parts → Numbering → Document
+document_with parts numbering = record {
+  start = parts.declared.objects;
+  texts = record {
+    objects = texts_of parts.declared.names.keys;
+    items = texts_of numbering.items.keys;
+    reasons = texts_of numbering.reasons.keys;
+  };
+  transactions = map block_view parts.transactions.items;
+}

@@ -1,0 +1,494 @@
+//! Reads a document straight from its tokens into the batch, where it is in the common form.
+//!
+//! A function `pull_..` takes the next tokens of the reader, each once. `None` says that they are out
+//! of the common form, or that memory was refused; the whole document is then read as a tree
+//! (`document`), which alone tells faults.
+//!
+//! The common form: the members `ordtx`, `objects` and `transactions` in this order; an operation's
+//! `op`, then at most its `as`; numbers without a sign, a point or an exponent. Of the objects, and of
+//! each step that is no operation, a small tree is made and read as in any other document.
+ghost use Rattle.std.specs.Prelude.{◌≡◌, ℕ, List, [], ◌∷◌, codes, map, option_map, true, Some, None, IfSome, ◌<◌, ◌+◌, ◌*◌, ◌≤◌};
+ghost use Rattle.json.specs.Token as token;
+ghost use Rattle.serde_json.specs.Data.{Data, Items, Members, Num, member, number, unsigned};
+ghost use Rattle.serde_json.specs.Read.{number_of};
+ghost use Rattle.serde_json.specs.Events.{items_len};
+ghost use Rattle.serde_json.specs.View.{items_view, members_view, view};
+ghost use Rattle.batch.specs.Names.{texts_of};
+ghost use Rattle.batch.specs.Views.{block_view, step_view};
+ghost use Rattle.lang.specs.Asked.{Asks, asked, names_of, objects_in, transaction_asked, transactions_asked, block_asked, arguments_asked, scope_after, steps_asked, step_asked};
+ghost use Rattle.lang.specs.Answer.{IsMet};
+ghost use Rattle.lang.specs.Pulled.{ReadsItems, ReadsMembers, ReadsValue, labelled, op_array};
+ghost use Rattle.lang.specs.Scope.{Extends, numbers_of, scope_of, setting_of};
+ghost use Rattle.lang.specs.Spelled.{Spelling, parts_in, spelled, blocks_of, block_of, call_of, step_of, steps_spelled};
+ghost use Rattle.lang.specs.Words.{is_name};
+
+use crate::counts::Counts;
+use crate::declared::Declared;
+use crate::document::{MAX_OBJECTS, MAX_TRANSACTIONS, Parts};
+use crate::labels::add_new_label;
+use crate::operations::{amount_call, item_call, item_of, lone_call, pair_call, target_of};
+use crate::starts::read_objects;
+use crate::state::{Numbering, State};
+use crate::steps::{MAX_DEPTH, read_step};
+use crate::words::{Subject, Verb, is_name};
+use batch::{Block, Call, Step};
+use fast_float::Numeral;
+use json::{Reader, Token};
+use objects::Amount;
+use serde_json::{Map, Value};
+use std::alloc::Global;
+
+/// How deep the objects may nest in the common form.
+const OBJECTS_DEPTH: usize = 100;
+
+// ---- tokens
+
+fn pull_text<'a>(reader: &mut Reader<'a>) -> Option<&'a str>
+    ensures { IfSome result (λ text. reader.old ≡ token.string text.now ∷ reader.new) }
+{
+    match reader.next() {
+        Some(Token::String(text)) => Some(text),
+        _ => None,
+    }
+}
+
+fn pull_name<'a>(reader: &mut Reader<'a>) -> Option<&'a str>
+    ensures { IfSome result (λ text. (reader.old ≡ token.string text.now ∷ reader.new)
+        × (is_name text.now ≡ true)) }
+{
+    let text = pull_text(reader)?;
+    if is_name(text) { Some(text) } else { None }
+}
+
+/// The number that a text writes, if it has no sign, point or exponent and fits.
+fn unsigned_of(text: &str) -> Option<u64>
+    ensures { IfSome result (λ n. number_of text.now ≡ Some (unsigned n)) }
+{
+    let bytes = text.as_bytes();
+    if bytes.is_empty() || bytes[0] == b'-' {
+        return None;
+    }
+    Numeral::scan(bytes).to_u64()
+}
+
+fn pull_amount(reader: &mut Reader<'_>) -> Option<Amount>
+    ensures { IfSome result (λ amount. (s : List ℕ) × (reader.old ≡ token.number s ∷ reader.new)
+        × (number_of s ≡ Some (unsigned amount.value))) }
+{
+    match reader.next() {
+        Some(Token::Number(text)) => Amount::new(unsigned_of(text)?),
+        _ => None,
+    }
+}
+
+fn pull_begin_object(reader: &mut Reader<'_>) -> Option<()>
+    ensures { IfSome result (λ _. reader.old ≡ token.begin_object ∷ reader.new) }
+{
+    match reader.next() {
+        Some(Token::BeginObject) => Some(()),
+        _ => None,
+    }
+}
+
+fn pull_begin_array(reader: &mut Reader<'_>) -> Option<()>
+    ensures { IfSome result (λ _. reader.old ≡ token.begin_array ∷ reader.new) }
+{
+    match reader.next() {
+        Some(Token::BeginArray) => Some(()),
+        _ => None,
+    }
+}
+
+fn pull_end_array(reader: &mut Reader<'_>) -> Option<()>
+    ensures { IfSome result (λ _. reader.old ≡ token.end_array ∷ reader.new) }
+{
+    match reader.next() {
+        Some(Token::EndArray) => Some(()),
+        _ => None,
+    }
+}
+
+fn pull_end_object(reader: &mut Reader<'_>) -> Option<()>
+    ensures { IfSome result (λ _. reader.old ≡ token.end_object ∷ reader.new) }
+{
+    match reader.next() {
+        Some(Token::EndObject) => Some(()),
+        _ => None,
+    }
+}
+
+/// That no token is left.
+pub(crate) fn pull_end(reader: &mut Reader<'_>) -> Option<()>
+    ensures { IfSome result (λ _. reader.old ≡ []) }
+{
+    match reader.next() {
+        Some(_) => None,
+        None => Some(()),
+    }
+}
+
+fn pull_key(reader: &mut Reader<'_>, name: &str) -> Option<()>
+    ensures { IfSome result (λ _. reader.old ≡ token.key name.now ∷ reader.new) }
+{
+    match reader.next() {
+        Some(Token::Key(key)) if key == name => Some(()),
+        _ => None,
+    }
+}
+
+// ---- operations
+
+/// The arguments of a call, up to the end of the operation's array.
+fn pull_arguments(
+    alloc: Global,
+    verb: Verb,
+    reader: &mut Reader<'_>,
+    numbering: &mut Numbering,
+) -> Option<Call>
+    ensures { IfSome result (λ call. (rest : Items) × ReadsItems 0 reader.old rest reader.new
+        × ((o c : List ℕ) (counts : Counts) → IsMet counts (arguments_asked verb (op_array o c rest)) counts)
+        × ((o c : List ℕ) → (call, numbers_of numbering.new) ≡ call_of verb (numbers_of numbering.old) (op_array o c rest))) }
+{
+    match verb {
+        Verb::OfAmount(verb) => {
+            let amount = pull_amount(reader)?;
+            pull_end_array(reader)?;
+            Some(amount_call(verb, amount))
+        }
+        Verb::OfItem(verb) => {
+            let name = pull_name(reader)?;
+            pull_end_array(reader)?;
+            let item = item_of(alloc, name, numbering).ok()?;
+            Some(item_call(verb, item))
+        }
+        Verb::OfPair(verb) => {
+            let key_name = pull_name(reader)?;
+            let name = pull_name(reader)?;
+            pull_end_array(reader)?;
+            let key = item_of(alloc, key_name, numbering).ok()?;
+            let item = item_of(alloc, name, numbering).ok()?;
+            Some(pair_call(verb, key, item))
+        }
+        Verb::Alone(verb) => {
+            pull_end_array(reader)?;
+            Some(lone_call(verb))
+        }
+    }
+}
+
+/// The label of a step whose other members have been read, if it has one, and the step's end.
+fn pull_label<'a>(reader: &mut Reader<'a>) -> Option<Option<&'a str>>
+    ensures { IfSome result (λ label. (found : Members)
+        → ReadsMembers 0 found reader.old (labelled (option_map (λ text. text.now) label) found) reader.new) }
+{
+    match reader.next() {
+        Some(Token::EndObject) => Some(None),
+        Some(Token::Key("as")) => {
+            let label = pull_text(reader)?;
+            pull_end_object(reader)?;
+            Some(Some(label))
+        }
+        _ => None,
+    }
+}
+
+/// An operation whose key `op` has been read.
+fn pull_operation(
+    alloc: Global,
+    reader: &mut Reader<'_>,
+    declared: &Declared,
+    state: &mut State,
+) -> Option<Step>
+    ensures { IfSome result (λ step. (d : Data) × ReadsValue 2 (token.begin_object ∷ token.key (codes "op") ∷ reader.old) d reader.new
+        × ((asks : Asks) → IsMet state.old.counts
+        (step_asked asks (setting_of declared.now) (scope_of state.old.labels.entries) d) state.new.counts)
+        × ((block : Spelling) → (step_view step, numbers_of state.new.numbering)
+        ≡ step_of block (setting_of declared.now) (scope_of state.old.labels.entries) (numbers_of state.old.numbering) d)
+        × (scope_of state.new.labels.entries ≡ scope_after (setting_of declared.now) (scope_of state.old.labels.entries) d)) }
+{
+    pull_begin_array(reader)?;
+    let object = pull_text(reader)?;
+    let call = pull_text(reader)?;
+    state.counts.one_more_operation(declared.version).ok()?;
+    let (object, verb) = target_of(object, call, declared, &state.counts).ok()?;
+    let call = pull_arguments(alloc, verb, reader, &mut state.numbering)?;
+    let label = pull_label(reader)?;
+    add_new_label(
+        alloc,
+        label,
+        Subject::Reply(verb),
+        &mut state.labels,
+        &state.counts,
+    )
+    .ok()?;
+    Some(Step::Op {
+        object,
+        call,
+        labelled: label.is_some(),
+    })
+}
+
+// ---- values
+
+/// The value of a number's text, if it is whole, not negative and fits.
+fn whole_value(text: &str) -> Option<Value>
+    ensures { IfSome result (λ v. (x : Num) × (number_of text.now ≡ Some x) × (view v ≡ number x)) }
+{
+    let number = unsigned_of(text)?;
+    Some(Value::from(number))
+}
+
+/// A value that nests no deeper, if all its numbers are as `unsigned_of` takes them.
+#[cycle(values)]
+fn pull_value(alloc: Global, reader: &mut Reader<'_>, depth: usize) -> Option<Value>
+    ensures { IfSome result (λ v. ReadsValue depth reader.old (view v) reader.new) }
+{
+    match reader.next()? {
+        Token::String(text) => Some(Value::String(String::from_str(alloc, text).ok()?)),
+        Token::Number(text) => whole_value(text),
+        Token::Bool(holds) => Some(Value::Bool(holds)),
+        Token::Null => Some(Value::Null),
+        Token::BeginArray => {
+            if depth == 0 {
+                return None;
+            }
+            Some(Value::Array(pull_items(alloc, reader, depth - 1)?))
+        }
+        Token::BeginObject => {
+            if depth == 0 {
+                return None;
+            }
+            Some(Value::Object(pull_members(alloc, reader, depth - 1, Map::new(alloc))?))
+        }
+        _ => None,
+    }
+}
+
+/// The items of an array whose beginning has been read, with its end.
+#[cycle(values)]
+fn pull_items(alloc: Global, reader: &mut Reader<'_>, depth: usize) -> Option<Vec<Value>>
+    ensures { IfSome result (λ list. ReadsItems depth reader.old (items_view list.items) reader.new) }
+{
+    let mut found = Vec::new(alloc);
+    while !reader.take_end_array() {
+        found.push(pull_value(alloc, reader, depth)?).ok()?;
+    }
+    Some(found)
+}
+
+/// The members of an object up to its end, with those that were found before.
+#[cycle(values)]
+fn pull_members(
+    alloc: Global,
+    reader: &mut Reader<'_>,
+    depth: usize,
+    before: Map<String, Value>,
+) -> Option<Map<String, Value>>
+    ensures { IfSome result (λ map. ReadsMembers depth (members_view before.entries) reader.old (members_view map.entries) reader.new) }
+{
+    let mut found = before;
+    while let Some(name) = reader.next_key().ok()? {
+        let key = String::from_str(alloc, name).ok()?;
+        let member = pull_value(alloc, reader, depth)?;
+        drop(found.insert(key, member).ok()?);
+    }
+    Some(found)
+}
+
+/// The value of an object whose first key has been read.
+fn pull_object(alloc: Global, name: &str, reader: &mut Reader<'_>, depth: usize) -> Option<Value>
+    ensures { IfSome result (λ v. ReadsValue (depth + 1) (token.begin_object ∷ token.key name.now ∷ reader.old) (view v) reader.new) }
+{
+    let key = String::from_str(alloc, name).ok()?;
+    let member = pull_value(alloc, reader, depth)?;
+    let mut found = Map::new(alloc);
+    drop(found.insert(key, member).ok()?);
+    Some(Value::Object(pull_members(alloc, reader, depth, found)?))
+}
+
+// ---- steps
+
+/// A step, within so many more levels.
+fn pull_step(
+    alloc: Global,
+    reader: &mut Reader<'_>,
+    levels: usize,
+    declared: &Declared,
+    state: &mut State,
+) -> Option<Step>
+    requires few { levels ≤ 24 }
+    ensures { IfSome result (λ step. (d : Data) × ReadsValue (5 * levels + 4) reader.old d reader.new
+        × IsMet state.old.counts (step_asked (block_asked (setting_of declared.now) levels)
+        (setting_of declared.now) (scope_of state.old.labels.entries) d) state.new.counts
+        × ((step_view step, numbers_of state.new.numbering)
+        ≡ step_of (block_of (setting_of declared.now) levels) (setting_of declared.now)
+        (scope_of state.old.labels.entries) (numbers_of state.old.numbering) d)
+        × (scope_of state.new.labels.entries ≡ scope_after (setting_of declared.now) (scope_of state.old.labels.entries) d)) }
+{
+    pull_begin_object(reader)?;
+    let name = reader.next_key().ok()??;
+    if name == "op" {
+        return pull_operation(alloc, reader, declared, state);
+    }
+    // From a block to the next below it are at most five levels: the array of its steps, a step, the
+    // array of its children, a child, and its handlers.
+    let step = pull_object(alloc, name, reader, 5 * levels + 3)?;
+    read_step(alloc, &step, levels, declared, state).ok()
+}
+
+/// The steps of a block up to its end, each of which sees the labels of those before it.
+fn pull_steps(
+    alloc: Global,
+    reader: &mut Reader<'_>,
+    levels: usize,
+    declared: &Declared,
+    state: &mut State,
+) -> Option<Vec<Step>>
+    requires few { levels ≤ 24 }
+    ensures { IfSome result (λ steps. (ds : Items) × ReadsItems (5 * levels + 4) reader.old ds reader.new
+        × IsMet state.old.counts (steps_asked (block_asked (setting_of declared.now) levels)
+        (setting_of declared.now) (scope_of state.old.labels.entries) ds) state.new.counts
+        × ((map step_view steps.items, numbers_of state.new.numbering)
+        ≡ steps_spelled (block_of (setting_of declared.now) levels) (setting_of declared.now)
+        (scope_of state.old.labels.entries) (numbers_of state.old.numbering) ds)
+        × Extends (scope_of state.old.labels.entries) (scope_of state.new.labels.entries)) }
+{
+    let mut steps = Vec::new(alloc);
+    while !reader.take_end_array() {
+        steps
+            .push(pull_step(alloc, reader, levels, declared, state)?)
+            .ok()?;
+    }
+    Some(steps)
+}
+
+/// A block within so many more levels. Its labels are no longer seen after it.
+fn pull_block(
+    alloc: Global,
+    reader: &mut Reader<'_>,
+    levels: usize,
+    declared: &Declared,
+    state: &mut State,
+) -> Option<Block>
+    requires few { levels ≤ 24 }
+    ensures { IfSome result (λ block. (d : Data) × ReadsValue (5 * levels) reader.old d reader.new
+        × IsMet state.old.counts
+        (block_asked (setting_of declared.now) levels (scope_of state.old.labels.entries) d) state.new.counts
+        × ((block_view block, numbers_of state.new.numbering)
+        ≡ block_of (setting_of declared.now) levels (scope_of state.old.labels.entries)
+        (numbers_of state.old.numbering) d)
+        × (scope_of state.new.labels.entries ≡ scope_of state.old.labels.entries)) }
+{
+    if levels == 0 {
+        return None;
+    }
+    pull_begin_array(reader)?;
+    let seen = state.labels.len();
+    let steps = pull_steps(alloc, reader, levels - 1, declared, state)?;
+    state.labels.truncate(seen);
+    Some(Block { steps })
+}
+
+// ---- transactions
+
+fn pull_transaction(
+    alloc: Global,
+    reader: &mut Reader<'_>,
+    number: u32,
+    declared: &Declared,
+    state: &mut State,
+) -> Option<Block>
+    requires { scope_of state.old.labels.entries ≡ [] }
+    ensures { IfSome result (λ block. (d : Data) × ReadsValue 120 reader.old d reader.new
+        × IsMet state.old.counts (transaction_asked number (setting_of declared.now) d) state.new.counts
+        × ((block_view block, numbers_of state.new.numbering)
+        ≡ block_of (setting_of declared.now) 24 [] (numbers_of state.old.numbering) d)
+        × (scope_of state.new.labels.entries ≡ [])) }
+{
+    state.counts.transaction = number;
+    pull_block(alloc, reader, MAX_DEPTH, declared, state)
+}
+
+/// The transactions up to the end of their array.
+fn pull_transactions(
+    alloc: Global,
+    reader: &mut Reader<'_>,
+    declared: &Declared,
+    state: &mut State,
+) -> Option<Vec<Block>>
+    requires labels { scope_of state.old.labels.entries ≡ [] }
+    ensures { IfSome result (λ blocks. (ds : Items) × ReadsItems 120 reader.old ds reader.new
+        × IsMet state.old.counts (transactions_asked 1 (setting_of declared.now) ds) state.new.counts
+        × ((map block_view blocks.items, numbers_of state.new.numbering)
+        ≡ blocks_of (setting_of declared.now) (numbers_of state.old.numbering) ds)
+        × (items_len ds ≤ 10000)) }
+{
+    let mut blocks = Vec::new(alloc);
+    let mut number = 0;
+    while !reader.take_end_array() {
+        if number >= MAX_TRANSACTIONS {
+            return None;
+        }
+        number += 1;
+        blocks
+            .push(pull_transaction(alloc, reader, number, declared, state)?)
+            .ok()?;
+    }
+    Some(blocks)
+}
+
+// ---- the document
+
+fn pull_version(reader: &mut Reader<'_>) -> Option<u8>
+    ensures { IfSome result (λ version. (s : List ℕ) × (reader.old ≡ token.number s ∷ reader.new)
+        × (number_of s ≡ Some (unsigned version))
+        × (1 ≤ version) × (version ≤ 4)) }
+{
+    match reader.next() {
+        Some(Token::Number(text)) => {
+            let number = unsigned_of(text)?;
+            if 1 <= number && number <= 4 {
+                Some(number as u8)
+            } else {
+                None
+            }
+        }
+        _ => None,
+    }
+}
+
+/// The parts of a document: its version, its objects and its transactions, in this order.
+pub(crate) fn pull_parts(alloc: Global, reader: &mut Reader<'_>, state: &mut State) -> Option<Parts>
+    requires { scope_of state.old.labels.entries ≡ [] }
+    ensures { IfSome result (λ parts. (d : Data) × ReadsValue 122 reader.old d reader.new
+        × IsMet state.old.counts (asked d) state.new.counts
+        × (texts_of parts.declared.names.keys ≡ names_of (objects_in d))
+        × (spelled parts.declared.objects (map block_view parts.transactions.items) (numbers_of state.new.numbering)
+        ≡ parts_in (numbers_of state.old.numbering) d)) }
+{
+    pull_begin_object(reader)?;
+    pull_key(reader, "ordtx")?;
+    let version = pull_version(reader)?;
+    pull_key(reader, "objects")?;
+    pull_begin_array(reader)?;
+    let objects = pull_items(alloc, reader, OBJECTS_DEPTH)?;
+    if objects.len() > MAX_OBJECTS {
+        return None;
+    }
+    let declared = read_objects(
+        alloc,
+        &objects,
+        version,
+        &mut state.counts,
+        &mut state.numbering,
+    )
+    .ok()?;
+    pull_key(reader, "transactions")?;
+    pull_begin_array(reader)?;
+    let transactions = pull_transactions(alloc, reader, &declared, state)?;
+    pull_end_object(reader)?;
+    Some(Parts {
+        declared,
+        transactions,
+    })
+}
