@@ -154,8 +154,59 @@ def try_withdrawals(program):
                    lines(report + counts))
 
 
+def try_forms(program):
+    """One document written in other ways, each with the same report."""
+    version = '"ordtx":4'
+    objects = '"objects":[{"name":"c","kind":"counter","start":-3}]'
+    add = '{"op":["c","add",5],"as":"n"}'
+    test = '{"if":"n","is":"ok","then":[{"op":["c","sub",1]}]}'
+    members = (version, objects, '"transactions":[[%s,%s]]' % (add, test))
+    plain = "{%s}" % ",".join(members)
+    report = lines(["T 1 committed", "O 1.1 c add 5 = ok", "I 1.2 then",
+                    "O 1.2.t.1 c sub 1 = ok", "= c counter 1", "rounds 1"])
+    forms = (
+        ("a start below 0", plain),
+        ("its members turned round", "{%s}" % ",".join(members[::-1])),
+        ("a version that is said again", '{"ordtx":1,%s' % plain[1:]),
+        ("objects that are said again", '{"objects":[],%s' % plain[1:]),
+        ("transactions that are said again",
+         '{"transactions":[[{"op":7}]],%s' % plain[1:]),
+        ("an operation that is said again",
+         plain.replace('{"op"', '{"op":["d","deq"],"op"')),
+        ("a label before its operation",
+         plain.replace(add, '{"as":"n","op":["c","add",5]}')),
+        ("escapes in names", plain.replace('"c"', '"\\u0063"')
+         .replace('"n"', '"\\u006E"')),
+        ("escapes in words", plain.replace('"op"', '"\\u006fp"')
+         .replace('"add"', '"\\u0061dd"').replace('"ordtx"', '"ordt\\u0078"')),
+        ("spaces and line ends", " \n" + plain.replace(",", " ,\r\n\t ")
+         .replace(":", " : ").replace("]", " ] ") + "\t\n"),
+    )
+    for name, text in forms:
+        program.expect_report(name, text.encode(), report, [])
+        start = text.replace("-3", "7")
+        program.expect_report(name + ", from 7", start.encode(),
+                              report.replace(b"counter 1", b"counter 11"), [])
+    for name, amount in (("a point", "5.0"), ("an exponent", "5e0"),
+                         ("a sign", "-5"), ("a sign alone", "-0"),
+                         ("64 bits", "18446744073709551615"),
+                         ("more bits", "18446744073709551616")):
+        program.expect_fault_everywhere(
+            "an amount with %s" % name,
+            plain.replace('add",5', 'add",%s' % amount).encode(), 7, 1)
+    program.expect_fault_everywhere(
+        "a third member", plain.replace('"as":"n"', '"as":"n","at":1').encode(),
+        2, 1)
+    for name, text in (("a comma more", plain[:-1] + ",}"),
+                       ("a bracket more", plain + "}"),
+                       ("half a pair", plain.replace('"c"', '"\\ud800"')),
+                       ("an unquoted word", plain.replace('"n"', "n"))):
+        program.expect_fault_everywhere(name, text.encode(), 1, 0)
+
+
 def try_all(program, whole):
     try_nesting(program)
+    try_forms(program)
     try_limits(program)
     try_bytes(program, whole)
     try_withdrawals(program)

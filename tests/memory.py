@@ -1,5 +1,6 @@
 """Each request for memory refused in turn, until a run meets no refusal."""
 
+import json
 import os
 import pathlib
 import subprocess
@@ -35,18 +36,30 @@ def try_loops(program, library, path):
                         (word, 0, b""))
 
 
-def try_case(program, library, words, case):
-    document = case.with_suffix(".json").read_bytes()
-    report = case.with_suffix(".report").read_bytes()
+def turned_round(document):
+    """The same document, its members in another order: it is read as a tree from the first."""
+    members = json.loads(document)
+    return json.dumps({key: members[key] for key in reversed(members)}).encode()
+
+
+def try_document(program, library, words, name, document, report):
+    """Where reading without a tree is refused memory, a tree may still be made of it."""
     number, made = 0, 1
     while number <= made:
         number += 1
         got, made = refuse(library, number, words, program.path, document)
-        whole = (report, 0, b"")
-        name = "%s, request %d refused" % (case.name, number)
-        program.compare(name, words, got, FAULT if got[1] == 1 else whole)
-    program.compare("%s, no request refused" % case.name, words, got,
+        program.compare("%s, request %d refused" % (name, number), words, got,
+                        FAULT if got[1] == 1 else (report, 0, b""))
+    program.compare("%s, no request refused" % name, words, got,
                     (report, 0, b""))
+
+
+def try_case(program, library, words, case):
+    document = case.with_suffix(".json").read_bytes()
+    report = case.with_suffix(".report").read_bytes()
+    try_document(program, library, words, case.name, document, report)
+    try_document(program, library, words, case.name + " turned round",
+                 turned_round(document), report)
 
 
 def try_all(program, loops, cases):

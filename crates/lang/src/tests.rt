@@ -112,6 +112,39 @@ fn texts_are_numbered_by_first_appearance(rt: HostRuntime) -> Result<(), Fail> {
     Ok(())
 }
 
+/// How many objects, and which names and transactions a document's bytes spell, as they are printed.
+fn read_of(rt: &HostRuntime, text: &str) -> Result<String, Fail> {
+    let alloc = rt.alloc();
+    let batch = read(alloc, text.as_bytes())?;
+    let objects = batch.objects.len();
+    let names = &batch.names;
+    let transactions = &batch.transactions;
+    Ok(format!(in alloc; "{objects} {names:?} {transactions:?}")?)
+}
+
+#[test]
+fn the_same_is_read_without_a_tree(rt: HostRuntime) -> Result<(), Fail> {
+    let objects = SIX.replace(rt.alloc(), "-3", "3")?;
+    let calls =
+        "[{\"op\":[\"a\",\"balance\"],\"as\":\"b\"},{\"op\":[\"d\",\"bind\",\"k\",\"z\"]},{\"op\":[\"m\",\"raise\",9]},{\"if\":\"b\",\"atleast\":1,\"then\":[{\"op\":[\"c\",\"sub\",2]}]}]";
+    let common = format!(in rt.alloc();
+        "{{\"ordtx\":4,\"objects\":[{objects}],\"transactions\":[{calls},{ALL_STEPS},[]]}}"
+    )?;
+    let by_tokens = read_of(&rt, common.as_str())?;
+    let turned_round = format!(in rt.alloc();
+        "{{\"transactions\":[{calls},{ALL_STEPS},[]],\"objects\":[{objects}],\"ordtx\":4}}"
+    )?;
+    let by_tree = read_of(&rt, turned_round.as_str())?;
+    assert_eq!(rt; by_tokens.as_str(), by_tree.as_str());
+    let spaced = common.replace(rt.alloc(), ",", " ,\n ")?;
+    let with_spaces = read_of(&rt, spaced.as_str())?;
+    assert_eq!(rt; with_spaces.as_str(), by_tree.as_str());
+    let said_again = common.replace(rt.alloc(), "{\"op\"", "{\"op\":1,\"op\"")?;
+    let with_members_twice = read_of(&rt, said_again.as_str())?;
+    assert_eq!(rt; with_members_twice.as_str(), by_tree.as_str());
+    Ok(())
+}
+
 #[test]
 fn documents_are_refused(rt: HostRuntime) -> Result<(), Fail> {
     assert_eq!(rt; refusal(&rt, "")?.as_str(), "fault 1 transaction 0");
