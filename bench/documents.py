@@ -1,11 +1,19 @@
 """Documents for the figures, made by seed."""
 
+import json
 import random
 
 
 def document(objects, transactions, version=4):
     return ('{"ordtx":%d,"objects":[%s],"transactions":[%s]}'
             % (version, ",".join(objects), ",".join(transactions))).encode()
+
+
+def turned_round(document):
+    """The same document, its members in another order: it is read as a tree."""
+    members = json.loads(document)
+    return json.dumps({key: members[key] for key in reversed(members)},
+                      separators=(",", ":")).encode()
 
 
 def account(name, start):

@@ -1,8 +1,7 @@
-//! How long each stage of `ordtx serial` takes. `bench_stages read FILE` prints the milliseconds of reading a batch (making
-//! the JSON value of the file's bytes, what the reader adds, and freeing the value), of running it on one thread, and of
-//! writing its report into a text. `bench_stages value FILE` prints those of making the JSON value alone (`serde_json`) and
-//! of freeing it: in a process of its own, since a second value would be made on the heap that the first one left. With no
-//! argument it prints nothing.
+//! How long each stage of `ordtx serial` takes. `bench_stages read FILE` prints the milliseconds of reading a batch from the
+//! file's bytes, of running it on one thread, and of writing its report into a text. `bench_stages value FILE` prints those
+//! of making the JSON value alone (`serde_json`) and of freeing it: in a process of its own, since a second value would be
+//! made on the heap that the first one left. With no argument it prints nothing.
 #![tactic(auto)]
 
 use lang::read;
