@@ -11,7 +11,7 @@ use Rattle.intentions.specs.declared.classes.Class.TheVariants.{Deposit}
 use Rattle.intentions.specs.declared.filter.Filter.{Filter}
 use Rattle.intentions.specs.declared.headings.Heading.{Heading}
 use Rattle.intentions.specs.Classes.{class_of, number_of, classes, conflicts_of, always_commute, is_by_item}
-use Rattle.intentions.specs.Headings.{item_of, heading_against, is_under}
+use Rattle.intentions.specs.Headings.{item_of, heading_against, has_item, is_under}
 use Rattle.intentions.specs.Filter.{slot_of, HasIn, set_at, Has, IsMarked, IsFilterOf}
 use Rattle.intentions.specs.Strictness.{Commute}
 use Rattle.intentions.proofs.ClassesLemmas.{always_commutes, elsewhere}
@@ -75,56 +75,80 @@ conflict_bit c d may = eqb-true (bit_at (conflicts_of c) (number_of d)) 1 (in_se
     in_set true f h = absurd (false≢true (sym f))
     in_set false f h = h
 
-item_bit : (c : Class) → bit_at 6848 (number_of c) ≡ (if is_by_item c then 1 else 0)
-unfolding every
-item_bit c = eqb-true _ _ (every_class (λ d. nat_eq (bit_at 6848 (number_of d)) (if is_by_item d then 1 else 0)) c refl)
-
+-- the classes that aren't compared by item are those of the number that the code masks with
 object_bit : (c : Class) → bit_at 58687 (number_of c) ≡ (if is_by_item c then 0 else 1)
 unfolding every
 object_bit c = eqb-true _ _ (every_class (λ d. nat_eq (bit_at 58687 (number_of d)) (if is_by_item d then 0 else 1)) c refl)
 
--- the classes that an entry may meet, from the sets of its item and of its object
-abbrev pub met : ℕ → ℕ → ℕ
-met of_item of_object = bit_or (bit_and of_item 6848) (bit_and of_object 58687)
+-- the classes of its object's entries that an entry may conflict with
+abbrev pub met : Filter → Entry → ℕ
+met filter e = bit_and (set_at filter e.object None) (conflicts_of (class_of e.call e.reply))
 
-meets : (filter : Filter) (e : Entry) (c : Class) → Has filter (heading_against e c) → bit_at (met (set_at filter e.object (item_of e.call e.reply)) (set_at filter e.object None)) (number_of c) ≡ 1
-meets filter e c has = bit_at_or (bit_and i 6848) (bit_and o 58687) n ∙ by_class (is_by_item c) refl
+-- an entry under a heading is under that of its object and class alone
+under_class : (q : Entry) (o : Heading) → is_under q o ≡ true → is_under q (record { object = o.object; item = None; class = o.class }) ≡ true
+unfolding is_under
+under_class q o under = alone (nat_eq q.object o.object && nat_eq (number_of (class_of q.call q.reply)) (number_of o.class)) (has_item o.item (item_of q.call q.reply)) under
   where
-    n : ℕ
-    n = number_of c
+    alone : (a b : Bool) → (a && b) ≡ true → (a && true) ≡ true
+    alone a b h = ap (λ x. x && true) (and_parts a b h).0
 
-    i : ℕ
-    i = set_at filter e.object (item_of e.call e.reply)
+-- what stands under the heading of a class is told by the set of the item, or by that of the object
+of_item : (filter : Filter) (e : Entry) (c : Class) → Has filter (heading_against e c)
+    → bit_at (bit_or (set_at filter e.object (item_of e.call e.reply)) 58687) (number_of c) ≡ 1
+of_item filter e c has = bit_at_or own 58687 (number_of c) ∙ by_class (is_by_item c) refl
+  where
+    own : ℕ
+    own = set_at filter e.object (item_of e.call e.reply)
 
-    o : ℕ
-    o = set_at filter e.object None
-
-    by_class : (b : Bool) → is_by_item c ≡ b → max (bit_at (bit_and i 6848) n) (bit_at (bit_and o 58687) n) ≡ 1
+    by_class : (b : Bool) → is_by_item c ≡ b → max (bit_at own (number_of c)) (bit_at 58687 (number_of c)) ≡ 1
     by_class true by_item =
-        let has_it : bit_at i n ≡ 1 = ap (λ b. bit_at (set_at filter e.object (if b then item_of e.call e.reply else None)) n) (sym by_item) ∙ has in
-        let bit : bit_at 6848 n ≡ 1 = item_bit c ∙ ap (λ b. if b then 1 else 0) by_item in
-        omega (arith, bit_at_and i 6848 n, has_it, bit, bit_at-lt (bit_and o 58687) n)
+        let there : bit_at own (number_of c) ≡ 1 = ap (λ b. bit_at (set_at filter e.object (if b then item_of e.call e.reply else None)) (number_of c)) (sym by_item) ∙ has in
+        omega (arith, there, bit_at-lt 58687 (number_of c))
     by_class false by_object =
-        let has_it : bit_at o n ≡ 1 = ap (λ b. bit_at (set_at filter e.object (if b then item_of e.call e.reply else None)) n) (sym by_object) ∙ has in
-        let bit : bit_at 58687 n ≡ 1 = object_bit c ∙ ap (λ b. if b then 0 else 1) by_object in
-        omega (arith, bit_at_and o 58687 n, has_it, bit, bit_at-lt (bit_and i 6848) n)
+        let there : bit_at 58687 (number_of c) ≡ 1 = object_bit c ∙ ap (λ b. if b then 0 else 1) by_object in
+        omega (arith, there, bit_at-lt own (number_of c))
 
--- an entry that meets no class of its conflicts commutes with each one of the filter
-pub cleared : (filter : Filter) (p q : Entry) → bit_and (met (set_at filter p.object (item_of p.call p.reply)) (set_at filter p.object None)) (conflicts_of (class_of p.call p.reply)) ≡ 0 → IsMarked filter q → Commute p q
-cleared filter p q none marked = by_class (always_commute (class_of p.call p.reply) class) refl (is_under q (heading_against p class)) refl
+-- the class of an entry that one may conflict with is in its object's set, and in the item's
+record IsMet (filter : Filter) (p q : Entry) : Type 0 where
+  object : bit_at (met filter p) (number_of (class_of q.call q.reply)) ≡ 1
+  item : bit_at (bit_or (set_at filter p.object (item_of p.call p.reply)) 58687) (number_of (class_of q.call q.reply)) ≡ 1
+
+-- two entries commute, or one is of the classes that the other meets
+meets : (filter : Filter) (p q : Entry) → IsMarked filter q → Commute p q ⊎ IsMet filter p q
+meets filter p q marked = by_class (always_commute own class) refl (is_under q (heading_against p class)) refl
   where
+    own : Class
+    own = class_of p.call p.reply
+
     class : Class
     class = class_of q.call q.reply
 
-    seen : ℕ
-    seen = met (set_at filter p.object (item_of p.call p.reply)) (set_at filter p.object None)
-
-    by_class : (b : Bool) → always_commute (class_of p.call p.reply) class ≡ b → (u : Bool) → is_under q (heading_against p class) ≡ u → Commute p q
-    by_class true always u under = always_commutes p q always
-    by_class false may false under = elsewhere p q under
+    by_class : (b : Bool) → always_commute own class ≡ b → (u : Bool) → is_under q (heading_against p class) ≡ u → Commute p q ⊎ IsMet filter p q
+    by_class true always u under = inl (always_commutes p q always)
+    by_class false may false under = inl (elsewhere p q under)
     by_class false may true under =
-        let n : ℕ = number_of class in
-        let conflict : bit_at (conflicts_of (class_of p.call p.reply)) n ≡ 1 = conflict_bit (class_of p.call p.reply) class may in
-        let there : bit_at seen n ≡ 1 = meets filter p class (marked (heading_against p class) under) in
-        let nothing : bit_at (bit_and seen (conflicts_of (class_of p.call p.reply))) n ≡ 0 = ap (λ s. bit_at s n) none ∙ bit_at-zero n in
-        absurd (omega (arith, nothing, bit_at_and seen (conflicts_of (class_of p.call p.reply)) n, conflict, there))
+        let all : ℕ = set_at filter p.object None in
+        let there : bit_at all (number_of class) ≡ 1 = marked (record { object = p.object; item = None; class = class }) (under_class q (heading_against p class) under) in
+        inr (record {
+          object = omega (arith, bit_at_and all (conflicts_of own) (number_of class), there, conflict_bit own class may);
+          item = of_item filter p class (marked (heading_against p class) under);
+        })
+
+-- an entry that meets no class of its conflicts commutes with each one of the filter
+pub cleared : (filter : Filter) (p q : Entry) → met filter p ≡ 0 → IsMarked filter q → Commute p q
+cleared filter p q none marked = elim (meets filter p q marked) [
+  | inl commutes ↦ commutes
+  | inr is ↦ (let n : ℕ = number_of (class_of q.call q.reply) in
+      let nothing : bit_at (met filter p) n ≡ 0 = ap (λ s. bit_at s n) none ∙ bit_at-zero n in
+      absurd (omega (arith, nothing, is.object)))
+]
+
+-- so does one that meets none of its item
+pub cleared_by_item : (filter : Filter) (p q : Entry) → bit_and (met filter p) (bit_or (set_at filter p.object (item_of p.call p.reply)) 58687) ≡ 0 → IsMarked filter q → Commute p q
+cleared_by_item filter p q none marked = elim (meets filter p q marked) [
+  | inl commutes ↦ commutes
+  | inr is ↦ (let n : ℕ = number_of (class_of q.call q.reply) in
+      let sets : ℕ = bit_or (set_at filter p.object (item_of p.call p.reply)) 58687 in
+      let nothing : bit_at (bit_and (met filter p) sets) n ≡ 0 = ap (λ s. bit_at s n) none ∙ bit_at-zero n in
+      absurd (omega (arith, nothing, bit_at_and (met filter p) sets n, is.object, is.item)))
+]

@@ -1,4 +1,4 @@
-//! The list of what was committed.
+//! A list of entries, against which others are checked.
 ghost use Rattle.std.specs.Prelude.{◌≡◌, ◌↔◌, ◌<◌, ◌≤◌, ◌-◌, ℕ, [], ◌∷◌, ◌++◌, length, take, slice_range, slice_index, IsTrue, OnOk, OnErr};
 ghost use Rattle.intentions.specs.Committed.{CommutesWith, AllStand};
 ghost use Rattle.intentions.specs.Index.{places, CommutesAtPlaces, CommutesUnder, IsRising, AreWithin, AreSpans};
@@ -14,10 +14,11 @@ use objects::{Entry, NoMemory, commute};
 use std::alloc::Global;
 use std::marker::Model;
 
-/// The entries of committed transactions in the order of commit, with an index by object, item
-/// and class, so that an entry is compared with entries of its own object and item alone, with none of
-/// a class that it always commutes with, and in a span of a list with the strictest alone. Entries that commute
-/// forward with all that was committed since their snapshot have the same replies after it (Weihl 1988).
+/// What runs leave, in the order in which they are committed, with an index by object, item and class.
+/// So an entry is compared with entries of its own object and item alone, with none of a class that it
+/// always commutes with, and in a span of a list with the strictest alone; and a filter tells of most
+/// entries that there is nothing to compare. Entries that commute forward with all that was committed
+/// since their snapshot have the same replies after it (Weihl 1988).
 #[derive(Drop)]
 pub struct Committed {
     entries: Vec<Entry>,

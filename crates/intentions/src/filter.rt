@@ -1,5 +1,5 @@
 //! A filter of listed entries, which tells of most others at once that they commute with all of
-//! them (after B. H. Bloom, "Space/time trade-offs in hash coding with allowable errors", 1970).
+//! these (after B. H. Bloom, "Space/time trade-offs in hash coding with allowable errors", 1970).
 ghost use Rattle.std.specs.Prelude.{◌≡◌, ◌-◌, ◌++◌, [], ◌∷◌, length, IsTrue, IfOk, OnOk, OnErr};
 ghost use Rattle.objects.specs.declared.entry.Entry.{Entry as OneEntry};
 ghost use Rattle.intentions.specs.declared.headings.Heading.{Heading as OneHeading};
@@ -67,9 +67,13 @@ impl Filter {
         ensures own { IsMarked self.new entry.now }
         ensures kept { (heading : OneHeading) → Has self.old heading → Has self.new heading }
     {
-        self.insert(&Heading::of(entry));
-        if let Some(own) = Heading::of_item(entry) {
-            self.insert(&own);
+        let heading = Heading::of(entry);
+        self.insert(&heading);
+        if let Some(item) = item_of(&entry.call, &entry.reply) {
+            self.insert(&Heading {
+                item: Some(item),
+                ..heading
+            });
         }
     }
 
@@ -84,14 +88,17 @@ impl Filter {
         }
     }
 
-    /// Whether the entry commutes forward with each one of the filter for sure.
+    /// Whether the entry commutes forward with each one of the filter for sure. The set of its object
+    /// has the classes of all entries about the object, so it is looked at first.
     pub fn clears(&self, entry: &Entry) -> bool
         ensures { IsTrue result → (other : OneEntry) → IsMarked self.now other → Commute entry.now other }
     {
+        let met = self.set(entry.object, None) & Class::of(entry).conflicts();
+        if met & Class::BY_ITEM == 0 {
+            return met == 0;
+        }
         let of_item = self.set(entry.object, item_of(&entry.call, &entry.reply));
-        let of_object = self.set(entry.object, None);
-        let met = (of_item & Class::BY_ITEM) | (of_object & !Class::BY_ITEM);
-        met & Class::of(entry).conflicts() == 0
+        met & (of_item | !Class::BY_ITEM) == 0
     }
 
     /// The classes that entries about the item, or about the object where there is none, may have.

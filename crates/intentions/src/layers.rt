@@ -186,7 +186,7 @@ impl<'s> Layers<'s> {
         requires { 0 < length self.old.begun }
         ensures { self.new ≡ record self.old { begun = drop 1 self.old.begun } }
     {
-        // The level's changes stand in the journal behind those of the level around it.
+        // The level's changes stand in the journal after those of the level around it.
         let Some(_start) = self.starts.pop() else {
             unreachable!()
         };

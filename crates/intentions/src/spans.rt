@@ -50,7 +50,7 @@ pub fn listed_next(list: &[Listed], entries: &[Entry], entry: &Entry) -> Listed
 }
 
 /// Where the strictest entry of two spans stands, the second of which ends the list and begins
-/// behind the first, if one of theirs is as strict as the other.
+/// after the first, if one of theirs is as strict as the other.
 fn joined(list: &[Listed], entries: &[Entry], before: &Listed, last: &Listed) -> Option<usize>
     requires places { AreWithin entries.now list.now }
     requires apart { 0 < last.now.start }

@@ -1,21 +1,29 @@
-use Rattle.std.proofs.Common.{◌≡◌, Some, None, sym, ◌∙◌, subst, inl, inr}
-use Rattle.intentions.specs.Headings.{item_heading_of}
+use Rattle.std.proofs.Common.{◌≡◌, Some, None, ap, sym, ◌∙◌, subst, inl, inr}
+use Rattle.intentions.specs.declared.headings.Heading.{Heading}
+use Rattle.intentions.specs.Classes.{class_of}
+use Rattle.intentions.specs.Headings.{item_of, item_heading}
 use Rattle.intentions.specs.Filter.{Has}
 use Rattle.intentions.proofs.IndexLemmas.{under_cases}
 use Rattle.intentions.proofs.filter.Filter.mark.Goals as goal
 
 pub returns-in-Some-clause-own : goal.returns-in-Some-clause-own
 returns-in-Some-clause-own c o under =
-    let item_is : item_heading_of c.args.entry.now ≡ Some c.in-Some.own = sym c.of_item.ensures ∙ c.in-Some.is in
-    elim (under_cases c.args.entry.now o under) [
-      | inl same ↦ subst (Has c.insert-in-Some.new.self) (c.of.ensures ∙ sym same) (c.insert-in-Some.ensures.kept c.of.result c.insert.ensures.own)
-      | inr is ↦ (let same : c.in-Some.own ≡ o = cc in subst (Has c.insert-in-Some.new.self) same c.insert-in-Some.ensures.own)
+    let e = c.args.entry.now in
+    let own : Heading = record { object = e.object; item = Some c.in-Some.item; class = class_of e.call e.reply } in
+    let item_is : item_of e.call e.reply ≡ Some c.in-Some.item = sym c.item_of.ensures ∙ c.in-Some.is in
+    elim (under_cases e o under) [
+      | inl same ↦ subst (Has c.insert-in-Some.new.self) (c.of-heading.ensures ∙ sym same) (c.insert-in-Some.ensures.kept c.of-heading.result c.insert.ensures.own)
+      | inr is ↦ (let both : Some own ≡ Some o = sym (ap (item_heading e) item_is) ∙ is in
+          let same : own ≡ o = cc in
+          let made : record { object = c.of-heading.result.object; item = Some c.in-Some.item; class = c.of-heading.result.class } ≡ own = ap (λ (h : Heading). record { object = h.object; item = Some c.in-Some.item; class = h.class }) c.of-heading.ensures in
+          subst (Has c.insert-in-Some.new.self) (made ∙ same) c.insert-in-Some.ensures.own)
     ]
 
 pub returns-in_default-clause-own : goal.returns-in_default-clause-own
 returns-in_default-clause-own c o under =
-    let none : item_heading_of c.args.entry.now ≡ None = sym c.of_item.ensures ∙ c.in_default.is in
-    elim (under_cases c.args.entry.now o under) [
-      | inl same ↦ subst (Has c.insert.new.self) (c.of.ensures ∙ sym same) c.insert.ensures.own
-      | inr is ↦ absurd cc
+    let e = c.args.entry.now in
+    let none : item_of e.call e.reply ≡ None = sym c.item_of.ensures ∙ c.in_default.is in
+    elim (under_cases e o under) [
+      | inl same ↦ subst (Has c.insert.new.self) (c.of-heading.ensures ∙ sym same) c.insert.ensures.own
+      | inr is ↦ (let nothing : None ≡ Some o = sym (ap (item_heading e) none) ∙ is in absurd cc)
     ]
