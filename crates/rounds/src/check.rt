@@ -12,7 +12,7 @@ use std::thread::Threads;
 use workers::first_failing;
 
 /// What a check saw: the first conflict, a list that begins with the nets of the runs before it, and
-/// how many entries of the list these are.
+/// how many entries of the list these nets are.
 #[derive(Drop)]
 pub(crate) struct Seen {
     pub(crate) first: usize,
@@ -20,11 +20,11 @@ pub(crate) struct Seen {
     pub(crate) upto: usize,
 }
 
-/// How many runs a check looks at, at first, above those that are expected to stand.
+/// How many runs the first block has above those that are expected to stand.
 const SPARE: usize = 8;
 
-// Lists the nets of the runs from one place on behind those of the runs before it, and for each how
-// many entries come before its net.
+// Lists the nets of the runs from one place on after those of the runs before it, and tells for each
+// run how many entries come before its net.
 fn list_nets(
     runs: &[Run],
     from: usize,
@@ -93,7 +93,7 @@ fn first_from<R: Threads + Sync, G: Gate>(
 }
 
 /// The first conflict, and the nets of the runs before it. The runs are looked at in blocks, each
-/// twice as long as the one before it, until one has a conflict: the first block has a few more runs
+/// twice as long as the one before it, until one has a conflict. The first block has a few more runs
 /// than are expected to stand.
 ///
 /// `NoMemory` is answered where a growth of memory was refused.

@@ -26,7 +26,10 @@ const OPERATIONS: usize = 64;
 pub(crate) fn paying(plan: Plan, operations: usize) -> u32
     ensures { (1 ≤ result) × (result ≤ plan.workers) }
 {
-    let share = 1 + OPERATIONS * (plan.cut as usize - 1);
+    if plan.cut == 1 {
+        return plan.workers;
+    }
+    let share = OPERATIONS * (plan.cut as usize - 1);
     let workers = (operations / share).min(plan.workers as usize);
     workers.max(1) as u32
 }
