@@ -1,18 +1,18 @@
 -- How many operations the parts of a list have that are left.
-use Rattle.std.proofs.Common.{◌≡◌, ℕ, suc, ◌+◌, ◌<◌, ◌≤◌, List, [], ◌∷◌, length, get_or, drop, map, Option, Some, None, Vec, Global, refl, sym, ap, ◌∙◌, arith, add-one, drop-cons}
+use Rattle.std.proofs.Common.{◌≡◌, ℕ, suc, ◌+◌, ◌<◌, ◌≤◌, List, [], ◌∷◌, length, get_or, drop, map, refl, sym, ap, ◌∙◌, arith, add-one, drop-cons}
 use Rattle.std.proofs.Math.ListN.{drop_of_length-le}
-use Rattle.std.specs.Prelude.{option_map}
 use Rattle.meaning.specs.Trees as meant
-use Rattle.meaning.specs.Trees.{Handlers, Otherwise, Pass, for_reasons, handlers_of}
+use Rattle.meaning.specs.Trees.{Handlers, Pass, for_reasons}
 use Rattle.meaning.specs.Running.{all_operations}
 use Rattle.meaning.specs.WellFormed.{operations, operations_of_step, operations_of_handlers, operations_of_children}
 use Rattle.batch.specs.Counting.{operations_of}
-use Rattle.batch.specs.Views.{block_view, step_view, steps_view, handler_view, subaction_view, children_view}
+use Rattle.batch.specs.Views.{block_view, step_view, steps_view, handler_view, otherwise_view, subaction_view, children_view}
 use Rattle.batch.specs.declared.tree.Block.{Block}
 use Rattle.batch.specs.declared.tree.Step.{Step}
 use Rattle.batch.specs.declared.tree.Handler.{Handler}
+use Rattle.batch.specs.declared.tree.Otherwise.{Run, GoOn, Pass as Pass_by}
 use Rattle.batch.specs.declared.tree.Subaction.{Subaction, out-Subaction}
-use Rattle.batch.proofs.ViewLemmas.{handler_view-is, subaction_view-body, subaction_view-handlers}
+use Rattle.batch.proofs.ViewLemmas.{handler_view-is, otherwise_view-Run, otherwise_view-GoOn, otherwise_view-Pass, subaction_view-body, subaction_view-handlers}
 
 -- one element of a list that is left
 pub left : {X : Type 0} (xs : List X) (i : ℕ) (x : X) → i < length xs → x ≡ get_or xs i x → drop i xs ≡ x ∷ drop (i + 1) xs
@@ -66,11 +66,7 @@ pub rest_of_children-end : (i : ℕ) (children : List Subaction) → length chil
 unfolding rest_of_children
 rest_of_children-end i children le = ap (λ cs. operations_of_children (children_view cs)) (drop_of_length-le children le)
 
--- the handlers by reason from the i-th on, and then the last one
-abbrev pub last_operations : Option Block → ℕ
-last_operations None = 0
-last_operations (Some block) = operations (block_view block)
-
+-- the handlers by reason from the i-th on
 pub rest_of_handlers : ℕ → List Handler → ℕ
 rest_of_handlers i handlers = operations_of_handlers (for_reasons (map handler_view (drop i handlers)) Pass)
 
@@ -93,27 +89,19 @@ before_others : (by_reason : List (ℕ × meant.Block)) (others : Handlers) → 
 before_others [] others = omega arith
 before_others (first ∷ by_reason) others = let rest = before_others by_reason others in omega (arith, rest)
 
--- a subaction: its body, its handlers by reason, and the last one
-abbrev pub by_reason_operations : Option (Vec Handler Global) → ℕ
-by_reason_operations None = 0
-by_reason_operations (Some by_reason) = rest_of_handlers 0 by_reason.items
-
-pub all_of : (seen : List Handler) (handlers : Option (Vec Handler Global)) (by_reason : Vec Handler Global) → seen ≡ by_reason.items → handlers ≡ Some by_reason
-    → operations_of_handlers (for_reasons (map handler_view seen) Pass) ≡ by_reason_operations handlers
-unfolding rest_of_handlers
-all_of seen handlers by_reason same is = ap (λ hs. operations_of_handlers (for_reasons (map handler_view hs) Pass)) same ∙ sym (ap by_reason_operations is)
-
-parts-of_handlers : (by_reason : Option (Vec Handler Global)) (last : Option Block)
-    → operations_of_handlers (handlers_of (option_map (λ hs. map handler_view hs.items) by_reason) (option_map block_view last)) ≡ by_reason_operations by_reason + last_operations last
-unfolding rest_of_handlers
-parts-of_handlers None None = refl
-parts-of_handlers None (Some block) = omega arith
-parts-of_handlers (Some by_reason) None = omega arith
-parts-of_handlers (Some by_reason) (Some block) = before_others (map handler_view by_reason.items) (Otherwise (block_view block))
-
+-- a subaction: its body, its handlers by reason, and what is otherwise
 pub operations_of-parts : (child : Subaction) → operations_of (subaction_view child)
-    ≡ operations (block_view (out-Subaction child).body) + by_reason_operations (out-Subaction child).handlers + last_operations (out-Subaction child).handler
+    ≡ operations (block_view (out-Subaction child).body) + operations_of_handlers (for_reasons (map handler_view (out-Subaction child).handlers.items) Pass) + operations_of_handlers (otherwise_view (out-Subaction child).otherwise)
 operations_of-parts child =
-    let handlers = ap operations_of_handlers (subaction_view-handlers child) ∙ parts-of_handlers (out-Subaction child).handlers (out-Subaction child).handler in
+    let handlers = ap operations_of_handlers (subaction_view-handlers child) ∙ before_others (map handler_view (out-Subaction child).handlers.items) (otherwise_view (out-Subaction child).otherwise) in
     let body = ap operations (subaction_view-body child) in
     omega (arith, handlers, body)
+
+pub otherwise_operations-Run : (child : Subaction) (block : Block) → (out-Subaction child).otherwise ≡ Run block → operations_of_handlers (otherwise_view (out-Subaction child).otherwise) ≡ operations (block_view block)
+otherwise_operations-Run child block is = ap (λ o. operations_of_handlers (otherwise_view o)) is ∙ ap operations_of_handlers (otherwise_view-Run block)
+
+pub otherwise_operations-GoOn : (child : Subaction) → (out-Subaction child).otherwise ≡ GoOn → operations_of_handlers (otherwise_view (out-Subaction child).otherwise) ≡ 0
+otherwise_operations-GoOn child is = ap (λ o. operations_of_handlers (otherwise_view o)) is ∙ ap operations_of_handlers otherwise_view-GoOn
+
+pub otherwise_operations-Pass : (child : Subaction) → (out-Subaction child).otherwise ≡ Pass_by → operations_of_handlers (otherwise_view (out-Subaction child).otherwise) ≡ 0
+otherwise_operations-Pass child is = ap (λ o. operations_of_handlers (otherwise_view o)) is ∙ ap operations_of_handlers otherwise_view-Pass

@@ -1,14 +1,12 @@
 -- No run meets what it can't do.
-use Rattle.std.proofs.Common.{◌≡◌, ℕ, ◌<◌, List, [], ◌++◌, length, arith}
+use Rattle.std.proofs.Common.{List, [], ◌++◌, arith}
 use Rattle.meaning.specs.declared.held.Held.{Held}
 use Rattle.meaning.specs.Entries.{State}
 use Rattle.meaning.specs.Trees.{Block, NoStep, Steps, Step, Operation, If, Subaction, Abort, Parallel, Handlers, ForReason, Otherwise, GoOn, Pass, Children, NoChild, Child}
-use Rattle.meaning.specs.OneThread.{outcome_of, labels_of, state_of, one_step}
+use Rattle.meaning.specs.OneThread.{labels_of, state_of, one_step}
 use Rattle.meaning.specs.Batch.{block_at, state_at}
 use Rattle.meaning.proofs.HeldLabels.{test}
 use Rattle.meaning.proofs.Keeping.{perform}
-use Rattle.batch.specs.Names.{Texts}
-use Rattle.batch.specs.Limits.{IsBatch}
 use Rattle.batch.specs.Running.{CanRunHere, CanStepHere, CanHandleHere, CanRunAllHere, acted}
 use Rattle.batch.specs.Soundness.{IsSound, IsSoundStep, AreSoundHandlers, AreSound, SoundnessLaw, BatchSoundnessLaw}
 use Rattle.batch.proofs.CanRun.{can_step, can_run_rest, can_run_younger, transaction_can_run}

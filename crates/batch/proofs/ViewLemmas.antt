@@ -1,16 +1,16 @@
 -- The trees of blocks and records, level by level.
 use Rattle.std.proofs.Common.{◌≡◌, ℕ, Bool, List, [], ◌∷◌, Option, Some, None, Vec, Global, map, refl, ap, rules}
-use Rattle.std.specs.Prelude.{option_map}
 use Rattle.objects.specs.declared.call.Call.{Call}
 use Rattle.objects.specs.declared.call.Reply.{Reply}
 use Rattle.meaning.specs.declared.test.Test.{Test}
-use Rattle.meaning.specs.Trees.{Operation, If, Subaction as subaction_step, Abort as abort_step, Parallel as parallel_step, handlers_of}
+use Rattle.meaning.specs.Trees.{Operation, If, Subaction as subaction_step, Abort as abort_step, Parallel as parallel_step, Otherwise, GoOn, Pass, for_reasons}
 use Rattle.meaning.specs.Shown.{Shown, AtEnd, ShownStep, Replied, Branched, Acted, InParallel, NoChild}
-use Rattle.batch.specs.Views.{block_view, step_view, handler_view, subaction_view, steps_view, children_view, record_view, taken_view, tried_view, all_tried_view, before_end, shown_child, before_younger}
+use Rattle.batch.specs.Views.{block_view, step_view, handler_view, otherwise_view, subaction_view, steps_view, children_view, record_view, taken_view, tried_view, all_tried_view, before_end, shown_child, before_younger}
 use Rattle.batch.specs.declared.tree.Block.{Block}
 use Rattle.batch.specs.declared.tree.Step.{Op, If as if_variant, Sub, Abort, Parallel, the_lemmas}
 use Rattle.batch.specs.declared.tree.Subaction.{Subaction, out-Subaction}
 use Rattle.batch.specs.declared.tree.Handler.{Handler}
+use Rattle.batch.specs.declared.tree.Otherwise as otherwise
 use Rattle.batch.specs.declared.record.Record.{Record}
 use Rattle.batch.specs.declared.record.Taken as taken
 
@@ -69,5 +69,14 @@ subaction_view-body child = search (rules, the_lemmas)
 pub subaction_view-labelled : (child : Subaction) → (subaction_view child).labelled ≡ (out-Subaction child).labelled
 subaction_view-labelled child = search (rules, the_lemmas)
 
-pub subaction_view-handlers : (child : Subaction) → (subaction_view child).handlers ≡ handlers_of (option_map (λ by_reason. map handler_view by_reason.items) (out-Subaction child).handlers) (option_map block_view (out-Subaction child).handler)
+pub subaction_view-handlers : (child : Subaction) → (subaction_view child).handlers ≡ for_reasons (map handler_view (out-Subaction child).handlers.items) (otherwise_view (out-Subaction child).otherwise)
 subaction_view-handlers child = search (rules, the_lemmas)
+
+pub otherwise_view-Run : (block : Block) → otherwise_view (otherwise.Run block) ≡ Otherwise (block_view block)
+otherwise_view-Run block = search (rules, the_lemmas)
+
+pub otherwise_view-GoOn : otherwise_view otherwise.GoOn ≡ GoOn
+otherwise_view-GoOn = search (rules, the_lemmas)
+
+pub otherwise_view-Pass : otherwise_view otherwise.Pass ≡ Pass
+otherwise_view-Pass = search (rules, the_lemmas)

@@ -8,3 +8,4 @@ pub mod Parts
 pub mod Soundness
 pub mod Grounds
 pub mod Shows
+pub mod Taking

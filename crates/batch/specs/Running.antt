@@ -1,16 +1,14 @@
--- Where the parts of a tree can be run, and which handler takes an abort.
-use Rattle.std.specs.Prelude.{◌≡◌, ℕ, List, ◌++◌, Option, Some, None}
-use Rattle.std.specs.List.{position}
+-- Where the parts of a tree can be run.
+use Rattle.std.specs.Prelude.{◌≡◌, List, ◌++◌, Option, Some, None}
 use Rattle.meaning.specs.declared.held.Held.{Held}
 use Rattle.meaning.specs.Entries.{State, kinds}
 use Rattle.meaning.specs.Trees.{Block, Step, Handlers, Children}
 use Rattle.meaning.specs.Records.{TakenChild, TakenHandler, NoHandler, Handled}
 use Rattle.meaning.specs.Shown.{Shown, shown}
-use Rattle.meaning.specs.OneThread.{Run, act, is_for, one, one_handler}
+use Rattle.meaning.specs.OneThread.{Run, act, one, one_handler}
 use Rattle.meaning.specs.WellFormed.{Label, IsWellFormed, IsWellFormedStep, AreWellFormedHandlers, AreWellFormed, operations, operations_of_step, operations_of_handlers, operations_of_children, HasRoom}
 use Rattle.meaning.specs.Running.{AreHeldBy}
 use Rattle.batch.specs.Views.{Tried}
-use Rattle.batch.specs.declared.tree.Handler.{Handler}
 
 -- a part of a tree can be run on this state, where these labels are seen and hold what they can
 pub record CanRunHere (block : Block) (held : List Held) (state : State) : Type 0 where
@@ -53,7 +51,3 @@ acted child held state = act child.labelled (one child.body held state) (one_han
 abbrev pub shown_handler : TakenHandler → Option Shown
 shown_handler NoHandler = None
 shown_handler (Handled handler outcome) = Some (shown handler outcome)
-
--- the place of the first handler that takes an abort for this reason
-unfoldable pub place_for : List Handler → Option ℕ → Option ℕ
-place_for handlers reason = position (λ handler. is_for handler.reason reason) handlers

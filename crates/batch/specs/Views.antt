@@ -1,12 +1,14 @@
 -- The trees of the meaning that a block and a record stand for.
 use Rattle.std.specs.Prelude.{ℕ, Bool, List, [], ◌∷◌, map, Option, Some, None, option_map}
 use Rattle.meaning.specs.Trees as meant
-use Rattle.meaning.specs.Trees.{NoStep, Steps, Operation, If, Abort, Parallel, Handlers, handlers_of, Children, NoChild, Child}
+use Rattle.meaning.specs.Trees.{NoStep, Steps, Operation, If, Abort, Parallel, Handlers, Otherwise, GoOn, Pass, for_reasons, Children, NoChild, Child}
 use Rattle.meaning.specs.Shown.{Shown, AtEnd, First, ShownStep, Replied, Branched, Acted, InParallel, ShownChild, Body, BodyAndHandler, ShownChildren}
 use Rattle.batch.specs.declared.tree.Block.{Block, Block-F, fold-Block}
 use Rattle.batch.specs.declared.tree.Step.{Step, Step-F, fold-Step}
 use Rattle.batch.specs.declared.tree.Subaction.{Subaction, Subaction-F, fold-Subaction}
 use Rattle.batch.specs.declared.tree.Handler.{Handler, Handler-F, fold-Handler}
+use Rattle.batch.specs.declared.tree.Otherwise as declared_otherwise
+use Rattle.batch.specs.declared.tree.Otherwise.{Otherwise-F, fold-Otherwise}
 use Rattle.batch.specs.declared.record.Record.{Record, Record-F, fold-Record}
 use Rattle.batch.specs.declared.record.Taken.{Taken, Taken-F, fold-Taken}
 
@@ -25,38 +27,46 @@ children_of [] = NoChild
 children_of (child ∷ younger) = Child child.body child.handlers child.labelled (children_of younger)
 
 -- one level, where each part inside is seen as its tree already
-abbrev pub step_layer : Step-F meant.Step meant.Block (ℕ × meant.Block) Tried → meant.Step
+abbrev pub step_layer : Step-F Handlers meant.Step meant.Block (ℕ × meant.Block) Tried → meant.Step
 step_layer (Step-F.Op object call labelled) = Operation object call labelled
 step_layer (Step-F.If label test then otherwise) = If label test then otherwise
 step_layer (Step-F.Sub child) = meant.Subaction child.body child.handlers child.labelled
 step_layer (Step-F.Abort reason) = Abort reason
 step_layer (Step-F.Parallel children) = Parallel (children_of children.items)
 
-abbrev pub block_layer : Block-F meant.Step meant.Block (ℕ × meant.Block) Tried → meant.Block
+abbrev pub block_layer : Block-F Handlers meant.Step meant.Block (ℕ × meant.Block) Tried → meant.Block
 block_layer block = steps_of block.steps.items
 
-abbrev pub handler_layer : Handler-F meant.Step meant.Block (ℕ × meant.Block) Tried → ℕ × meant.Block
+abbrev pub handler_layer : Handler-F Handlers meant.Step meant.Block (ℕ × meant.Block) Tried → ℕ × meant.Block
 handler_layer handler = (handler.reason, handler.block)
 
-abbrev pub subaction_layer : Subaction-F meant.Step meant.Block (ℕ × meant.Block) Tried → Tried
+abbrev pub otherwise_layer : Otherwise-F Handlers meant.Step meant.Block (ℕ × meant.Block) Tried → Handlers
+otherwise_layer (Otherwise-F.Run block) = Otherwise block
+otherwise_layer Otherwise-F.GoOn = GoOn
+otherwise_layer Otherwise-F.Pass = Pass
+
+abbrev pub subaction_layer : Subaction-F Handlers meant.Step meant.Block (ℕ × meant.Block) Tried → Tried
 subaction_layer child = record {
   body = child.body;
-  handlers = handlers_of (option_map (λ by_reason. by_reason.items) child.handlers) child.handler;
+  handlers = for_reasons child.handlers.items child.otherwise;
   labelled = child.labelled;
 }
 
 -- the tree of a block, of a step, and of a subaction
 abbrev pub block_view : Block → meant.Block
-block_view = fold-Block meant.Step meant.Block (ℕ × meant.Block) Tried step_layer block_layer handler_layer subaction_layer
+block_view = fold-Block Handlers meant.Step meant.Block (ℕ × meant.Block) Tried otherwise_layer step_layer block_layer handler_layer subaction_layer
 
 abbrev pub step_view : Step → meant.Step
-step_view = fold-Step meant.Step meant.Block (ℕ × meant.Block) Tried step_layer block_layer handler_layer subaction_layer
+step_view = fold-Step Handlers meant.Step meant.Block (ℕ × meant.Block) Tried otherwise_layer step_layer block_layer handler_layer subaction_layer
 
 abbrev pub handler_view : Handler → ℕ × meant.Block
-handler_view = fold-Handler meant.Step meant.Block (ℕ × meant.Block) Tried step_layer block_layer handler_layer subaction_layer
+handler_view = fold-Handler Handlers meant.Step meant.Block (ℕ × meant.Block) Tried otherwise_layer step_layer block_layer handler_layer subaction_layer
+
+abbrev pub otherwise_view : declared_otherwise.Otherwise → Handlers
+otherwise_view = fold-Otherwise Handlers meant.Step meant.Block (ℕ × meant.Block) Tried otherwise_layer step_layer block_layer handler_layer subaction_layer
 
 abbrev pub subaction_view : Subaction → Tried
-subaction_view = fold-Subaction meant.Step meant.Block (ℕ × meant.Block) Tried step_layer block_layer handler_layer subaction_layer
+subaction_view = fold-Subaction Handlers meant.Step meant.Block (ℕ × meant.Block) Tried otherwise_layer step_layer block_layer handler_layer subaction_layer
 
 abbrev pub steps_view : List Step → meant.Block
 steps_view steps = steps_of (map step_view steps)

@@ -7,7 +7,7 @@ ghost use Rattle.batch.specs.Counting.{operations_of};
 ghost use Rattle.batch.specs.Views.{block_view, children_view, handler_view, step_view, steps_view, subaction_view};
 
 use crate::batch::Batch;
-use crate::tree::{Block, Handler, Step, Subaction};
+use crate::tree::{Block, Handler, Otherwise, Step, Subaction};
 
 impl Batch {
     /// How many operations stand in the transactions, in branches and handlers too, which a run may
@@ -79,13 +79,11 @@ fn operations_in_subaction(child: &Subaction) -> u32
     ensures { result ≡ operations_of (subaction_view child.now) }
 {
     let body = operations_in(&child.body);
-    let by_reason = match &child.handlers {
-        Some(handlers) => operations_in_handlers(handlers),
-        None => 0,
-    };
-    let last = match &child.handler {
-        Some(block) => operations_in(block),
-        None => 0,
+    let by_reason = operations_in_handlers(&child.handlers);
+    let last = match &child.otherwise {
+        Otherwise::Run(block) => operations_in(block),
+        Otherwise::GoOn => 0,
+        Otherwise::Pass => 0,
     };
     body + by_reason + last
 }

@@ -15,13 +15,13 @@ mod tried;
 
 pub use answer::{Outcome, Plain};
 pub use batch::Batch;
-pub use handlers::handler_for;
+pub use handlers::{handler_for, taker, untaken};
 pub use labels::{add_label, test_holds};
 pub use meaning::{End, Test, Word};
 pub use names::Names;
 pub use objects::{Call, Entry, Item, Kind, NoMemory, Objects, Reply, Value};
 pub use record::{Record, Taken};
-pub use tree::{Block, Handler, Step, Subaction};
+pub use tree::{Block, Handler, Otherwise, Step, Subaction};
 pub use tried::{Tried, handled};
 
 #[cfg(test)]

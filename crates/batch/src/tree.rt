@@ -36,15 +36,14 @@ pub enum Step {
 
 /// A subaction, or a child of a parallel step; its label holds its outcome.
 ///
-/// Where the body aborts, its effects are undone, and the first handler that takes the abort runs:
-/// one of its reason, else `handler`. Where there is none, the parent goes on if there are no
-/// `handlers`, and aborts as the body did if there are.
+/// Where the body aborts, its effects are undone, and what takes the abort runs: the first of the
+/// handlers that is for its reason, or else what is `otherwise`.
 #[derive(Debug, Drop)]
 #[cycle(tree)]
 pub struct Subaction {
     pub body: Block,
-    pub handlers: Option<Vec<Handler>>,
-    pub handler: Option<Block>,
+    pub handlers: Vec<Handler>,
+    pub otherwise: Otherwise,
     pub labelled: bool,
 }
 
@@ -54,4 +53,16 @@ pub struct Subaction {
 pub struct Handler {
     pub reason: u32,
     pub block: Block,
+}
+
+/// What comes of an abort that no handler is for.
+#[derive(Debug, Drop)]
+#[cycle(tree)]
+pub enum Otherwise {
+    /// This block runs.
+    Run(Block),
+    /// The parent goes on.
+    GoOn,
+    /// The parent aborts as the body did.
+    Pass,
 }

@@ -1,11 +1,14 @@
-use Rattle.std.proofs.Common.{◌≡◌, ◌∙◌, arith, ap, sym}
+use Rattle.std.proofs.Common.{◌≡◌, ◌∙◌, arith, sym}
 use Rattle.batch.specs.declared.tree.Step.{size-Step}
 use Rattle.batch.specs.declared.tree.Handler.{size-Handler}
-use Rattle.batch.specs.declared.tree.Subaction.{out-Subaction, size-Subaction}
+use Rattle.batch.specs.declared.tree.Subaction.{size-Subaction}
 use Rattle.batch.proofs.SizeLemmas.{among-most, block-is_smaller, handlers-are_smaller, last-is_smaller}
-use Rattle.batch.proofs.CountLemmas.{rest_of_steps-start, rest_of_steps-more, rest_of_steps-end, rest_of_children-start, rest_of_children-more, rest_of_children-end, rest_of_handlers-start, rest_of_handlers-more, rest_of_handlers-end, by_reason_operations, last_operations, operations_of-parts, all_of}
+use Rattle.batch.proofs.CountLemmas.{otherwise_operations-Run, otherwise_operations-GoOn, otherwise_operations-Pass, rest_of_steps-start, rest_of_steps-more, rest_of_steps-end, rest_of_children-start, rest_of_children-more, rest_of_children-end, rest_of_handlers-start, rest_of_handlers-more, rest_of_handlers-end, operations_of-parts}
+use Rattle.meaning.specs.WellFormed.{operations_of_handlers}
+use Rattle.batch.specs.Views.{otherwise_view}
+use Rattle.batch.specs.declared.tree.Subaction.{out-Subaction}
 use Rattle.batch.proofs.counting.+count.Goals as goal
-use Rattle.batch.proofs.counting.+count.Goals.{operations_in_subaction-in-Some, operations_in_subaction-in-None, operations_in_subaction-in-Some-handler, operations_in_subaction-in-None-handler}
+use Rattle.batch.proofs.counting.+count.Goals.{operations_in_subaction-in-Run, operations_in_subaction-in-GoOn, operations_in_subaction-in-Pass}
 
 -- ---- steps
 
@@ -80,50 +83,41 @@ operations_in_handlers-returns t c = let ended = rest_of_handlers-end _ _ c.loop
 
 pub operations_in_subaction-operations_in_handlers-by_reason-requires : goal.operations_in_subaction-operations_in_handlers-by_reason-requires
 operations_in_subaction-operations_in_handlers-by_reason-requires t c =
-    let all = rest_of_handlers-start c.in-Some.handlers.items in
     let parts = operations_of-parts c.args.child.now in
-    let some = ap by_reason_operations c.in-Some.is in
-    let smaller = handlers-are_smaller c.args.child.now c.in-Some.handlers c.in-Some.is in
-    rw c.deref.ensures.value (omega (arith, smaller, c.decreases), omega (arith, parts, all, some, c.requires))
+    let smaller = handlers-are_smaller c.args.child.now in
+    rw c.deref.ensures.value (omega (arith, smaller, c.decreases), omega (arith, parts, c.requires))
 
 pub operations_in_subaction-operations_in-last-requires : goal.operations_in_subaction-operations_in-last-requires
 operations_in_subaction-operations_in-last-requires t c =
     let parts = operations_of-parts c.args.child.now in
-    let some = ap last_operations c.in-Some-handler.is in
-    let smaller = last-is_smaller c.args.child.now c.in-Some-handler.block c.in-Some-handler.is in
+    let some = otherwise_operations-Run c.args.child.now c.in-Run.block c.in-Run.is in
+    let smaller = last-is_smaller c.args.child.now c.in-Run.block c.in-Run.is in
     (omega (arith, smaller, c.decreases), omega (arith, parts, some, c.requires))
 
 pub operations_in_subaction-overflow_add-result : goal.operations_in_subaction-overflow_add-result
 operations_in_subaction-overflow_add-result t c =
     let parts = operations_of-parts c.args.child.now in
-    let first : c.match-child.by_reason ≡ by_reason_operations (out-Subaction c.args.child.now).handlers = elim c.match-child.branch [
-      | operations_in_subaction-in-Some w ↦ w.by_reason-is ∙ w.operations_in_handlers-by_reason.ensures ∙ all_of _ _ _ w.deref.ensures.value w.in-Some.is
-      | operations_in_subaction-in-None w ↦ w.by_reason-is ∙ sym (ap by_reason_operations w.in-None.is)
-    ] in
+    let first = rw c.deref.ensures.value at c.operations_in_handlers-by_reason.ensures in
     omega (arith, parts, first, c.requires, c.operations_in-body.ensures)
 
 pub operations_in_subaction-overflow_add-result-2 : goal.operations_in_subaction-overflow_add-result-2
 operations_in_subaction-overflow_add-result-2 t c =
     let parts = operations_of-parts c.args.child.now in
-    let first : c.match-child.by_reason ≡ by_reason_operations (out-Subaction c.args.child.now).handlers = elim c.match-child.branch [
-      | operations_in_subaction-in-Some w ↦ w.by_reason-is ∙ w.operations_in_handlers-by_reason.ensures ∙ all_of _ _ _ w.deref.ensures.value w.in-Some.is
-      | operations_in_subaction-in-None w ↦ w.by_reason-is ∙ sym (ap by_reason_operations w.in-None.is)
+    let first = rw c.deref.ensures.value at c.operations_in_handlers-by_reason.ensures in
+    let last : c.match-child.last ≡ operations_of_handlers (otherwise_view (out-Subaction c.args.child.now).otherwise) = elim c.match-child.branch [
+      | operations_in_subaction-in-Run w ↦ w.last-is ∙ w.operations_in-last.ensures ∙ sym (otherwise_operations-Run _ w.in-Run.block w.in-Run.is)
+      | operations_in_subaction-in-GoOn w ↦ w.last-is ∙ sym (otherwise_operations-GoOn _ w.in-GoOn.is)
+      | operations_in_subaction-in-Pass w ↦ w.last-is ∙ sym (otherwise_operations-Pass _ w.in-Pass.is)
     ] in
-    let second : c.match-child-2.last ≡ last_operations (out-Subaction c.args.child.now).handler = elim c.match-child-2.branch [
-      | operations_in_subaction-in-Some-handler w ↦ w.last-is ∙ w.operations_in-last.ensures ∙ sym (ap last_operations w.in-Some-handler.is)
-      | operations_in_subaction-in-None-handler w ↦ w.last-is ∙ sym (ap last_operations w.in-None-handler.is)
-    ] in
-    omega (arith, parts, first, second, c.requires, c.operations_in-body.ensures)
+    omega (arith, parts, first, last, c.requires, c.operations_in-body.ensures)
 
 pub operations_in_subaction-returns : goal.operations_in_subaction-returns
 operations_in_subaction-returns t c =
     let parts = operations_of-parts c.args.child.now in
-    let first : c.match-child.by_reason ≡ by_reason_operations (out-Subaction c.args.child.now).handlers = elim c.match-child.branch [
-      | operations_in_subaction-in-Some w ↦ w.by_reason-is ∙ w.operations_in_handlers-by_reason.ensures ∙ all_of _ _ _ w.deref.ensures.value w.in-Some.is
-      | operations_in_subaction-in-None w ↦ w.by_reason-is ∙ sym (ap by_reason_operations w.in-None.is)
+    let first = rw c.deref.ensures.value at c.operations_in_handlers-by_reason.ensures in
+    let last : c.match-child.last ≡ operations_of_handlers (otherwise_view (out-Subaction c.args.child.now).otherwise) = elim c.match-child.branch [
+      | operations_in_subaction-in-Run w ↦ w.last-is ∙ w.operations_in-last.ensures ∙ sym (otherwise_operations-Run _ w.in-Run.block w.in-Run.is)
+      | operations_in_subaction-in-GoOn w ↦ w.last-is ∙ sym (otherwise_operations-GoOn _ w.in-GoOn.is)
+      | operations_in_subaction-in-Pass w ↦ w.last-is ∙ sym (otherwise_operations-Pass _ w.in-Pass.is)
     ] in
-    let second : c.match-child-2.last ≡ last_operations (out-Subaction c.args.child.now).handler = elim c.match-child-2.branch [
-      | operations_in_subaction-in-Some-handler w ↦ w.last-is ∙ w.operations_in-last.ensures ∙ sym (ap last_operations w.in-Some-handler.is)
-      | operations_in_subaction-in-None-handler w ↦ w.last-is ∙ sym (ap last_operations w.in-None-handler.is)
-    ] in
-    omega (arith, parts, first, second, c.operations_in-body.ensures)
+    omega (arith, parts, first, last, c.operations_in-body.ensures)
