@@ -39,13 +39,13 @@ handled-is Pass held reason state = refl
 -- ---- and it can be run
 
 can_first : (takes : Bool) (block taking : meant.Block) (others : Option meant.Block) (held : List Held) (state : State)
-    → CanRunHere block held state → (others ≡ Some taking → CanRunHere taking held state)
-    → first_of takes block others ≡ Some taking → CanRunHere taking held state
+    → CanRunHere block held state → (Some taking ≡ others → CanRunHere taking held state)
+    → Some taking ≡ first_of takes block others → CanRunHere taking held state
 can_first true block taking others held state here there is = let same : block ≡ taking = cc in subst (λ b. CanRunHere b held state) same here
 can_first false block taking others held state here there is = there is
 
 pub taker_can_run : (handlers : Handlers) (taking : meant.Block) (held : List Held) (reason : Option ℕ) (state : State)
-    → CanHandleHere handlers held state → taker handlers reason ≡ Some taking → CanRunHere taking held state
+    → CanHandleHere handlers held state → Some taking ≡ taker handlers reason → CanRunHere taking held state
 taker_can_run (ForReason for block others) taking held reason state h is =
     let here : CanRunHere block held state =
     record { labels = h.labels; held_by = h.held_by; well_formed = h.well_formed.0; room = omega (arith, h.room) } in

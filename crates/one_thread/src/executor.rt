@@ -8,7 +8,8 @@ ghost use Rattle.one_thread.specs.Running.{in_place};
 
 use crate::workspace::Workspace;
 use batch::{
-    Block, NoMemory, Record, Step, Subaction, Taken, Tried, add_label, handled, handler_for, test_holds,
+    Block, NoMemory, Record, Step, Subaction, Taken, Tried, add_label, handled, taker, test_holds,
+    untaken,
 };
 use meaning::{End, Held};
 use std::alloc::Global;
@@ -143,10 +144,9 @@ fn run_subaction(
     }
 }
 
-// Runs the handler that takes an abort for this reason, if there is one, and says how the block
+// Runs the block that takes an abort for this reason, if one does, and says how the block around it
 // goes on.
 #[cycle(run)]
-#[tactic(auto, using(batch::proofs::Handling::can_run_rules))]
 fn run_handler(
     alloc: Global,
     child: &Subaction,
@@ -159,21 +159,9 @@ fn run_handler(
         (λ r. ShowsHandler in_place (one_handler (subaction_view child.now).handlers labels.old.items reason workspace.old.state) r.0 r.1 workspace.old workspace.new) }
     ensures labels { OnOk result (labels.new.items ≡ labels.old.items) }
 {
-    match &child.handlers {
-        Some(handlers) => match handler_for(handlers, reason) {
-            Some(place) => {
-                let block = &handlers[place].block;
-                Ok(handled(run_block(alloc, block, labels, workspace)?))
-            }
-            None => match &child.handler {
-                Some(block) => Ok(handled(run_block(alloc, block, labels, workspace)?)),
-                None => Ok((None, End::Aborted(reason))),
-            },
-        },
-        None => match &child.handler {
-            Some(block) => Ok(handled(run_block(alloc, block, labels, workspace)?)),
-            None => Ok((None, End::Ended)),
-        },
+    match taker(child, reason) {
+        Some(block) => Ok(handled(run_block(alloc, block, labels, workspace)?)),
+        None => Ok((None, untaken(child, reason))),
     }
 }
 

@@ -3,12 +3,10 @@ ghost use Rattle.std.specs.Prelude.{◌≡◌, ◌++◌, IfOk, OnOk, codes, stri
 ghost use Rattle.meaning.specs.Texts.{line, reason_text, outcome_text, choice_text, operation_line, steps_text, step_text, child_text, children_text, handler_path, handler_block, part, reason_of};
 ghost use Rattle.batch.specs.Names.{names_of};
 ghost use Rattle.batch.specs.Views.{block_view, record_view, step_view, taken_view, subaction_view, tried_view, children_view, all_tried_view};
-ghost use Rattle.batch.specs.declared.tree.Subaction.{out-Subaction};
-ghost use Rattle.report.specs.Handled.{last_block};
 
 use crate::names::{object_name, reason_name};
 use crate::words::{write_call, write_reply};
-use batch::{Block, Names, Record, Step, Subaction, Taken, handler_for};
+use batch::{Block, Names, Otherwise, Record, Step, Subaction, Taken, handler_for};
 use meaning::End;
 use objects::{Call, NoMemory, Reply};
 use std::alloc::Global;
@@ -123,45 +121,21 @@ fn write_handler(
     ensures { OnOk result (let handlers = (subaction_view child.now).handlers in
         string_bytes out.new ≡ string_bytes out.old ++ steps_text (names_of names.now) (handler_path (names_of names.now) path.now handlers reason) 1 (handler_block handlers reason) (record_view done.now)) }
 {
-    match &child.handlers {
-        Some(handlers) => match handler_for(handlers, reason) {
-            Some(place) => {
-                let handler = &handlers[place];
-                let name = reason_name(names, handler.reason);
-                let handler_path = format!(in alloc; "{path}.h:{name}")?;
-                write_block(
-                    alloc,
-                    out,
-                    names,
-                    handler_path.as_str(),
-                    &handler.block,
-                    done,
-                )
-            }
-            None => write_last_handler(alloc, out, names, path, child, done),
-        },
-        None => write_last_handler(alloc, out, names, path, child, done),
-    }
-}
-
-// Writes the lines of the handler for every abort, where there is one.
-#[cycle(lines)]
-fn write_last_handler(
-    alloc: Global,
-    out: &mut String,
-    names: &Names,
-    path: &str,
-    child: &Subaction,
-    done: &Record,
-) -> Result<(), NoMemory>
-    ensures { OnOk result (string_bytes out.new ≡ string_bytes out.old ++ steps_text (names_of names.now) (path.now ++ codes ".h") 1 (last_block (out-Subaction child.now).handler) (record_view done.now)) }
-{
-    match &child.handler {
-        Some(block) => {
-            let handler_path = format!(in alloc; "{path}.h")?;
+    match handler_for(child, reason) {
+        Some(handler) => {
+            let name = reason_name(names, handler.reason);
+            let handler_path = format!(in alloc; "{path}.h:{name}")?;
+            let block = &handler.block;
             write_block(alloc, out, names, handler_path.as_str(), block, done)
         }
-        None => Ok(()),
+        None => match &child.otherwise {
+            Otherwise::Run(block) => {
+                let handler_path = format!(in alloc; "{path}.h")?;
+                write_block(alloc, out, names, handler_path.as_str(), block, done)
+            }
+            Otherwise::GoOn => Ok(()),
+            Otherwise::Pass => Ok(()),
+        },
     }
 }
 

@@ -14,7 +14,7 @@ ghost use Rattle.speculate.specs.Ahead.{CanAllTry, IsRunAhead, AreRunAhead, IsRu
 
 use crate::gate::Gate;
 use batch::{
-    Block, Record, Step, Subaction, Taken, Tried, add_label, handled, handler_for, test_holds,
+    Block, Record, Step, Subaction, Taken, Tried, add_label, handled, taker, test_holds, untaken,
 };
 use intentions::{Committed, Entry, Lists, NoMemory, Objects, View};
 use meaning::{End, Held};
@@ -193,10 +193,9 @@ fn run_subaction<T: Threads + Sync, G: Gate>(
     }
 }
 
-// Runs the handler that takes an abort for this reason, if there is one, and says how the block
+// Runs the block that takes an abort for this reason, if one does, and says how the block around it
 // goes on.
 #[cycle(run)]
-#[tactic(auto, using(batch::proofs::Handling::can_run_rules))]
 fn run_handler<T: Threads + Sync, G: Gate>(
     making: &Making<'_, T, G>,
     child: &Subaction,
@@ -210,21 +209,9 @@ fn run_handler<T: Threads + Sync, G: Gate>(
         (λ r. ShowsHandler in_view (one_handler (subaction_view child.now).handlers labels.old.items reason (state_of_view view.old)) r.0 r.1 view.old view.new) }
     ensures labels { OnOk result (labels.new.items ≡ labels.old.items) }
 {
-    match &child.handlers {
-        Some(handlers) => match handler_for(handlers, reason) {
-            Some(place) => {
-                let block = &handlers[place].block;
-                Ok(handled(run_block(making, block, labels, view, width)?))
-            }
-            None => match &child.handler {
-                Some(block) => Ok(handled(run_block(making, block, labels, view, width)?)),
-                None => Ok((None, End::Aborted(reason))),
-            },
-        },
-        None => match &child.handler {
-            Some(block) => Ok(handled(run_block(making, block, labels, view, width)?)),
-            None => Ok((None, End::Ended)),
-        },
+    match taker(child, reason) {
+        Some(block) => Ok(handled(run_block(making, block, labels, view, width)?)),
+        None => Ok((None, untaken(child, reason))),
     }
 }
 

@@ -1,7 +1,6 @@
 use Rattle.std.proofs.Common.{◌++◌, ◌∙◌, refl, sym, ap, arith}
-use Rattle.batch.proofs.SizeLemmas.{last-is_smaller, handler-is_smaller}
-use Rattle.batch.proofs.Handling.{place-within, each_can_run, last_can_run, found-runs, last-runs, abort-passes, plain-runs, plain-goes_on}
-use Rattle.batch.proofs.HandlerShows.{shows_handler, shows_pass, shows_go_on}
+use Rattle.batch.proofs.Handling.{taker_can_run}
+use Rattle.batch.proofs.HandlerShows.{shows_taker, shows_none}
 use Rattle.meaning.specs.OneThread.{label_if}
 use Rattle.meaning.specs.declared.held.Held.TheVariants.{Outcome}
 use Rattle.batch.proofs.ViewLemmas.{subaction_view-labelled}
@@ -82,38 +81,19 @@ run_children-loop-child-preserved t c =
 pub run_children-returns-clause-shows : goal.run_children-returns-clause-shows
 run_children-returns-clause-shows t c = rw (← c.loop-child.invariant.same) (part_tried-ended ground _ _ _ _ _ _ _ c.loop-child.invariant.part c.loop-child-test.false)
 
--- ---- the handler that takes an abort
+-- ---- what takes an abort
 
 pub run_handler-run_block-requires : goal.run_handler-run_block-requires
-run_handler-run_block-requires t c =
-    let within = place-within c.in-Some.handlers.items c.args.reason c.in-Some-handler_for.place (sym (rw c.deref.ensures.value at c.handler_for.ensures) ∙ c.in-Some-handler_for.is) in
-    let smaller = handler-is_smaller c.args.child.now c.in-Some.handlers c.in-Some-handler_for.place c.index.result.now c.in-Some.is within c.index.ensures in
-    (omega (arith, smaller, c.decreases), each_can_run c.args.child.now c.args.labels.now.items _ c.in-Some.handlers c.in-Some-handler_for.place c.index.result.now c.requires c.in-Some.is within c.index.ensures)
+run_handler-run_block-requires t c = (
+  omega (arith, c.taker.ensures.inside c.in-Some.block c.in-Some.is, c.decreases),
+  taker_can_run _ _ _ c.args.reason _ c.requires c.in-Some.ensures.takes,
+)
 
-pub run_handler-run_block-requires-in-Some-handler : goal.run_handler-run_block-requires-in-Some-handler
-run_handler-run_block-requires-in-Some-handler t c =
-    let smaller = last-is_smaller c.args.child.now c.in-Some-handler.block c.in-Some-handler.is in
-    (omega (arith, smaller, c.decreases), last_can_run c.args.child.now c.args.labels.now.items _ c.in-Some-handler.block c.requires c.in-Some-handler.is)
+pub run_handler-returns-in_ok-run_block-in-Some-clause-shows : goal.run_handler-returns-in_ok-run_block-in-Some-clause-shows
+run_handler-returns-in_ok-run_block-in-Some-clause-shows t c =
+    let shows = c.in_ok-run_block-in-Some.ensures.shows in
+    rw c.handled.ensures.handler (shows_taker ground _ _ _ c.args.reason _ _ _ _ c.in-Some.ensures.takes shows c.handled.ensures.end)
 
-pub run_handler-returns-in_ok-run_block-in-Some-handler_for-clause-shows : goal.run_handler-returns-in_ok-run_block-in-Some-handler_for-clause-shows
-run_handler-returns-in_ok-run_block-in-Some-handler_for-clause-shows t c =
-    rw c.handled.ensures.handler (shows_handler ground _ _ c.in_ok-run_block-in-Some-handler_for.field-0 _ _ _ c.in_ok-run_block-in-Some-handler_for.ensures.shows c.handled.ensures.end
-    (found-runs c.args.child.now c.in-Some.handlers c.args.labels.now.items c.args.reason _ c.in-Some-handler_for.place c.index.result.now c.requires c.in-Some.is (sym (rw c.deref.ensures.value at c.handler_for.ensures) ∙ c.in-Some-handler_for.is) c.index.ensures))
-
-pub run_handler-returns-in_ok-run_block-in-Some-handler-clause-shows : goal.run_handler-returns-in_ok-run_block-in-Some-handler-clause-shows
-run_handler-returns-in_ok-run_block-in-Some-handler-clause-shows t c =
-    rw c.handled-in-Some-handler.ensures.handler (shows_handler ground _ _ c.in_ok-run_block-in-Some-handler.field-0 _ _ _ c.in_ok-run_block-in-Some-handler.ensures.shows c.handled-in-Some-handler.ensures.end
-    (last-runs c.args.child.now c.in-Some.handlers c.args.labels.now.items c.args.reason _ c.in-Some-handler.block c.requires c.in-Some.is (sym (rw c.deref.ensures.value at c.handler_for.ensures) ∙ c.in-None-handler_for.is) c.in-Some-handler.is))
-
-pub run_handler-returns-in-None-handler-clause-shows : goal.run_handler-returns-in-None-handler-clause-shows
-run_handler-returns-in-None-handler-clause-shows t c =
-    rw (abort-passes c.args.child.now c.in-Some.handlers c.args.labels.now.items c.args.reason _ c.requires c.in-Some.is (sym (rw c.deref.ensures.value at c.handler_for.ensures) ∙ c.in-None-handler_for.is) c.in-None-handler.is) (shows_pass ground c.args.labels.now.items c.args.reason c.args.workspace.now)
-
-pub run_handler-returns-in_ok-run_block-in-Some-handler-2-clause-shows : goal.run_handler-returns-in_ok-run_block-in-Some-handler-2-clause-shows
-run_handler-returns-in_ok-run_block-in-Some-handler-2-clause-shows t c =
-    rw c.handled-in-Some-handler-2.ensures.handler (shows_handler ground _ _ c.in_ok-run_block-in-Some-handler-2.field-0 _ _ _ c.in_ok-run_block-in-Some-handler-2.ensures.shows c.handled-in-Some-handler-2.ensures.end
-    (plain-runs c.args.child.now c.args.labels.now.items c.args.reason _ c.in-Some-handler-2.block c.in-None.is c.in-Some-handler-2.is))
-
-pub run_handler-returns-in-None-handler-2-clause-shows : goal.run_handler-returns-in-None-handler-2-clause-shows
-run_handler-returns-in-None-handler-2-clause-shows t c =
-    rw (plain-goes_on c.args.child.now c.args.labels.now.items c.args.reason c.args.workspace.now.state c.in-None.is c.in-None-handler-2.is) (shows_go_on ground c.args.labels.now.items c.args.reason c.args.workspace.now)
+pub run_handler-returns-in-None-clause-shows : goal.run_handler-returns-in-None-clause-shows
+run_handler-returns-in-None-clause-shows t c =
+    shows_none ground _ _ c.args.reason c.args.workspace.now _ c.in-None.ensures.takes c.untaken.ensures

@@ -1,13 +1,11 @@
-use Rattle.std.proofs.Common.{◌≡◌, ◌<◌, ◌≤◌, ◌+◌, ◌++◌, length, refl, sym, ap, ◌∙◌, arith, append-nil, append_assoc, string_bytes}
+use Rattle.std.proofs.Common.{◌≡◌, ◌<◌, ◌≤◌, ◌+◌, ◌++◌, length, refl, sym, ap, ◌∙◌, arith, append-nil, append_assoc, string_bytes, Some, None}
 use Rattle.std.specs.Prelude.{codes}
 use Rattle.meaning.specs.Texts.{part, reason_of}
 use Rattle.batch.specs.Names.{names_of}
 use Rattle.batch.specs.Views.{record_view, subaction_view}
 use Rattle.batch.proofs.ViewLemmas.{block_view-is, record_view-is, step_view-Parallel, taken_view-Parallel}
-use Rattle.batch.proofs.SizeLemmas.{handler-is_smaller}
 use Rattle.report.proofs.TextLemmas.{rest_text-start, rest_text-more, rest_text-no_step, rest_text-end, rest_children_text-start, rest_children_text-more, rest_children_text-no_child, rest_children_text-end, after_text, after_two, body_lines, child_text-body, child_text-handler}
-use Rattle.batch.proofs.Handling.{place-within}
-use Rattle.report.proofs.HandlerLemmas.{handled_text, handled_text-found, handled_text-none_found}
+use Rattle.report.proofs.HandlerLemmas.{handled_text, handled_text-is, otherwise_text-Run, otherwise_text-GoOn, otherwise_text-Pass}
 use Rattle.report.proofs.lines.+lines.Goals as goal
 
 -- ---- steps one after the other
@@ -76,27 +74,42 @@ write_child-returns-in-Some t c =
     let handled = handled_text names c.args.path.now (reason_of c.args.body.now.outcome) (record_view c.in-Some.done) (subaction_view c.args.child.now).handlers in
     rw (child_text-handler names c.args.path.now c.args.child.now c.args.body.now c.args.handler.now c.in-Some.done c.in-Some.is, sym (append_assoc (string_bytes c.args.out.now) lines handled)) (rw (wrote, c.reason_of.ensures) at c.write_handler.ensures)
 
--- ---- the handler that takes an abort
+-- ---- what takes an abort
 
-pub write_handler-index-handler-requires : goal.write_handler-index-handler-requires
-write_handler-index-handler-requires t c =
-    let within = place-within c.in-Some.handlers.items c.args.reason c.in-Some-handler_for.place (sym (rw c.deref.ensures.value at c.handler_for.ensures) ∙ c.in-Some-handler_for.is) in
-    omega (arith, within, c.in-Some.handlers.ok.0)
-
-pub write_handler-write_block-requires : goal.write_handler-write_block-requires
-write_handler-write_block-requires t c =
-    let within = place-within c.in-Some.handlers.items c.args.reason c.in-Some-handler_for.place (sym (rw c.deref.ensures.value at c.handler_for.ensures) ∙ c.in-Some-handler_for.is) in
-    let smaller = handler-is_smaller c.args.child.now c.in-Some.handlers c.in-Some-handler_for.place c.index-handler.result.now c.in-Some.is within c.index-handler.ensures in
-    omega (arith, smaller, c.requires)
-
-pub write_handler-returns-in_ok-handler_path-in-Some-handler_for : goal.write_handler-returns-in_ok-handler_path-in-Some-handler_for
-write_handler-returns-in_ok-handler_path-in-Some-handler_for t c =
-    let handler = c.index-handler.result.now in
-    let path : c.as_str.result.now ≡ c.args.path.now ++ codes ".h:" ++ (names_of c.args.names.now).reason handler.reason =
-    c.as_str.ensures.value ∙ c.in_ok-handler_path-in-Some-handler_for.ensures.ok ∙ ap (λ name. c.args.path.now ++ (codes ".h:" ++ name)) c.reason_name-name.ensures ∙ sym (append_assoc c.args.path.now (codes ".h:") ((names_of c.args.names.now).reason handler.reason)) in
-    let text = handled_text-found (names_of c.args.names.now) c.args.path.now c.args.reason (record_view c.args.done.now) c.args.child.now c.in-Some.handlers c.in-Some-handler_for.place c.index-handler.result.now c.in-Some.is (sym (rw c.deref.ensures.value at c.handler_for.ensures) ∙ c.in-Some-handler_for.is) c.index-handler.ensures in
+pub write_handler-returns-in_ok-handler_path-in-Some : goal.write_handler-returns-in_ok-handler_path-in-Some
+write_handler-returns-in_ok-handler_path-in-Some t c =
+    let names = names_of c.args.names.now in
+    let here = c.args.path.now in
+    let handler = c.in-Some.handler.now in
+    let name = c.reason_name-name.ensures in
+    let path : c.as_str.result.now ≡ here ++ codes ".h:" ++ names.reason handler.reason =
+    c.as_str.ensures.value ∙ c.in_ok-handler_path-in-Some.ensures.ok ∙ ap (λ text. here ++ (codes ".h:" ++ text)) name
+    ∙ sym (append_assoc here (codes ".h:") (names.reason handler.reason)) in
+    let text = handled_text-is names here c.args.reason (record_view c.args.done.now) c.args.child.now (Some handler) c.in-Some.ensures.first in
     rw text (rw path at c.write_block.ensures)
 
-pub write_handler-returns-in-None-handler_for : goal.write_handler-returns-in-None-handler_for
-write_handler-returns-in-None-handler_for t c =
-    rw (handled_text-none_found (names_of c.args.names.now) c.args.path.now c.args.reason (record_view c.args.done.now) c.args.child.now c.in-Some.handlers c.in-Some.is (sym (rw c.deref.ensures.value at c.handler_for.ensures) ∙ c.in-None-handler_for.is)) c.write_last_handler.ensures
+pub write_handler-returns-in_ok-handler_path-in-Run : goal.write_handler-returns-in_ok-handler_path-in-Run
+write_handler-returns-in_ok-handler_path-in-Run t c =
+    let names = names_of c.args.names.now in
+    let here = c.args.path.now in
+    let done = record_view c.args.done.now in
+    let path : c.as_str-in-Run.result.now ≡ here ++ codes ".h" = c.as_str-in-Run.ensures.value ∙ c.in_ok-handler_path-in-Run.ensures.ok in
+    let text = handled_text-is names here c.args.reason done c.args.child.now None c.in-None.ensures.first in
+    let last = otherwise_text-Run names here c.args.reason done c.args.child.now c.in-Run.block c.in-Run.is in
+    rw (text ∙ last) (rw path at c.write_block-in-Run.ensures)
+
+pub write_handler-returns-in-GoOn : goal.write_handler-returns-in-GoOn
+write_handler-returns-in-GoOn t c =
+    let names = names_of c.args.names.now in
+    let done = record_view c.args.done.now in
+    let text = handled_text-is names c.args.path.now c.args.reason done c.args.child.now None c.in-None.ensures.first in
+    let last = otherwise_text-GoOn names c.args.path.now c.args.reason done c.args.child.now c.in-GoOn.is in
+    rw (text ∙ last) (sym (append-nil _))
+
+pub write_handler-returns-in-Pass : goal.write_handler-returns-in-Pass
+write_handler-returns-in-Pass t c =
+    let names = names_of c.args.names.now in
+    let done = record_view c.args.done.now in
+    let text = handled_text-is names c.args.path.now c.args.reason done c.args.child.now None c.in-None.ensures.first in
+    let last = otherwise_text-Pass names c.args.path.now c.args.reason done c.args.child.now c.in-Pass.is in
+    rw (text ∙ last) (sym (append-nil _))

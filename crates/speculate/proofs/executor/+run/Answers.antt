@@ -1,7 +1,6 @@
 use Rattle.std.proofs.Common.{◌++◌, ◌∙◌, refl, sym, ap, rules, arith}
-use Rattle.batch.proofs.SizeLemmas.{last-is_smaller, handler-is_smaller}
-use Rattle.batch.proofs.Handling.{place-within, each_can_run, last_can_run, found-runs, last-runs, abort-passes, plain-runs, plain-goes_on}
-use Rattle.batch.proofs.HandlerShows.{shows_handler, shows_pass, shows_go_on}
+use Rattle.batch.proofs.Handling.{taker_can_run}
+use Rattle.batch.proofs.HandlerShows.{shows_taker, shows_none}
 use Rattle.meaning.specs.OneThread.{label_if}
 use Rattle.meaning.specs.declared.held.Held.TheVariants.{Outcome}
 use Rattle.batch.proofs.ViewLemmas.{subaction_view-labelled}
@@ -69,43 +68,22 @@ run_step-returns-in_ok-append-in-Parallel-clause-shows g t c =
     parallel-shows ground c.args.step.now c.in-Parallel.children c.args.labels.now.items _ c.run_children.new.outcomes.items c.args.view.now _ c.in_ok-tried-in-Parallel.tried c.in_ok-tried-in-Parallel.end c.in-Parallel.is (rw c.deref.ensures.value at c.in_ok-tried-in-Parallel.ensures.shows)
     (c.in_ok-append-in-Parallel.ensures.items ∙ ap (λ ls. ls ++ c.run_children.new.outcomes.items) c.in_ok-tried-in-Parallel.ensures.labels)
 
--- ---- the handler that takes an abort
+-- ---- what takes an abort
 
 pub run_handler-run_block-requires : goal.run_handler-run_block-requires
 run_handler-run_block-requires g t c κs lives =
-    let within = place-within c.in-Some.handlers.items c.args.reason c.in-Some-handler_for.place (sym (rw c.deref.ensures.value at c.handler_for.ensures) ∙ c.in-Some-handler_for.is) in
-    let smaller = handler-is_smaller c.args.child.now c.in-Some.handlers c.in-Some-handler_for.place c.index.result.now c.in-Some.is within c.index.ensures in
-    let can = each_can_run c.args.child.now c.args.labels.now.items _ c.in-Some.handlers c.in-Some-handler_for.place c.index.result.now c.requires c.in-Some.is within c.index.ensures in
+    let smaller = c.taker.ensures.inside c.in-Some.block c.in-Some.is in
+    let can = taker_can_run _ _ _ c.args.reason _ c.requires c.in-Some.ensures.takes in
     search rules
 
-pub run_handler-run_block-requires-in-Some-handler : goal.run_handler-run_block-requires-in-Some-handler
-run_handler-run_block-requires-in-Some-handler g t c κs lives =
-    let smaller = last-is_smaller c.args.child.now c.in-Some-handler.block c.in-Some-handler.is in
-    let can = last_can_run c.args.child.now c.args.labels.now.items _ c.in-Some-handler.block c.requires c.in-Some-handler.is in
-    search rules
+pub run_handler-returns-in_ok-run_block-in-Some-clause-shows : goal.run_handler-returns-in_ok-run_block-in-Some-clause-shows
+run_handler-returns-in_ok-run_block-in-Some-clause-shows g t c =
+    let shows = c.in_ok-run_block-in-Some.ensures.shows in
+    rw c.handled.ensures.handler (shows_taker ground _ _ _ c.args.reason _ _ _ _ c.in-Some.ensures.takes shows c.handled.ensures.end)
 
-pub run_handler-returns-in_ok-run_block-in-Some-handler_for-clause-shows : goal.run_handler-returns-in_ok-run_block-in-Some-handler_for-clause-shows
-run_handler-returns-in_ok-run_block-in-Some-handler_for-clause-shows g t c =
-    rw c.handled.ensures.handler (shows_handler ground _ _ c.in_ok-run_block-in-Some-handler_for.field-0 _ _ _ c.in_ok-run_block-in-Some-handler_for.ensures.shows c.handled.ensures.end
-    (found-runs c.args.child.now c.in-Some.handlers c.args.labels.now.items c.args.reason _ c.in-Some-handler_for.place c.index.result.now c.requires c.in-Some.is (sym (rw c.deref.ensures.value at c.handler_for.ensures) ∙ c.in-Some-handler_for.is) c.index.ensures))
-
-pub run_handler-returns-in_ok-run_block-in-Some-handler-clause-shows : goal.run_handler-returns-in_ok-run_block-in-Some-handler-clause-shows
-run_handler-returns-in_ok-run_block-in-Some-handler-clause-shows g t c =
-    rw c.handled-in-Some-handler.ensures.handler (shows_handler ground _ _ c.in_ok-run_block-in-Some-handler.field-0 _ _ _ c.in_ok-run_block-in-Some-handler.ensures.shows c.handled-in-Some-handler.ensures.end
-    (last-runs c.args.child.now c.in-Some.handlers c.args.labels.now.items c.args.reason _ c.in-Some-handler.block c.requires c.in-Some.is (sym (rw c.deref.ensures.value at c.handler_for.ensures) ∙ c.in-None-handler_for.is) c.in-Some-handler.is))
-
-pub run_handler-returns-in-None-handler-clause-shows : goal.run_handler-returns-in-None-handler-clause-shows
-run_handler-returns-in-None-handler-clause-shows g t c =
-    rw (abort-passes c.args.child.now c.in-Some.handlers c.args.labels.now.items c.args.reason _ c.requires c.in-Some.is (sym (rw c.deref.ensures.value at c.handler_for.ensures) ∙ c.in-None-handler_for.is) c.in-None-handler.is) (shows_pass ground c.args.labels.now.items c.args.reason c.args.view.now)
-
-pub run_handler-returns-in_ok-run_block-in-Some-handler-2-clause-shows : goal.run_handler-returns-in_ok-run_block-in-Some-handler-2-clause-shows
-run_handler-returns-in_ok-run_block-in-Some-handler-2-clause-shows g t c =
-    rw c.handled-in-Some-handler-2.ensures.handler (shows_handler ground _ _ c.in_ok-run_block-in-Some-handler-2.field-0 _ _ _ c.in_ok-run_block-in-Some-handler-2.ensures.shows c.handled-in-Some-handler-2.ensures.end
-    (plain-runs c.args.child.now c.args.labels.now.items c.args.reason _ c.in-Some-handler-2.block c.in-None.is c.in-Some-handler-2.is))
-
-pub run_handler-returns-in-None-handler-2-clause-shows : goal.run_handler-returns-in-None-handler-2-clause-shows
-run_handler-returns-in-None-handler-2-clause-shows g t c =
-    rw (plain-goes_on c.args.child.now c.args.labels.now.items c.args.reason (state_of_view c.args.view.now) c.in-None.is c.in-None-handler-2.is) (shows_go_on ground c.args.labels.now.items c.args.reason c.args.view.now)
+pub run_handler-returns-in-None-clause-shows : goal.run_handler-returns-in-None-clause-shows
+run_handler-returns-in-None-clause-shows g t c =
+    shows_none ground _ _ c.args.reason c.args.view.now _ c.in-None.ensures.takes c.untaken.ensures
 
 -- ---- children that are run ahead
 
