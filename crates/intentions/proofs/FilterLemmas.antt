@@ -20,35 +20,46 @@ use Rattle.intentions.proofs.ListsLemmas.{class_at, number-bound}
 -- ---- a class put into a set
 
 -- where a set stands is not changed by what the sets are
-same_slot : (sets : List ℕ) (slot value : ℕ) (o : Heading) → slot_of (length (set sets slot value)) o.object o.item ≡ slot_of (length sets) o.object o.item
+same_slot : (sets : List ℕ) (slot value : ℕ) (o : Heading)
+    → slot_of (length (set sets slot value)) o.object o.item ≡ slot_of (length sets) o.object o.item
 same_slot sets slot value o = ap (λ n. slot_of n o.object o.item) (length-set sets slot value)
 
 -- a class put into a set leaves those that the sets have
-pub kept_in : (sets : List ℕ) (slot old more : ℕ) (o : Heading) → slot < length sets → old ≡ get_or sets slot old → HasIn sets o → HasIn (set sets slot (bit_or old more)) o
-kept_in sets slot old more o within was has = ap (λ n. bit_at (get_or (set sets slot (bit_or old more)) n 65535) (number_of o.class)) (same_slot sets slot (bit_or old more) o) ∙ by_place (cases_eq at slot)
+pub kept_in : (sets : List ℕ) (slot old more : ℕ) (o : Heading) → slot < length sets → old ≡ get_or sets slot old
+    → HasIn sets o → HasIn (set sets slot (bit_or old more)) o
+kept_in sets slot old more o within was has =
+    ap (λ n. bit_at (get_or (set sets slot (bit_or old more)) n 65535) (number_of o.class))
+    (same_slot sets slot (bit_or old more) o) ∙ by_place (cases_eq at slot)
   where
     at : ℕ
     at = slot_of (length sets) o.object o.item
 
     by_place : (at ≡ slot) ⊎ (at ≢ slot) → bit_at (get_or (set sets slot (bit_or old more)) at 65535) (number_of o.class) ≡ 1
     by_place (inl same) =
-        let read : get_or sets at 65535 ≡ old = get_or_default sets at 65535 old (subst (λ n. n < length sets) (sym same) within) ∙ ap (λ n. get_or sets n old) same ∙ sym was in
+        let read : get_or sets at 65535 ≡ old = get_or_default sets at 65535 old (subst (λ n. n < length sets) (sym same) within)
+        ∙ ap (λ n. get_or sets n old) same ∙ sym was in
         let had : bit_at old (number_of o.class) ≡ 1 = ap (λ s. bit_at s (number_of o.class)) (sym read) ∙ has in
-        ap (λ n. bit_at (get_or (set sets slot (bit_or old more)) n 65535) (number_of o.class)) same ∙ ap (λ s. bit_at s (number_of o.class)) (get_or-set_same sets slot (bit_or old more) 65535 within)
+        ap (λ n. bit_at (get_or (set sets slot (bit_or old more)) n 65535) (number_of o.class)) same
+        ∙ ap (λ s. bit_at s (number_of o.class)) (get_or-set_same sets slot (bit_or old more) 65535 within)
         ∙ bit_at_or old more (number_of o.class) ∙ omega (arith, had, bit_at-lt more (number_of o.class))
-    by_place (inr other) = ap (λ s. bit_at s (number_of o.class)) (get_or-set_other sets slot at (bit_or old more) 65535 other) ∙ has
+    by_place (inr other) =
+        ap (λ s. bit_at s (number_of o.class)) (get_or-set_other sets slot at (bit_or old more) 65535 other) ∙ has
 
 -- it is in its own
-pub own_in : (sets : List ℕ) (slot old more : ℕ) (o : Heading) → slot < length sets → slot ≡ slot_of (length sets) o.object o.item → more ≡ 2 ^ number_of o.class → HasIn (set sets slot (bit_or old more)) o
+pub own_in : (sets : List ℕ) (slot old more : ℕ) (o : Heading) → slot < length sets
+    → slot ≡ slot_of (length sets) o.object o.item → more ≡ 2 ^ number_of o.class → HasIn (set sets slot (bit_or old more)) o
 own_in sets slot old more o within is own =
-    ap (λ n. bit_at (get_or (set sets slot (bit_or old more)) n 65535) (number_of o.class)) (same_slot sets slot (bit_or old more) o ∙ sym is) ∙ ap (λ s. bit_at s (number_of o.class)) (get_or-set_same sets slot (bit_or old more) 65535 within)
-    ∙ bit_at_or old more (number_of o.class) ∙ omega (arith, ap (λ s. bit_at s (number_of o.class)) own ∙ bit_at-pow_same (number_of o.class), bit_at-lt old (number_of o.class))
+    ap (λ n. bit_at (get_or (set sets slot (bit_or old more)) n 65535) (number_of o.class)) (same_slot sets slot (bit_or old more) o ∙ sym is)
+    ∙ ap (λ s. bit_at s (number_of o.class)) (get_or-set_same sets slot (bit_or old more) 65535 within)
+    ∙ bit_at_or old more (number_of o.class)
+    ∙ omega (arith, ap (λ s. bit_at s (number_of o.class)) own ∙ bit_at-pow_same (number_of o.class), bit_at-lt old (number_of o.class))
 
 -- ---- a list of entries
 
 -- a filter of a longer list is one of the list
 pub filter_shorter : (es : List Entry) (e : Entry) (filter : Filter) → IsFilterOf (es ++ e ∷ []) filter → IsFilterOf es filter
-filter_shorter es e filter h k d l = subst (IsMarked filter) (get_or_append_left es (e ∷ []) d k l) (h k d (omega (arith, length-append es (e ∷ []))))
+filter_shorter es e filter h k d l =
+    subst (IsMarked filter) (get_or_append_left es (e ∷ []) d k l) (h k d (omega (arith, length-append es (e ∷ []))))
 
 -- ---- the entries that a filter clears
 
@@ -69,9 +80,16 @@ every_class p c h = subst (λ d. p d ≡ true) (class_at c) (every_at p classes 
 -- the set of conflicts has each class that one doesn't always commute with
 conflict_bit : (c d : Class) → always_commute c d ≡ false → bit_at (conflicts_of c) (number_of d) ≡ 1
 unfolding every
-conflict_bit c d may = eqb-true (bit_at (conflicts_of c) (number_of d)) 1 (in_set (always_commute c d) may (every_class (λ y. always_commute c y || nat_eq (bit_at (conflicts_of c) (number_of y)) 1) d (every_class (λ x. every (λ y. always_commute x y || nat_eq (bit_at (conflicts_of x) (number_of y)) 1) classes) c refl)))
+conflict_bit c d may = eqb-true (bit_at (conflicts_of c) (number_of d)) 1 (in_set (always_commute c d) may (every_class (has c) d every_pair))
   where
-    in_set : (b : Bool) → b ≡ false → (b || nat_eq (bit_at (conflicts_of c) (number_of d)) 1) ≡ true → nat_eq (bit_at (conflicts_of c) (number_of d)) 1 ≡ true
+    has : Class → Class → Bool
+    has x y = always_commute x y || nat_eq (bit_at (conflicts_of x) (number_of y)) 1
+
+    every_pair : every (has c) classes ≡ true
+    every_pair = every_class (λ x. every (has x) classes) c refl
+
+    in_set : (b : Bool) → b ≡ false → (b || nat_eq (bit_at (conflicts_of c) (number_of d)) 1) ≡ true
+        → nat_eq (bit_at (conflicts_of c) (number_of d)) 1 ≡ true
     in_set true f h = absurd (false≢true (sym f))
     in_set false f h = h
 
@@ -85,9 +103,12 @@ abbrev pub met : Filter → Entry → ℕ
 met filter e = bit_and (set_at filter e.object None) (conflicts_of (class_of e.call e.reply))
 
 -- an entry under a heading is under that of its object and class alone
-under_class : (q : Entry) (o : Heading) → is_under q o ≡ true → is_under q (record { object = o.object; item = None; class = o.class }) ≡ true
+under_class : (q : Entry) (o : Heading) → is_under q o ≡ true
+    → is_under q (record { object = o.object; item = None; class = o.class }) ≡ true
 unfolding is_under
-under_class q o under = alone (nat_eq q.object o.object && nat_eq (number_of (class_of q.call q.reply)) (number_of o.class)) (has_item o.item (item_of q.call q.reply)) under
+under_class q o under =
+    alone (nat_eq q.object o.object && nat_eq (number_of (class_of q.call q.reply)) (number_of o.class))
+    (has_item o.item (item_of q.call q.reply)) under
   where
     alone : (a b : Bool) → (a && b) ≡ true → (a && true) ≡ true
     alone a b h = ap (λ x. x && true) (and_parts a b h).0
@@ -102,7 +123,8 @@ of_item filter e c has = bit_at_or own 58687 (number_of c) ∙ by_class (is_by_i
 
     by_class : (b : Bool) → is_by_item c ≡ b → max (bit_at own (number_of c)) (bit_at 58687 (number_of c)) ≡ 1
     by_class true by_item =
-        let there : bit_at own (number_of c) ≡ 1 = ap (λ b. bit_at (set_at filter e.object (if b then item_of e.call e.reply else None)) (number_of c)) (sym by_item) ∙ has in
+        let there : bit_at own (number_of c) ≡ 1 =
+        ap (λ b. bit_at (set_at filter e.object (if b then item_of e.call e.reply else None)) (number_of c)) (sym by_item) ∙ has in
         omega (arith, there, bit_at-lt 58687 (number_of c))
     by_class false by_object =
         let there : bit_at 58687 (number_of c) ≡ 1 = object_bit c ∙ ap (λ b. if b then 0 else 1) by_object in
@@ -123,12 +145,14 @@ meets filter p q marked = by_class (always_commute own class) refl (is_under q (
     class : Class
     class = class_of q.call q.reply
 
-    by_class : (b : Bool) → always_commute own class ≡ b → (u : Bool) → is_under q (heading_against p class) ≡ u → Commute p q ⊎ IsMet filter p q
+    by_class : (b : Bool) → always_commute own class ≡ b → (u : Bool) → is_under q (heading_against p class) ≡ u
+        → Commute p q ⊎ IsMet filter p q
     by_class true always u under = inl (always_commutes p q always)
     by_class false may false under = inl (elsewhere p q under)
     by_class false may true under =
         let all : ℕ = set_at filter p.object None in
-        let there : bit_at all (number_of class) ≡ 1 = marked (record { object = p.object; item = None; class = class }) (under_class q (heading_against p class) under) in
+        let there : bit_at all (number_of class) ≡ 1 =
+        marked (record { object = p.object; item = None; class = class }) (under_class q (heading_against p class) under) in
         inr (record {
           object = omega (arith, bit_at_and all (conflicts_of own) (number_of class), there, conflict_bit own class may);
           item = of_item filter p class (marked (heading_against p class) under);
@@ -144,7 +168,8 @@ cleared filter p q none marked = elim (meets filter p q marked) [
 ]
 
 -- so does one that meets none of its item
-pub cleared_by_item : (filter : Filter) (p q : Entry) → bit_and (met filter p) (bit_or (set_at filter p.object (item_of p.call p.reply)) 58687) ≡ 0 → IsMarked filter q → Commute p q
+pub cleared_by_item : (filter : Filter) (p q : Entry)
+    → bit_and (met filter p) (bit_or (set_at filter p.object (item_of p.call p.reply)) 58687) ≡ 0 → IsMarked filter q → Commute p q
 cleared_by_item filter p q none marked = elim (meets filter p q marked) [
   | inl commutes ↦ commutes
   | inr is ↦ (let n : ℕ = number_of (class_of q.call q.reply) in
