@@ -1,5 +1,6 @@
 -- How many operations the parts of a list have that are left.
-use Rattle.std.proofs.Common.{◌≡◌, ℕ, suc, ◌+◌, ◌<◌, ◌≤◌, List, [], ◌∷◌, length, get_or, drop, map, refl, sym, ap, ◌∙◌, arith, add-one, drop-cons}
+use Rattle.std.proofs.Common.{◌≡◌, ℕ, suc, ◌+◌, ◌<◌, ◌≤◌, List, [], ◌∷◌, length, get_or, drop, map, refl, sym, ap, ◌∙◌, arith, add-one}
+use Rattle.std.proofs.Common.{drop-cons}
 use Rattle.std.proofs.Math.ListN.{drop_of_length-le}
 use Rattle.meaning.specs.Trees as meant
 use Rattle.meaning.specs.Trees.{Handlers, Pass, for_reasons}
@@ -12,7 +13,8 @@ use Rattle.batch.specs.declared.tree.Step.{Step}
 use Rattle.batch.specs.declared.tree.Handler.{Handler}
 use Rattle.batch.specs.declared.tree.Otherwise.{Run, GoOn, Pass as Pass_by}
 use Rattle.batch.specs.declared.tree.Subaction.{Subaction, out-Subaction}
-use Rattle.batch.proofs.ViewLemmas.{handler_view-is, otherwise_view-Run, otherwise_view-GoOn, otherwise_view-Pass, subaction_view-body, subaction_view-handlers}
+use Rattle.batch.proofs.ViewLemmas.{handler_view-is, otherwise_view-Run, otherwise_view-GoOn, otherwise_view-Pass, subaction_view-body}
+use Rattle.batch.proofs.ViewLemmas.{subaction_view-handlers}
 
 -- one element of a list that is left
 pub left : {X : Type 0} (xs : List X) (i : ℕ) (x : X) → i < length xs → x ≡ get_or xs i x → drop i xs ≡ x ∷ drop (i + 1) xs
@@ -91,17 +93,26 @@ before_others (first ∷ by_reason) others = let rest = before_others by_reason 
 
 -- a subaction: its body, its handlers by reason, and what is otherwise
 pub operations_of-parts : (child : Subaction) → operations_of (subaction_view child)
-    ≡ operations (block_view (out-Subaction child).body) + operations_of_handlers (for_reasons (map handler_view (out-Subaction child).handlers.items) Pass) + operations_of_handlers (otherwise_view (out-Subaction child).otherwise)
+    ≡ operations (block_view (out-Subaction child).body)
+    + operations_of_handlers (for_reasons (map handler_view (out-Subaction child).handlers.items) Pass)
+    + operations_of_handlers (otherwise_view (out-Subaction child).otherwise)
 operations_of-parts child =
-    let handlers = ap operations_of_handlers (subaction_view-handlers child) ∙ before_others (map handler_view (out-Subaction child).handlers.items) (otherwise_view (out-Subaction child).otherwise) in
+    let by_reason = before_others (map handler_view (out-Subaction child).handlers.items) (otherwise_view (out-Subaction child).otherwise) in
+    let handlers = ap operations_of_handlers (subaction_view-handlers child) ∙ by_reason in
     let body = ap operations (subaction_view-body child) in
     omega (arith, handlers, body)
 
-pub otherwise_operations-Run : (child : Subaction) (block : Block) → (out-Subaction child).otherwise ≡ Run block → operations_of_handlers (otherwise_view (out-Subaction child).otherwise) ≡ operations (block_view block)
-otherwise_operations-Run child block is = ap (λ o. operations_of_handlers (otherwise_view o)) is ∙ ap operations_of_handlers (otherwise_view-Run block)
+module _ (child : Subaction) where
+  abbrev otherwise_operations : ℕ
+  otherwise_operations = operations_of_handlers (otherwise_view (out-Subaction child).otherwise)
 
-pub otherwise_operations-GoOn : (child : Subaction) → (out-Subaction child).otherwise ≡ GoOn → operations_of_handlers (otherwise_view (out-Subaction child).otherwise) ≡ 0
-otherwise_operations-GoOn child is = ap (λ o. operations_of_handlers (otherwise_view o)) is ∙ ap operations_of_handlers otherwise_view-GoOn
+  pub otherwise_operations-Run : (block : Block) → (out-Subaction child).otherwise ≡ Run block
+      → otherwise_operations ≡ operations (block_view block)
+  otherwise_operations-Run block is =
+      ap (λ o. operations_of_handlers (otherwise_view o)) is ∙ ap operations_of_handlers (otherwise_view-Run block)
 
-pub otherwise_operations-Pass : (child : Subaction) → (out-Subaction child).otherwise ≡ Pass_by → operations_of_handlers (otherwise_view (out-Subaction child).otherwise) ≡ 0
-otherwise_operations-Pass child is = ap (λ o. operations_of_handlers (otherwise_view o)) is ∙ ap operations_of_handlers otherwise_view-Pass
+  pub otherwise_operations-GoOn : (out-Subaction child).otherwise ≡ GoOn → otherwise_operations ≡ 0
+  otherwise_operations-GoOn is = ap (λ o. operations_of_handlers (otherwise_view o)) is ∙ ap operations_of_handlers otherwise_view-GoOn
+
+  pub otherwise_operations-Pass : (out-Subaction child).otherwise ≡ Pass_by → otherwise_operations ≡ 0
+  otherwise_operations-Pass is = ap (λ o. operations_of_handlers (otherwise_view o)) is ∙ ap operations_of_handlers otherwise_view-Pass

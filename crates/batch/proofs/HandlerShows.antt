@@ -13,13 +13,16 @@ use Rattle.batch.specs.Shows.{ShowsRun, ShowsHandler}
 
 module _ {V : Type 0} {g : Ground V} (on : IsGround g) where
   -- what takes the abort shows what its block does
-  pub shows_taker : (handlers : Handlers) (block : Block) (held : List Held) (reason : Option ℕ) (done : Record) (end : End) (before now : V)
+  pub shows_taker : (handlers : Handlers) (block : Block) (held : List Held) (reason : Option ℕ) (done : Record) (end : End)
+      (before now : V)
       → Some block ≡ taker handlers reason → ShowsRun g (one block held (g.state before)) done before now → end ≡ done.outcome
       → ShowsHandler g (one_handler handlers held reason (g.state before)) (Some done) end before now
   shows_taker handlers block held reason done end before now takes shows is =
       let handler : Run TakenHandler = as_handler (one block held (g.state before)) in
-      let ran : ShowsHandler g handler (Some done) end before now = record { tree = ap Some shows.tree; end = is ∙ shows.end; took = shows.took } in
-      let how = handled-is handlers held reason (g.state before) ∙ ap (λ b. taken_by b (untaken handlers reason) held (g.state before)) (sym takes) in
+      let ran : ShowsHandler g handler (Some done) end before now =
+      record { tree = ap Some shows.tree; end = is ∙ shows.end; took = shows.took } in
+      let state = g.state before in
+      let how = handled-is handlers held reason state ∙ ap (λ b. taken_by b (untaken handlers reason) held state) (sym takes) in
       subst (λ r. ShowsHandler g r (Some done) end before now) (sym how) ran
 
   -- where nothing takes the abort, nothing is taken in
@@ -29,5 +32,6 @@ module _ {V : Type 0} {g : Ground V} (on : IsGround g) where
   shows_none handlers held reason before end none is =
       let nothing : Run TakenHandler = taken_by None (untaken handlers reason) held (g.state before) in
       let shows : ShowsHandler g nothing None end before before = record { tree = refl; end = is; took = on.none before } in
-      let how = handled-is handlers held reason (g.state before) ∙ ap (λ b. taken_by b (untaken handlers reason) held (g.state before)) (sym none) in
+      let state = g.state before in
+      let how = handled-is handlers held reason state ∙ ap (λ b. taken_by b (untaken handlers reason) held state) (sym none) in
       subst (λ r. ShowsHandler g r None end before before) (sym how) shows

@@ -41,7 +41,8 @@ handled-is Pass held reason state = refl
 can_first : (takes : Bool) (block taking : meant.Block) (others : Option meant.Block) (held : List Held) (state : State)
     → CanRunHere block held state → (Some taking ≡ others → CanRunHere taking held state)
     → Some taking ≡ first_of takes block others → CanRunHere taking held state
-can_first true block taking others held state here there is = let same : block ≡ taking = cc in subst (λ b. CanRunHere b held state) same here
+can_first true block taking others held state here there is =
+    let same : block ≡ taking = cc in subst (λ b. CanRunHere b held state) same here
 can_first false block taking others held state here there is = there is
 
 pub taker_can_run : (handlers : Handlers) (taking : meant.Block) (held : List Held) (reason : Option ℕ) (state : State)
@@ -51,7 +52,8 @@ taker_can_run (ForReason for block others) taking held reason state h is =
     record { labels = h.labels; held_by = h.held_by; well_formed = h.well_formed.0; room = omega (arith, h.room) } in
     let there : CanHandleHere others held state =
     record { labels = h.labels; held_by = h.held_by; well_formed = h.well_formed.1; room = omega (arith, h.room) } in
-    can_first (is_for for reason) block taking (taker others reason) held state here (taker_can_run others taking held reason state there) is
+    can_first (is_for for reason) block taking (taker others reason) held state here
+    (taker_can_run others taking held reason state there) is
 taker_can_run (meant.Otherwise block) taking held reason state h is =
     let same : block ≡ taking = cc in
     subst (λ b. CanRunHere b held state) same
@@ -99,4 +101,5 @@ pub untaken-is : (child : Subaction) (reason : Option ℕ)
     → untaken (subaction_view child).handlers reason ≡ untaken (otherwise_view (out-Subaction child).otherwise) reason
 untaken-is child reason =
     let last : Handlers = otherwise_view (out-Subaction child).otherwise in
-    ap (λ h. untaken h reason) (subaction_view-handlers child) ∙ untaken-last (map handler_view (out-Subaction child).handlers.items) last reason
+    ap (λ h. untaken h reason) (subaction_view-handlers child)
+    ∙ untaken-last (map handler_view (out-Subaction child).handlers.items) last reason

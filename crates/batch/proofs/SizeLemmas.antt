@@ -10,7 +10,8 @@ use Rattle.batch.specs.declared.tree.Subaction.{Subaction, out-Subaction, size-S
 pub among-most : {X : Type 0} (size : X → ℕ) (xs : List X) (i : ℕ) (x : X) → i < length xs → x ≡ get_or xs i x → size x ≤ most size xs
 among-most size xs i x lt read = subst (λ y. size y ≤ most size xs) (sym read) (at_most size xs i x lt)
 
-pub last-is_smaller : (child : Subaction) (block : Block) → (out-Subaction child).otherwise ≡ Run block → size-Block block < size-Subaction child
+pub last-is_smaller : (child : Subaction) (block : Block)
+    → (out-Subaction child).otherwise ≡ Run block → size-Block block < size-Subaction child
 last-is_smaller child block is =
     let inner : size-Block block < size-Otherwise (Run block) = rw (size_is-Otherwise (Run block)) (search (rules, the_lemmas)) in
     rw (size_is-Subaction child, is) (omega (arith, inner))

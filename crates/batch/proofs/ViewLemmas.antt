@@ -3,9 +3,11 @@ use Rattle.std.proofs.Common.{◌≡◌, ℕ, Bool, List, [], ◌∷◌, Option,
 use Rattle.objects.specs.declared.call.Call.{Call}
 use Rattle.objects.specs.declared.call.Reply.{Reply}
 use Rattle.meaning.specs.declared.test.Test.{Test}
-use Rattle.meaning.specs.Trees.{Operation, If, Subaction as subaction_step, Abort as abort_step, Parallel as parallel_step, Otherwise, GoOn, Pass, for_reasons}
+use Rattle.meaning.specs.Trees.{Operation, If, Subaction as subaction_step, Abort as abort_step, Parallel as parallel_step, Otherwise, GoOn}
+use Rattle.meaning.specs.Trees.{Pass, for_reasons}
 use Rattle.meaning.specs.Shown.{Shown, AtEnd, ShownStep, Replied, Branched, Acted, InParallel, NoChild}
-use Rattle.batch.specs.Views.{block_view, step_view, handler_view, otherwise_view, subaction_view, steps_view, children_view, record_view, taken_view, tried_view, all_tried_view, before_end, shown_child, before_younger}
+use Rattle.batch.specs.Views.{block_view, step_view, handler_view, otherwise_view, subaction_view, steps_view, children_view, record_view}
+use Rattle.batch.specs.Views.{taken_view, tried_view, all_tried_view, before_end, shown_child, before_younger}
 use Rattle.batch.specs.declared.tree.Block.{Block}
 use Rattle.batch.specs.declared.tree.Step.{Op, If as if_variant, Sub, Abort, Parallel, the_lemmas}
 use Rattle.batch.specs.declared.tree.Subaction.{Subaction, out-Subaction}
@@ -69,7 +71,9 @@ subaction_view-body child = search (rules, the_lemmas)
 pub subaction_view-labelled : (child : Subaction) → (subaction_view child).labelled ≡ (out-Subaction child).labelled
 subaction_view-labelled child = search (rules, the_lemmas)
 
-pub subaction_view-handlers : (child : Subaction) → (subaction_view child).handlers ≡ for_reasons (map handler_view (out-Subaction child).handlers.items) (otherwise_view (out-Subaction child).otherwise)
+pub subaction_view-handlers : (child : Subaction)
+    → (subaction_view child).handlers
+    ≡ for_reasons (map handler_view (out-Subaction child).handlers.items) (otherwise_view (out-Subaction child).otherwise)
 subaction_view-handlers child = search (rules, the_lemmas)
 
 pub otherwise_view-Run : (block : Block) → otherwise_view (otherwise.Run block) ≡ Otherwise (block_view block)

@@ -1,8 +1,10 @@
 -- The trees of the meaning that a block and a record stand for.
 use Rattle.std.specs.Prelude.{ℕ, Bool, List, [], ◌∷◌, map, Option, Some, None, option_map}
 use Rattle.meaning.specs.Trees as meant
-use Rattle.meaning.specs.Trees.{NoStep, Steps, Operation, If, Abort, Parallel, Handlers, Otherwise, GoOn, Pass, for_reasons, Children, NoChild, Child}
-use Rattle.meaning.specs.Shown.{Shown, AtEnd, First, ShownStep, Replied, Branched, Acted, InParallel, ShownChild, Body, BodyAndHandler, ShownChildren}
+use Rattle.meaning.specs.Trees.{NoStep, Steps, Operation, If, Abort, Parallel, Handlers, Otherwise, GoOn, Pass, for_reasons, Children}
+use Rattle.meaning.specs.Trees.{NoChild, Child}
+use Rattle.meaning.specs.Shown.{Shown, AtEnd, First, ShownStep, Replied, Branched, Acted, InParallel, ShownChild, Body, BodyAndHandler}
+use Rattle.meaning.specs.Shown.{ShownChildren}
 use Rattle.batch.specs.declared.tree.Block.{Block, Block-F, fold-Block}
 use Rattle.batch.specs.declared.tree.Step.{Step, Step-F, fold-Step}
 use Rattle.batch.specs.declared.tree.Subaction.{Subaction, Subaction-F, fold-Subaction}

@@ -35,28 +35,36 @@ module _ (names : Names) (path : List ℕ) (reason : Option ℕ) (done : Shown) 
   first-is true x found others last is = refl
   first-is false x found others last is = is
 
+  abbrev first_of : List Handler → Option Handler
+  first_of by_reason = find (λ (h : Handler). is_for h.reason reason) by_reason
+
   by_reason-is : (by_reason : List Handler) (last : Handlers)
-      → handled_text (for_reasons (map handler_view by_reason) last) ≡ found_text (find (λ (h : Handler). is_for h.reason reason) by_reason) last
+      → handled_text (for_reasons (map handler_view by_reason) last) ≡ found_text (first_of by_reason) last
   by_reason-is [] last = refl
   by_reason-is (x ∷ by_reason) last =
       let others : Handlers = for_reasons (map handler_view by_reason) last in
       ap (λ p. handled_text (ForReason p.0 p.1 others)) (handler_view-is x)
-      ∙ first-is (is_for x.reason reason) x (find (λ (h : Handler). is_for h.reason reason) by_reason) others last (by_reason-is by_reason last)
+      ∙ first-is (is_for x.reason reason) x (first_of by_reason) others last (by_reason-is by_reason last)
 
   module _ (child : Subaction) where
+    abbrev last_of : Handlers
+    last_of = otherwise_view (out-Subaction child).otherwise
+
     -- the first handler for the reason, or else what is otherwise
-    pub handled_text-is : (found : Option Handler) → found ≡ find (λ (h : Handler). is_for h.reason reason) (out-Subaction child).handlers.items
-        → handled_text (subaction_view child).handlers ≡ found_text found (otherwise_view (out-Subaction child).otherwise)
+    pub handled_text-is : (found : Option Handler) → found ≡ first_of (out-Subaction child).handlers.items
+        → handled_text (subaction_view child).handlers ≡ found_text found last_of
     handled_text-is found is =
-        let last : Handlers = otherwise_view (out-Subaction child).otherwise in
-        ap handled_text (subaction_view-handlers child) ∙ by_reason-is (out-Subaction child).handlers.items last ∙ ap (λ f. found_text f last) (sym is)
+        ap handled_text (subaction_view-handlers child) ∙ by_reason-is (out-Subaction child).handlers.items last_of
+        ∙ ap (λ f. found_text f last_of) (sym is)
 
     pub otherwise_text-Run : (block : Block) → (out-Subaction child).otherwise ≡ Run block
-        → handled_text (otherwise_view (out-Subaction child).otherwise) ≡ steps_text names (path ++ codes ".h") 1 (block_view block) done
+        → handled_text last_of ≡ steps_text names (path ++ codes ".h") 1 (block_view block) done
     otherwise_text-Run block is = ap (λ o. handled_text (otherwise_view o)) is ∙ ap handled_text (otherwise_view-Run block)
 
-    pub otherwise_text-GoOn : (out-Subaction child).otherwise ≡ GoOn → handled_text (otherwise_view (out-Subaction child).otherwise) ≡ []
-    otherwise_text-GoOn is = ap (λ o. handled_text (otherwise_view o)) is ∙ ap handled_text otherwise_view-GoOn ∙ no_text names (path ++ codes ".h") 1 done
+    pub otherwise_text-GoOn : (out-Subaction child).otherwise ≡ GoOn → handled_text last_of ≡ []
+    otherwise_text-GoOn is =
+        ap (λ o. handled_text (otherwise_view o)) is ∙ ap handled_text otherwise_view-GoOn ∙ no_text names (path ++ codes ".h") 1 done
 
-    pub otherwise_text-Pass : (out-Subaction child).otherwise ≡ Pass → handled_text (otherwise_view (out-Subaction child).otherwise) ≡ []
-    otherwise_text-Pass is = ap (λ o. handled_text (otherwise_view o)) is ∙ ap handled_text otherwise_view-Pass ∙ no_text names (path ++ codes ".h") 1 done
+    pub otherwise_text-Pass : (out-Subaction child).otherwise ≡ Pass → handled_text last_of ≡ []
+    otherwise_text-Pass is =
+        ap (λ o. handled_text (otherwise_view o)) is ∙ ap handled_text otherwise_view-Pass ∙ no_text names (path ++ codes ".h") 1 done

@@ -3,12 +3,16 @@ use Rattle.batch.specs.declared.tree.Step.{size-Step}
 use Rattle.batch.specs.declared.tree.Handler.{size-Handler}
 use Rattle.batch.specs.declared.tree.Subaction.{size-Subaction}
 use Rattle.batch.proofs.SizeLemmas.{among-most, block-is_smaller, handlers-are_smaller, last-is_smaller}
-use Rattle.batch.proofs.CountLemmas.{otherwise_operations-Run, otherwise_operations-GoOn, otherwise_operations-Pass, rest_of_steps-start, rest_of_steps-more, rest_of_steps-end, rest_of_children-start, rest_of_children-more, rest_of_children-end, rest_of_handlers-start, rest_of_handlers-more, rest_of_handlers-end, operations_of-parts}
+use Rattle.batch.proofs.CountLemmas.{otherwise_operations-Run, otherwise_operations-GoOn, otherwise_operations-Pass, rest_of_steps-start}
+use Rattle.batch.proofs.CountLemmas.{rest_of_steps-more, rest_of_steps-end, rest_of_children-start, rest_of_children-more}
+use Rattle.batch.proofs.CountLemmas.{rest_of_children-end, rest_of_handlers-start, rest_of_handlers-more, rest_of_handlers-end}
+use Rattle.batch.proofs.CountLemmas.{operations_of-parts}
 use Rattle.meaning.specs.WellFormed.{operations_of_handlers}
 use Rattle.batch.specs.Views.{otherwise_view}
 use Rattle.batch.specs.declared.tree.Subaction.{out-Subaction}
 use Rattle.batch.proofs.counting.+count.Goals as goal
-use Rattle.batch.proofs.counting.+count.Goals.{operations_in_subaction-in-Run, operations_in_subaction-in-GoOn, operations_in_subaction-in-Pass}
+use Rattle.batch.proofs.counting.+count.Goals.{operations_in_subaction-in-Run, operations_in_subaction-in-GoOn}
+use Rattle.batch.proofs.counting.+count.Goals.{operations_in_subaction-in-Pass}
 
 -- ---- steps
 
@@ -104,8 +108,10 @@ pub operations_in_subaction-overflow_add-result-2 : goal.operations_in_subaction
 operations_in_subaction-overflow_add-result-2 t c =
     let parts = operations_of-parts c.args.child.now in
     let first = rw c.deref.ensures.value at c.operations_in_handlers-by_reason.ensures in
-    let last : c.match-child.last ≡ operations_of_handlers (otherwise_view (out-Subaction c.args.child.now).otherwise) = elim c.match-child.branch [
-      | operations_in_subaction-in-Run w ↦ w.last-is ∙ w.operations_in-last.ensures ∙ sym (otherwise_operations-Run _ w.in-Run.block w.in-Run.is)
+    let last : c.match-child.last ≡ operations_of_handlers (otherwise_view (out-Subaction c.args.child.now).otherwise) =
+    elim c.match-child.branch [
+      | operations_in_subaction-in-Run w ↦
+          w.last-is ∙ w.operations_in-last.ensures ∙ sym (otherwise_operations-Run _ w.in-Run.block w.in-Run.is)
       | operations_in_subaction-in-GoOn w ↦ w.last-is ∙ sym (otherwise_operations-GoOn _ w.in-GoOn.is)
       | operations_in_subaction-in-Pass w ↦ w.last-is ∙ sym (otherwise_operations-Pass _ w.in-Pass.is)
     ] in
@@ -115,8 +121,10 @@ pub operations_in_subaction-returns : goal.operations_in_subaction-returns
 operations_in_subaction-returns t c =
     let parts = operations_of-parts c.args.child.now in
     let first = rw c.deref.ensures.value at c.operations_in_handlers-by_reason.ensures in
-    let last : c.match-child.last ≡ operations_of_handlers (otherwise_view (out-Subaction c.args.child.now).otherwise) = elim c.match-child.branch [
-      | operations_in_subaction-in-Run w ↦ w.last-is ∙ w.operations_in-last.ensures ∙ sym (otherwise_operations-Run _ w.in-Run.block w.in-Run.is)
+    let last : c.match-child.last ≡ operations_of_handlers (otherwise_view (out-Subaction c.args.child.now).otherwise) =
+    elim c.match-child.branch [
+      | operations_in_subaction-in-Run w ↦
+          w.last-is ∙ w.operations_in-last.ensures ∙ sym (otherwise_operations-Run _ w.in-Run.block w.in-Run.is)
       | operations_in_subaction-in-GoOn w ↦ w.last-is ∙ sym (otherwise_operations-GoOn _ w.in-GoOn.is)
       | operations_in_subaction-in-Pass w ↦ w.last-is ∙ sym (otherwise_operations-Pass _ w.in-Pass.is)
     ] in

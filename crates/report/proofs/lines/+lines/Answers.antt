@@ -1,10 +1,13 @@
-use Rattle.std.proofs.Common.{◌≡◌, ◌<◌, ◌≤◌, ◌+◌, ◌++◌, length, refl, sym, ap, ◌∙◌, arith, append-nil, append_assoc, string_bytes, Some, None}
+use Rattle.std.proofs.Common.{◌≡◌, ◌<◌, ◌≤◌, ◌+◌, ◌++◌, length, refl, sym, ap, ◌∙◌, arith, append-nil, append_assoc, string_bytes, Some}
+use Rattle.std.proofs.Common.{None}
 use Rattle.std.specs.Prelude.{codes}
 use Rattle.meaning.specs.Texts.{part, reason_of}
 use Rattle.batch.specs.Names.{names_of}
 use Rattle.batch.specs.Views.{record_view, subaction_view}
 use Rattle.batch.proofs.ViewLemmas.{block_view-is, record_view-is, step_view-Parallel, taken_view-Parallel}
-use Rattle.report.proofs.TextLemmas.{rest_text-start, rest_text-more, rest_text-no_step, rest_text-end, rest_children_text-start, rest_children_text-more, rest_children_text-no_child, rest_children_text-end, after_text, after_two, body_lines, child_text-body, child_text-handler}
+use Rattle.report.proofs.TextLemmas.{rest_text-start, rest_text-more, rest_text-no_step, rest_text-end, rest_children_text-start}
+use Rattle.report.proofs.TextLemmas.{rest_children_text-more, rest_children_text-no_child, rest_children_text-end, after_text, after_two}
+use Rattle.report.proofs.TextLemmas.{body_lines, child_text-body, child_text-handler}
 use Rattle.report.proofs.HandlerLemmas.{handled_text, handled_text-is, otherwise_text-Run, otherwise_text-GoOn, otherwise_text-Pass}
 use Rattle.report.proofs.lines.+lines.Goals as goal
 
@@ -85,7 +88,8 @@ write_handler-returns-in_ok-handler_path-in-Some t c =
     let path : c.as_str.result.now ≡ here ++ codes ".h:" ++ names.reason handler.reason =
     c.as_str.ensures.value ∙ c.in_ok-handler_path-in-Some.ensures.ok ∙ ap (λ text. here ++ (codes ".h:" ++ text)) name
     ∙ sym (append_assoc here (codes ".h:") (names.reason handler.reason)) in
-    let text = handled_text-is names here c.args.reason (record_view c.args.done.now) c.args.child.now (Some handler) c.in-Some.ensures.first in
+    let done = record_view c.args.done.now in
+    let text = handled_text-is names here c.args.reason done c.args.child.now (Some handler) c.in-Some.ensures.first in
     rw text (rw path at c.write_block.ensures)
 
 pub write_handler-returns-in_ok-handler_path-in-Run : goal.write_handler-returns-in_ok-handler_path-in-Run
