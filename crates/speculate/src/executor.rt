@@ -249,7 +249,8 @@ fn run_children<T: Threads + Sync, G: Gate>(
 }
 
 // A child's run that was made ahead is taken in where each of its entries commutes forward with all
-// that its elder siblings left. Else the child is run in its parent's view, after them.
+// that its elder siblings left. Else the child is run again, in its parent's view, after them. Then
+// it has a width of 1: its own children were run ahead once, and would be so again at each level.
 #[cycle(run)]
 fn run_child<T: Threads + Sync, G: Gate>(
     making: &Making<'_, T, G>,
@@ -280,7 +281,7 @@ fn run_child<T: Threads + Sync, G: Gate>(
     }
     let before = view.net().len();
     making.pass(place);
-    let tried = run_subaction(making, child, labels, view, width)?;
+    let tried = run_subaction(making, child, labels, view, 1)?;
     kept.append(&view.net()[before..])?;
     Ok(tried)
 }
