@@ -2,11 +2,3 @@ pub mod StartsLemmas
 pub mod EntriesLemmas
 pub mod LayersLemmas
 pub mod ViewLemmas
-pub mod ListsLemmas
-pub mod SpansLemmas
-pub mod IndexLemmas
-pub mod SameLemmas
-pub mod ClassesLemmas
-pub mod StrictnessLemmas
-pub mod FilterLemmas
-pub mod StandsLemmas

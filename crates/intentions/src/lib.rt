@@ -1,21 +1,12 @@
-//! What transactions intend, and what was committed.
+//! What transactions intend.
 //!
 //! A [`View`] runs a transaction's calls on a snapshot without changing it: it keeps an intentions
-//! list (W. Weihl, "Commutativity-based concurrency control for abstract data types", 1988), with a
-//! level for each open subaction (J. E. B. Moss, "Nested transactions", 1981). A [`Committed`] is the
-//! list of what was committed, and tells which entries commute forward with a part of it.
+//! list (W. E. Weihl, "Commutativity-based concurrency control for abstract data types", 1988), with
+//! a level for each open subaction (J. E. B. Moss, "Nested transactions", 1981). The list of what was
+//! committed, [`Committed`], is handed on.
 #![tactic(auto)]
 
-mod classes;
-mod committed;
-mod filter;
-mod headings;
-mod index;
 mod layers;
-mod listing;
-mod reserved;
-mod spans;
-mod strictness;
 mod view;
 
 pub use committed::Committed;

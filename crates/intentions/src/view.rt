@@ -1,10 +1,9 @@
 //! Views: what a transaction sees while its intentions are recorded.
-ghost use Rattle.std.specs.Prelude.{◌≡◌, ◌↔◌, ◌<◌, length, IsTrue, Some, IsOk, IfOk, OnOk, OnErr};
+ghost use Rattle.std.specs.Prelude.{◌≡◌, ◌↔◌, ◌+◌, ◌<◌, ◌≤◌, ◌++◌, length, vec_len, vec_capacity, IsTrue, Some, IsOk, IfOk, OnOk, OnErr};
 ghost use Rattle.objects.specs.Objects.{objects, Fits, ObjectHasRoom};
 ghost use Rattle.intentions.specs.Levels.{shown, opened, performed, begun, committed, aborted, absorbed, after_entries, AllEntriesLegal, AllHaveRoom};
 
 use crate::layers::Layers;
-use crate::reserved::{extend_reserved, push_reserved};
 use objects::{Call, Entry, NoMemory, Objects, Reply};
 use std::alloc::Global;
 use std::marker::Model;
@@ -137,8 +136,8 @@ impl<'s> View<'s> {
             call: *call,
             reply,
         };
-        push_reserved(&mut self.entries, entry);
-        push_reserved(&mut self.net, entry);
+        self.entries.push_reserved(entry);
+        self.net.push_reserved(entry);
         Ok(reply)
     }
 
@@ -149,7 +148,7 @@ impl<'s> View<'s> {
     {
         self.marks.reserve(1)?;
         self.layers.begin()?;
-        push_reserved(&mut self.marks, self.net.len());
+        self.marks.push_reserved(self.net.len());
         Ok(())
     }
 
@@ -234,4 +233,15 @@ pub fn perform_each(state: &mut Objects, entries: &[Entry]) -> Result<(), NoMemo
         let _reply = state.perform(entry.object, &entry.call)?;
     }
     Ok(())
+}
+
+// Adds entries where room was reserved.
+fn extend_reserved(list: &mut Vec<Entry>, entries: &[Entry])
+    requires { vec_len list.old + length entries.now ≤ vec_capacity list.old }
+    ensures { list.new.items ≡ list.old.items ++ entries.now }
+{
+    match list.extend_from_slice(entries) {
+        Ok(()) => {}
+        Err(_) => unreachable!(),
+    }
 }

@@ -25,8 +25,8 @@ use Rattle.batch.specs.Running.{CanTryHere, CanRunAllHere, acted}
 use Rattle.batch.specs.declared.tree.Subaction.{Subaction}
 use Rattle.batch.proofs.CanRun.{can_try}
 use Rattle.intentions.specs.Levels.{Intentions as View, shown as state_of_view, AllEntriesLegal, AllHaveRoom, absorbed}
-use Rattle.intentions.specs.Committed.{AllStand}
-use Rattle.intentions.proofs.StandsLemmas.{length-range}
+use Rattle.committed.specs.Committed.{AllStand}
+use Rattle.committed.proofs.StandsLemmas.{length-range}
 use Rattle.batch.specs.Shows.{ShowsTried}
 use Rattle.speculate.specs.Running.{in_view}
 use Rattle.speculate.specs.Ahead.{CanAllTry, Leads, IsRunAhead, AreRunAhead, IsRunBefore}

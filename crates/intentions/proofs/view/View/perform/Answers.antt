@@ -17,10 +17,10 @@ pub invariant_of-self-2 : goal.invariant_of-self-2
 invariant_of-self-2 c =
     let entry : Entry = record { object = c.args.object; call = c.args.call.now; reply = c.in_ok-reply.reply } in
     let same = same_shown c.self.inside c.args.self.now c.self.view_is c.self.invariant in
-    kept_absorbing c.self.inside.snapshot.now c.self.inside.net.items (entry ∷ []) c.push_reserved-2.new.list.items (reverse c.self.inside.marks.items) c.self.inside.layers c.perform.new.self
+    kept_absorbing c.self.inside.snapshot.now c.self.inside.net.items (entry ∷ []) c.push_reserved-2.new.self.items (reverse c.self.inside.marks.items) c.self.inside.layers c.perform.new.self
     c.self.invariant (c.in_ok-reply.ensures.reply, tt) (subst (λ ws. ObjectHasRoom ws c.args.object c.args.call.now) same c.requires.room, tt)
     (ap (λ (s : States). s.shown) c.in_ok-reply.ensures.ok) (ap (λ (s : States). s.begun) c.in_ok-reply.ensures.ok)
-    (c.push_reserved-2.ensures ∙ ap (λ es. es ++ entry ∷ []) c.reserve-2.ensures.items)
+    (c.push_reserved-2.ensures.items ∙ ap (λ es. es ++ entry ∷ []) c.reserve-2.ensures.items)
 
 pub returns-clause-reply : goal.returns-clause-reply
 returns-clause-reply c =

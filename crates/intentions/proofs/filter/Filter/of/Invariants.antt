@@ -1,6 +1,0 @@
-use Rattle.std.proofs.Common.{take}
-use Rattle.intentions.specs.Filter.{IsFilterOf}
-use Rattle.intentions.proofs.filter.Filter.of.Given as goal
-
-abbrev pub invariant-loop-entry : goal.invariant-loop-entry
-invariant-loop-entry l = IsFilterOf (take l.entry-index l.entries) l.filter
