@@ -17,9 +17,12 @@ pub(crate) struct Crew<'a, R, G> {
     pub(crate) operations_each: usize,
 }
 
-/// How many operations a worker performs or checks, at the least, for each transaction of a cut above
-/// 1: fewer are done sooner than a thread starts.
-const OPERATIONS: usize = 64;
+/// How many operations a worker performs, at the least, for each transaction of a cut above 1: fewer
+/// are done sooner than a thread starts.
+const OPERATIONS: usize = 256;
+
+/// How many operations are checked in the time that one is performed in, about.
+const CHECKS: usize = 8;
 
 /// How many workers so many operations are shared out among. The answers are the same for any number
 /// of them. A cut of 1 asks for as many as there are, and a coarser one for no more than pay.
@@ -41,7 +44,7 @@ pub(crate) fn checkers(plan: Plan, runs: &[Run]) -> u32
     let operations = runs
         .iter()
         .fold(0usize, |sum, run| sum.saturating_add(run.entries.len()));
-    paying(plan, operations)
+    paying(plan, operations / CHECKS)
 }
 
 /// How many operations a transaction of the batch has, taken over all of them, rounded up.
