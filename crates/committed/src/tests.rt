@@ -1,8 +1,8 @@
 //! The committed list, on its happy paths.
 use super::*;
 use objects::{
-    AccountCall, AccountReply, Amount, CounterCall, CounterReply, DirectoryCall, DirectoryReply,
-    Item, MaxCall, MaxReply, QueueCall, QueueReply, SetCall, SetReply,
+    AccountCall, AccountReply, Amount, DirectoryCall, DirectoryReply, Item, MaxCall, MaxReply,
+    QueueCall, QueueReply, SetCall, SetReply,
 };
 use std::process::Abort;
 use std::test::Fail;
