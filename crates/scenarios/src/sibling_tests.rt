@@ -99,6 +99,20 @@ fn the_gate_sees_each_start(rt: HostRuntime) -> Result<(), Fail> {
 }
 
 #[test]
+fn a_child_that_is_run_again_runs_its_children_in_turn(rt: HostRuntime) -> Result<(), Fail> {
+    let queue = "{\"name\":\"q\",\"kind\":\"queue\",\"start\":[\"x\",\"y\",\"z\",\"w\"]}";
+    let block = in_pairs(&rt, 2, "[{\"op\":[\"q\",\"deq\"]}]")?;
+    // Each of the two children has a second one that is run ahead, and again after the first. The
+    // second child is run again itself, and its second one then once more.
+    for (width, starts) in [(1, 3), (64, 7)] {
+        let gate = ChildCounting::new((1, 2));
+        let _made = run_block(&rt, rt.alloc(), queue, &block, width, &gate)?;
+        assert_eq!(rt; gate.count(), starts);
+    }
+    Ok(())
+}
+
+#[test]
 fn children_after_an_abort_are_dropped(rt: HostRuntime) -> Result<(), Fail> {
     let block =
         "[{\"parallel\":[{\"sub\":[{\"op\":[\"c\",\"add\",1]}]},{\"sub\":[{\"op\":[\"c\",\"add\",2]},{\"abort\":true}],\"handler\":[{\"op\":[\"c\",\"read\"]},{\"abort\":true}]},{\"sub\":[{\"op\":[\"c\",\"add\",4]}]}]}]";
