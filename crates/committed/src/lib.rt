@@ -1,8 +1,7 @@
 //! The list of committed entries, for whoever asks which entries still hold after it.
 //!
 //! A [`Committed`] is the list, and says whether entries commute forward (W. E. Weihl,
-//! "Commutativity-based concurrency control for abstract data types", 1988) with a part of it, in
-//! a time that grows with the logarithm of what is listed about the same objects and items.
+//! "Commutativity-based concurrency control for abstract data types", 1988) with a part of it.
 #![tactic(auto)]
 
 mod classes;
