@@ -1,16 +1,12 @@
 -- A document whose members come in the common order.
 use Rattle.std.proofs.Common.{◌≡◌, ◌≤◌, ◌<◌, ℕ, [], ◌++◌, Some, refl, ◌∙◌, arith, lt-ltb, le-leb}
-use Rattle.std.specs.Prelude.{codes}
-use Rattle.serde_json.specs.Data.{Data, Items, array, no_members, number, object, put, unsigned}
+use Rattle.serde_json.specs.Data.{Items}
 use Rattle.serde_json.specs.Events.{items_len}
 use Rattle.lang.specs.declared.counts.Counts.{Counts}
 use Rattle.lang.specs.Answer.{IsMet}
+use Rattle.lang.specs.Pulled.{in_order}
 use Rattle.lang.specs.Asked.{asked, declared_by, document_shape_asked, objects_asked, setting_in, transactions_asked, version_in, version_of}
 use Rattle.lang.proofs.Checks.{check_met}
-
-abbrev pub in_order : ℕ → Items → Items → Data
-in_order version os ts = object
-    (put (codes "transactions") (array ts) (put (codes "objects") (array os) (put (codes "ordtx") (number (unsigned version)) no_members)))
 
 module _ (version : ℕ) (os ts : Items) (some : 1 ≤ version) (known : version ≤ 4) where
   pub version_read : version_of (in_order version os ts) ≡ Some version

@@ -13,7 +13,7 @@ use Rattle.lang.specs.Pulled.{ReadsValue, ReadsItems, ReadsMembers}
 
 -- ---- conversions
 
-abbrev pick : {A : Type 0} → A → Option A → A
+abbrev pub pick : {A : Type 0} → A → Option A → A
 pick d None = d
 pick d (Some a) = a
 
@@ -32,21 +32,21 @@ twice : {A B : Type 0} (g : A → B) (r : List Token) (x : Option A) → option_
 twice g r None = refl
 twice g r (Some a) = refl
 
-of_array : (o : Option (json.Items × List Token)) → converted of_json (parse_map json.array o) ≡ parse_map array (converted of_items o)
+pub of_array : (o : Option (json.Items × List Token)) → converted of_json (parse_map json.array o) ≡ parse_map array (converted of_items o)
 of_array None = refl
 of_array (Some p) = twice array p.1 (of_items p.0)
 
-of_object : (o : Option (json.Members × List Token)) → converted of_json (parse_map json.object o)
+pub of_object : (o : Option (json.Members × List Token)) → converted of_json (parse_map json.object o)
     ≡ parse_map object (converted (λ ms. of_members ms no_members) o)
 of_object None = refl
 of_object (Some p) = twice object p.1 (of_members p.0 no_members)
 
-with_item : (j : json.Json) (d : Data) → of_json j ≡ Some d → (o : Option (json.Items × List Token))
+pub with_item : (j : json.Json) (d : Data) → of_json j ≡ Some d → (o : Option (json.Items × List Token))
     → converted of_items (parse_map (json.item j) o) ≡ parse_map (item d) (converted of_items o)
 with_item j d e None = refl
 with_item j d e (Some p) = rw e (twice (item d) p.1 (of_items p.0))
 
-with_member : (k : List ℕ) (j : json.Json) (d : Data) (old : Members) → of_json j ≡ Some d → (o : Option (json.Members × List Token))
+pub with_member : (k : List ℕ) (j : json.Json) (d : Data) (old : Members) → of_json j ≡ Some d → (o : Option (json.Members × List Token))
     → converted (λ ms. of_members ms old) (parse_map (json.member k j) o) ≡ converted (λ ms. of_members ms (put k d old)) o
 with_member k j d old e None = refl
 with_member k j d old e (Some p) = rw e
@@ -118,6 +118,9 @@ reads_text text k d le reads =
 
 pub reads_deeper : (k m : ℕ) (old : List Token) (d : Data) (new : List Token) → k ≤ m → ReadsValue k old d new → ReadsValue m old d new
 reads_deeper k m old d new le reads depth enough = reads depth (omega (arith, le, enough))
+
+pub items_deeper : (k m : ℕ) (old : List Token) (ds : Items) (new : List Token) → k ≤ m → ReadsItems k old ds new → ReadsItems m old ds new
+items_deeper k m old ds new le reads depth n enough = reads depth n (omega (arith, le, enough))
 
 pub reads_shorter : (k : ℕ) (old : List Token) (d : Data) (new : List Token) → ReadsValue k old d new → length new < length old
 reads_shorter k old d new reads = let j = converted_some of_json (json.value k old) d new (reads k (omega arith)) in

@@ -1,15 +1,17 @@
 //! Reads a document straight from its tokens into the batch, where it is in the common form.
 //!
 //! A function `pull_..` takes the next tokens of the reader, each once. `None` says that they are out
-//! of the common form, or that memory was refused; the whole document is then read as a tree
-//! (`document`), which alone tells faults.
+//! of the common form, or that memory was refused; the document is then read otherwise (`document`),
+//! which tells faults.
 //!
-//! The common form: the members `ordtx`, `objects` and `transactions` in this order; an operation's
-//! `op`, then at most its `as`; numbers without a sign, a point or an exponent. Of the objects, and of
-//! each step that is no operation, a small tree is made and read as in any other document.
-ghost use Rattle.std.specs.Prelude.{◌≡◌, ℕ, List, [], ◌∷◌, codes, map, option_map, true, Some, None, IfSome, ◌<◌, ◌+◌, ◌*◌, ◌≤◌};
+//! The common form: the members `ordtx`, `objects` and `transactions` in this order; a step's members
+//! as `pull_blocks` tells; in steps, numbers without a point or an exponent. Of the objects a small tree is made
+//! and read as in any other document.
+ghost use Rattle.std.specs.Prelude.{◌≡◌, ℕ, List, [], ◌∷◌, codes, length, map, option_map, true, Some, None, IfSome, ◌<◌, ◌+◌, ◌*◌, ◌≤◌};
 ghost use Rattle.json.specs.Token as token;
-ghost use Rattle.serde_json.specs.Data.{Data, Items, Members, Num, member, number, unsigned};
+ghost use Rattle.fast_float.specs.Text.{with_sign};
+ghost use Rattle.serde_json.specs.Data.{Data, Items, Members, Num, member, negative, number, unsigned};
+ghost use Rattle.serde_json.specs.Find.{as_i64, of_integer};
 ghost use Rattle.serde_json.specs.Read.{number_of};
 ghost use Rattle.serde_json.specs.Events.{items_len};
 ghost use Rattle.serde_json.specs.View.{items_view, members_view, view};
@@ -17,7 +19,7 @@ ghost use Rattle.batch.specs.Names.{texts_of};
 ghost use Rattle.batch.specs.Views.{block_view, step_view};
 ghost use Rattle.lang.specs.Asked.{Asks, asked, names_of, objects_in, transaction_asked, transactions_asked, block_asked, arguments_asked, scope_after, steps_asked, step_asked};
 ghost use Rattle.lang.specs.Answer.{IsMet};
-ghost use Rattle.lang.specs.Pulled.{ReadsItems, ReadsMembers, ReadsValue, labelled, op_array};
+ghost use Rattle.lang.specs.Pulled.{ReadsItems, ReadsMembers, ReadsValue, in_order, labelled, op_array};
 ghost use Rattle.lang.specs.Scope.{Extends, numbers_of, scope_of, setting_of};
 ghost use Rattle.lang.specs.Spelled.{Spelling, parts_in, spelled, blocks_of, block_of, call_of, step_of, steps_spelled};
 ghost use Rattle.lang.specs.Words.{is_name};
@@ -26,10 +28,12 @@ use crate::counts::Counts;
 use crate::declared::Declared;
 use crate::document::{MAX_OBJECTS, MAX_TRANSACTIONS, Parts};
 use crate::labels::add_new_label;
+use crate::numbers::number_of;
 use crate::operations::{amount_call, item_call, item_of, lone_call, pair_call, target_of};
+use crate::pull_blocks::pull_block;
 use crate::starts::read_objects;
 use crate::state::{Numbering, State};
-use crate::steps::{MAX_DEPTH, read_step};
+use crate::steps::MAX_DEPTH;
 use crate::words::{Subject, Verb, is_name};
 use batch::{Block, Call, Step};
 use fast_float::Numeral;
@@ -38,12 +42,15 @@ use objects::Amount;
 use serde_json::{Map, Value};
 use std::alloc::Global;
 
-/// How deep the objects may nest in the common form.
-const OBJECTS_DEPTH: usize = 100;
+/// How deep an object or a transaction may nest.
+pub(crate) const PART_DEPTH: usize = 125;
+
+/// The greatest whole number.
+const MOST_WHOLE: u64 = 9_223_372_036_854_775_807;
 
 // ---- tokens
 
-fn pull_text<'a>(reader: &mut Reader<'a>) -> Option<&'a str>
+pub(crate) fn pull_text<'a>(reader: &mut Reader<'a>) -> Option<&'a str>
     ensures { IfSome result (λ text. reader.old ≡ token.string text.now ∷ reader.new) }
 {
     match reader.next() {
@@ -52,7 +59,7 @@ fn pull_text<'a>(reader: &mut Reader<'a>) -> Option<&'a str>
     }
 }
 
-fn pull_name<'a>(reader: &mut Reader<'a>) -> Option<&'a str>
+pub(crate) fn pull_name<'a>(reader: &mut Reader<'a>) -> Option<&'a str>
     ensures { IfSome result (λ text. (reader.old ≡ token.string text.now ∷ reader.new)
         × (is_name text.now ≡ true)) }
 {
@@ -71,6 +78,47 @@ fn unsigned_of(text: &str) -> Option<u64>
     Numeral::scan(bytes).to_u64()
 }
 
+/// The size of the number below 0 that a text writes, if it has no point or exponent and fits.
+fn size_below_0(text: &str) -> Option<u64>
+    ensures { IfSome result (λ n. (0 < n) × (n ≤ 9223372036854775807) × (number_of text.now ≡ Some (negative (with_sign true n)))) }
+{
+    let bytes = text.as_bytes();
+    if bytes.is_empty() || bytes[0] != b'-' {
+        return None;
+    }
+    let size = Numeral::scan(&bytes[1..]).to_u64()?;
+    if 0 < size && size <= MOST_WHOLE {
+        Some(size)
+    } else {
+        None
+    }
+}
+
+/// The whole number that a text writes, if it has no point or exponent and fits.
+fn whole_of(text: &str) -> Option<i64>
+    ensures { IfSome result (λ n. (x : Num) × (number_of text.now ≡ Some x) × (as_i64 x ≡ Some n) × (of_integer n ≡ x)) }
+{
+    if let Some(number) = unsigned_of(text) {
+        return if number <= MOST_WHOLE {
+            Some(number as i64)
+        } else {
+            None
+        };
+    }
+    let size = size_below_0(text)?;
+    Some(-(size as i64))
+}
+
+pub(crate) fn pull_whole(reader: &mut Reader<'_>) -> Option<i64>
+    ensures { IfSome result (λ n. (s : List ℕ) × (x : Num) × (reader.old ≡ token.number s ∷ reader.new)
+        × (number_of s ≡ Some x) × (as_i64 x ≡ Some n)) }
+{
+    match reader.next() {
+        Some(Token::Number(text)) => whole_of(text),
+        _ => None,
+    }
+}
+
 fn pull_amount(reader: &mut Reader<'_>) -> Option<Amount>
     ensures { IfSome result (λ amount. (s : List ℕ) × (reader.old ≡ token.number s ∷ reader.new)
         × (number_of s ≡ Some (unsigned amount.value))) }
@@ -81,7 +129,7 @@ fn pull_amount(reader: &mut Reader<'_>) -> Option<Amount>
     }
 }
 
-fn pull_begin_object(reader: &mut Reader<'_>) -> Option<()>
+pub(crate) fn pull_begin_object(reader: &mut Reader<'_>) -> Option<()>
     ensures { IfSome result (λ _. reader.old ≡ token.begin_object ∷ reader.new) }
 {
     match reader.next() {
@@ -90,7 +138,7 @@ fn pull_begin_object(reader: &mut Reader<'_>) -> Option<()>
     }
 }
 
-fn pull_begin_array(reader: &mut Reader<'_>) -> Option<()>
+pub(crate) fn pull_begin_array(reader: &mut Reader<'_>) -> Option<()>
     ensures { IfSome result (λ _. reader.old ≡ token.begin_array ∷ reader.new) }
 {
     match reader.next() {
@@ -108,7 +156,7 @@ fn pull_end_array(reader: &mut Reader<'_>) -> Option<()>
     }
 }
 
-fn pull_end_object(reader: &mut Reader<'_>) -> Option<()>
+pub(crate) fn pull_end_object(reader: &mut Reader<'_>) -> Option<()>
     ensures { IfSome result (λ _. reader.old ≡ token.end_object ∷ reader.new) }
 {
     match reader.next() {
@@ -127,7 +175,7 @@ pub(crate) fn pull_end(reader: &mut Reader<'_>) -> Option<()>
     }
 }
 
-fn pull_key(reader: &mut Reader<'_>, name: &str) -> Option<()>
+pub(crate) fn pull_key(reader: &mut Reader<'_>, name: &str) -> Option<()>
     ensures { IfSome result (λ _. reader.old ≡ token.key name.now ∷ reader.new) }
 {
     match reader.next() {
@@ -193,7 +241,7 @@ fn pull_label<'a>(reader: &mut Reader<'a>) -> Option<Option<&'a str>>
 }
 
 /// An operation whose key `op` has been read.
-fn pull_operation(
+pub(crate) fn pull_operation(
     alloc: Global,
     reader: &mut Reader<'_>,
     declared: &Declared,
@@ -230,22 +278,22 @@ fn pull_operation(
 
 // ---- values
 
-/// The value of a number's text, if it is whole, not negative and fits.
-fn whole_value(text: &str) -> Option<Value>
+/// The value of a number's text.
+fn number_value(text: &str) -> Option<Value>
     ensures { IfSome result (λ v. (x : Num) × (number_of text.now ≡ Some x) × (view v ≡ number x)) }
 {
-    let number = unsigned_of(text)?;
-    Some(Value::from(number))
+    let number = number_of(text)?;
+    Some(Value::Number(number))
 }
 
-/// A value that nests no deeper, if all its numbers are as `unsigned_of` takes them.
+/// A value that nests no deeper.
 #[cycle(values)]
-fn pull_value(alloc: Global, reader: &mut Reader<'_>, depth: usize) -> Option<Value>
+pub(crate) fn pull_value(alloc: Global, reader: &mut Reader<'_>, depth: usize) -> Option<Value>
     ensures { IfSome result (λ v. ReadsValue depth reader.old (view v) reader.new) }
 {
     match reader.next()? {
         Token::String(text) => Some(Value::String(String::from_str(alloc, text).ok()?)),
-        Token::Number(text) => whole_value(text),
+        Token::Number(text) => number_value(text),
         Token::Bool(holds) => Some(Value::Bool(holds)),
         Token::Null => Some(Value::Null),
         Token::BeginArray => {
@@ -278,7 +326,7 @@ fn pull_items(alloc: Global, reader: &mut Reader<'_>, depth: usize) -> Option<Ve
 
 /// The members of an object up to its end, with those that were found before.
 #[cycle(values)]
-fn pull_members(
+pub(crate) fn pull_members(
     alloc: Global,
     reader: &mut Reader<'_>,
     depth: usize,
@@ -296,7 +344,12 @@ fn pull_members(
 }
 
 /// The value of an object whose first key has been read.
-fn pull_object(alloc: Global, name: &str, reader: &mut Reader<'_>, depth: usize) -> Option<Value>
+pub(crate) fn pull_object(
+    alloc: Global,
+    name: &str,
+    reader: &mut Reader<'_>,
+    depth: usize,
+) -> Option<Value>
     ensures { IfSome result (λ v. ReadsValue (depth + 1) (token.begin_object ∷ token.key name.now ∷ reader.old) (view v) reader.new) }
 {
     let key = String::from_str(alloc, name).ok()?;
@@ -304,89 +357,6 @@ fn pull_object(alloc: Global, name: &str, reader: &mut Reader<'_>, depth: usize)
     let mut found = Map::new(alloc);
     drop(found.insert(key, member).ok()?);
     Some(Value::Object(pull_members(alloc, reader, depth, found)?))
-}
-
-// ---- steps
-
-/// A step, within so many more levels.
-fn pull_step(
-    alloc: Global,
-    reader: &mut Reader<'_>,
-    levels: usize,
-    declared: &Declared,
-    state: &mut State,
-) -> Option<Step>
-    requires few { levels ≤ 24 }
-    ensures { IfSome result (λ step. (d : Data) × ReadsValue (5 * levels + 4) reader.old d reader.new
-        × IsMet state.old.counts (step_asked (block_asked (setting_of declared.now) levels)
-        (setting_of declared.now) (scope_of state.old.labels.entries) d) state.new.counts
-        × ((step_view step, numbers_of state.new.numbering)
-        ≡ step_of (block_of (setting_of declared.now) levels) (setting_of declared.now)
-        (scope_of state.old.labels.entries) (numbers_of state.old.numbering) d)
-        × (scope_of state.new.labels.entries ≡ scope_after (setting_of declared.now) (scope_of state.old.labels.entries) d)) }
-{
-    pull_begin_object(reader)?;
-    let name = reader.next_key().ok()??;
-    if name == "op" {
-        return pull_operation(alloc, reader, declared, state);
-    }
-    // From a block to the next below it are at most five levels: the array of its steps, a step, the
-    // array of its children, a child, and its handlers.
-    let step = pull_object(alloc, name, reader, 5 * levels + 3)?;
-    read_step(alloc, &step, levels, declared, state).ok()
-}
-
-/// The steps of a block up to its end, each of which sees the labels of those before it.
-fn pull_steps(
-    alloc: Global,
-    reader: &mut Reader<'_>,
-    levels: usize,
-    declared: &Declared,
-    state: &mut State,
-) -> Option<Vec<Step>>
-    requires few { levels ≤ 24 }
-    ensures { IfSome result (λ steps. (ds : Items) × ReadsItems (5 * levels + 4) reader.old ds reader.new
-        × IsMet state.old.counts (steps_asked (block_asked (setting_of declared.now) levels)
-        (setting_of declared.now) (scope_of state.old.labels.entries) ds) state.new.counts
-        × ((map step_view steps.items, numbers_of state.new.numbering)
-        ≡ steps_spelled (block_of (setting_of declared.now) levels) (setting_of declared.now)
-        (scope_of state.old.labels.entries) (numbers_of state.old.numbering) ds)
-        × Extends (scope_of state.old.labels.entries) (scope_of state.new.labels.entries)) }
-{
-    let mut steps = Vec::new(alloc);
-    while !reader.take_end_array() {
-        steps
-            .push(pull_step(alloc, reader, levels, declared, state)?)
-            .ok()?;
-    }
-    Some(steps)
-}
-
-/// A block within so many more levels. Its labels are no longer seen after it.
-fn pull_block(
-    alloc: Global,
-    reader: &mut Reader<'_>,
-    levels: usize,
-    declared: &Declared,
-    state: &mut State,
-) -> Option<Block>
-    requires few { levels ≤ 24 }
-    ensures { IfSome result (λ block. (d : Data) × ReadsValue (5 * levels) reader.old d reader.new
-        × IsMet state.old.counts
-        (block_asked (setting_of declared.now) levels (scope_of state.old.labels.entries) d) state.new.counts
-        × ((block_view block, numbers_of state.new.numbering)
-        ≡ block_of (setting_of declared.now) levels (scope_of state.old.labels.entries)
-        (numbers_of state.old.numbering) d)
-        × (scope_of state.new.labels.entries ≡ scope_of state.old.labels.entries)) }
-{
-    if levels == 0 {
-        return None;
-    }
-    pull_begin_array(reader)?;
-    let seen = state.labels.len();
-    let steps = pull_steps(alloc, reader, levels - 1, declared, state)?;
-    state.labels.truncate(seen);
-    Some(Block { steps })
 }
 
 // ---- transactions
@@ -457,24 +427,50 @@ fn pull_version(reader: &mut Reader<'_>) -> Option<u8>
     }
 }
 
-/// The parts of a document: its version, its objects and its transactions, in this order.
-pub(crate) fn pull_parts(alloc: Global, reader: &mut Reader<'_>, state: &mut State) -> Option<Parts>
-    requires { scope_of state.old.labels.entries ≡ [] }
-    ensures { IfSome result (λ parts. (d : Data) × ReadsValue 122 reader.old d reader.new
-        × IsMet state.old.counts (asked d) state.new.counts
-        × (texts_of parts.declared.names.keys ≡ names_of (objects_in d))
-        × (spelled parts.declared.objects (map block_view parts.transactions.items) (numbers_of state.new.numbering)
-        ≡ parts_in (numbers_of state.old.numbering) d)) }
+/// The objects up to the end of their array, if they are no more than a document may have.
+fn pull_objects(alloc: Global, reader: &mut Reader<'_>) -> Option<Vec<Value>>
+    ensures reads { IfSome result (λ list. ReadsItems 125 reader.old (items_view list.items) reader.new) }
+    ensures few { IfSome result (λ list. length list.items ≤ 1000) }
+{
+    let mut found = Vec::new(alloc);
+    while !reader.take_end_array() {
+        if found.len() >= MAX_OBJECTS {
+            return None;
+        }
+        found.push(pull_value(alloc, reader, PART_DEPTH)?).ok()?;
+    }
+    Some(found)
+}
+
+/// A document up to where its transactions begin: its version, and of its objects a tree.
+pub(crate) fn pull_head(alloc: Global, reader: &mut Reader<'_>) -> Option<(u8, Vec<Value>)>
+    ensures version { IfSome result (λ head. (1 ≤ head.0) × (head.0 ≤ 4)) }
+    ensures objects { IfSome result (λ head. length head.1.items ≤ 1000) }
+    ensures reads { IfSome result (λ head. (ts : Items) (rest : List token.Token)
+        → ReadsItems 125 reader.new ts (token.end_object ∷ rest)
+        → ReadsValue 127 reader.old (in_order head.0 (items_view head.1.items) ts) rest) }
 {
     pull_begin_object(reader)?;
     pull_key(reader, "ordtx")?;
     let version = pull_version(reader)?;
     pull_key(reader, "objects")?;
     pull_begin_array(reader)?;
-    let objects = pull_items(alloc, reader, OBJECTS_DEPTH)?;
-    if objects.len() > MAX_OBJECTS {
-        return None;
-    }
+    let objects = pull_objects(alloc, reader)?;
+    pull_key(reader, "transactions")?;
+    pull_begin_array(reader)?;
+    Some((version, objects))
+}
+
+/// The parts of a document: its version, its objects and its transactions, in this order.
+pub(crate) fn pull_parts(alloc: Global, reader: &mut Reader<'_>, state: &mut State) -> Option<Parts>
+    requires { scope_of state.old.labels.entries ≡ [] }
+    ensures { IfSome result (λ parts. (d : Data) × ReadsValue 127 reader.old d reader.new
+        × IsMet state.old.counts (asked d) state.new.counts
+        × (texts_of parts.declared.names.keys ≡ names_of (objects_in d))
+        × (spelled parts.declared.objects (map block_view parts.transactions.items) (numbers_of state.new.numbering)
+        ≡ parts_in (numbers_of state.old.numbering) d)) }
+{
+    let (version, objects) = pull_head(alloc, reader)?;
     let declared = read_objects(
         alloc,
         &objects,
@@ -483,8 +479,6 @@ pub(crate) fn pull_parts(alloc: Global, reader: &mut Reader<'_>, state: &mut Sta
         &mut state.numbering,
     )
     .ok()?;
-    pull_key(reader, "transactions")?;
-    pull_begin_array(reader)?;
     let transactions = pull_transactions(alloc, reader, &declared, state)?;
     pull_end_object(reader)?;
     Some(Parts {

@@ -124,7 +124,7 @@ fn read_of(rt: &HostRuntime, text: &str) -> Result<String, Fail> {
 
 #[test]
 fn the_same_is_read_without_a_tree(rt: HostRuntime) -> Result<(), Fail> {
-    let objects = SIX.replace(rt.alloc(), "-3", "3")?;
+    let objects = SIX;
     let calls =
         "[{\"op\":[\"a\",\"balance\"],\"as\":\"b\"},{\"op\":[\"d\",\"bind\",\"k\",\"z\"]},{\"op\":[\"m\",\"raise\",9]},{\"if\":\"b\",\"atleast\":1,\"then\":[{\"op\":[\"c\",\"sub\",2]}]}]";
     let common = format!(in rt.alloc();
@@ -146,6 +146,60 @@ fn the_same_is_read_without_a_tree(rt: HostRuntime) -> Result<(), Fail> {
 }
 
 #[test]
+fn steps_in_any_order_are_read_alike(rt: HostRuntime) -> Result<(), Fail> {
+    let enqueue = "{\"op\":[\"q\",\"enq\",\"e\"]}";
+    let handlers =
+        "\"handlers\":{\"y\":[{\"op\":[\"q\",\"enq\",\"h\"]}],\"x\":[{\"abort\":\"z\"}]}";
+    let handler = "\"handler\":[{\"op\":[\"q\",\"enq\",\"g\"]},{\"abort\":true}]";
+    let label = "\"as\":\"o\"";
+    let rows = [
+        format!(in rt.alloc(); "{label},{handlers},{handler}")?,
+        format!(in rt.alloc(); "{handlers},{label},{handler}")?,
+        format!(in rt.alloc(); "{handlers},{handler},{label}")?,
+        format!(in rt.alloc(); "{handler},{handlers},{label}")?,
+        format!(in rt.alloc(); "{handler},{label},{handlers}")?,
+        format!(in rt.alloc(); "{label},{handler},{handlers},{label}")?,
+    ];
+    let after = "{\"if\":\"o\",\"is\":\"aborted\",\"then\":[{\"abort\":\"y\"}]}";
+    let step = format!(in rt.alloc(); "{{{handlers},{handler},{label},\"sub\":[{enqueue}]}}")?;
+    let by_tree = document(
+        &rt,
+        4,
+        SIX,
+        format!(in rt.alloc(); "[{step},{after}]")?.as_str(),
+    )?;
+    let by_tree = read_of(&rt, by_tree.as_str())?;
+    for row in &rows {
+        let members = row.as_str();
+        let steps = format!(in rt.alloc(); "[{{\"sub\":[{enqueue}],{members}}},{after}]")?;
+        let text = document(&rt, 4, SIX, steps.as_str())?;
+        assert_eq!(rt; read_of(&rt, text.as_str())?.as_str(), by_tree.as_str());
+    }
+    Ok(())
+}
+
+#[test]
+fn each_step_is_read_alike_in_a_turned_document(rt: HostRuntime) -> Result<(), Fail> {
+    let rows = [
+        "[{\"sub\":[]}]",
+        "[{\"sub\":[{\"sub\":[{\"abort\":\"x\"}],\"handlers\":{\"y\":[],\"x\":[]}}],\"as\":\"n\"}]",
+        "[{\"parallel\":[]},{\"abort\":true}]",
+        "[{\"parallel\":[{\"sub\":[{\"parallel\":[{\"sub\":[],\"as\":\"m\"},{\"sub\":[]}]}],\"as\":\"n\"},{\"sub\":[],\"as\":\"m\"}]},{\"if\":\"m\",\"is\":\"committed\",\"then\":[],\"else\":[{\"abort\":\"x\"}]}]",
+        "[{\"op\":[\"c\",\"read\"],\"as\":\"n\"},{\"if\":\"n\",\"atleast\":-3,\"then\":[]},{\"if\":\"n\",\"then\":[],\"atleast\":9223372036854775807}]",
+        "[{\"op\":[\"d\",\"lookup\",\"k\"],\"as\":\"n\"},{\"if\":\"n\",\"item\":\"v\",\"then\":[{\"op\":[\"q\",\"enq\",\"w\"]}]},{\"if\":\"n\",\"then\":[],\"item\":\"u\"}]",
+    ];
+    for row in rows {
+        let text = document(&rt, 4, SIX, row)?;
+        let turned = format!(in rt.alloc();
+            "{{\"transactions\":[{row}],\"objects\":[{SIX}],\"ordtx\":4}}"
+        )?;
+        let by_tree = read_of(&rt, turned.as_str())?;
+        assert_eq!(rt; read_of(&rt, text.as_str())?.as_str(), by_tree.as_str());
+    }
+    Ok(())
+}
+
+#[test]
 fn documents_are_refused(rt: HostRuntime) -> Result<(), Fail> {
     assert_eq!(rt; refusal(&rt, "")?.as_str(), "fault 1 transaction 0");
     assert_eq!(rt; refusal(&rt, "[]")?.as_str(), "fault 2 transaction 0");
@@ -162,6 +216,134 @@ fn documents_are_refused(rt: HostRuntime) -> Result<(), Fail> {
     for (version, answer) in rows {
         let text = document(&rt, version, "", "")?;
         assert_eq!(rt; refusal(&rt, text.as_str())?.as_str(), answer);
+    }
+    Ok(())
+}
+
+#[test]
+fn bytes_that_are_no_json_are_refused(rt: HostRuntime) -> Result<(), Fail> {
+    let rows = [
+        ("7", "fault 2 transaction 0"),
+        ("7 7", "fault 1 transaction 0"),
+        ("1,2", "fault 1 transaction 0"),
+        ("[}", "fault 1 transaction 0"),
+        ("[1e308,-0,0.5]", "fault 2 transaction 0"),
+        ("[1e309]", "fault 1 transaction 0"),
+        ("[{\"a\":-1e309}]", "fault 1 transaction 0"),
+        ("[01]", "fault 1 transaction 0"),
+        ("{\"a\":[1,2],\"b\":[3],}", "fault 1 transaction 0"),
+        ("{\"a\":[1,2],\"b\":{\"c\":null}", "fault 1 transaction 0"),
+        ("{\"a\":[1,2],\"b\":{\"c\":null}}", "fault 2 transaction 0"),
+    ];
+    for (text, answer) in rows {
+        assert_eq!(rt; refusal(&rt, text)?.as_str(), answer);
+    }
+    // Arrays nest 127 deep, and no deeper.
+    let deepest = nested(&rt, 126, "", "")?;
+    assert_eq!(rt;
+        refusal(&rt, deepest.as_str())?.as_str(),
+        "fault 2 transaction 0"
+    );
+    let deeper = nested(&rt, 127, "", "")?;
+    assert_eq!(rt;
+        refusal(&rt, deeper.as_str())?.as_str(),
+        "fault 1 transaction 0"
+    );
+    Ok(())
+}
+
+#[test]
+fn other_shapes_are_refused(rt: HostRuntime) -> Result<(), Fail> {
+    let rows = [
+        (
+            "{\"ordtx\":1,\"objects\":[],\"transactions\":[],\"at\":[]}",
+            "fault 2 transaction 0",
+        ),
+        (
+            "{\"at\":[],\"ordtx\":1,\"objects\":[],\"transactions\":[]}",
+            "fault 2 transaction 0",
+        ),
+        ("{\"ordtx\":1,\"transactions\":[]}", "fault 2 transaction 0"),
+        ("{\"objects\":[],\"ordtx\":1}", "fault 2 transaction 0"),
+        (
+            "{\"objects\":[],\"transactions\":[]}",
+            "fault 2 transaction 0",
+        ),
+        (
+            "{\"ordtx\":\"1\",\"objects\":[],\"transactions\":[]}",
+            "fault 2 transaction 0",
+        ),
+        (
+            "{\"ordtx\":1,\"objects\":{},\"transactions\":[]}",
+            "fault 2 transaction 0",
+        ),
+        (
+            "{\"ordtx\":1,\"objects\":[],\"transactions\":{}}",
+            "fault 2 transaction 0",
+        ),
+        (
+            "{\"ordtx\":1,\"objects\":[],\"transactions\":[],\"ordtx\":5}",
+            "fault 2 transaction 0",
+        ),
+        (
+            "{\"ordtx\":5,\"objects\":[],\"transactions\":[],\"ordtx\":1}",
+            "",
+        ),
+        (
+            "{\"ordtx\":1,\"objects\":[],\"transactions\":[[7]],\"transactions\":[]}",
+            "",
+        ),
+        (
+            "{\"ordtx\":1,\"objects\":[],\"transactions\":[[]],\"transactions\":[[7]]}",
+            "fault 2 transaction 1",
+        ),
+    ];
+    for (text, answer) in rows {
+        assert_eq!(rt; refusal(&rt, text)?.as_str(), answer);
+    }
+    Ok(())
+}
+
+#[test]
+fn the_first_fault_is_told_in_each_order_of_members(rt: HostRuntime) -> Result<(), Fail> {
+    let broken = "{\"name\":\"b\",\"kind\":\"account\",\"start\":-1}";
+    let rows = [
+        (
+            ACCOUNT,
+            "[],[{\"op\":[\"a\",\"deposit\",-1]}],[7]",
+            "fault 7 transaction 2",
+        ),
+        (
+            ACCOUNT,
+            "[],[7],[{\"op\":[\"a\",\"deposit\",-1]}]",
+            "fault 2 transaction 2",
+        ),
+        (
+            ACCOUNT,
+            "[{\"as\":\"n\",\"op\":[\"a\",\"balance\"]}],[7]",
+            "fault 2 transaction 2",
+        ),
+        (
+            ACCOUNT,
+            "[{\"as\":\"n\",\"op\":[\"a\",\"balance\"]}],[]",
+            "",
+        ),
+        (
+            ACCOUNT,
+            "[{\"op\":[\"a\",\"deposit\",0.5]}]",
+            "fault 7 transaction 1",
+        ),
+        (ACCOUNT, "[7],[1e309]", "fault 1 transaction 0"),
+        (broken, "[7]", "fault 13 transaction 0"),
+        ("7", "[7]", "fault 2 transaction 0"),
+    ];
+    for (objects, transactions, answer) in rows {
+        let text = document(&rt, 1, objects, transactions)?;
+        assert_eq!(rt; refusal(&rt, text.as_str())?.as_str(), answer);
+        let turned = format!(in rt.alloc();
+            "{{\"transactions\":[{transactions}],\"objects\":[{objects}],\"ordtx\":1}}"
+        )?;
+        assert_eq!(rt; refusal(&rt, turned.as_str())?.as_str(), answer);
     }
     Ok(())
 }

@@ -77,7 +77,7 @@ pull_value-returns-in-Number t c =
     let new = c.next.new.self in
     let s = c.in-Number.text.now in
     let tokens : c.args.reader.now ≡ Token.number s ∷ new = grind (arith, rules) in
-    IfSome_then c.whole_value.result c.whole_value.ensures
+    IfSome_then c.number_value.result c.number_value.ensures
     (λ v w. subst (λ d. ReadsValue c.args.depth c.args.reader.now d new) (sym w.2)
     (subst (λ ts. ReadsValue c.args.depth ts (number w.0) new) (sym tokens) (reads_number c.args.depth s w.0 new w.1)))
 

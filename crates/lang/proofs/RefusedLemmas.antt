@@ -1,0 +1,51 @@
+-- Documents that are refused.
+use Rattle.std.proofs.Common.{◌≡◌, ◌≤◌, ◌++◌, ℕ, List, [], Bool, true, false, Option, None, Some, Err, cond, refl, sym, ap, ◌∙◌}
+use Rattle.std.specs.Str.{IsUtf8, is_utf8}
+use Rattle.std.proofs.lemmas.Str.{IsUtf8-from_is_utf8, is_utf8-from_IsUtf8}
+use Rattle.json.specs.Lex.{tokens}
+use Rattle.serde_json.specs.Data.{Data}
+use Rattle.serde_json.specs.Find.{as_object}
+use Rattle.serde_json.specs.Read.{read as read_text}
+use Rattle.lang.specs.declared.fault.Code.TheVariants.{Shape}
+use Rattle.lang.specs.declared.fault.Fault.{Fault}
+use Rattle.lang.specs.Asked.{asked, document_shape_asked, objects_asked, objects_in, setting_in, transactions_asked, transactions_in, version_in}
+use Rattle.lang.specs.Demand.{check, first_fault, no_counts}
+use Rattle.lang.specs.Faults.{fault_outside}
+use Rattle.lang.specs.Reading.{spelled_by, unless_fault, value_of}
+use Rattle.lang.proofs.Checks.{check_failed}
+use Rattle.lang.proofs.DocumentLemmas.{failed_first}
+use Rattle.lang.specs.Pulled.{ReadsValue}
+use Rattle.lang.proofs.PulledLemmas.{reads_text}
+
+no_text : (bytes : List ℕ) (b : Bool) (value : Option Data) → is_utf8 bytes ≡ b → (IsUtf8 bytes → ⊥) → cond b value None ≡ None
+no_text bytes true value is never = absurd (never (IsUtf8-from_is_utf8 bytes is))
+no_text bytes false value is never = refl
+
+-- bytes that are no text write no value
+pub no_value : (bytes : List ℕ) → (IsUtf8 bytes → ⊥) → value_of bytes ≡ None
+no_value bytes never = no_text bytes (is_utf8 bytes) (read_text bytes) refl never
+
+-- the value that was read to the end is the bytes'
+pub value_known : (bytes text : List ℕ) (k : ℕ) (d : Data) → k ≤ 127 → IsUtf8 bytes → text ≡ bytes → ReadsValue k (tokens text) d []
+    → value_of bytes ≡ Some d
+value_known bytes text k d few valid same reads =
+    rw (is_utf8-from_IsUtf8 bytes valid) (ap read_text (sym same) ∙ reads_text text k d few reads)
+
+-- a document's first fault is what its bytes are refused for
+pub refused_for : (bytes : List ℕ) (d : Data) (fault : Fault) → value_of bytes ≡ Some d → first_fault (asked d) ≡ Some fault
+    → spelled_by (value_of bytes) ≡ Err fault
+refused_for bytes d fault known first = ap spelled_by known ∙ ap (unless_fault d) first
+
+-- a fault of the shape is the first
+pub shape_first : (d : Data) (fault : Fault) → check no_counts (document_shape_asked d) ≡ Err fault → first_fault (asked d) ≡ Some fault
+unfolding asked
+shape_first d fault failed =
+    let objects = objects_asked (version_in d) [] (objects_in d) in
+    failed_first no_counts (asked d) fault refl
+    (check_failed no_counts fault (document_shape_asked d ++ objects) (transactions_asked 1 (setting_in d) (transactions_in d))
+    (check_failed no_counts fault (document_shape_asked d) objects failed))
+
+-- what is no object has not the shape
+pub no_object_shape : (d : Data) → as_object d ≡ None → check no_counts (document_shape_asked d) ≡ Err (fault_outside Shape)
+unfolding document_shape_asked
+no_object_shape d none = rw none refl

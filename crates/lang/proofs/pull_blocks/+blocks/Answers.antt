@@ -1,0 +1,554 @@
+use Rattle.std.proofs.Common.{◌≡◌, List, [], ◌∷◌, ◌++◌, Some, None, map, length, refl, sym, subst, ap, ap₂, ◌∙◌, ◌+◌, ◌*◌, append-nil, arith, rules, ◌-◌, suc, option_map, le-leb, Vec, Global}
+use Rattle.std.proofs.lemmas.List.{map-append}
+use Rattle.json.specs.Json.{after_end_array, read_key}
+use Rattle.serde_json.specs.Data.{Items, no_items, item, array, no_members, object, member, put, string}
+use Rattle.meaning.specs.Trees as tree
+use Rattle.batch.specs.Views.{block_view, step_view, steps_of, Tried, handler_view, otherwise_view, subaction_view, children_of}
+use Rattle.lang.specs.Asked.{label_asked, block_asked, scope_after, step_asked, steps_asked, label_in, members_asked, children_asked, labels_of, sub_asked, block_asked_if, seen_asked, subject_of, test_asked}
+use Rattle.lang.specs.Demand.{check, one_more_node}
+use Rattle.lang.specs.Scope.{Extends, Numbers, Scope, numbers_of, scope_of, setting_of, with_label, with_labels, label_number}
+use Rattle.lang.specs.Spelled.{block_of, steps_spelled, spelled_map, members_of, sub_step, tried, children_spelled, sub_of, block_of_if, or_no_step, test_of}
+use Rattle.lang.specs.Pulled.{ReadsValue, SubTail, sub_members, ReadsMembers, if_step, test_key, with_else}
+use Rattle.lang.proofs.Checks.{check_met}
+use Rattle.lang.proofs.ListLemmas.{in_front, in_front_none, in_front_push}
+use Rattle.lang.proofs.LabelLemmas.{extends_twice, scope_after_extends, cut_back}
+use Rattle.lang.proofs.PulledLemmas.{reads_item, reads_no_items, reads_shorter, reads_array, reads_deeper, reads_member, reads_no_members, reads_object, reads_string}
+use Rattle.json.specs.Token.{Token}
+use Rattle.batch.specs.declared.tree.Block.{roll-Block}
+use Rattle.batch.proofs.ViewLemmas.{block_view-is, step_view-Sub, step_view-Parallel}
+use Rattle.lang.proofs.BlockLemmas.{block_asks, block_spells}
+use Rattle.std.specs.Prelude.{codes, is_some}
+use Rattle.json.proofs.Grammar.{read_key-shorter}
+use Rattle.batch.specs.declared.tree.Handler.{Handler}
+use Rattle.batch.specs.declared.tree.Subaction.{roll-Subaction, the_lemmas}
+use Rattle.meaning.specs.Trees.{for_reasons, handlers_of}
+use Rattle.lang.specs.Answer.{IsMet}
+use Rattle.lang.proofs.PulledSubs.{label_anywhere, sub_label, sub_met, sub_sort, sub_spelled, sub_step_met, sub_step_scope, sub_step_spelled, tail_handler, tail_handlers, tail_label, tail_none, parallel_met, parallel_scope, parallel_spelled, parallel_step}
+use Rattle.lang.specs.declared.words.Subject.TheVariants.{Outcome}
+use Rattle.std.proofs.lemmas.Option.{IfSome_then}
+use Rattle.batch.specs.declared.tree.Step.{If, the_lemmas as step_lemmas}
+use Rattle.lang.proofs.PulledTests.{if_met, if_scope, if_spelled}
+use Rattle.lang.proofs.pull_blocks.+blocks.Goals as goal
+
+pub pull_steps-loop-alloc-init : goal.pull_steps-loop-alloc-init
+pull_steps-loop-alloc-init t c =
+    let none : c.new-steps.result.items ≡ [] = c.new-steps.ensures.items in (
+      λ ds. ds,
+      λ ds new reads. reads,
+      λ ds. refl,
+      λ ds. ap (λ (vs : List _). in_front (map step_view vs)
+          (steps_spelled (block_of (setting_of c.args.declared.now) c.args.levels) (setting_of c.args.declared.now)
+          (scope_of c.args.state.now.labels.entries) (numbers_of c.args.state.now.numbering) ds)) (sym none),
+      ([], sym (append-nil _)),
+    )
+
+pub pull_steps-loop-alloc-smaller : goal.pull_steps-loop-alloc-smaller
+pull_steps-loop-alloc-smaller t c =
+    let going : (after_end_array c.loop-alloc.reader ≡ None) × (c.take_end_array.new.self ≡ c.loop-alloc.reader) = grind arith in
+    let done = c.in_ok-pull_step.ensures in
+    let less = reads_shorter (5 * c.args.levels + 4) _ done.0 _ done.1 in
+    omega (arith, less, ap length going.1)
+
+pub pull_steps-loop-alloc-preserved : goal.pull_steps-loop-alloc-preserved
+pull_steps-loop-alloc-preserved t c =
+    let l = c.loop-alloc in
+    let k = 5 * c.args.levels + 4 in
+    let setting = setting_of c.args.declared.now in
+    let asks = block_asked setting c.args.levels in
+    let block = block_of setting c.args.levels in
+    let here = scope_of l.state.labels.entries in
+    let going : (after_end_array l.reader ≡ None) × (c.take_end_array.new.self ≡ l.reader) = grind arith in
+    let done = c.in_ok-pull_step.ensures in
+    let d = done.0 in
+    let mid = c.pull_step.new.reader in
+    let counts = c.pull_step.new.state.counts in
+    let after = numbers_of c.pull_step.new.state.numbering in
+    let next = scope_of c.pull_step.new.state.labels.entries in
+    let read = map step_view l.steps.items in
+    let x = c.in_ok-pull_step.field-0 in
+    let pushed : c.push.new.self.items ≡ l.steps.items ++ x ∷ [] = grind (arith, rules) in
+    let spelled = λ (s : Scope) (p : tree.Step × Numbers) (ds : Items). in_front read
+    (p.0 ∷ (steps_spelled block setting s p.1 ds).0, (steps_spelled block setting s p.1 ds).1) in (
+      λ ds. l.invariant.0 (item d ds),
+      λ ds new reads. l.invariant.1 (item d ds) new
+          (reads_item k l.reader mid new d ds going.0 (subst (λ ts. ReadsValue k ts d mid) going.1 done.1) reads),
+      λ ds. l.invariant.2 (item d ds)
+          ∙ check_met l.state.counts counts (step_asked asks setting here d)
+          (steps_asked asks setting (scope_after setting here d) ds) done.2
+          ∙ ap (λ (s : Scope). check counts (steps_asked asks setting s ds)) (sym done.4),
+      λ ds. l.invariant.3 (item d ds) ∙ ap₂ (λ (s : Scope) (p : tree.Step × Numbers). spelled s p ds) (sym done.4) (sym done.3)
+          ∙ sym (in_front_push read (step_view x) (steps_spelled block setting next after ds))
+          ∙ ap (λ ys. in_front ys (steps_spelled block setting next after ds))
+          (sym (map-append step_view l.steps.items (x ∷ [])) ∙ ap (map step_view) (sym pushed)),
+      extends_twice _ _ _ l.invariant.4 (subst (λ s. Extends here s) (sym done.4) (scope_after_extends setting here d)),
+    )
+
+pub pull_steps-returns : goal.pull_steps-returns
+pull_steps-returns t c =
+    let l = c.loop-alloc in
+    let k = 5 * c.args.levels + 4 in
+    let setting = setting_of c.args.declared.now in
+    let closed : after_end_array l.reader ≡ Some c.take_end_array.new.self = grind arith in (
+      l.invariant.0 no_items,
+      l.invariant.1 no_items _ (reads_no_items k l.reader _ closed),
+      l.invariant.2 no_items,
+      ap (λ (vs : List _). (map step_view vs, numbers_of l.state.numbering)) c.shrink_to_fit.ensures.items
+          ∙ sym (l.invariant.3 no_items ∙ in_front_none (map step_view l.steps.items) (numbers_of l.state.numbering)),
+      l.invariant.4,
+    )
+
+pub pull_block-returns : goal.pull_block-returns
+pull_block-returns t c =
+    let setting = setting_of c.args.declared.now in
+    let scope = scope_of c.args.state.now.labels.entries in
+    let levels = c.args.levels in
+    let done = c.in_ok-steps.ensures in
+    let ds = done.0 in
+    let d = array ds in
+    let new = c.pull_steps.new.reader in
+    let inside = c.pull_begin_array.new.reader in
+    let tokens : c.args.reader.now ≡ Token.begin_array ∷ inside = grind (arith, rules) in
+    let shown = block_view-is (roll-Block (record { steps = c.in_ok-steps.steps })) in (
+      d,
+      subst (λ ts. ReadsValue (5 * levels) ts d new) (sym tokens)
+          (reads_deeper (suc (5 * (levels - 1) + 4)) (5 * levels) _ d new (omega arith)
+          (reads_array (5 * (levels - 1) + 4) inside ds new done.1)),
+      ap (check c.args.state.now.counts) (block_asks setting scope d (levels - 1) levels ds (omega arith) refl) ∙ done.2,
+      ap (λ (b : tree.Block). (b, numbers_of c.pull_steps.new.state.numbering)) shown ∙ ap (spelled_map steps_of) done.3
+          ∙ sym (block_spells setting scope d (levels - 1) levels (numbers_of c.args.state.now.numbering) ds (omega arith) refl),
+      ap scope_of c.truncate.ensures.entries
+          ∙ rw c.len-seen.ensures.len (cut_back c.args.state.now.labels.entries c.pull_steps.new.state.labels.entries done.4.0 done.4.1),
+    )
+
+pub pull_sub_rest-loop-handler-init : goal.pull_sub_rest-loop-handler-init
+pull_sub_rest-loop-handler-init t c = (tail_none _ _ _ _ _ _ _ _, refl)
+
+pub pull_sub_rest-loop-handler-preserved-then-is_none : goal.pull_sub_rest-loop-handler-preserved-then-is_none
+pull_sub_rest-loop-handler-preserved-then-is_none t c =
+    let l = c.loop-handler in
+    let left = c.pull_text.new.reader in
+    let s = c.in_ok-pull_text.field-0.now in
+    let keyed : read_key l.reader ≡ Some (Some c.in-Some.name.now, c.next_key.new.self) = grind (arith, rules) in
+    let named : c.in-Some.name.now ≡ codes "as" = grind (arith, rules) in
+    let text : c.next_key.new.self ≡ Token.string s ∷ left = grind (arith, rules) in
+    let none : option_map (λ text. text.now) l.label ≡ None = grind (arith, rules) in (
+      tail_label _ _ _ _ _ _ _ _ _ l.reader _ _ _ _ s left none
+          (keyed ∙ ap₂ (λ n (ts : List Token). Some (Some n, ts)) named text) l.invariant.0,
+      l.invariant.1,
+    )
+
+pub pull_sub_rest-loop-handler-preserved-then-is_none-2 : goal.pull_sub_rest-loop-handler-preserved-then-is_none-2
+pull_sub_rest-loop-handler-preserved-then-is_none-2 t c =
+    let l = c.loop-handler in
+    let k = 5 * c.args.levels in
+    let setting = setting_of c.args.declared.now in
+    let asks = block_asked setting c.args.levels in
+    let block = block_of setting c.args.levels in
+    let inside = c.next_key.new.self in
+    let left = c.pull_block.new.reader in
+    let b = block_view c.in_ok-pull_block.field-0 in
+    let done = c.in_ok-pull_block.ensures in
+    let last = c.pull_block.new.state.counts in
+    let final = numbers_of c.pull_block.new.state.numbering in
+    let keyed : read_key l.reader ≡ Some (Some c.in-Some.name.now, inside) = grind (arith, rules) in
+    let named : c.in-Some.name.now ≡ codes "handler" = grind (arith, rules) in
+    let none : option_map block_view l.handler ≡ None = grind (arith, rules) in
+    let met = subst (λ s. IsMet l.state.counts (asks s done.0) last) l.invariant.1 done.2 in
+    let value = subst (λ s. (b, final) ≡ block s (numbers_of l.state.numbering) done.0) l.invariant.1 done.3 in (
+      tail_handler _ _ asks block _ _ _ _ _ l.reader l.state.counts (numbers_of l.state.numbering) _ _ done.0 b inside left last final
+          (keyed ∙ ap (λ n. Some (Some n, inside)) named) (reads_deeper k (k + 1) _ done.0 left (omega arith) done.1) met value
+          none l.invariant.0,
+      done.4 ∙ l.invariant.1,
+    )
+
+pub pull_sub_rest-loop-handler-smaller-then-is_none-2 : goal.pull_sub_rest-loop-handler-smaller-then-is_none-2
+pull_sub_rest-loop-handler-smaller-then-is_none-2 t c =
+    let keyed : read_key c.loop-handler.reader ≡ Some (Some c.in-Some.name.now, c.next_key.new.self) = grind (arith, rules) in
+    let done = c.in_ok-pull_block.ensures in
+    omega (arith, reads_shorter (5 * c.args.levels) _ done.0 _ done.1, read_key-shorter _ _ _ keyed)
+
+pub pull_sub_rest-loop-handler-preserved : goal.pull_sub_rest-loop-handler-preserved
+pull_sub_rest-loop-handler-preserved t c =
+    let l = c.loop-handler in
+    let setting = setting_of c.args.declared.now in
+    let asks = block_asked setting c.args.levels in
+    let block = block_of setting c.args.levels in
+    let inside = c.next_key.new.self in
+    let left = c.pull_handlers.new.reader in
+    let read = map handler_view c.in_ok-pull_handlers.field-0.items in
+    let done = c.in_ok-pull_handlers.ensures in
+    let last = c.pull_handlers.new.state.counts in
+    let final = numbers_of c.pull_handlers.new.state.numbering in
+    let keyed : read_key l.reader ≡ Some (Some c.in-Some.name.now, inside) = grind (arith, rules) in
+    let named : c.in-Some.name.now ≡ codes "handlers" = grind (arith, rules) in
+    let none : option_map block_view l.handler ≡ None = grind (arith, rules) in
+    let empty : option_map {T = Vec Handler Global} (λ list. map handler_view list.items) l.handlers ≡ None = grind (arith, rules) in
+    let met = subst (λ s. IsMet l.state.counts (members_asked asks s done.0) last) l.invariant.1 done.3 in
+    let value = subst (λ s. (read, final) ≡ members_of block s (numbers_of l.state.numbering) done.0) l.invariant.1 done.4 in (
+      tail_handlers _ _ asks block _ _ _ _ _ l.reader l.state.counts (numbers_of l.state.numbering) _ _ done.0 read inside left last final
+          (keyed ∙ ap (λ n. Some (Some n, inside)) named) done.1 (le-leb _ _ done.2) met value
+          empty none l.invariant.0,
+      done.5 ∙ l.invariant.1,
+    )
+
+pub pull_sub_rest-loop-handler-smaller : goal.pull_sub_rest-loop-handler-smaller
+pull_sub_rest-loop-handler-smaller t c =
+    let keyed : read_key c.loop-handler.reader ≡ Some (Some c.in-Some.name.now, c.next_key.new.self) = grind (arith, rules) in
+    let done = c.in_ok-pull_handlers.ensures in
+    omega (arith, reads_shorter (5 * c.args.levels + 1) _ (object done.0) _ done.1, read_key-shorter _ _ _ keyed)
+
+pub pull_sub-returns : goal.pull_sub-returns
+pull_sub-returns t c =
+    let k = 5 * c.args.levels + 1 in
+    let version = c.args.declared.now.version in
+    let setting = setting_of c.args.declared.now in
+    let asks = block_asked setting c.args.levels in
+    let block = block_of setting c.args.levels in
+    let scope = scope_of c.args.state.now.labels.entries in
+    let start = c.args.state.now.counts in
+    let counted = c.one_more_node.new.self in
+    let inside = c.pull_block.new.state.counts in
+    let next = c.pull_sub_rest.new.state.counts in
+    let numbers = numbers_of c.args.state.now.numbering in
+    let last = numbers_of c.pull_sub_rest.new.state.numbering in
+    let old = c.args.reader.now in
+    let mid = c.pull_block.new.reader in
+    let new = c.pull_sub_rest.new.reader in
+    let rest = c.in_ok-rest.rest in
+    let done = c.in_ok-body.ensures in
+    let behind = c.in_ok-rest.ensures in
+    let label = option_map (λ text. text.now) rest.label in
+    let handlers = option_map {T = Vec Handler Global} (λ list. map handler_view list.items) rest.handlers in
+    let handler = option_map block_view rest.handler in
+    let b = done.0 in
+    let tail : SubTail k version asks block scope mid inside (numbers_of c.pull_block.new.state.numbering) handlers handler label
+    behind.0 next last = subst (λ s. SubTail k version asks block s mid inside (numbers_of c.pull_block.new.state.numbering) handlers
+    handler label behind.0 next last) done.4 behind.1 in
+    let ms = sub_members b tail.reasons tail.every label in
+    let one : IsMet start (one_more_node ∷ []) counted = grind (arith, rules) in
+    let members = reads_member k no_members (codes "sub") (Token.key (codes "sub") ∷ old) old mid new b ms refl (omega arith)
+    (reads_deeper (5 * c.args.levels) k old b mid (omega arith) done.1)
+    (tail.reads b ms new (reads_no_members k ms behind.0 new behind.2)) in
+    let flag : c.is_some.result ≡ is_some label = grind (arith, rules) in
+    let taken : for_reasons (map handler_view c.taking-handlers.result.0.items) (otherwise_view c.taking-handlers.result.1)
+    ≡ handlers_of handlers handler = grind (arith, rules) in
+    let child = roll-Subaction (record {
+      body = c.in_ok-body.body;
+      handlers = c.taking-handlers.result.0;
+      otherwise = c.taking-handlers.result.1;
+      labelled = c.is_some.result;
+    }) in
+    let plain : subaction_view child ≡ record {
+      body = block_view c.in_ok-body.body;
+      handlers = for_reasons (map handler_view c.taking-handlers.result.0.items) (otherwise_view c.taking-handlers.result.1);
+      labelled = c.is_some.result;
+    } = search (rules, the_lemmas) in
+    let shown : subaction_view child ≡ tried (block_view c.in_ok-body.body) handlers handler (is_some label) = plain
+    ∙ rw (taken, flag) refl in (
+      object ms,
+      reads_deeper (suc k) (5 * c.args.levels + 2) _ (object ms) new (omega arith)
+          (reads_object k (Token.key (codes "sub") ∷ old) ms new members),
+      λ elder labels. sub_met version asks block scope b tail.reasons tail.every label elder start counted inside tail.mid next
+          tail.allowed one done.2 tail.first tail.second (label_anywhere scope elder (label_in (object ms)) next counted labels),
+      ap (λ (x : Tried). (x, last)) shown
+          ∙ sub_spelled version asks block scope b tail.reasons tail.every label numbers _ tail.between last
+          (block_view c.in_ok-body.body) handlers handler done.3 tail.reasons_spelled tail.every_spelled,
+      sym (sub_label b tail.reasons tail.every label),
+      sub_sort b tail.reasons tail.every label,
+      behind.3 ∙ done.4,
+    )
+
+pub pull_sub_step-returns : goal.pull_sub_step-returns
+pull_sub_step-returns t c =
+    let setting = setting_of c.args.declared.now in
+    let asks = block_asked setting c.args.levels in
+    let block = block_of setting c.args.levels in
+    let scope = scope_of c.args.state.now.labels.entries in
+    let start = c.args.state.now.counts in
+    let next = c.pull_sub.new.state.counts in
+    let numbers = numbers_of c.args.state.now.numbering in
+    let last = numbers_of c.pull_sub.new.state.numbering in
+    let child = c.in_ok-read.read in
+    let done = c.in_ok-read.ensures in
+    let d = done.0 in
+    let label : option_map (λ text. text.now) c.in_ok-read.label ≡ label_in d = done.4 in
+    let within : scope_of c.pull_sub.new.state.labels.entries ≡ scope = done.6 in
+    let named : IsMet next (label_asked (scope_of c.pull_sub.new.state.labels.entries) [] (option_map
+    (λ text. text.now) c.in_ok-read.label)) next = grind (arith, rules) in
+    let added : scope_of c.add_new_label.new.labels.entries ≡ with_label (option_map (λ text. text.now) c.in_ok-read.label) Outcome
+    (scope_of c.pull_sub.new.state.labels.entries) = grind (arith, rules) in
+    let allowed = subst (λ s. IsMet next (label_asked s [] (label_in d)) next) within
+    (subst (λ o. IsMet next (label_asked (scope_of c.pull_sub.new.state.labels.entries) [] o) next) label named) in (
+      d,
+      done.1,
+      sub_step_met setting scope d asks start next done.5 (done.2 [] allowed),
+      ap (λ (x : tree.Step). (x, last)) (step_view-Sub child) ∙ ap (spelled_map sub_step) done.3
+          ∙ sym (sub_step_spelled setting scope d block numbers done.5),
+      added ∙ ap (λ s. with_label (option_map (λ text. text.now) c.in_ok-read.label) Outcome s) within
+          ∙ ap (λ o. with_label o Outcome scope) label ∙ sym (sub_step_scope setting scope d done.5),
+    )
+
+pub pull_children-loop-alloc-init : goal.pull_children-loop-alloc-init
+pull_children-loop-alloc-init t c =
+    let none : c.new-children.result.items ≡ [] = c.new-children.ensures.items in (
+      λ ds. ds,
+      λ ds new reads. reads,
+      λ ds. refl,
+      λ ds. ap (λ (vs : List _). in_front (map subaction_view vs)
+          (children_spelled (block_of (setting_of c.args.declared.now) c.args.levels) (scope_of c.args.state.now.labels.entries)
+          (numbers_of c.args.state.now.numbering) ds)) (sym none),
+      λ ds. refl,
+      refl,
+    )
+
+pub pull_children-loop-alloc-smaller : goal.pull_children-loop-alloc-smaller
+pull_children-loop-alloc-smaller t c =
+    let l = c.loop-alloc in
+    let going : (after_end_array l.reader ≡ None) × (c.take_end_array.new.self ≡ l.reader) = grind arith in
+    let begun : c.take_end_array.new.self ≡ Token.begin_object ∷ Token.key (codes "sub") ∷ c.pull_key.new.reader = grind (arith, rules) in
+    let done = c.in_ok-child.ensures in
+    let less = reads_shorter (5 * c.args.levels + 2) _ done.0 _ done.1 in
+    omega (arith, less, ap length going.1, ap length begun)
+
+pub pull_children-loop-alloc-preserved : goal.pull_children-loop-alloc-preserved
+pull_children-loop-alloc-preserved t c =
+    let l = c.loop-alloc in
+    let k = 5 * c.args.levels + 2 in
+    let version = c.args.declared.now.version in
+    let setting = setting_of c.args.declared.now in
+    let asks = block_asked setting c.args.levels in
+    let block = block_of setting c.args.levels in
+    let scope = scope_of c.args.state.now.labels.entries in
+    let seen = scope_of l.state.labels.entries in
+    let elder = scope_of l.elder.entries in
+    let going : (after_end_array l.reader ≡ None) × (c.take_end_array.new.self ≡ l.reader) = grind arith in
+    let begun : c.take_end_array.new.self ≡ Token.begin_object ∷ Token.key (codes "sub") ∷ c.pull_key.new.reader = grind (arith, rules) in
+    let done = c.in_ok-child.ensures in
+    let d = done.0 in
+    let mid = c.pull_sub.new.reader in
+    let counts = c.pull_sub.new.state.counts in
+    let after = numbers_of c.pull_sub.new.state.numbering in
+    let next = scope_of c.add_label.new.labels.entries in
+    let label = option_map (λ text. text.now) c.in_ok-child.label in
+    let read = map subaction_view l.children.items in
+    let x = c.in_ok-child.child in
+    let pushed : c.push.new.self.items ≡ l.children.items ++ x ∷ [] = grind (arith, rules) in
+    let named : IsMet counts (label_asked (scope_of c.pull_sub.new.state.labels.entries) elder label) counts = grind (arith, rules) in
+    let allowed = subst (λ s. IsMet counts (label_asked s elder (label_in d)) counts) done.6
+    (subst (λ o. IsMet counts (label_asked (scope_of c.pull_sub.new.state.labels.entries) elder o) counts) done.4 named) in
+    let met = subst (λ s. IsMet l.state.counts (sub_asked version asks s elder d) counts) l.invariant.5 (done.2 elder allowed) in
+    let value = subst (λ s. (subaction_view x, after) ≡ sub_of block s (numbers_of l.state.numbering) d) l.invariant.5 done.3 in
+    let added : next ≡ with_label label Outcome elder = grind (arith, rules) in
+    let follow = added ∙ ap (λ o. with_label o Outcome elder) done.4 in (
+      λ ds. l.invariant.0 (item d ds),
+      λ ds new reads. l.invariant.1 (item d ds) new
+          (reads_item k l.reader mid new d ds going.0 (subst (λ ts. ReadsValue k ts d mid) (sym begun ∙ going.1) done.1) reads),
+      λ ds. l.invariant.2 (item d ds)
+          ∙ check_met l.state.counts counts (sub_asked version asks scope elder d)
+          (children_asked version asks scope (with_label (label_in d) Outcome elder) ds) met
+          ∙ ap (λ (s : Scope). check counts (children_asked version asks scope s ds)) (sym follow),
+      λ ds. l.invariant.3 (item d ds)
+          ∙ ap (λ (p : Tried × Numbers). in_front read (
+            p.0 ∷ (children_spelled block scope p.1 ds).0,
+            (children_spelled block scope p.1 ds).1,
+          )) (sym value)
+          ∙ sym (in_front_push read (subaction_view x) (children_spelled block scope after ds))
+          ∙ ap (λ ys. in_front ys (children_spelled block scope after ds))
+          (sym (map-append subaction_view l.children.items (x ∷ [])) ∙ ap (map subaction_view) (sym pushed)),
+      λ ds. l.invariant.4 (item d ds) ∙ ap (λ (s : Scope). labels_of s ds) (sym follow),
+      done.6 ∙ l.invariant.5,
+    )
+
+pub pull_children-returns : goal.pull_children-returns
+pull_children-returns t c =
+    let l = c.loop-alloc in
+    let k = 5 * c.args.levels + 2 in
+    let closed : after_end_array l.reader ≡ Some c.take_end_array.new.self = grind arith in (
+      l.invariant.0 no_items,
+      l.invariant.1 no_items _ (reads_no_items k l.reader _ closed),
+      l.invariant.2 no_items,
+      ap (λ (vs : List _). (map subaction_view vs, numbers_of l.state.numbering)) c.shrink_to_fit.ensures.items
+          ∙ sym (l.invariant.3 no_items ∙ in_front_none (map subaction_view l.children.items) (numbers_of l.state.numbering)),
+      sym (l.invariant.4 no_items),
+      l.invariant.5,
+    )
+
+pub pull_parallel-returns : goal.pull_parallel-returns
+pull_parallel-returns t c =
+    let k = 5 * c.args.levels + 3 in
+    let setting = setting_of c.args.declared.now in
+    let version = c.args.declared.now.version in
+    let asks = block_asked setting c.args.levels in
+    let block = block_of setting c.args.levels in
+    let scope = scope_of c.args.state.now.labels.entries in
+    let start = c.args.state.now.counts in
+    let counted = c.one_more_node.new.self in
+    let next = c.pull_children.new.state.counts in
+    let numbers = numbers_of c.args.state.now.numbering in
+    let last = numbers_of c.pull_children.new.state.numbering in
+    let inside = c.pull_begin_array.new.reader in
+    let behind = c.pull_children.new.reader in
+    let new = c.pull_end_object.new.reader in
+    let old = c.args.reader.now in
+    let done = c.in_ok-children.ensures in
+    let ds = done.0 in
+    let begun : old ≡ Token.begin_array ∷ inside = grind (arith, rules) in
+    let ended : behind ≡ Token.end_object ∷ new = grind (arith, rules) in
+    let one : IsMet start (one_more_node ∷ []) counted = grind (arith, rules) in
+    let empty : scope_of c.with_hasher-elder.result.entries ≡ [] = grind (arith, rules) in
+    let met = subst (λ e. IsMet counted (children_asked version asks scope e ds) next) empty done.2 in
+    let labels = done.4 ∙ ap (λ (e : Scope). labels_of e ds) empty in
+    let added : scope_of c.add_labels.new.labels.entries ≡ with_labels (scope_of c.pull_children.new.elder.entries)
+    (scope_of c.pull_children.new.state.labels.entries) = grind (arith, rules) in
+    let ms = member (codes "parallel") (array ds) no_members in
+    let list = subst (λ ts. ReadsValue k ts (array ds) behind) (sym begun)
+    (reads_deeper (suc (5 * c.args.levels + 2)) k _ (array ds) behind (omega arith) (reads_array
+    (5 * c.args.levels + 2) inside ds behind done.1)) in
+    let members = reads_member k no_members (codes "parallel") (Token.key (codes "parallel") ∷ old) old behind new (array ds) ms refl
+    (omega arith) list
+    (subst (λ ts. ReadsMembers k ms ts ms new) (sym ended) (reads_no_members k ms _ new refl)) in (
+      parallel_step ds,
+      reads_deeper (suc k) (5 * c.args.levels + 4) _ (object ms) new (omega arith) (reads_object k (Token.key
+          (codes "parallel") ∷ old) ms new members),
+      parallel_met setting scope ds asks start counted next one met,
+      ap (λ (x : tree.Step). (x, last)) (step_view-Parallel c.in_ok-children.children)
+          ∙ ap (spelled_map (λ (children : List Tried). tree.Parallel (children_of children))) done.3
+          ∙ sym (parallel_spelled setting scope ds block numbers),
+      added ∙ ap₂ (λ (a b : Scope). with_labels a b) labels done.5 ∙ sym (parallel_scope setting scope ds),
+    )
+
+pub pull_if-returns : goal.pull_if-returns
+pull_if-returns t c =
+    let k = 5 * c.args.levels in
+    let setting = setting_of c.args.declared.now in
+    let asks = block_asked setting c.args.levels in
+    let block = block_of setting c.args.levels in
+    let scope = scope_of c.args.state.now.labels.entries in
+    let start = c.args.state.now.counts in
+    let counted = c.one_more_node.new.self in
+    let inside = c.pull_block.new.state.counts in
+    let next = c.pull_else.new.state.counts in
+    let numbers = numbers_of c.args.state.now.numbering in
+    let tested = numbers_of c.pull_test.new.numbering in
+    let after = numbers_of c.pull_block.new.state.numbering in
+    let last = numbers_of c.pull_else.new.state.numbering in
+    let old = c.args.reader.now in
+    let r1 = c.pull_text.new.reader in
+    let r2 = c.pull_test.new.reader in
+    let r3 = c.pull_key.new.reader in
+    let r4 = c.pull_block.new.reader in
+    let new = c.pull_else.new.reader in
+    let s = c.in_ok-name.name.now in
+    let test = c.in_ok-test.ensures in
+    let done = c.in_ok-then.ensures in
+    let rest = c.in_ok-otherwise.ensures in
+    let key = test.0 in
+    let v = test.1 in
+    let first = done.0 in
+    let second = rest.0 in
+    let m1 = member (codes "if") (string s) no_members in
+    let m2 = put (test_key key) v m1 in
+    let m3 = put (codes "then") first m2 in
+    let ms = with_else second m3 in
+    let whole = if_step s key v first second in
+    let named : old ≡ Token.string s ∷ r1 = grind (arith, rules) in
+    let keyed : r2 ≡ Token.key (codes "then") ∷ r3 = grind (arith, rules) in
+    let one : IsMet start (one_more_node ∷ []) counted = grind (arith, rules) in
+    let seen : IsMet counted (seen_asked scope s) counted = grind (arith, rules) in
+    let number : c.in_ok-label.label ≡ label_number s scope = grind (arith, rules) in
+    let subject : c.in_ok-label.subject ≡ subject_of s scope = grind (arith, rules) in
+    let tests = subst (λ x. IsMet counted (test_asked x whole) counted) subject (test.3 s first second counted) in
+    let spells = subst (λ x. (c.in_ok-test.test, tested) ≡ test_of x numbers whole) subject (test.4 s first second) in
+    let later = subst (λ l. IsMet inside (block_asked_if asks l second) next) done.4 rest.2 in
+    let ends = subst (λ l. (block_view c.in_ok-otherwise.otherwise, last)
+    ≡ spelled_map or_no_step (block_of_if block l after second)) done.4 rest.3 in
+    let reads3 = subst (λ ts. ReadsMembers k m2 ts ms new) (sym keyed)
+    (reads_member k m2 (codes "then") (Token.key (codes "then") ∷ r3) r3 r4 new first ms refl (omega arith) done.1 (rest.1 m3)) in
+    let reads1 = reads_member k no_members (codes "if") (Token.key (codes "if") ∷ Token.string s ∷ r1) (Token.string s ∷ r1) r1 new
+    (string s) ms refl
+    (omega arith) (reads_string k s r1) (test.2 k m1 ms new reads3) in
+    let shown : step_view (If c.in_ok-label.label c.in_ok-test.test c.in_ok-then.then c.in_ok-otherwise.otherwise)
+    ≡ tree.If (label_number s scope) c.in_ok-test.test (block_view c.in_ok-then.then) (block_view c.in_ok-otherwise.otherwise)
+    = rw number (search (rules, step_lemmas)) in (
+      whole,
+      subst (λ ts. ReadsValue (5 * c.args.levels + 1) (Token.begin_object ∷ Token.key (codes "if") ∷ ts) whole new) (sym named)
+          (reads_deeper (suc k) (k + 1) _ whole new (omega arith) (reads_object k _ ms new reads1)),
+      if_met setting scope s key v first second asks start counted inside next one seen tests done.2 later,
+      ap (λ (x : tree.Step). (x, last)) shown
+          ∙ if_spelled setting scope s key v first second block numbers tested after last c.in_ok-test.test (block_view c.in_ok-then.then)
+          (block_view c.in_ok-otherwise.otherwise) spells done.3 ends,
+      rest.4 ∙ done.4 ∙ sym (if_scope setting scope s key v first second),
+    )
+
+pub pull_else-returns-in-Some-EndObject : goal.pull_else-returns-in-Some-EndObject
+unfolding block_asked_if block_of_if
+pull_else-returns-in-Some-EndObject t c =
+    let k = 5 * c.args.levels in
+    let new = c.next.new.self in
+    let ended : c.args.reader.now ≡ Token.end_object ∷ new = grind (arith, rules) in
+    let none : c.new.result.items ≡ [] = c.new.ensures.items in
+    let shown : block_view (roll-Block (record { steps = c.new.result }))
+    ≡ tree.NoStep = block_view-is (roll-Block (record { steps = c.new.result }))
+    ∙ ap (λ (xs : List _). steps_of (map step_view xs)) none in (
+      None,
+      λ found. subst (λ ts. ReadsMembers k found ts found new) (sym ended) (reads_no_members k found _ new refl),
+      refl,
+      ap (λ (b : tree.Block). (b, numbers_of c.args.state.now.numbering)) shown,
+      refl,
+    )
+
+pub pull_else-returns-in_ok-pull_end_object-in-Some-Key-else : goal.pull_else-returns-in_ok-pull_end_object-in-Some-Key-else
+unfolding block_asked_if block_of_if
+pull_else-returns-in_ok-pull_end_object-in-Some-Key-else t c =
+    let k = 5 * c.args.levels in
+    let inside = c.next.new.self in
+    let mid = c.pull_block.new.reader in
+    let new = c.pull_end_object.new.reader in
+    let done = c.in_ok-otherwise-in-Some-Key-else.ensures in
+    let d = done.0 in
+    let keyed : c.args.reader.now ≡ Token.key (codes "else") ∷ inside = grind (arith, rules) in
+    let ended : mid ≡ Token.end_object ∷ new = grind (arith, rules) in (
+      Some d,
+      λ found. subst (λ ts. ReadsMembers k found ts (put (codes "else") d found) new) (sym keyed)
+          (reads_member k found (codes "else") (Token.key (codes "else") ∷ inside) inside mid new d (put (codes "else") d found) refl
+          (omega arith) done.1
+          (subst (λ ts. ReadsMembers k (put (codes "else") d found) ts (put (codes "else") d found) new) (sym ended)
+          (reads_no_members k _ _ new refl))),
+      done.2,
+      done.3,
+      done.4,
+    )
+
+pub pull_step-returns-in-parallel : goal.pull_step-returns-in-parallel
+pull_step-returns-in-parallel t c =
+    let k = 5 * c.args.levels + 4 in
+    let inside = c.pull_first_key.new.reader in
+    let named : c.in_ok-name.name.now ≡ codes "parallel" = grind (arith, rules) in
+    let begun = c.in_ok-name.ensures ∙ ap (λ n. Token.begin_object ∷ Token.key n ∷ inside) named in
+    IfSome_then c.pull_parallel.result c.pull_parallel.ensures
+    (λ step w. (w.0, subst (λ ts. ReadsValue k ts w.0 c.pull_parallel.new.reader) (sym begun) w.1, w.2, w.3, w.4))
+
+pub pull_step-returns-in-abort : goal.pull_step-returns-in-abort
+pull_step-returns-in-abort t c =
+    let k = 5 * c.args.levels + 4 in
+    let asks = block_asked (setting_of c.args.declared.now) c.args.levels in
+    let block = block_of (setting_of c.args.declared.now) c.args.levels in
+    let inside = c.pull_first_key.new.reader in
+    let named : c.in_ok-name.name.now ≡ codes "abort" = grind (arith, rules) in
+    let begun = c.in_ok-name.ensures ∙ ap (λ n. Token.begin_object ∷ Token.key n ∷ inside) named in
+    IfSome_then c.pull_abort.result c.pull_abort.ensures
+    (λ step w. (
+      w.0,
+      subst (λ ts. ReadsValue k ts w.0 c.pull_abort.new.reader) (sym begun)
+          (reads_deeper 1 k _ w.0 c.pull_abort.new.reader (omega arith) w.1),
+      w.2 asks,
+      w.3 block,
+      w.4,
+    ))
+
+pub pull_step-returns-in_default : goal.pull_step-returns-in_default
+pull_step-returns-in_default t c =
+    let k = 5 * c.args.levels + 4 in
+    let begun = c.in_ok-name.ensures in
+    IfSome_then c.pull_other_step.result c.pull_other_step.ensures
+    (λ step w. (w.0, subst (λ ts. ReadsValue k ts w.0 c.pull_other_step.new.reader) (sym begun) w.1, w.2, w.3, w.4))

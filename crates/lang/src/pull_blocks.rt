@@ -1,0 +1,523 @@
+//! Reads the steps of a block straight from their tokens, where they are in the common form.
+//!
+//! The common form, member by member: an operation's `op`, and its `as`; a subaction's or a child's
+//! `sub`, and then its `as` at any place, its `handlers` and, behind them, its `handler`; `parallel`
+//! alone; `if`, one of `is`, `atleast` and `item`, then `then`, and `else`; `abort` alone. What may be
+//! left out may be left out, and no member comes twice.
+//!
+//! Of `handlers`, and of a step whose first member is another, a small tree is made and read as in any
+//! other document. So texts are numbered in the same order.
+ghost use Rattle.std.specs.Prelude.{◌≡◌, ℕ, List, [], ◌∷◌, codes, map, Option, option_map, true, Some, None, IfSome, ◌<◌, ◌+◌, ◌*◌, ◌≤◌};
+ghost use Rattle.json.specs.Json.{read_key};
+ghost use Rattle.json.specs.Token as token;
+ghost use Rattle.serde_json.specs.Data.{Data, Items, Members, object, put};
+ghost use Rattle.batch.specs.Views.{block_view, handler_view, step_view, subaction_view};
+ghost use Rattle.lang.specs.Asked.{Asks, block_asked, block_asked_if, children_asked, is_abort, label_asked, label_in, labels_of, members_asked, part, scope_after, sort_of, step_asked, steps_asked, sub_asked, test_asked};
+ghost use Rattle.lang.specs.Answer.{IsMet};
+ghost use Rattle.lang.specs.declared.counts.Counts.{Counts};
+ghost use Rattle.lang.specs.Pulled.{ReadsItems, ReadsMembers, ReadsValue, SubTail, TestKey, abort_step, if_step, test_key, with_else};
+ghost use Rattle.lang.specs.Scope.{Extends, Scope, numbers_of, scope_of, setting_of};
+ghost use Rattle.lang.specs.Spelled.{Spelling, block_of, block_of_if, children_spelled, members_of, or_no_step, spelled_map, step_of, steps_spelled, sub_of, test_of};
+
+use crate::declared::Declared;
+use crate::hashing::Labels;
+use crate::labels::{add_label, add_labels, add_new_label, check_label, seen_label};
+use crate::operations::item_of;
+use crate::pull::{
+    pull_begin_array, pull_begin_object, pull_end_object, pull_key, pull_members, pull_name,
+    pull_object, pull_operation, pull_text, pull_whole,
+};
+use crate::state::{Numbering, State};
+use crate::steps::{Sort, read_members, read_reason, read_step, taking};
+use crate::words::{Subject, fits_item, fits_number, fits_word, word_of};
+use batch::{Block, Handler, Step, Subaction, Test};
+use indexmap::IndexMap;
+use json::{Reader, Token};
+use serde_json::Map;
+use std::alloc::Global;
+
+// ---- subactions
+
+/// The handlers by reason, in the order of the reasons' bytes. A small tree is made of them.
+fn pull_handlers(
+    alloc: Global,
+    reader: &mut Reader<'_>,
+    levels: usize,
+    declared: &Declared,
+    state: &mut State,
+) -> Option<Vec<Handler>>
+    requires few { levels ≤ 24 }
+    ensures { IfSome result (λ handlers. (hs : Members) × ReadsValue (5 * levels + 1) reader.old (object hs) reader.new
+        × (3 ≤ declared.now.version)
+        × IsMet state.old.counts (members_asked (block_asked (setting_of declared.now) levels)
+        (scope_of state.old.labels.entries) hs) state.new.counts
+        × ((map handler_view handlers.items, numbers_of state.new.numbering)
+        ≡ members_of (block_of (setting_of declared.now) levels) (scope_of state.old.labels.entries)
+        (numbers_of state.old.numbering) hs)
+        × (scope_of state.new.labels.entries ≡ scope_of state.old.labels.entries)) }
+{
+    if declared.version < 3 {
+        return None;
+    }
+    pull_begin_object(reader)?;
+    let members = pull_members(alloc, reader, 5 * levels, Map::new(alloc))?;
+    let handlers = read_members(alloc, &members, levels, declared, state).ok()?;
+    Some(handlers)
+}
+
+/// What stands behind the body of a subaction.
+#[derive(Drop)]
+struct SubRest<'a> {
+    handlers: Option<Vec<Handler>>,
+    handler: Option<Block>,
+    label: Option<&'a str>,
+}
+
+/// What stands behind the body of a subaction, up to its end.
+#[cycle(blocks)]
+fn pull_sub_rest<'a>(
+    alloc: Global,
+    reader: &mut Reader<'a>,
+    levels: usize,
+    declared: &Declared,
+    state: &mut State,
+) -> Option<SubRest<'a>>
+    requires few { levels ≤ 24 }
+    ensures { IfSome result (λ rest. (now : List token.Token)
+        × SubTail (5 * levels + 1) declared.now.version (block_asked (setting_of declared.now) levels)
+        (block_of (setting_of declared.now) levels) (scope_of state.old.labels.entries)
+        reader.old state.old.counts (numbers_of state.old.numbering)
+        (option_map (λ list. map handler_view list.items) rest.handlers) (option_map block_view rest.handler)
+        (option_map (λ text. text.now) rest.label)
+        now state.new.counts (numbers_of state.new.numbering)
+        × (read_key now ≡ Some (None, reader.new))
+        × (scope_of state.new.labels.entries ≡ scope_of state.old.labels.entries)) }
+{
+    let mut handlers = None;
+    let mut handler = None;
+    let mut label = None;
+    while let Some(name) = reader.next_key().ok()? {
+        if name == "as" && label.is_none() {
+            label = Some(pull_text(reader)?);
+        } else if name == "handler" && handler.is_none() {
+            handler = Some(pull_block(alloc, reader, levels, declared, state)?);
+        } else if name == "handlers" && handlers.is_none() && handler.is_none() {
+            handlers = Some(pull_handlers(alloc, reader, levels, declared, state)?);
+        } else {
+            return None;
+        }
+    }
+    Some(SubRest {
+        handlers,
+        handler,
+        label,
+    })
+}
+
+/// A subaction or a child whose key `sub` has been read, with its label, which is not yet looked at.
+#[cycle(blocks)]
+fn pull_sub<'a>(
+    alloc: Global,
+    reader: &mut Reader<'a>,
+    levels: usize,
+    declared: &Declared,
+    state: &mut State,
+) -> Option<(Subaction, Option<&'a str>)>
+    requires few { levels ≤ 24 }
+    ensures { IfSome result (λ read. (d : Data)
+        × ReadsValue (5 * levels + 2) (token.begin_object ∷ token.key (codes "sub") ∷ reader.old) d reader.new
+        × ((elder : Scope) → IsMet state.new.counts
+        (label_asked (scope_of state.old.labels.entries) elder (label_in d)) state.new.counts
+        → IsMet state.old.counts (sub_asked declared.now.version (block_asked (setting_of declared.now) levels)
+        (scope_of state.old.labels.entries) elder d) state.new.counts)
+        × ((subaction_view read.0, numbers_of state.new.numbering)
+        ≡ sub_of (block_of (setting_of declared.now) levels) (scope_of state.old.labels.entries)
+        (numbers_of state.old.numbering) d)
+        × (option_map (λ text. text.now) read.1 ≡ label_in d)
+        × (sort_of d ≡ Some Sort.Sub)
+        × (scope_of state.new.labels.entries ≡ scope_of state.old.labels.entries)) }
+{
+    state.counts.one_more_node().ok()?;
+    let body = pull_block(alloc, reader, levels, declared, state)?;
+    let rest = pull_sub_rest(alloc, reader, levels, declared, state)?;
+    let label = rest.label;
+    let (handlers, otherwise) = taking(alloc, rest.handlers, rest.handler);
+    let read = Subaction {
+        body,
+        handlers,
+        otherwise,
+        labelled: label.is_some(),
+    };
+    Some((read, label))
+}
+
+/// A subaction whose key `sub` has been read.
+#[cycle(blocks)]
+fn pull_sub_step(
+    alloc: Global,
+    reader: &mut Reader<'_>,
+    levels: usize,
+    declared: &Declared,
+    state: &mut State,
+) -> Option<Step>
+    requires few { levels ≤ 24 }
+    ensures { IfSome result (λ step. (d : Data)
+        × ReadsValue (5 * levels + 2) (token.begin_object ∷ token.key (codes "sub") ∷ reader.old) d reader.new
+        × IsMet state.old.counts (step_asked (block_asked (setting_of declared.now) levels)
+        (setting_of declared.now) (scope_of state.old.labels.entries) d) state.new.counts
+        × ((step_view step, numbers_of state.new.numbering)
+        ≡ step_of (block_of (setting_of declared.now) levels) (setting_of declared.now)
+        (scope_of state.old.labels.entries) (numbers_of state.old.numbering) d)
+        × (scope_of state.new.labels.entries ≡ scope_after (setting_of declared.now) (scope_of state.old.labels.entries) d)) }
+{
+    let (read, label) = pull_sub(alloc, reader, levels, declared, state)?;
+    add_new_label(
+        alloc,
+        label,
+        Subject::Outcome,
+        &mut state.labels,
+        &state.counts,
+    )
+    .ok()?;
+    Some(Step::Sub(read))
+}
+
+// ---- children
+
+/// The children up to the end of their array, with their labels, which none of them sees.
+#[cycle(blocks)]
+fn pull_children(
+    alloc: Global,
+    reader: &mut Reader<'_>,
+    levels: usize,
+    declared: &Declared,
+    elder: &mut Labels,
+    state: &mut State,
+) -> Option<Vec<Subaction>>
+    requires few { levels ≤ 24 }
+    ensures { IfSome result (λ children. (ds : Items) × ReadsItems (5 * levels + 2) reader.old ds reader.new
+        × IsMet state.old.counts (children_asked declared.now.version (block_asked (setting_of declared.now) levels)
+        (scope_of state.old.labels.entries) (scope_of elder.old.entries) ds) state.new.counts
+        × ((map subaction_view children.items, numbers_of state.new.numbering)
+        ≡ children_spelled (block_of (setting_of declared.now) levels) (scope_of state.old.labels.entries)
+        (numbers_of state.old.numbering) ds)
+        × (scope_of elder.new.entries ≡ labels_of (scope_of elder.old.entries) ds)
+        × (scope_of state.new.labels.entries ≡ scope_of state.old.labels.entries)) }
+{
+    let mut children = Vec::new(alloc);
+    while !reader.take_end_array() {
+        pull_begin_object(reader)?;
+        pull_key(reader, "sub")?;
+        let (child, label) = pull_sub(alloc, reader, levels, declared, state)?;
+        check_label(label, &state.labels, Some(elder), &state.counts).ok()?;
+        add_label(alloc, label, Subject::Outcome, elder).ok()?;
+        children.push(child).ok()?;
+    }
+    children.shrink_to_fit();
+    Some(children)
+}
+
+/// A parallel step whose key `parallel` has been read.
+#[cycle(blocks)]
+fn pull_parallel(
+    alloc: Global,
+    reader: &mut Reader<'_>,
+    levels: usize,
+    declared: &Declared,
+    state: &mut State,
+) -> Option<Step>
+    requires few { levels ≤ 24 }
+    ensures { IfSome result (λ step. (d : Data)
+        × ReadsValue (5 * levels + 4) (token.begin_object ∷ token.key (codes "parallel") ∷ reader.old) d reader.new
+        × IsMet state.old.counts (step_asked (block_asked (setting_of declared.now) levels)
+        (setting_of declared.now) (scope_of state.old.labels.entries) d) state.new.counts
+        × ((step_view step, numbers_of state.new.numbering)
+        ≡ step_of (block_of (setting_of declared.now) levels) (setting_of declared.now)
+        (scope_of state.old.labels.entries) (numbers_of state.old.numbering) d)
+        × (scope_of state.new.labels.entries ≡ scope_after (setting_of declared.now) (scope_of state.old.labels.entries) d)) }
+{
+    state.counts.one_more_node().ok()?;
+    pull_begin_array(reader)?;
+    let mut elder = IndexMap::with_hasher(alloc, *state.labels.hasher());
+    let children = pull_children(alloc, reader, levels, declared, &mut elder, state)?;
+    pull_end_object(reader)?;
+    add_labels(alloc, &elder, &mut state.labels).ok()?;
+    Some(Step::Parallel(children))
+}
+
+// ---- conditions and aborts
+
+/// The test of an `if` against what its label is of, where the test stands next.
+fn pull_test(
+    alloc: Global,
+    subject: Subject,
+    reader: &mut Reader<'_>,
+    numbering: &mut Numbering,
+) -> Option<Test>
+    ensures { IfSome result (λ test. (key : TestKey) × (v : Data)
+        × ((k : ℕ) (found ms : Members) (new : List token.Token) → ReadsMembers k (put (test_key key) v found) reader.new ms new
+        → ReadsMembers k found reader.old ms new)
+        × ((label : List ℕ) (first : Data) (second : Option Data) (counts : Counts)
+        → IsMet counts (test_asked subject (if_step label key v first second)) counts)
+        × ((label : List ℕ) (first : Data) (second : Option Data)
+        → (test, numbers_of numbering.new) ≡ test_of subject (numbers_of numbering.old) (if_step label key v first second))) }
+{
+    match reader.next() {
+        Some(Token::Key("is")) => {
+            let word = word_of(pull_text(reader)?)?;
+            if fits_word(subject, word) {
+                Some(Test::Is(word))
+            } else {
+                None
+            }
+        }
+        Some(Token::Key("atleast")) => {
+            let least = pull_whole(reader)?;
+            if fits_number(subject) {
+                Some(Test::AtLeast(least))
+            } else {
+                None
+            }
+        }
+        Some(Token::Key("item")) => {
+            if !fits_item(subject) {
+                return None;
+            }
+            let name = pull_name(reader)?;
+            let item = item_of(alloc, name, numbering).ok()?;
+            Some(Test::IsItem(item))
+        }
+        _ => None,
+    }
+}
+
+/// The second branch of an `if`, which is empty where it is absent, and the step's end.
+#[cycle(blocks)]
+fn pull_else(
+    alloc: Global,
+    reader: &mut Reader<'_>,
+    levels: usize,
+    declared: &Declared,
+    state: &mut State,
+) -> Option<Block>
+    requires few { levels ≤ 24 }
+    ensures { IfSome result (λ block. (second : Option Data)
+        × ((found : Members) → ReadsMembers (5 * levels) found reader.old (with_else second found) reader.new)
+        × IsMet state.old.counts (block_asked_if (block_asked (setting_of declared.now) levels)
+        (scope_of state.old.labels.entries) second) state.new.counts
+        × ((block_view block, numbers_of state.new.numbering)
+        ≡ spelled_map or_no_step (block_of_if (block_of (setting_of declared.now) levels) (scope_of state.old.labels.entries)
+        (numbers_of state.old.numbering) second))
+        × (scope_of state.new.labels.entries ≡ scope_of state.old.labels.entries)) }
+{
+    match reader.next() {
+        Some(Token::EndObject) => Some(Block {
+            steps: Vec::new(alloc),
+        }),
+        Some(Token::Key("else")) => {
+            let otherwise = pull_block(alloc, reader, levels, declared, state)?;
+            pull_end_object(reader)?;
+            Some(otherwise)
+        }
+        _ => None,
+    }
+}
+
+/// An `if` whose key has been read.
+#[cycle(blocks)]
+fn pull_if(
+    alloc: Global,
+    reader: &mut Reader<'_>,
+    levels: usize,
+    declared: &Declared,
+    state: &mut State,
+) -> Option<Step>
+    requires few { levels ≤ 24 }
+    ensures { IfSome result (λ step. (d : Data)
+        × ReadsValue (5 * levels + 1) (token.begin_object ∷ token.key (codes "if") ∷ reader.old) d reader.new
+        × IsMet state.old.counts (step_asked (block_asked (setting_of declared.now) levels)
+        (setting_of declared.now) (scope_of state.old.labels.entries) d) state.new.counts
+        × ((step_view step, numbers_of state.new.numbering)
+        ≡ step_of (block_of (setting_of declared.now) levels) (setting_of declared.now)
+        (scope_of state.old.labels.entries) (numbers_of state.old.numbering) d)
+        × (scope_of state.new.labels.entries ≡ scope_after (setting_of declared.now) (scope_of state.old.labels.entries) d)) }
+{
+    let name = pull_text(reader)?;
+    state.counts.one_more_node().ok()?;
+    let (label, subject) = seen_label(name, &state.labels, &state.counts).ok()?;
+    let test = pull_test(alloc, subject, reader, &mut state.numbering)?;
+    pull_key(reader, "then")?;
+    let then = pull_block(alloc, reader, levels, declared, state)?;
+    let otherwise = pull_else(alloc, reader, levels, declared, state)?;
+    Some(Step::If {
+        label,
+        test,
+        then,
+        otherwise,
+    })
+}
+
+/// The reason of an abort, where it has one and the version has reasons, and the step's end.
+fn pull_reason<'a>(reader: &mut Reader<'a>, version: u8) -> Option<Option<&'a str>>
+    ensures { IfSome result (λ reason. ReadsValue 1 (token.begin_object ∷ token.key (codes "abort") ∷ reader.old)
+        (abort_step (option_map (λ text. text.now) reason)) reader.new
+        × (is_abort version (part (codes "abort") (abort_step (option_map (λ text. text.now) reason))) ≡ true)) }
+{
+    match reader.next() {
+        Some(Token::Bool(true)) => {
+            pull_end_object(reader)?;
+            Some(None)
+        }
+        Some(Token::String(reason)) => {
+            if version < 3 {
+                return None;
+            }
+            pull_end_object(reader)?;
+            Some(Some(reason))
+        }
+        _ => None,
+    }
+}
+
+/// An abort whose key has been read.
+fn pull_abort(
+    alloc: Global,
+    reader: &mut Reader<'_>,
+    declared: &Declared,
+    state: &mut State,
+) -> Option<Step>
+    ensures { IfSome result (λ step. (d : Data)
+        × ReadsValue 1 (token.begin_object ∷ token.key (codes "abort") ∷ reader.old) d reader.new
+        × ((asks : Asks) → IsMet state.old.counts
+        (step_asked asks (setting_of declared.now) (scope_of state.old.labels.entries) d) state.new.counts)
+        × ((block : Spelling) → (step_view step, numbers_of state.new.numbering)
+        ≡ step_of block (setting_of declared.now) (scope_of state.old.labels.entries) (numbers_of state.old.numbering) d)
+        × (scope_of state.new.labels.entries ≡ scope_after (setting_of declared.now) (scope_of state.old.labels.entries) d)) }
+{
+    let reason = pull_reason(reader, declared.version)?;
+    state.counts.one_more_node().ok()?;
+    let number = read_reason(alloc, reason, state).ok()?;
+    Some(Step::Abort(number))
+}
+
+// ---- steps
+
+/// The beginning of a step, with its first key.
+fn pull_first_key<'a>(reader: &mut Reader<'a>) -> Option<&'a str>
+    ensures { IfSome result (λ name. reader.old ≡ token.begin_object ∷ token.key name.now ∷ reader.new) }
+{
+    pull_begin_object(reader)?;
+    match reader.next() {
+        Some(Token::Key(name)) => Some(name),
+        _ => None,
+    }
+}
+
+/// A step of any other first key, which has been read, by a small tree.
+fn pull_other_step(
+    alloc: Global,
+    name: &str,
+    reader: &mut Reader<'_>,
+    levels: usize,
+    declared: &Declared,
+    state: &mut State,
+) -> Option<Step>
+    requires few { levels ≤ 24 }
+    ensures { IfSome result (λ step. (d : Data) × ReadsValue (5 * levels + 4) (token.begin_object ∷ token.key name.now ∷ reader.old) d reader.new
+        × IsMet state.old.counts (step_asked (block_asked (setting_of declared.now) levels)
+        (setting_of declared.now) (scope_of state.old.labels.entries) d) state.new.counts
+        × ((step_view step, numbers_of state.new.numbering)
+        ≡ step_of (block_of (setting_of declared.now) levels) (setting_of declared.now)
+        (scope_of state.old.labels.entries) (numbers_of state.old.numbering) d)
+        × (scope_of state.new.labels.entries ≡ scope_after (setting_of declared.now) (scope_of state.old.labels.entries) d)) }
+{
+    // From a block to the next below it are at most five levels: the array of its steps, a step, the
+    // array of its children, a child, and its handlers.
+    let step = pull_object(alloc, name, reader, 5 * levels + 3)?;
+    read_step(alloc, &step, levels, declared, state).ok()
+}
+
+/// A step, within so many more levels.
+#[cycle(blocks)]
+fn pull_step(
+    alloc: Global,
+    reader: &mut Reader<'_>,
+    levels: usize,
+    declared: &Declared,
+    state: &mut State,
+) -> Option<Step>
+    requires few { levels ≤ 24 }
+    ensures { IfSome result (λ step. (d : Data) × ReadsValue (5 * levels + 4) reader.old d reader.new
+        × IsMet state.old.counts (step_asked (block_asked (setting_of declared.now) levels)
+        (setting_of declared.now) (scope_of state.old.labels.entries) d) state.new.counts
+        × ((step_view step, numbers_of state.new.numbering)
+        ≡ step_of (block_of (setting_of declared.now) levels) (setting_of declared.now)
+        (scope_of state.old.labels.entries) (numbers_of state.old.numbering) d)
+        × (scope_of state.new.labels.entries ≡ scope_after (setting_of declared.now) (scope_of state.old.labels.entries) d)) }
+{
+    let name = pull_first_key(reader)?;
+    match name {
+        "op" => pull_operation(alloc, reader, declared, state),
+        "sub" => pull_sub_step(alloc, reader, levels, declared, state),
+        "parallel" => pull_parallel(alloc, reader, levels, declared, state),
+        "if" => pull_if(alloc, reader, levels, declared, state),
+        "abort" => pull_abort(alloc, reader, declared, state),
+        _ => pull_other_step(alloc, name, reader, levels, declared, state),
+    }
+}
+
+/// The steps of a block up to its end, each of which sees the labels of those before it.
+#[cycle(blocks)]
+fn pull_steps(
+    alloc: Global,
+    reader: &mut Reader<'_>,
+    levels: usize,
+    declared: &Declared,
+    state: &mut State,
+) -> Option<Vec<Step>>
+    requires few { levels ≤ 24 }
+    ensures { IfSome result (λ steps. (ds : Items) × ReadsItems (5 * levels + 4) reader.old ds reader.new
+        × IsMet state.old.counts (steps_asked (block_asked (setting_of declared.now) levels)
+        (setting_of declared.now) (scope_of state.old.labels.entries) ds) state.new.counts
+        × ((map step_view steps.items, numbers_of state.new.numbering)
+        ≡ steps_spelled (block_of (setting_of declared.now) levels) (setting_of declared.now)
+        (scope_of state.old.labels.entries) (numbers_of state.old.numbering) ds)
+        × Extends (scope_of state.old.labels.entries) (scope_of state.new.labels.entries)) }
+{
+    let mut steps = Vec::new(alloc);
+    while !reader.take_end_array() {
+        steps
+            .push(pull_step(alloc, reader, levels, declared, state)?)
+            .ok()?;
+    }
+    steps.shrink_to_fit();
+    Some(steps)
+}
+
+/// A block within so many more levels. Its labels are no longer seen after it.
+#[cycle(blocks)]
+pub(crate) fn pull_block(
+    alloc: Global,
+    reader: &mut Reader<'_>,
+    levels: usize,
+    declared: &Declared,
+    state: &mut State,
+) -> Option<Block>
+    requires few { levels ≤ 24 }
+    ensures { IfSome result (λ block. (d : Data) × ReadsValue (5 * levels) reader.old d reader.new
+        × IsMet state.old.counts
+        (block_asked (setting_of declared.now) levels (scope_of state.old.labels.entries) d) state.new.counts
+        × ((block_view block, numbers_of state.new.numbering)
+        ≡ block_of (setting_of declared.now) levels (scope_of state.old.labels.entries)
+        (numbers_of state.old.numbering) d)
+        × (scope_of state.new.labels.entries ≡ scope_of state.old.labels.entries)) }
+{
+    if levels == 0 {
+        return None;
+    }
+    pull_begin_array(reader)?;
+    let seen = state.labels.len();
+    let steps = pull_steps(alloc, reader, levels - 1, declared, state)?;
+    state.labels.truncate(seen);
+    Some(Block { steps })
+}

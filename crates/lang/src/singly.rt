@@ -1,0 +1,128 @@
+//! Reads a document with a tree of one transaction at a time.
+//!
+//! `None` says that the document's members stand in another order, or that memory was refused; the
+//! whole document is then read as one tree (`document`).
+ghost use Rattle.std.specs.Prelude.{◌≡◌, [], ◌∷◌, map, Some, IfSome, MatchResult, ◌≤◌};
+ghost use Rattle.serde_json.specs.Data.{Data, Items};
+ghost use Rattle.serde_json.specs.Events.{items_len};
+ghost use Rattle.batch.specs.Names.{texts_of};
+ghost use Rattle.batch.specs.Views.{block_view};
+ghost use Rattle.lang.specs.Answer.{IsFirst, IsMet};
+ghost use Rattle.lang.specs.Asked.{asked, document_shape_asked, names_of, objects_in, transaction_asked, transactions_asked};
+ghost use Rattle.lang.specs.Pulled.{ReadsItems, ReadsValue};
+ghost use Rattle.lang.specs.Scope.{numbers_of, scope_of, setting_of};
+ghost use Rattle.lang.specs.Spelled.{block_of, blocks_of, parts_in, spelled};
+
+use crate::declared::Declared;
+use crate::document::{MAX_TRANSACTIONS, Parts};
+use crate::fault::Fault;
+use crate::pass::pass_items;
+use crate::pull::{PART_DEPTH, pull_end_object, pull_head, pull_value};
+use crate::starts::read_objects;
+use crate::state::State;
+use crate::steps::read_transaction;
+use batch::Block;
+use json::Reader;
+use std::alloc::Global;
+
+/// The next transaction, by a tree of it alone, or its first fault.
+fn one_transaction(
+    alloc: Global,
+    reader: &mut Reader<'_>,
+    number: u32,
+    declared: &Declared,
+    state: &mut State,
+) -> Option<Result<Block, Fault>>
+    requires { scope_of state.old.labels.entries ≡ [] }
+    ensures { IfSome result (λ answer. (d : Data) × ReadsValue 125 reader.old d reader.new
+        × MatchResult answer
+        (λ block. IsMet state.old.counts (transaction_asked number (setting_of declared.now) d) state.new.counts
+        × ((block_view block, numbers_of state.new.numbering)
+        ≡ block_of (setting_of declared.now) 24 [] (numbers_of state.old.numbering) d)
+        × (scope_of state.new.labels.entries ≡ []))
+        (IsFirst state.old.counts (transaction_asked number (setting_of declared.now) d))) }
+{
+    let value = pull_value(alloc, reader, PART_DEPTH)?;
+    Some(read_transaction(alloc, &value, number, declared, state))
+}
+
+/// The transactions up to the end of their array, or their first fault.
+fn each_transaction(
+    alloc: Global,
+    reader: &mut Reader<'_>,
+    declared: &Declared,
+    state: &mut State,
+) -> Option<Result<Vec<Block>, Fault>>
+    requires labels { scope_of state.old.labels.entries ≡ [] }
+    ensures { IfSome result (λ answer. (ds : Items) × ReadsItems 125 reader.old ds reader.new
+        × MatchResult answer
+        (λ blocks. IsMet state.old.counts (transactions_asked 1 (setting_of declared.now) ds) state.new.counts
+        × ((map block_view blocks.items, numbers_of state.new.numbering)
+        ≡ blocks_of (setting_of declared.now) (numbers_of state.old.numbering) ds)
+        × (items_len ds ≤ 10000))
+        (IsFirst state.old.counts (transactions_asked 1 (setting_of declared.now) ds))) }
+{
+    let mut blocks = Vec::new(alloc);
+    let mut number = 0;
+    while !reader.take_end_array() {
+        if number >= MAX_TRANSACTIONS {
+            return None;
+        }
+        number += 1;
+        match one_transaction(alloc, reader, number, declared, state)? {
+            Ok(block) => blocks.push(block).ok()?,
+            Err(fault) => {
+                let Ok(_) = pass_items(reader, PART_DEPTH) else {
+                    return None;
+                };
+                return Some(Err(fault));
+            }
+        }
+    }
+    Some(Ok(blocks))
+}
+
+/// The parts of a document whose members stand in the common order, or its first fault, once its
+/// shape is known to have none.
+pub(crate) fn each_part(
+    alloc: Global,
+    reader: &mut Reader<'_>,
+    state: &mut State,
+) -> Option<Result<Parts, Fault>>
+    requires { scope_of state.old.labels.entries ≡ [] }
+    ensures { IfSome result (λ answer. (d : Data) × ReadsValue 127 reader.old d reader.new
+        × MatchResult answer
+        (λ parts. IsMet state.old.counts (asked d) state.new.counts
+        × (texts_of parts.declared.names.keys ≡ names_of (objects_in d))
+        × (spelled parts.declared.objects (map block_view parts.transactions.items) (numbers_of state.new.numbering)
+        ≡ parts_in (numbers_of state.old.numbering) d))
+        (λ fault. IsMet state.old.counts (document_shape_asked d) state.old.counts
+        → IsFirst state.old.counts (asked d) fault)) }
+{
+    let (version, objects) = pull_head(alloc, reader)?;
+    let declared = match read_objects(
+        alloc,
+        &objects,
+        version,
+        &mut state.counts,
+        &mut state.numbering,
+    ) {
+        Ok(declared) => declared,
+        Err(fault) => {
+            let Ok(_) = pass_items(reader, PART_DEPTH) else {
+                return None;
+            };
+            pull_end_object(reader)?;
+            return Some(Err(fault));
+        }
+    };
+    let answer = each_transaction(alloc, reader, &declared, state)?;
+    pull_end_object(reader)?;
+    match answer {
+        Ok(transactions) => Some(Ok(Parts {
+            declared,
+            transactions,
+        })),
+        Err(fault) => Some(Err(fault)),
+    }
+}
