@@ -42,8 +42,8 @@ use Rattle.objects.specs.declared.call.Reply.TheVariants as reply
 use Rattle.objects.specs.declared.entry.Entry.{Entry}
 use Rattle.objects.proofs.CommuteLemmas.{entries_exact}
 use Rattle.committed.specs.declared.classes.Class.{Class}
-use Rattle.committed.specs.Classes.{account_class, counter_class, set_class, queue_class, directory_class, max_class, class_of, number_of, always_commute, is_by_item}
-use Rattle.committed.specs.Headings.{set_item, item_of, has_item, heading_against, is_under}
+use Rattle.committed.specs.Classes.{account_class, counter_class, set_class, queue_class, directory_class, max_class, class_of, always_commute, is_by_item}
+use Rattle.committed.specs.Items.{set_item, item_of, has_item, is_compared}
 use Rattle.committed.specs.Strictness.{Commute}
 
 by_classes : (k l m n : Class) → k ≡ m → l ≡ n → always_commute k l ≡ true → always_commute m n ≡ true
@@ -456,11 +456,11 @@ other_item c r d s true (Some x) None by_item of_c of_d h = no_item c r d s x of
 other_item c r d s true None j by_item of_c of_d h = cc
 other_item c r d s false i j by_item of_c of_d h = cc
 
--- an entry that isn't where another looks for those of its class
-pub elsewhere : (p q : Entry) → is_under q (heading_against p (class_of q.call q.reply)) ≡ false → Commute p q
-unfolding is_under
-elsewhere p q h = by_table p q (λ same. other_item p.call p.reply q.call q.reply (is_by_item class) (item_of p.call p.reply) (item_of q.call q.reply) refl refl refl (
-    sym (one_object (nat_eq q.object p.object) (nat_eq (number_of class) (number_of class)) (has_item wanted (item_of q.call q.reply)) (eq-eqb q.object p.object (sym (eqb-true p.object q.object same))) (eq-eqb (number_of class) (number_of class) refl)) ∙ h))
+-- an entry that isn't compared with another commutes with it
+pub elsewhere : (p q : Entry) → is_compared p q ≡ false → Commute p q
+elsewhere p q h = by_table p q (λ same. other_item p.call p.reply q.call q.reply (is_by_item class) (item_of p.call p.reply) (item_of q.call q.reply)
+    refl refl refl (sym (one_object (nat_eq q.object p.object) (has_item wanted (item_of q.call q.reply))
+    (eq-eqb q.object p.object (sym (eqb-true p.object q.object same)))) ∙ h))
   where
     class : Class
     class = class_of q.call q.reply
@@ -468,5 +468,5 @@ elsewhere p q h = by_table p q (λ same. other_item p.call p.reply q.call q.repl
     wanted : Option Item
     wanted = if is_by_item class then item_of p.call p.reply else None
 
-    one_object : (a b c : Bool) → a ≡ true → b ≡ true → ((a && b) && c) ≡ c
-    one_object a b c ha hb = rw (ha, hb) refl
+    one_object : (a b : Bool) → a ≡ true → (a && b) ≡ b
+    one_object a b h = rw h refl

@@ -1,67 +1,68 @@
--- What a filter has, and which entries it clears.
-use Rattle.std.proofs.Common.{◌&&◌, ◌||◌, nat_eq, zero, suc, ◌≡◌, ◌≢◌, ◌⊎◌, ℕ, ◌^◌, ◌<◌, arith, max, Bool, true, false, None, List, [], ◌∷◌, ◌++◌, length, get_or, set, refl, sym, ap, ◌∙◌, subst, inl, inr, bit_and, bit_or}
-use Rattle.std.specs.Prelude.{if◌then◌else◌}
+-- What a filter has, and which entries it tells of.
+use Rattle.std.proofs.Common.{◌&&◌, ◌||◌, nat_eq, zero, suc, ◌≡◌, ◌≢◌, ◌⊎◌, ℕ, ◌^◌, ◌<◌, ◌≤◌, arith, max, Bool, true, false, List, [], ◌∷◌, length, get_or, set, refl, sym, ap, ◌∙◌, subst, inl, inr, bit_and, bit_or}
+use Rattle.std.specs.Prelude.{Option, Some, None, if◌then◌else◌}
 use Rattle.std.specs.Int.{bit_at}
-use Rattle.std.proofs.lemmas.Bool.{cases_eq, eqb-true, and_parts, false≢true}
-use Rattle.std.proofs.lemmas.List.{length-set, get_or-set_same, get_or-set_other, get_or_append_left, get_or_default, length-append}
-use Rattle.std.proofs.lemmas.Nat.Bits.{bit_at_and, bit_at_or, bit_at-lt, bit_at-zero, bit_at-pow_same}
+use Rattle.std.proofs.lemmas.Bool.{cases_eq, cases_lt, eqb-true, and_parts, false≢true}
+use Rattle.std.proofs.lemmas.List.{length-set, get_or-set_same, get_or-set_other, get_or_default, get_or_past}
+use Rattle.std.proofs.lemmas.Nat.Bits.{bit_at_and, bit_at_or, bit_at-lt, bit_at-pow_same, bit_at_above, bit_at_ones}
+use Rattle.atoms.specs.declared.item.Item.{Item}
+use Rattle.atoms.proofs.Items.{one_item}
 use Rattle.objects.specs.declared.entry.Entry.{Entry}
 use Rattle.committed.specs.declared.classes.Class.{Class}
 use Rattle.committed.specs.declared.classes.Class.TheVariants.{Deposit}
 use Rattle.committed.specs.declared.filter.Filter.{Filter}
-use Rattle.committed.specs.declared.headings.Heading.{Heading}
 use Rattle.committed.specs.Classes.{class_of, number_of, classes, conflicts_of, always_commute, is_by_item}
-use Rattle.committed.specs.Headings.{item_of, heading_against, has_item, is_under}
-use Rattle.committed.specs.Filter.{slot_of, HasIn, set_at, Has, IsMarked, IsFilterOf}
+use Rattle.committed.specs.Items.{item_of, has_item, is_compared}
+use Rattle.committed.specs.Marks.{hash_of, mark_of}
+use Rattle.committed.specs.Filter.{slot_of, HasAllIn, set_at, IsMarked, Meets}
 use Rattle.committed.specs.Strictness.{Commute}
 use Rattle.committed.proofs.ClassesLemmas.{always_commutes, elsewhere}
 use Rattle.committed.proofs.ListsLemmas.{class_at, number-bound}
 
--- ---- a class put into a set
+-- ---- classes put into a set
 
 -- where a set stands is not changed by what the sets are
-same_slot : (sets : List ℕ) (slot value : ℕ) (o : Heading)
-    → slot_of (length (set sets slot value)) o.object o.item ≡ slot_of (length sets) o.object o.item
-same_slot sets slot value o = ap (λ n. slot_of n o.object o.item) (length-set sets slot value)
+same_slot : (sets : List ℕ) (slot value hash : ℕ) → slot_of (length (set sets slot value)) hash ≡ slot_of (length sets) hash
+same_slot sets slot value hash = ap (λ n. slot_of n hash) (length-set sets slot value)
 
--- a class put into a set leaves those that the sets have
-pub kept_in : (sets : List ℕ) (slot old more : ℕ) (o : Heading) → slot < length sets → old ≡ get_or sets slot old
-    → HasIn sets o → HasIn (set sets slot (bit_or old more)) o
-kept_in sets slot old more o within was has =
-    ap (λ n. bit_at (get_or (set sets slot (bit_or old more)) n 65535) (number_of o.class))
-    (same_slot sets slot (bit_or old more) o) ∙ by_place (cases_eq at slot)
+-- classes put into a set leave those that the sets have
+pub kept_in : (sets : List ℕ) (slot old more hash want : ℕ) → slot < length sets → old ≡ get_or sets slot old
+    → HasAllIn sets hash want → HasAllIn (set sets slot (bit_or old more)) hash want
+kept_in sets slot old more hash want within was has n wanted =
+    ap (λ at. bit_at (get_or (set sets slot (bit_or old more)) at 65535) n) (same_slot sets slot (bit_or old more) hash)
+    ∙ by_place (cases_eq at slot)
   where
     at : ℕ
-    at = slot_of (length sets) o.object o.item
+    at = slot_of (length sets) hash
 
-    by_place : (at ≡ slot) ⊎ (at ≢ slot) → bit_at (get_or (set sets slot (bit_or old more)) at 65535) (number_of o.class) ≡ 1
+    by_place : (at ≡ slot) ⊎ (at ≢ slot) → bit_at (get_or (set sets slot (bit_or old more)) at 65535) n ≡ 1
     by_place (inl same) =
-        let read : get_or sets at 65535 ≡ old = get_or_default sets at 65535 old (subst (λ n. n < length sets) (sym same) within)
-        ∙ ap (λ n. get_or sets n old) same ∙ sym was in
-        let had : bit_at old (number_of o.class) ≡ 1 = ap (λ s. bit_at s (number_of o.class)) (sym read) ∙ has in
-        ap (λ n. bit_at (get_or (set sets slot (bit_or old more)) n 65535) (number_of o.class)) same
-        ∙ ap (λ s. bit_at s (number_of o.class)) (get_or-set_same sets slot (bit_or old more) 65535 within)
-        ∙ bit_at_or old more (number_of o.class) ∙ omega (arith, had, bit_at-lt more (number_of o.class))
-    by_place (inr other) =
-        ap (λ s. bit_at s (number_of o.class)) (get_or-set_other sets slot at (bit_or old more) 65535 other) ∙ has
+        let read : get_or sets at 65535 ≡ old = get_or_default sets at 65535 old (subst (λ k. k < length sets) (sym same) within)
+        ∙ ap (λ k. get_or sets k old) same ∙ sym was in
+        let had : bit_at old n ≡ 1 = ap (λ s. bit_at s n) (sym read) ∙ has n wanted in
+        ap (λ k. bit_at (get_or (set sets slot (bit_or old more)) k 65535) n) same
+        ∙ ap (λ s. bit_at s n) (get_or-set_same sets slot (bit_or old more) 65535 within)
+        ∙ bit_at_or old more n ∙ omega (arith, had, bit_at-lt more n)
+    by_place (inr other) = ap (λ s. bit_at s n) (get_or-set_other sets slot at (bit_or old more) 65535 other) ∙ has n wanted
 
--- it is in its own
-pub own_in : (sets : List ℕ) (slot old more : ℕ) (o : Heading) → slot < length sets
-    → slot ≡ slot_of (length sets) o.object o.item → more ≡ 2 ^ number_of o.class → HasIn (set sets slot (bit_or old more)) o
-own_in sets slot old more o within is own =
-    ap (λ n. bit_at (get_or (set sets slot (bit_or old more)) n 65535) (number_of o.class)) (same_slot sets slot (bit_or old more) o ∙ sym is)
-    ∙ ap (λ s. bit_at s (number_of o.class)) (get_or-set_same sets slot (bit_or old more) 65535 within)
-    ∙ bit_at_or old more (number_of o.class)
-    ∙ omega (arith, ap (λ s. bit_at s (number_of o.class)) own ∙ bit_at-pow_same (number_of o.class), bit_at-lt old (number_of o.class))
+-- they are in their own
+pub own_in : (sets : List ℕ) (slot old more hash : ℕ) → slot < length sets → slot ≡ slot_of (length sets) hash
+    → HasAllIn (set sets slot (bit_or old more)) hash more
+own_in sets slot old more hash within is n wanted =
+    ap (λ at. bit_at (get_or (set sets slot (bit_or old more)) at 65535) n) (same_slot sets slot (bit_or old more) hash ∙ sym is)
+    ∙ ap (λ s. bit_at s n) (get_or-set_same sets slot (bit_or old more) 65535 within)
+    ∙ bit_at_or old more n ∙ omega (arith, wanted, bit_at-lt old n)
 
--- ---- a list of entries
+-- where there is no set, all are
+pub all_in : (sets : List ℕ) (hash more : ℕ) → length sets ≤ slot_of (length sets) hash → more < 2 ^ 16 → HasAllIn sets hash more
+all_in sets hash more past small n wanted =
+    ap (λ s. bit_at s n) (get_or_past sets (slot_of (length sets) hash) 65535 past) ∙ by_place (cases_lt n 16)
+  where
+    by_place : (n < 16) ⊎ (16 ≤ n) → bit_at 65535 n ≡ 1
+    by_place (inl low) = bit_at_ones 16 n low
+    by_place (inr high) = absurd (omega (arith, wanted, bit_at_above more 16 n small high))
 
--- a filter of a longer list is one of the list
-pub filter_shorter : (es : List Entry) (e : Entry) (filter : Filter) → IsFilterOf (es ++ e ∷ []) filter → IsFilterOf es filter
-filter_shorter es e filter h k d l =
-    subst (IsMarked filter) (get_or_append_left es (e ∷ []) d k l) (h k d (omega (arith, length-append es (e ∷ []))))
-
--- ---- the entries that a filter clears
+-- ---- the entries that a filter tells of
 
 -- a check of all classes, one by one
 every : (Class → Bool) → List Class → Bool
@@ -78,9 +79,10 @@ every_class : (p : Class → Bool) (c : Class) → every p classes ≡ true → 
 every_class p c h = subst (λ d. p d ≡ true) (class_at c) (every_at p classes (number_of c) h (number-bound c))
 
 -- the set of conflicts has each class that one doesn't always commute with
-conflict_bit : (c d : Class) → always_commute c d ≡ false → bit_at (conflicts_of c) (number_of d) ≡ 1
+pub conflict_bit : (c d : Class) → always_commute c d ≡ false → bit_at (conflicts_of c) (number_of d) ≡ 1
 unfolding every
-conflict_bit c d may = eqb-true (bit_at (conflicts_of c) (number_of d)) 1 (in_set (always_commute c d) may (every_class (has c) d every_pair))
+conflict_bit c d may = eqb-true (bit_at (conflicts_of c) (number_of d)) 1 (in_set (always_commute c d) may (every_class
+    (has c) d every_pair))
   where
     has : Class → Class → Bool
     has x y = always_commute x y || nat_eq (bit_at (conflicts_of x) (number_of y)) 1
@@ -98,46 +100,37 @@ object_bit : (c : Class) → bit_at 58687 (number_of c) ≡ (if is_by_item c the
 unfolding every
 object_bit c = eqb-true _ _ (every_class (λ d. nat_eq (bit_at 58687 (number_of d)) (if is_by_item d then 0 else 1)) c refl)
 
--- the classes of its object's entries that an entry may conflict with
-abbrev pub met : Filter → Entry → ℕ
-met filter e = bit_and (set_at filter e.object None) (conflicts_of (class_of e.call e.reply))
-
--- an entry under a heading is under that of its object and class alone
-under_class : (q : Entry) (o : Heading) → is_under q o ≡ true
-    → is_under q (record { object = o.object; item = None; class = o.class }) ≡ true
-unfolding is_under
-under_class q o under =
-    alone (nat_eq q.object o.object && nat_eq (number_of (class_of q.call q.reply)) (number_of o.class))
-    (has_item o.item (item_of q.call q.reply)) under
+-- entries that are compared have one item where their class asks for one
+pub same_item : (p q : Entry) → is_compared p q ≡ true → is_by_item (class_of q.call q.reply) ≡ true
+    → (item_of p.call p.reply ≡ None) ⊎ (item_of q.call q.reply ≡ item_of p.call p.reply)
+same_item p q compared by_item = by_items (item_of p.call p.reply) (item_of q.call q.reply)
+    (ap (λ b. has_item (if b then item_of p.call p.reply else None) (item_of q.call q.reply)) (sym by_item) ∙ (and_parts _ _ compared).1)
   where
-    alone : (a b : Bool) → (a && b) ≡ true → (a && true) ≡ true
-    alone a b h = ap (λ x. x && true) (and_parts a b h).0
+    by_items : (i j : Option Item) → has_item i j ≡ true → (i ≡ None) ⊎ (j ≡ i)
+    by_items None j h = inl refl
+    by_items (Some x) None h = absurd (false≢true h)
+    by_items (Some x) (Some y) h = inr (ap Some (sym (one_item x y (eqb-true x.0 y.0 h))))
 
--- what stands under the heading of a class is told by the set of the item, or by that of the object
-of_item : (filter : Filter) (e : Entry) (c : Class) → Has filter (heading_against e c)
-    → bit_at (bit_or (set_at filter e.object (item_of e.call e.reply)) 58687) (number_of c) ≡ 1
-of_item filter e c has = bit_at_or own 58687 (number_of c) ∙ by_class (is_by_item c) refl
-  where
-    own : ℕ
-    own = set_at filter e.object (item_of e.call e.reply)
+-- and one object
+pub same_object : (p q : Entry) → is_compared p q ≡ true → q.object ≡ p.object
+same_object p q compared = eqb-true q.object p.object (and_parts _ _ compared).0
 
-    by_class : (b : Bool) → is_by_item c ≡ b → max (bit_at own (number_of c)) (bit_at 58687 (number_of c)) ≡ 1
-    by_class true by_item =
-        let there : bit_at own (number_of c) ≡ 1 =
-        ap (λ b. bit_at (set_at filter e.object (if b then item_of e.call e.reply else None)) (number_of c)) (sym by_item) ∙ has in
-        omega (arith, there, bit_at-lt 58687 (number_of c))
-    by_class false by_object =
-        let there : bit_at 58687 (number_of c) ≡ 1 = object_bit c ∙ ap (λ b. if b then 0 else 1) by_object in
-        omega (arith, there, bit_at-lt own (number_of c))
+-- so the hash that the class asks for is the one's hash of its object, or of its item
+pub same_hash : (p q : Entry) → is_compared p q ≡ true → is_by_item (class_of q.call q.reply) ≡ true
+    → ((mark_of p).of_item ≡ (mark_of q).of_object) ⊎ ((mark_of p).of_item ≡ (mark_of q).of_item)
+same_hash p q compared by_item = elim (same_item p q compared by_item) [
+  | inl none ↦ inl (ap (hash_of p.object) none ∙ ap (λ o. hash_of o None) (sym (same_object p q compared)))
+  | inr same ↦ inr (ap (hash_of p.object) (sym same) ∙ ap (λ o. hash_of o (item_of q.call q.reply)) (sym (same_object p q compared)))
+]
 
--- the class of an entry that one may conflict with is in its object's set, and in the item's
+-- the set of an entry's object and that of its item have the class of each other that it may conflict with
 record IsMet (filter : Filter) (p q : Entry) : Type 0 where
-  object : bit_at (met filter p) (number_of (class_of q.call q.reply)) ≡ 1
-  item : bit_at (bit_or (set_at filter p.object (item_of p.call p.reply)) 58687) (number_of (class_of q.call q.reply)) ≡ 1
+  object : bit_at (bit_and (set_at filter (mark_of p).of_object) (mark_of p).conflicts) (number_of (class_of q.call q.reply)) ≡ 1
+  item : bit_at (bit_or (set_at filter (mark_of p).of_item) 58687) (number_of (class_of q.call q.reply)) ≡ 1
 
 -- two entries commute, or one is of the classes that the other meets
 meets : (filter : Filter) (p q : Entry) → IsMarked filter q → Commute p q ⊎ IsMet filter p q
-meets filter p q marked = by_class (always_commute own class) refl (is_under q (heading_against p class)) refl
+meets filter p q marked = by_class (always_commute own class) refl (is_compared p q) refl
   where
     own : Class
     own = class_of p.call p.reply
@@ -145,35 +138,49 @@ meets filter p q marked = by_class (always_commute own class) refl (is_under q (
     class : Class
     class = class_of q.call q.reply
 
-    by_class : (b : Bool) → always_commute own class ≡ b → (u : Bool) → is_under q (heading_against p class) ≡ u
-        → Commute p q ⊎ IsMet filter p q
-    by_class true always u under = inl (always_commutes p q always)
-    by_class false may false under = inl (elsewhere p q under)
-    by_class false may true under =
-        let all : ℕ = set_at filter p.object None in
-        let there : bit_at all (number_of class) ≡ 1 =
-        marked (record { object = p.object; item = None; class = class }) (under_class q (heading_against p class) under) in
+    number : ℕ
+    number = number_of class
+
+    there : bit_at (set_at filter (mark_of q).of_object) number ≡ 1
+    there = marked.object number (bit_at-pow_same number)
+
+    in_item : is_compared p q ≡ true → (b : Bool) → is_by_item class ≡ b
+        → max (bit_at (set_at filter (mark_of p).of_item) number) (bit_at 58687 number) ≡ 1
+    in_item compared true by_item =
+        let found : bit_at (set_at filter (mark_of p).of_item) number ≡ 1 = elim (same_hash p q compared by_item) [
+          | inl is ↦ ap (λ h. bit_at (set_at filter h) number) is ∙ there
+          | inr is ↦ ap (λ h. bit_at (set_at filter h) number) is ∙ marked.item number (bit_at-pow_same number)
+        ] in
+        omega (arith, found, bit_at-lt 58687 number)
+    in_item compared false by_object =
+        let found : bit_at 58687 number ≡ 1 = object_bit class ∙ ap (λ b. if b then 0 else 1) by_object in
+        omega (arith, found, bit_at-lt (set_at filter (mark_of p).of_item) number)
+
+    by_class : (b : Bool) → always_commute own class ≡ b → (u : Bool) → is_compared p q ≡ u → Commute p q ⊎ IsMet filter p q
+    by_class true always u compared = inl (always_commutes p q always)
+    by_class false may false compared = inl (elsewhere p q compared)
+    by_class false may true compared =
+        let all : ℕ = set_at filter (mark_of p).of_object in
+        let here : bit_at all number ≡ 1 =
+        ap (λ o. bit_at (set_at filter (hash_of o None)) number) (sym (same_object p q compared)) ∙ there in
         inr (record {
-          object = omega (arith, bit_at_and all (conflicts_of own) (number_of class), there, conflict_bit own class may);
-          item = of_item filter p class (marked (heading_against p class) under);
+          object = bit_at_and all (conflicts_of own) number ∙ omega (arith, here, conflict_bit own class may);
+          item = bit_at_or (set_at filter (mark_of p).of_item) 58687 number ∙ in_item compared (is_by_item class) refl;
         })
 
--- an entry that meets no class of its conflicts commutes with each one of the filter
-pub cleared : (filter : Filter) (p q : Entry) → met filter p ≡ 0 → IsMarked filter q → Commute p q
-cleared filter p q none marked = elim (meets filter p q marked) [
-  | inl commutes ↦ commutes
-  | inr is ↦ (let n : ℕ = number_of (class_of q.call q.reply) in
-      let nothing : bit_at (met filter p) n ≡ 0 = ap (λ s. bit_at s n) none ∙ bit_at-zero n in
-      absurd (omega (arith, nothing, is.object)))
-]
+-- what the set of its object tells
+pub met_by_object : (filter : Filter) (p q : Entry) → IsMarked filter q
+    → Meets (bit_and (set_at filter (mark_of p).of_object) (mark_of p).conflicts) p q
+met_by_object filter p q marked = elim (meets filter p q marked) [ inl commutes ↦ inl commutes | inr is ↦ inr is.object ]
 
--- so does one that meets none of its item
-pub cleared_by_item : (filter : Filter) (p q : Entry)
-    → bit_and (met filter p) (bit_or (set_at filter p.object (item_of p.call p.reply)) 58687) ≡ 0 → IsMarked filter q → Commute p q
-cleared_by_item filter p q none marked = elim (meets filter p q marked) [
-  | inl commutes ↦ commutes
+-- what that of its item tells too
+pub met_by_item : (filter : Filter) (p q : Entry) → IsMarked filter q
+    → Meets (bit_and (bit_and (set_at filter (mark_of p).of_object) (mark_of p).conflicts) (bit_or (set_at filter
+    (mark_of p).of_item) 58687)) p q
+met_by_item filter p q marked = elim (meets filter p q marked) [
+  | inl commutes ↦ inl commutes
   | inr is ↦ (let n : ℕ = number_of (class_of q.call q.reply) in
-      let sets : ℕ = bit_or (set_at filter p.object (item_of p.call p.reply)) 58687 in
-      let nothing : bit_at (bit_and (met filter p) sets) n ≡ 0 = ap (λ s. bit_at s n) none ∙ bit_at-zero n in
-      absurd (omega (arith, nothing, bit_at_and (met filter p) sets n, is.object, is.item)))
+      let met : ℕ = bit_and (set_at filter (mark_of p).of_object) (mark_of p).conflicts in
+      let sets : ℕ = bit_or (set_at filter (mark_of p).of_item) 58687 in
+      inr (bit_at_and met sets n ∙ omega (arith, is.object, is.item)))
 ]

@@ -1,243 +1,215 @@
--- The lists of an index, and the places that they have.
-use Rattle.std.proofs.Common.{◌≡◌, ◌≢◌, ◌⊎◌, ◌&&◌, ℕ, zero, suc, ◌+◌, ◌-◌, ◌<◌, ◌≤◌, arith, Bool, true, false, cond, nat_eq, Option, Some, None, List, [], ◌∷◌, ◌++◌, length, take, get_or, refl, sym, ap, ◌∙◌, subst, inl, inr, add-zero}
-use Rattle.std.proofs.lemmas.Bool.{eqb-true, eq-eqb, false≢true, and_parts}
-use Rattle.std.proofs.lemmas.List.{length-map, length-append, map_push, take-map, take_at, append-nil}
-use Rattle.atoms.specs.declared.item.Item.{Item}
+-- Chains of links, and what is found along them.
+use Rattle.std.proofs.Common.{◌≡◌, ◌≢◌, ℕ, Vec, Global, ◌+◌, ◌-◌, ◌*◌, ◌<◌, ◌≤◌, arith, List, [], ◌∷◌, ◌++◌, length, get_or, set, refl, sym, ap, ◌∙◌, subst, inl, inr}
+use Rattle.std.proofs.lemmas.Bool.{cases_eq, cases_lt}
+use Rattle.std.proofs.lemmas.List.{length-append, length-set, get_or-set_same, get_or-set_other, get_or_append_left, get_or-append_right}
 use Rattle.objects.specs.declared.entry.Entry.{Entry}
-use Rattle.committed.specs.declared.headings.Heading.{Heading}
 use Rattle.committed.specs.declared.index.Index.{Index}
-use Rattle.committed.specs.declared.index.Listed.{Listed}
-use Rattle.committed.specs.Classes.{class_of, number_of}
-use Rattle.committed.specs.Headings.{item_of, heading_of, item_heading, item_heading_of, has_item, is_under}
-use Rattle.committed.specs.Index.{places_of, places, list_under, IsRising, AreSpans, IsListOf, IsIndexOf}
-use Rattle.atoms.proofs.Items.{one_item}
-use Rattle.committed.proofs.ListsLemmas.{one_class, one_heading}
-use Rattle.committed.proofs.SpansLemmas.{spans_longer, spans_shorter, spans_front}
+use Rattle.committed.specs.declared.index.Link.{Link}
+use Rattle.committed.specs.Index.{slot_of, slot_in, no_link, link_at, key_at, place_at, IsEnd, IsLink, IsSpan, AreChained, AreSpanned, IsListed, IsIndexOf}
+use Rattle.committed.specs.Strictness.{Commute, IsAsStrict}
 
--- ---- what the places are
+-- ---- one more link
 
-above_step : (from : ℕ) (rest : List ℕ) (b : Bool) → ((j : ℕ) → j < length rest → suc from ≤ get_or rest j 0) → (j : ℕ) → j < length (cond b (from ∷ rest) rest) → from ≤ get_or (cond b (from ∷ rest) rest) j 0
-above_step from rest true later zero h = omega arith
-above_step from rest true later (suc j) h = let more : suc from ≤ get_or rest j 0 = later j (omega arith) in omega arith
-above_step from rest false later j h = let more : suc from ≤ get_or rest j 0 = later j h in omega arith
+-- the links before it stay
+pub stays : (links : List Link) (x : Link) (n : ℕ) → n < length links → link_at (links ++ x ∷ []) n ≡ link_at links n
+stays links x n within = get_or_append_left links (x ∷ []) no_link n within
 
-above : (o : Heading) (from : ℕ) (es : List Entry) (j : ℕ) → j < length (places_of o from es) → from ≤ get_or (places_of o from es) j 0
-above o from [] j h = absurd (omega arith)
-above o from (e ∷ es) j h = above_step from (places_of o (suc from) es) (is_under e o) (λ k l. above o (suc from) es k l) j h
+-- it is the last one
+pub comes : (links : List Link) (x : Link) → link_at (links ++ x ∷ []) (length links) ≡ x
+comes links x =
+    let none : length links - length links ≡ 0 = omega arith in
+    get_or-append_right links (x ∷ []) (length links) (length links) no_link refl (omega arith) ∙ ap (λ n. get_or (x ∷ []) n no_link) none
 
--- each is the place of an entry under the heading
-pub record HasPlace (o : Heading) (from : ℕ) (es : List Entry) (d : Entry) (k : ℕ) : Type 0 where
-  pub at : ℕ
-  pub is : k ≡ from + at
-  pub within : at < length es
-  pub of : is_under (get_or es at d) o ≡ true
+-- they are one more
+pub counts : (links : List Link) (x : Link) → length (links ++ x ∷ []) ≡ length links + 1
+counts links x = length-append links (x ∷ [])
 
-sound_later : (o : Heading) (from : ℕ) (e : Entry) (es : List Entry) (d : Entry) (k : ℕ) → HasPlace o (suc from) es d k → HasPlace o from (e ∷ es) d k
-sound_later o from e es d k p =
-    let is : k ≡ suc from + p.at = p.is in
-    let within : p.at < length es = p.within in
-    record { at = suc p.at; is = omega arith; within = omega arith; of = p.of }
+-- a link of a chain is one among more
+pub end_more : (slot : ℕ → ℕ) (links : List Link) (x : Link) (count more own found : ℕ) → count ≤ length links → count ≤ more
+    → IsEnd slot links count own found → IsEnd slot (links ++ x ∷ []) more own found
+end_more slot links x count more own found within fewer is = (
+  omega (arith, is.0),
+  λ some. ap (λ (y : Link). slot y.key) (stays links x (found - 1) (omega (arith, is.0))) ∙ is.1 some,
+)
 
-sound_step : (o : Heading) (from : ℕ) (e : Entry) (es : List Entry) (d : Entry) (rest : List ℕ) (b : Bool) → is_under e o ≡ b → ((j : ℕ) → j < length rest → HasPlace o (suc from) es d (get_or rest j 0))
-    → (j : ℕ) → j < length (cond b (from ∷ rest) rest) → HasPlace o from (e ∷ es) d (get_or (cond b (from ∷ rest) rest) j 0)
-sound_step o from e es d rest true t later zero h = record { at = zero; is = omega arith; within = omega arith; of = t }
-sound_step o from e es d rest true t later (suc j) h = sound_later o from e es d (get_or rest j 0) (later j (omega arith))
-sound_step o from e es d rest false t later j h = sound_later o from e es d (get_or rest j 0) (later j h)
+-- so is what a link is
+pub link_more : (slot : ℕ → ℕ) (links : List Link) (x : Link) (count : ℕ) (y : Link) → count ≤ length links
+    → IsLink slot links count y → IsLink slot (links ++ x ∷ []) count y
+link_more slot links x count y within is = record {
+  rising = λ m l. subst (λ (z : Link). z.place ≤ y.place) (sym (stays links x m (omega arith))) (is.rising m l);
+  before = end_more slot links x count count (slot y.key) y.before within (omega arith) is.before;
+  apart = λ m from l same. is.apart m from l (sym (ap (λ (z : Link). slot z.key) (stays links x m (omega arith))) ∙ same);
+  skip = end_more slot links x count count (slot y.key) y.skip within (omega arith) is.skip;
+  span = end_more slot links x count count (slot y.key) y.span within (omega arith) is.span;
+}
 
-pub sound : (o : Heading) (from : ℕ) (es : List Entry) (d : Entry) (j : ℕ) → j < length (places_of o from es) → HasPlace o from es d (get_or (places_of o from es) j 0)
-sound o from [] d j h = absurd (omega arith)
-sound o from (e ∷ es) d j h = sound_step o from e es d (places_of o (suc from) es) (is_under e o) refl (λ k l. sound o (suc from) es d k l) j h
+-- and a span
+pub span_more : (es : List Entry) (slot : ℕ → ℕ) (links : List Link) (x : Link) (count : ℕ) (y : Link) → count ≤ length links
+    → IsSpan es slot links count y → IsSpan es slot (links ++ x ∷ []) count y
+span_more es slot links x count y within is = record {
+  place = is.place;
+  strictest = is.strictest;
+  own = is.own;
+  others = λ m from l same d.
+      subst (λ (z : Link). IsAsStrict (get_or es y.strictest d) (get_or es z.place d)) (sym (stays links x m (omega arith)))
+      (is.others m from l (sym (ap (λ (z : Link). slot z.key) (stays links x m (omega arith))) ∙ same) d);
+}
 
--- every entry under the heading has its place there
-pub record IsListed (ps : List ℕ) (k : ℕ) : Type 0 where
-  pub at : ℕ
-  pub within : at < length ps
-  pub is : get_or ps at 0 ≡ k
+-- spans of links with one more
+pub spanned_next : (es : List Entry) (slot : ℕ → ℕ) (links : List Link) (x : Link) → AreSpanned es slot links
+    → IsSpan es slot links (length links) x → AreSpanned es slot (links ++ x ∷ [])
+spanned_next es slot links x spans own n l = elim (cases_lt n (length links)) [
+  | inl before ↦ subst (IsSpan es slot (links ++ x ∷ []) n) (sym (stays links x n before))
+      (span_more es slot links x n (link_at links n) (omega arith) (spans n before))
+  | inr last ↦ (let is : length links ≡ n = omega (arith, counts links x) in
+      subst (λ k. IsSpan es slot (links ++ x ∷ []) k (link_at (links ++ x ∷ []) k)) is
+      (subst (IsSpan es slot (links ++ x ∷ []) (length links)) (sym (comes links x)) (span_more es slot links x (length links) x
+      (omega arith) own)))
+]
 
-first_listed : (from : ℕ) (rest : List ℕ) (b : Bool) → b ≡ true → IsListed (cond b (from ∷ rest) rest) (from + 0)
-first_listed from rest true t = record { at = zero; within = omega arith; is = omega arith }
-first_listed from rest false t = absurd (false≢true t)
-
-later_listed : (from n : ℕ) (rest : List ℕ) (b : Bool) → IsListed rest (suc from + n) → IsListed (cond b (from ∷ rest) rest) (from + suc n)
-later_listed from n rest true p =
-    let within : p.at < length rest = p.within in
-    let is : get_or rest p.at 0 ≡ suc from + n = p.is in
-    record { at = suc p.at; within = omega arith; is = omega arith }
-later_listed from n rest false p =
-    let is : get_or rest p.at 0 ≡ suc from + n = p.is in
-    record { at = p.at; within = p.within; is = omega arith }
-
-pub complete : (o : Heading) (from : ℕ) (es : List Entry) (d : Entry) (n : ℕ) → n < length es → is_under (get_or es n d) o ≡ true → IsListed (places_of o from es) (from + n)
-complete o from [] d n h of = absurd (omega arith)
-complete o from (e ∷ es) d zero h of = first_listed from (places_of o (suc from) es) (is_under e o) of
-complete o from (e ∷ es) d (suc n) h of = later_listed from n (places_of o (suc from) es) (is_under e o) (complete o (suc from) es d n (omega arith) of)
-
-rising_step : (from : ℕ) (rest : List ℕ) (b : Bool) → ((j : ℕ) → j < length rest → suc from ≤ get_or rest j 0) → IsRising rest → IsRising (cond b (from ∷ rest) rest)
-rising_step from rest true later rises zero zero l h = absurd (omega arith)
-rising_step from rest true later rises zero (suc j) l h = let more : suc from ≤ get_or rest j 0 = later j (omega arith) in omega arith
-rising_step from rest true later rises (suc i) zero l h = absurd (omega arith)
-rising_step from rest true later rises (suc i) (suc j) l h = rises i j (omega arith) (omega arith)
-rising_step from rest false later rises i j l h = rises i j l h
-
-pub rising : (o : Heading) (from : ℕ) (es : List Entry) → IsRising (places_of o from es)
-rising o from [] i j l h = absurd (omega arith)
-rising o from (e ∷ es) i j l h = rising_step from (places_of o (suc from) es) (is_under e o) (λ k m. above o (suc from) es k m) (rising o (suc from) es) i j l h
-
--- the places of a heading's list are places of entries
-pub below : (o : Heading) (es : List Entry) (list : List Listed) → places list ≡ places_of o 0 es → (j : ℕ) → j < length list → get_or (places list) j 0 < length es
-below o [] list is j h = absurd (omega (arith, length-map list (λ (l : Listed). l.place), ap length is))
-below o (e ∷ es) list is j h =
-    let there : j < length (places_of o 0 (e ∷ es)) = omega (arith, length-map list (λ (l : Listed). l.place), ap length is) in
-    let place : HasPlace o 0 (e ∷ es) e (get_or (places_of o 0 (e ∷ es)) j 0) = sound o 0 (e ∷ es) e j there in
-    let at : get_or (places list) j 0 ≡ place.at = ap (λ ps. get_or ps j 0) is ∙ place.is ∙ omega arith in
-    let within : place.at < length (e ∷ es) = place.within in
-    omega arith
-
--- ---- one more entry
-
-places_of-push : (o : Heading) (from : ℕ) (es : List Entry) (e : Entry) → places_of o from (es ++ e ∷ []) ≡ places_of o from es ++ cond (is_under e o) ((from + length es) ∷ []) []
-places_of-push o from [] e = ap (λ n. cond (is_under e o) (n ∷ []) []) (sym (add-zero from))
-places_of-push o from (x ∷ es) e =
-    ap (λ ps. cond (is_under x o) (from ∷ ps) ps) (places_of-push o (suc from) es e ∙ ap (λ n. places_of o (suc from) es ++ cond (is_under e o) (n ∷ []) []) (omega arith))
-    ∙ by_test (is_under x o)
+-- chains with one more link, which the table has
+pub chained_next : (slot : ℕ → ℕ) (links : List Link) (table : List ℕ) (x : Link) (own : ℕ) → own ≡ slot x.key → own < length table
+    → AreChained slot links table → IsLink slot links (length links) x
+    → AreChained slot (links ++ x ∷ []) (set table own (length links + 1))
+chained_next slot links table x own is within chains link = record {
+  links = λ n l. elim (cases_lt n (length links)) [
+    | inl before ↦ subst (IsLink slot (links ++ x ∷ []) n) (sym (stays links x n before))
+        (link_more slot links x n (link_at links n) (omega arith) (chains.links n before))
+    | inr last ↦ (let at : length links ≡ n = omega (arith, counts links x) in
+        subst (λ k. IsLink slot (links ++ x ∷ []) k (link_at (links ++ x ∷ []) k)) at
+        (subst (IsLink slot (links ++ x ∷ []) (length links)) (sym (comes links x)) (link_more slot links x (length links) x
+        (omega arith) link)))
+  ];
+  last = λ other. elim (cases_eq other own) [
+    | inl same ↦ subst (IsEnd slot (links ++ x ∷ []) (length (links ++ x ∷ [])) other) (sym (here other same)) (
+      omega (arith, counts links x),
+      λ some. ap (λ k. slot (key_at (links ++ x ∷ []) k)) (omega arith)
+          ∙ ap (λ (z : Link). slot z.key) (comes links x) ∙ sym is ∙ sym same,
+    )
+    | inr differs ↦ subst (IsEnd slot (links ++ x ∷ []) (length (links ++ x ∷ [])) other) (sym (there other differs))
+        (end_more slot links x (length links) (length (links ++ x ∷ [])) other (get_or table other 0) (omega arith) (omega
+        (arith, counts links x))
+        (chains.last other))
+  ];
+  after = λ other m from l. elim (cases_eq other own) [
+    | inl same ↦ (let past : length links + 1 ≤ m = subst (λ k. k ≤ m) (here other same) from in absurd (omega (arith, counts links x)))
+    | inr differs ↦ (elim (cases_lt m (length links)) [
+      | inl before ↦ (λ e. chains.after other m (subst (λ k. k ≤ m) (there other differs) from) before
+          (sym (ap (λ (z : Link). slot z.key) (stays links x m before)) ∙ e))
+      | inr last ↦ (λ e. let at : m ≡ length links = omega (arith, counts links x) in
+          differs (sym e ∙ ap (λ k. slot (key_at (links ++ x ∷ []) k)) at ∙ ap (λ (z : Link). slot z.key) (comes links x) ∙ sym is))
+    ])
+  ];
+}
   where
-    by_test : (b : Bool) → cond b (from ∷ (places_of o (suc from) es ++ cond (is_under e o) ((from + suc (length es)) ∷ []) [])) (places_of o (suc from) es ++ cond (is_under e o) ((from + suc (length es)) ∷ []) [])
-        ≡ cond b (from ∷ places_of o (suc from) es) (places_of o (suc from) es) ++ cond (is_under e o) ((from + suc (length es)) ∷ []) []
-    by_test true = refl
-    by_test false = refl
+    here : (other : ℕ) → other ≡ own → get_or (set table own (length links + 1)) other 0 ≡ length links + 1
+    here other same = ap (λ k. get_or (set table own (length links + 1)) k 0) same ∙ get_or-set_same table own (length links + 1) 0 within
 
-own_push : (o : Heading) (es : List Entry) (e : Entry) → is_under e o ≡ true → places_of o 0 (es ++ e ∷ []) ≡ places_of o 0 es ++ length es ∷ []
-own_push o es e h = places_of-push o 0 es e ∙ ap (λ b. places_of o 0 es ++ cond b ((0 + length es) ∷ []) []) h ∙ ap (λ n. places_of o 0 es ++ n ∷ []) (omega arith)
+    there : (other : ℕ) → other ≢ own → get_or (set table own (length links + 1)) other 0 ≡ get_or table other 0
+    there other differs = get_or-set_other table own other (length links + 1) 0 differs
 
-other_push : (o : Heading) (es : List Entry) (e : Entry) → is_under e o ≡ false → places_of o 0 (es ++ e ∷ []) ≡ places_of o 0 es
-other_push o es e h = places_of-push o 0 es e ∙ ap (λ b. places_of o 0 es ++ cond b ((0 + length es) ∷ []) []) h ∙ append-nil (places_of o 0 es)
+-- the chains of an index with one more link
+pub chains_put : (seed : ℕ) (links more : List Link) (table : List ℕ) (x : Link) (own count : ℕ) → own ≡ slot_of seed (length table) x.key
+    → own < length table → count ≡ length links + 1 → more ≡ links ++ x ∷ [] → AreChained (slot_of seed (length table)) links table
+    → IsLink (slot_of seed (length table)) links (length links) x
+    → AreChained (slot_of seed (length (set table own count))) more (set table own count)
+chains_put seed links more table x own count is within count_is more_is chains link =
+    subst (λ n. AreChained (slot_of seed n) more (set table own count)) (sym (length-set table own count))
+    (subst (λ n. AreChained (slot_of seed (length table)) more (set table own n)) (sym count_is)
+    (subst (λ ls. AreChained (slot_of seed (length table)) ls (set table own (length links + 1))) (sym more_is)
+    (chained_next (slot_of seed (length table)) links table x own is within chains link)))
 
--- ---- the list of a heading, with one more entry and without the last one
+-- its spans
+pub spans_put : (es : List Entry) (seed : ℕ) (links more : List Link) (table : List ℕ) (x : Link) (own count : ℕ) → more ≡ links ++ x ∷ []
+    → AreSpanned es (slot_of seed (length table)) links → IsSpan es (slot_of seed (length table)) links (length links) x
+    → AreSpanned es (slot_of seed (length (set table own count))) more
+spans_put es seed links more table x own count more_is spans span =
+    subst (λ n. AreSpanned es (slot_of seed n) more) (sym (length-set table own count))
+    (subst (AreSpanned es (slot_of seed (length table))) (sym more_is) (spanned_next es (slot_of seed (length table)) links x spans span))
 
-pub listed : (o : Heading) (es : List Entry) (e : Entry) (list : List Listed) (next : Listed) → is_under e o ≡ true → IsListOf o es list → next.place ≡ length es → AreSpans (es ++ e ∷ []) (list ++ next ∷ []) → IsListOf o (es ++ e ∷ []) (list ++ next ∷ [])
-listed o es e list next under h at are_spans = (map_push (λ (x : Listed). x.place) list next ∙ ap (λ p. places list ++ p ∷ []) at ∙ ap (λ ps. ps ++ length es ∷ []) h.0 ∙ sym (own_push o es e under), are_spans)
+-- ---- spans
 
-pub not_listed : (o : Heading) (es : List Entry) (e : Entry) (list : List Listed) → is_under e o ≡ false → IsListOf o es list → IsListOf o (es ++ e ∷ []) list
-not_listed o es e list under h = (h.0 ∙ sym (other_push o es e under), spans_longer es e list (below o es list h.0) h.1)
+-- a link that lengthens the span of the last one of its chain
+pub span_joined : (es : List Entry) (slot : ℕ → ℕ) (links : List Link) (last : ℕ) (x : Link) → 0 < last → last ≤ length links
+    → slot (key_at links (last - 1)) ≡ slot x.key → ((m : ℕ) → last ≤ m → m < length links → slot (key_at links m) ≢ slot x.key)
+    → IsSpan es slot links (last - 1) (link_at links (last - 1)) → x.span ≡ (link_at links (last - 1)).span
+    → x.place < length es → x.strictest ≤ x.place → ((d : Entry) → IsAsStrict (get_or es x.strictest d) (get_or es x.place d))
+    → ((d : Entry) → IsAsStrict (get_or es x.strictest d) (get_or es (link_at links (last - 1)).strictest d))
+    → IsSpan es slot links (length links) x
+span_joined es slot links last x some within same after was span_is place strictest own stricter = record {
+  place = place;
+  strictest = strictest;
+  own = own;
+  others = λ m from l one d e commutes. (let found : Commute e (get_or es (link_at links (last - 1)).strictest d) = stricter d e commutes in
+      elim (cases_lt m (last - 1)) [
+        | inl before ↦ was.others m (subst (λ n. n ≤ m) span_is from) before (one ∙ sym same) d e found
+        | inr late ↦ (elim (cases_lt m last) [
+          | inl here ↦ (let at : last - 1 ≡ m = omega arith in
+              subst (λ n. Commute e (get_or es (place_at links n) d)) at (was.own d e found))
+          | inr past ↦ absurd (after m past l one)
+        ])
+      ]);
+}
 
--- all but the last
-abbrev pub front : List Listed → List Listed
-front list = take (length list - 1) list
+-- ---- what is found along a chain
 
-pub taken_out : (o : Heading) (es : List Entry) (e : Entry) (list : List Listed) → is_under e o ≡ true → IsListOf o (es ++ e ∷ []) list → IsListOf o es (front list)
-taken_out o es e list under h =
-    let is : places list ≡ places_of o 0 es ++ length es ∷ [] = h.0 ∙ own_push o es e under in
-    let count : length list - 1 ≡ length (places_of o 0 es) = omega (arith, length-map list (λ (x : Listed). x.place), ap length is, length-append (places_of o 0 es) (length es ∷ [])) in
-    let own : places (front list) ≡ places_of o 0 es =
-    sym (take-map (λ (x : Listed). x.place) (length list - 1) list) ∙ ap (take (length list - 1)) is ∙ take_at (places_of o 0 es) (length es ∷ []) (length list - 1) (sym count) in
-    (own, spans_shorter es e (front list) (below o es (front list) own) (spans_front (es ++ e ∷ []) list (length list - 1) h.1))
+-- a link looked at whose strictest entry commutes passes its span
+pub passes : (es : List Entry) (slot : ℕ → ℕ) (links : List Link) (at own upto : ℕ) (e : Entry) → 0 < at → at ≤ length links
+    → slot (key_at links (at - 1)) ≡ own → IsSpan es slot links (at - 1) (link_at links (at - 1))
+    → Commute e (get_or es (link_at links (at - 1)).strictest e)
+    → ((m : ℕ) → at ≤ m → m < length links → slot (key_at links m) ≡ own → place_at links m < upto
+    → Commute e (get_or es (place_at links m) e))
+    → (m : ℕ) → (link_at links (at - 1)).span ≤ m → m < length links → slot (key_at links m) ≡ own → place_at links m < upto
+    → Commute e (get_or es (place_at links m) e)
+passes es slot links at own upto e some within same span commutes passed m from l one before = elim (cases_lt m (at - 1)) [
+  | inl earlier ↦ span.others m from earlier (one ∙ sym same) e e commutes
+  | inr late ↦ (elim (cases_lt m at) [
+    | inl here ↦ (let is : at - 1 ≡ m = omega arith in
+        subst (λ n. Commute e (get_or es (place_at links n) e)) is (span.own e e commutes))
+    | inr past ↦ passed m past l one before
+  ])
+]
 
-pub not_taken_out : (o : Heading) (es : List Entry) (e : Entry) (list : List Listed) → is_under e o ≡ false → IsListOf o (es ++ e ∷ []) list → IsListOf o es list
-not_taken_out o es e list under h =
-    let own : places list ≡ places_of o 0 es = h.0 ∙ other_push o es e under in
-    (own, spans_shorter es e list (below o es list own) h.1)
+-- ---- an index
 
--- ---- the headings of an entry
+-- where entries are put at the end, those that were there stay
+before_end : (es : List Entry) (e d : Entry) (k : ℕ) → k < length es → get_or (es ++ e ∷ []) k d ≡ get_or es k d
+before_end es e d k within = get_or_append_left es (e ∷ []) d k within
 
-pub under_own : (e : Entry) → is_under e (heading_of e) ≡ true
-unfolding is_under
-under_own e = both_true (nat_eq e.object e.object) (nat_eq (number_of (class_of e.call e.reply)) (number_of (class_of e.call e.reply))) (eq-eqb e.object e.object refl) (eq-eqb (number_of (class_of e.call e.reply)) (number_of (class_of e.call e.reply)) refl)
-  where
-    both_true : (a b : Bool) → a ≡ true → b ≡ true → (a && b && true) ≡ true
-    both_true a b ha hb = rw (ha, hb) refl
+-- an index of entries is one of more entries
+pub index_more : (es : List Entry) (e : Entry) (index : Index) → IsIndexOf es index → IsIndexOf (es ++ e ∷ []) index
+index_more es e index is = record {
+  chains = is.chains;
+  spans = λ n l. (let span = is.spans n l in
+      let place : place_at index.links.items n < length es = span.place in
+      record {
+        place = omega (arith, place, length-append es (e ∷ []));
+        strictest = span.strictest;
+        own = λ d. subst (λ p. IsAsStrict p (get_or (es ++ e ∷ []) (place_at index.links.items n) d))
+            (sym (before_end es e d (link_at index.links.items n).strictest (omega (arith, place, span.strictest))))
+            (subst (IsAsStrict (get_or es (link_at index.links.items n).strictest d)) (sym (before_end es e d
+            (place_at index.links.items n) place)) (span.own d));
+        others = λ m from before one d. subst (λ p. IsAsStrict p (get_or (es ++ e ∷ []) (place_at index.links.items m) d))
+            (sym (before_end es e d (link_at index.links.items n).strictest (omega (arith, place, span.strictest))))
+            (subst (IsAsStrict (get_or es (link_at index.links.items n).strictest d))
+            (sym (before_end es e d (place_at index.links.items m) (is.spans m (omega arith)).place)) (span.others m from before one d));
+      });
+  listed = λ k d l. subst (IsListed index.links.items k) (sym (before_end es e d k (omega (arith, is.within)))) (is.listed k d l);
+  within = omega (arith, is.within, length-append es (e ∷ []));
+  most = is.most;
+  few = is.few;
+  behind = is.behind;
+}
 
-pub under_item : (e : Entry) (o : Heading) → item_heading_of e ≡ Some o → is_under e o ≡ true
-unfolding is_under
-under_item e o h = of_item (item_of e.call e.reply) refl h
-  where
-    of_item : (i : Option Item) → item_of e.call e.reply ≡ i → item_heading e i ≡ Some o → is_under e o ≡ true
-    of_item None is h = cc
-    of_item (Some x) is h =
-        let made : Heading = record { object = e.object; item = Some x; class = class_of e.call e.reply } in
-        let o_is : made ≡ o = cc in
-        subst (λ p. is_under e p ≡ true) o_is (rw (is, eq-eqb e.object e.object refl, eq-eqb (number_of (class_of e.call e.reply)) (number_of (class_of e.call e.reply)) refl, eq-eqb x.0 x.0 refl) refl)
-
-pub under_cases : (e : Entry) (o : Heading) → is_under e o ≡ true → (o ≡ heading_of e) ⊎ (item_heading_of e ≡ Some o)
-unfolding is_under
-under_cases e o h = by_item o.item (item_of e.call e.reply) refl refl rest.1
-  where
-    rest : ((nat_eq e.object o.object && nat_eq (number_of (class_of e.call e.reply)) (number_of o.class)) ≡ true) × (has_item o.item (item_of e.call e.reply) ≡ true)
-    rest = and_parts (nat_eq e.object o.object && nat_eq (number_of (class_of e.call e.reply)) (number_of o.class)) (has_item o.item (item_of e.call e.reply)) h
-
-    parts : (nat_eq e.object o.object ≡ true) × (nat_eq (number_of (class_of e.call e.reply)) (number_of o.class) ≡ true)
-    parts = and_parts (nat_eq e.object o.object) (nat_eq (number_of (class_of e.call e.reply)) (number_of o.class)) rest.0
-
-    object : o.object ≡ e.object
-    object = sym (eqb-true e.object o.object parts.0)
-
-    class : o.class ≡ class_of e.call e.reply
-    class = one_class o.class (class_of e.call e.reply) (sym (eqb-true (number_of (class_of e.call e.reply)) (number_of o.class) parts.1))
-
-    by_item : (i j : Option Item) → o.item ≡ i → item_of e.call e.reply ≡ j → has_item i j ≡ true → (o ≡ heading_of e) ⊎ (item_heading_of e ≡ Some o)
-    by_item None j of_o of_e same = inl (one_heading o (heading_of e) object of_o class)
-    by_item (Some x) None of_o of_e same = absurd (false≢true same)
-    by_item (Some x) (Some y) of_o of_e same =
-        let made : Heading = record { object = e.object; item = Some y; class = class_of e.call e.reply } in
-        let item : o.item ≡ Some y = of_o ∙ ap Some (one_item x y (eqb-true x.0 y.0 same)) in
-        inr (ap (item_heading e) of_e ∙ ap Some (sym (one_heading o made object item class)))
-
--- a heading with an item is no heading without one
-pub item_heading_apart : (e : Entry) (o : Heading) → item_heading_of e ≡ Some o → o ≢ heading_of e
-item_heading_apart e o h same = of_item (item_of e.call e.reply) h
-  where
-    of_item : (i : Option Item) → item_heading e i ≡ Some o → ⊥
-    of_item None is = absurd cc
-    of_item (Some x) is = let item : o.item ≡ Some x = ap (λ (p : Option Heading). item_in p) (sym is) in let none : o.item ≡ None = ap (λ (p : Heading). p.item) same in absurd cc
-      where
-        item_in : Option Heading → Option Item
-        item_in None = None
-        item_in (Some p) = p.item
-
--- ---- an index with one more entry, and without the last one
-
--- each heading's list has the entry where it is under it
-pub indexed : (es : List Entry) (e : Entry) (before after : Index) → IsIndexOf es before → IsListOf (heading_of e) (es ++ e ∷ []) (list_under after (heading_of e))
-    → ((o : Heading) → item_heading_of e ≡ Some o → IsListOf o (es ++ e ∷ []) (list_under after o)) → ((o : Heading) → o ≢ heading_of e → item_heading_of e ≢ Some o → list_under after o ≡ list_under before o)
-    → IsIndexOf (es ++ e ∷ []) after
-indexed es e before after h own item others o = by_test (is_under e o) refl
-  where
-    by_test : (b : Bool) → is_under e o ≡ b → IsListOf o (es ++ e ∷ []) (list_under after o)
-    by_test true under = elim (under_cases e o under) [
-      | inl same ↦ subst (λ p. IsListOf p (es ++ e ∷ []) (list_under after p)) (sym same) own
-      | inr is ↦ item o is
-    ]
-    by_test false under =
-        let apart : o ≢ heading_of e = λ same. false≢true (sym under ∙ ap (is_under e) same ∙ under_own e) in
-        let apart_item : item_heading_of e ≢ Some o = λ is. false≢true (sym under ∙ under_item e o is) in
-        subst (IsListOf o (es ++ e ∷ [])) (sym (others o apart apart_item)) (not_listed o es e (list_under before o) under (h o))
-
--- each heading's list has lost the entry where it is under it
-pub unindexed : (es : List Entry) (e : Entry) (before after : Index) → IsIndexOf (es ++ e ∷ []) before → IsListOf (heading_of e) es (list_under after (heading_of e))
-    → ((o : Heading) → item_heading_of e ≡ Some o → IsListOf o es (list_under after o)) → ((o : Heading) → o ≢ heading_of e → item_heading_of e ≢ Some o → list_under after o ≡ list_under before o)
-    → IsIndexOf es after
-unindexed es e before after h own item others o = by_test (is_under e o) refl
-  where
-    by_test : (b : Bool) → is_under e o ≡ b → IsListOf o es (list_under after o)
-    by_test true under = elim (under_cases e o under) [
-      | inl same ↦ subst (λ p. IsListOf p es (list_under after p)) (sym same) own
-      | inr is ↦ item o is
-    ]
-    by_test false under =
-        let apart : o ≢ heading_of e = λ same. false≢true (sym under ∙ ap (is_under e) same ∙ under_own e) in
-        let apart_item : item_heading_of e ≢ Some o = λ is. false≢true (sym under ∙ under_item e o is) in
-        subst (IsListOf o es) (sym (others o apart apart_item)) (not_taken_out o es e (list_under before o) under (h o))
-
--- an index where one list has lost what it had gained
-pub taken_back : (es : List Entry) (e : Entry) (before after : Index) → IsIndexOf es before → IsListOf (heading_of e) es (list_under after (heading_of e)) → ((o : Heading) → o ≢ heading_of e → list_under after o ≡ list_under before o)
-    → IsIndexOf es after
-taken_back es e before after h own others o = by_test (is_under e o) refl
-  where
-    kept : o ≢ heading_of e → IsListOf o es (list_under after o)
-    kept apart = subst (IsListOf o es) (sym (others o apart)) (h o)
-
-    by_test : (b : Bool) → is_under e o ≡ b → IsListOf o es (list_under after o)
-    by_test true under = elim (under_cases e o under) [
-      | inl same ↦ subst (λ p. IsListOf p es (list_under after p)) (sym same) own
-      | inr is ↦ kept (item_heading_apart e o is)
-    ]
-    by_test false under = kept (λ same. false≢true (sym under ∙ ap (is_under e) same ∙ under_own e))
+-- an index whose links are moved is one
+pub index_moved : (es : List Entry) (index : Index) (links : Vec Link Global) → links.items ≡ index.links.items → IsIndexOf es index
+    → IsIndexOf es (record { last = index.last; links = links; listed = index.listed; seed = index.seed; turns = index.turns })
+index_moved es index links same is = record {
+  chains = subst (λ ls. AreChained (slot_in index) ls index.last.items) (sym same) is.chains;
+  spans = subst (AreSpanned es (slot_in index)) (sym same) is.spans;
+  listed = λ k d l. subst (λ ls. IsListed ls k (get_or es k d)) (sym same) (is.listed k d l);
+  within = is.within;
+  most = is.most;
+  few = subst (λ ls. length ls ≤ index.listed * 2) (sym same) is.few;
+  behind = subst (λ ls. (m : ℕ) → m < length ls → place_at ls m < index.listed) (sym same) is.behind;
+}

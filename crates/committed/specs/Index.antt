@@ -1,92 +1,117 @@
--- An index of a list of entries: for each heading, the places of the entries under it.
-use Rattle.std.specs.Prelude.{◌≡◌, List, [], ◌∷◌, ℕ, zero, suc, ◌+◌, ◌*◌, ◌<◌, ◌≤◌, true, Option, Some, None, length, map, slice_index, slice_index_or, cond}
-use Rattle.std.specs.declared.vec.Vec.{Vec}
-use Rattle.std.specs.BTreeMap as tree
-use Rattle.std.specs.declared.cmp.Ordering.{Ordering}
-use Rattle.atoms.specs.declared.item.Item.{Item}
+-- An index of a list of entries: for each slot of a table, a chain of entries.
+use Rattle.std.specs.Prelude.{◌≡◌, ◌≢◌, List, ℕ, ◌+◌, ◌-◌, ◌*◌, ◌/◌, ◌%◌, ◌^◌, ◌<◌, ◌≤◌, length, min, slice_index_or, vec_len, vec_capacity, bit_and, if◌then◌else◌}
 use Rattle.objects.specs.declared.entry.Entry.{Entry}
-use Rattle.committed.specs.declared.classes.Class.{Class}
-use Rattle.committed.specs.declared.headings.Heading.{Heading}
-use Rattle.committed.specs.contracts.headings.HeadingOrd.TheImpl as heading_order
 use Rattle.committed.specs.declared.index.Index.{Index}
-use Rattle.committed.specs.declared.index.Listed.{Listed}
-use Rattle.committed.specs.Classes.{number_of}
-use Rattle.committed.specs.Headings.{is_under}
-use Rattle.committed.specs.Strictness.{Commute, IsAsStrict}
+use Rattle.committed.specs.declared.index.Link.{Link}
+use Rattle.committed.specs.declared.classes.Class.{Class}
+use Rattle.committed.specs.declared.marks.Mark.{Mark}
+use Rattle.committed.specs.Classes.{number_of, is_by_item}
+use Rattle.committed.specs.Marks.{mark_of}
+use Rattle.committed.specs.Strictness.{IsAsStrict}
 
--- which list has the entries of an object's class
-abbrev pub list_of : ℕ → Class → ℕ
-list_of object class = object * 13 + number_of class
+-- the key of the entries of a class with a hash
+unfoldable pub key_of : ℕ → ℕ → ℕ
+key_of hash class = (hash + class * 2654435769 % 2 ^ 32) % 2 ^ 32
 
--- a list of lists, empty where there is none
-abbrev pub list_at : {A : Type 0} → List (List A) → ℕ → List A
-list_at [] n = []
-list_at (list ∷ lists) zero = list
-list_at (list ∷ lists) (suc n) = list_at lists n
+-- the key of those entries of a class that an entry with the mark is compared with
+abbrev pub key_against : Mark → Class → ℕ
+key_against mark class = key_of (if is_by_item class then mark.of_item else mark.of_object) (2 ^ number_of class)
 
--- a list that was found
-abbrev pub found_list : {A Z : Type 0} → Option (Vec A Z) → List A
-found_list None = []
-found_list (Some list) = list.items
+-- where the last link of a key's chain is kept, by a seed, among so many slots
+unfoldable pub slot_of : ℕ → ℕ → ℕ → ℕ
+slot_of seed size key = bit_and (key * seed % 2 ^ 64 / 2 ^ 32) (size - 1)
 
--- the order of headings in a map
-abbrev pub heading_cmp : Heading → Heading → Ordering
-heading_cmp = heading_order.ghosts.cmp
+-- among an index's
+abbrev pub slot_in : Index → ℕ → ℕ
+slot_in index key = slot_of index.seed (length index.last.items) key
 
-abbrev pub list_for : Index → Heading → Option Item → List Listed
-list_for index heading None = list_at (map (λ list. list.items) index.by_class.items) (list_of heading.object heading.class)
-list_for index heading (Some item) = found_list (tree.get heading_cmp index.by_item heading)
+-- what is read behind the end of the links
+abbrev pub no_link : Link
+no_link = record { key = 0; place = 0; before = 0; span = 0; strictest = 0; skip = 0; rank = 0; turns = 0 }
 
--- the list of a heading
-abbrev pub list_under : Index → Heading → List Listed
-list_under index heading = list_for index heading heading.item
+-- the link with so many before it
+abbrev pub link_at : List Link → ℕ → Link
+link_at links n = slice_index_or links n no_link
 
--- the places of the entries under a heading, where the first entry's place is `from`
-abbrev pub places_of : Heading → ℕ → List Entry → List ℕ
-places_of heading from [] = []
-places_of heading from (entry ∷ entries) = cond (is_under entry heading) (from ∷ places_of heading (suc from) entries) (places_of heading (suc from) entries)
+-- its place
+abbrev pub place_at : List Link → ℕ → ℕ
+place_at links n = (link_at links n).place
 
-abbrev pub places : List Listed → List ℕ
-places list = map (λ listed. listed.place) list
+-- its key
+abbrev pub key_at : List Link → ℕ → ℕ
+key_at links n = (link_at links n).key
 
-abbrev pub starts : List Listed → List ℕ
-starts list = map (λ listed. listed.start) list
+-- a link of a slot's chain, named by how many links there are up to it, among the first `count`; or none
+abbrev pub IsEnd : (ℕ → ℕ) → List Link → ℕ → ℕ → ℕ → Type 0
+IsEnd slot links count own found = (found ≤ count) × (0 < found → slot (key_at links (found - 1)) ≡ own)
 
-abbrev pub strictests : List Listed → List ℕ
-strictests list = map (λ listed. listed.strictest) list
+-- what a link is to be that comes after the first `count`
+pub record IsLink (slot : ℕ → ℕ) (links : List Link) (count : ℕ) (link : Link) : Type 0 where
+  pub rising : (m : ℕ) → m < count → place_at links m ≤ link.place
+  pub before : IsEnd slot links count (slot link.key) link.before
+  pub apart : (m : ℕ) → link.before ≤ m → m < count → slot (key_at links m) ≢ slot link.key
+  pub skip : IsEnd slot links count (slot link.key) link.skip
+  pub span : IsEnd slot links count (slot link.key) link.span
 
--- each place is before the next
-abbrev pub IsRising : List ℕ → Type 0
-IsRising places = (i j : ℕ) → i < j → j < length places → slice_index places i < slice_index places j
+-- its strictest entry is as strict as its own, and as those of its slot's links after `span`
+pub record IsSpan (entries : List Entry) (slot : ℕ → ℕ) (links : List Link) (count : ℕ) (link : Link) : Type 0 where
+  pub place : link.place < length entries
+  pub strictest : link.strictest ≤ link.place
+  pub own : (d : Entry) → IsAsStrict (slice_index_or entries link.strictest d) (slice_index_or entries link.place d)
+  pub others : (m : ℕ) → link.span ≤ m → m < count → slot (key_at links m) ≡ slot link.key
+      → (d : Entry) → IsAsStrict (slice_index_or entries link.strictest d) (slice_index_or entries (place_at links m) d)
 
--- each place is that of an entry
-abbrev pub AreWithin : List Entry → List Listed → Type 0
-AreWithin entries list = (j : ℕ) → j < length list → slice_index (places list) j < length entries
+-- each link is one of its slot's chain, and the table has the last one of each slot
+pub record AreChained (slot : ℕ → ℕ) (chain : List Link) (table : List ℕ) : Type 0 where
+  pub links : (n : ℕ) → n < length chain → IsLink slot chain n (link_at chain n)
+  pub last : (own : ℕ) → IsEnd slot chain (length chain) own (slice_index_or table own 0)
+  pub after : (own m : ℕ) → slice_index_or table own 0 ≤ m → m < length chain → slot (key_at chain m) ≢ own
 
--- from `start` to `last`, the entry at `strictest` is as strict as each
-abbrev pub IsSpan : List Entry → List ℕ → ℕ → ℕ → ℕ → Type 0
-IsSpan entries places start strictest last =
-    (start ≤ strictest) × (strictest ≤ last)
-    × ((i : ℕ) → start ≤ i → i ≤ last → (d : Entry) → IsAsStrict (slice_index_or entries (slice_index places strictest) d) (slice_index_or entries (slice_index places i) d))
+-- an index's links and table are so
+abbrev pub AreChains : Index → Type 0
+AreChains index = AreChained (slot_in index) index.links.items index.last.items
 
--- each listed entry ends the span that is kept with it
-abbrev pub AreSpans : List Entry → List Listed → Type 0
-AreSpans entries list = (j : ℕ) → j < length list → IsSpan entries (places list) (slice_index (starts list) j) (slice_index (strictests list) j) j
+-- each link ends a span
+abbrev pub AreSpanned : List Entry → (ℕ → ℕ) → List Link → Type 0
+AreSpanned entries slot links = (n : ℕ) → n < length links → IsSpan entries slot links n (link_at links n)
 
--- what the list of a heading is to be
-abbrev pub IsListOf : Heading → List Entry → List Listed → Type 0
-IsListOf heading entries list = (places list ≡ places_of heading 0 entries) × AreSpans entries list
+-- each of an index's does
+abbrev pub AreSpans : List Entry → Index → Type 0
+AreSpans entries index = AreSpanned entries (slot_in index) index.links.items
+
+-- the entry at the place is in the chain of the key
+pub record IsLinked (links : List Link) (place key : ℕ) : Type 0 where
+  pub at : ℕ
+  pub within : at < length links
+  pub place_is : place_at links at ≡ place
+  pub key_is : key_at links at ≡ key
+
+-- it is in the chains of its object and of its item
+abbrev pub IsListed : List Link → ℕ → Entry → Type 0
+IsListed links place e = IsLinked links place (key_of (mark_of e).of_object (mark_of e).class)
+    × IsLinked links place (key_of (mark_of e).of_item (mark_of e).class)
 
 -- what an index is to be
-abbrev pub IsIndexOf : List Entry → Index → Type 0
-IsIndexOf entries index = (heading : Heading) → IsListOf heading entries (list_under index heading)
+pub record IsIndexOf (entries : List Entry) (index : Index) : Type 0 where
+  pub chains : AreChains index
+  pub spans : AreSpans entries index
+  pub listed : (k : ℕ) (d : Entry) → k < index.listed → IsListed index.links.items k (slice_index_or entries k d)
+  pub within : index.listed ≤ length entries
+  pub most : index.listed < 2 ^ 31
+  pub few : length index.links.items ≤ index.listed * 2
+  pub behind : (m : ℕ) → m < length index.links.items → place_at index.links.items m < index.listed
 
--- the entry commutes forward with those at the places from `since` to before `upto`
-abbrev pub CommutesAtPlaces : Entry → List Entry → List ℕ → ℕ → ℕ → Type 0
-CommutesAtPlaces entry entries places since upto =
-    (j : ℕ) → j < length places → since ≤ slice_index places j → slice_index places j < upto → Commute entry (slice_index_or entries (slice_index places j) entry)
+-- so many more entries can be listed
+abbrev pub HasRoom : Index → ℕ → Type 0
+HasRoom index more = (vec_len index.links + more * 2 ≤ vec_capacity index.links) × (0 < length index.last.items)
 
--- the entry commutes forward with those under a heading from place `since` to before `upto`
-abbrev pub CommutesUnder : Entry → List Entry → Heading → ℕ → ℕ → Type 0
-CommutesUnder entry entries heading since upto =
-    (k : ℕ) → since ≤ k → k < upto → is_under (slice_index_or entries k entry) heading ≡ true → Commute entry (slice_index_or entries k entry)
+-- the last link of a slot's chain whose place is below `upto`
+pub record IsLastBelow (index : Index) (own upto found : ℕ) : Type 0 where
+  pub end : IsEnd (slot_in index) index.links.items (length index.links.items) own found
+  pub below : 0 < found → place_at index.links.items (found - 1) < upto
+  pub after : (m : ℕ) → found ≤ m → m < length index.links.items → slot_in index (key_at index.links.items m) ≡ own
+      → upto ≤ place_at index.links.items m
+
+-- each entry is listed, or as many as can be
+abbrev pub IsAllListed : List Entry → Index → Type 0
+IsAllListed entries index = index.listed ≡ min (length entries) 2147483647

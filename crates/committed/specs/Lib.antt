@@ -1,6 +1,9 @@
 pub mod Committed
 pub mod Classes
-pub mod Headings
+pub mod Items
 pub mod Strictness
 pub mod Index
+pub mod Marks
 pub mod Filter
+pub mod NumberSets
+pub mod Watching

@@ -1,6 +1,6 @@
 //! Classes of operations that always commute forward, whatever their arguments and replies are.
 ghost use Rattle.std.specs.Prelude.{◌≡◌, ◌^◌};
-ghost use Rattle.committed.specs.Classes.{account_class, counter_class, set_class, queue_class, directory_class, max_class, class_of, number_of, conflicts_of, always_commute, is_by_item};
+ghost use Rattle.committed.specs.Classes.{account_class, counter_class, set_class, queue_class, directory_class, max_class, class_of, number_of, conflicts_of, is_by_item};
 
 use objects::{
     AccountCall, AccountReply, Call, CounterCall, CounterReply, DirectoryCall, DirectoryReply,
@@ -8,7 +8,7 @@ use objects::{
 };
 
 /// What an operation did, as far as it decides with which others it always commutes forward.
-#[derive(Clone, Copy, Debug, PartialEq, Eq, PartialOrd, Ord)]
+#[derive(Clone, Copy)]
 pub enum Class {
     Deposit,
     Withdrawal,
@@ -35,12 +35,9 @@ pub enum Class {
     Taken,
 }
 
-/// How many classes there are.
-pub const CLASSES: usize = 13;
-
 impl Class {
     /// Every class, in the order of the numbers.
-    pub const ALL: [Class; CLASSES] = [
+    pub const ALL: [Class; 13] = [
         Class::Deposit,
         Class::Withdrawal,
         Class::Refusal,
@@ -129,30 +126,6 @@ impl Class {
                 Class::Count.bit() | Class::Raise.bit() | Class::Change.bit() | Class::Put.bit()
             }
             Class::Taken => Class::Change.bit(),
-        }
-    }
-
-    /// Whether any two operations of these classes commute forward.
-    pub fn always_commutes(self, other: Class) -> bool
-        ensures { result ≡ always_commute self other }
-    {
-        match (self, other) {
-            (Class::Deposit, Class::Refusal | Class::Balance)
-            | (Class::Refusal | Class::Balance, Class::Deposit)
-            | (Class::Withdrawal, Class::Withdrawal | Class::Balance)
-            | (Class::Balance, Class::Withdrawal)
-            | (Class::Look, Class::Count | Class::Raise | Class::Change)
-            | (Class::Count | Class::Raise | Class::Change, Class::Look)
-            | (Class::Size, Class::Change | Class::Enqueue | Class::Dequeue)
-            | (Class::Change | Class::Enqueue | Class::Dequeue, Class::Size)
-            | (Class::Change, Class::Change)
-            | (Class::Put, Class::Put | Class::Change | Class::Look)
-            | (Class::Change | Class::Look, Class::Put)
-            | (Class::Taken, Class::Change)
-            | (Class::Change, Class::Taken)
-            | (Class::Enqueue, Class::Enqueue)
-            | (Class::Dequeue, Class::Dequeue) => false,
-            _ => true,
         }
     }
 

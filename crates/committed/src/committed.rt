@@ -1,27 +1,28 @@
 //! A list of entries, against which others are checked.
-ghost use Rattle.std.specs.Prelude.{◌≡◌, ◌↔◌, ◌<◌, ◌≤◌, ◌-◌, ℕ, [], ◌∷◌, ◌++◌, length, take, slice_range, slice_index, IsTrue, OnOk, OnErr};
+ghost use Rattle.std.specs.Prelude.{◌≡◌, ◌↔◌, ◌+◌, ◌<◌, ◌≤◌, ℕ, [], ◌++◌, length, take, slice_index_or, vec_len, vec_capacity, IsTrue, OnOk, OnErr};
 ghost use Rattle.committed.specs.Committed.{CommutesWith, AllStand};
-ghost use Rattle.committed.specs.Index.{places, CommutesAtPlaces, CommutesUnder, IsRising, AreWithin, AreSpans};
+ghost use Rattle.committed.specs.Marks.{mark_of, marks_of};
+ghost use Rattle.committed.specs.Filter.{IsFilterOf, Meets};
+ghost use Rattle.committed.specs.Index.{IsIndexOf, IsAllListed, HasRoom};
+ghost use Rattle.committed.specs.Strictness.{Commute};
 
 use crate::classes::Class;
 use crate::filter::Filter;
-use crate::headings::Heading;
-use crate::index::{Index, Listed};
-use crate::listing::{list_entry, unlist_entry};
-use crate::spans::listed_entry;
+use crate::index::{Index, key_against};
+use crate::marks::Mark;
 use objects::{Entry, NoMemory, commute};
 use std::alloc::Global;
 use std::marker::Model;
 
 /// What runs leave, in the order in which they are committed, with an index by object, item and class.
-/// So an entry is compared with entries of its own object and item alone, with none of a class that it
-/// always commutes with, and in a span of a list with the strictest alone; and a filter tells of most
-/// entries that there is nothing to compare. Entries that commute forward with all that was committed
+/// So an entry is compared with entries of its own object and item, with none of a class that it always
+/// commutes with, and in a span of a chain with the strictest alone; and a filter tells of most entries
+/// that there is nothing to compare. Entries that commute forward with all that was committed
 /// since their snapshot have the same replies after it (Weihl 1988).
 #[derive(Drop)]
 pub struct Committed {
     entries: Vec<Entry>,
-    /// For each heading, the places of the entries under it, in order.
+    /// Finds those that an entry may not commute with.
     index: Index,
     /// Clears most of the entries that commute forward with all that are listed.
     filter: Filter,
@@ -39,10 +40,10 @@ impl Model for Committed {
 
     ghost view = { λ committed. committed.entries.items };
 
-    ghost use Rattle.committed.specs.Index.{IsIndexOf};
+    ghost use Rattle.committed.specs.Index.{IsIndexOf, IsAllListed};
     ghost use Rattle.committed.specs.Filter.{IsFilterOf};
 
-    ghost invariant = { λ committed. record { index : IsIndexOf committed.entries.items committed.index; filter : IsFilterOf committed.entries.items committed.filter } };
+    ghost invariant = { λ committed. record { index : IsIndexOf committed.entries.items committed.index; all : IsAllListed committed.entries.items committed.index; filter : IsFilterOf committed.entries.items committed.filter } };
 }
 
 impl Committed {
@@ -64,145 +65,106 @@ impl Committed {
         self.entries.len()
     }
 
+    /// The entries, in the order in which they were added.
+    pub fn entries(&self) -> &[Entry]
+        ensures { result.now ≡ self.now }
+    {
+        &self.entries
+    }
+
     /// Adds entries at the end, to list and index. On `NoMemory` none is added.
     pub fn append(&mut self, entries: &[Entry]) -> Result<(), NoMemory>
         ensures ok { OnOk result (self.new ≡ self.old ++ entries.now) }
         ensures err { OnErr result (self.new ≡ self.old) }
     {
-        let before = self.entries.len();
-        for entry in entries {
-            if self.push(*entry).is_err() {
-                self.truncate(before);
-                return Err(NoMemory);
-            }
-        }
+        self.entries.reserve(entries.len())?;
+        self.filter.reserve(&self.entries, entries.len())?;
+        self.index.reserve(&self.entries, entries.len())?;
+        put_all(
+            &mut self.entries,
+            &mut self.filter,
+            &mut self.index,
+            entries,
+        );
         Ok(())
     }
 
-    /// Adds an entry at the end.
-    fn push(&mut self, entry: Entry) -> Result<(), NoMemory>
-        ensures ok { OnOk result (self.new ≡ self.old ++ entry ∷ []) }
-        ensures err { OnErr result (self.new ≡ self.old) }
-    {
-        self.entries.reserve(1)?;
-        self.filter.push(&self.entries, &entry)?;
-        list_entry(&mut self.index, &self.entries, &entry)?;
-        self.entries.push_reserved(entry);
-        Ok(())
-    }
-
-    /// Keeps the first entries.
-    fn truncate(&mut self, count: usize)
-        ensures { self.new ≡ take count self.old }
-    {
-        while self.entries.len() > count {
-            self.pop();
-        }
-    }
-
-    /// Drops the last entry. The filter may have more than the entries that are left.
-    fn pop(&mut self)
-        ensures { self.new ≡ take (length self.old - 1) self.old }
-    {
-        if let Some(entry) = self.entries.pop() {
-            unlist_entry(&mut self.index, &entry);
-        }
-    }
-
-    /// Whether each entry commutes forward, over all states, with each listed one from place `since`
-    /// to before place `upto`, places being counted from 0. Takes no memory.
-    pub fn stands(&self, entries: &[Entry], since: usize, upto: usize) -> bool
-        requires ordered { since ≤ upto }
+    /// Whether each entry commutes forward, over all states, with each of the first `upto` of the list.
+    /// Each entry comes with its mark. Takes no memory.
+    pub fn stands(&self, entries: &[Entry], marks: &[Mark], upto: usize) -> bool
+        requires marks { marks.now ≡ marks_of entries.now }
         requires within { upto ≤ length self.now }
-        ensures { IsTrue result ↔ AllStand entries.now (slice_range self.now since upto) }
+        ensures { IsTrue result ↔ AllStand entries.now (take upto self.now) }
     {
-        for entry in entries {
-            if !self.commutes_with(entry, since, upto) {
+        for (entry, mark) in entries.iter().zip(marks.iter()) {
+            if !self.commutes_with(entry, mark, upto) {
                 return false;
             }
         }
         true
     }
 
-    /// Whether the entry commutes forward with each listed one from place `since` to before
-    /// place `upto`. Where the filter doesn't clear it, entries of its own object are looked at,
-    /// class by class, and none of a class that it commutes with.
-    fn commutes_with(&self, entry: &Entry, since: usize, upto: usize) -> bool
-        requires ordered { since ≤ upto }
+    /// Whether the entry, which has this mark, commutes forward with each of the first `upto`.
+    fn commutes_with(&self, entry: &Entry, mark: &Mark, upto: usize) -> bool
+        requires mark { mark.now ≡ mark_of entry.now }
         requires within { upto ≤ length self.now }
-        ensures { IsTrue result ↔ CommutesWith entry.now (slice_range self.now since upto) }
+        ensures { IsTrue result ↔ CommutesWith entry.now (take upto self.now) }
     {
-        if self.filter.clears(entry) {
-            return true;
-        }
-        let own = Class::of(entry);
+        let met = self.filter.met(mark);
+        met == 0 || self.commutes_with_met(entry, mark, met, upto)
+    }
+
+    /// The same, where those that it may not commute with are of these classes. It looks at the entries
+    /// of its own object, class by class, and of its own item where the class asks for one.
+    fn commutes_with_met(&self, entry: &Entry, mark: &Mark, met: u16, upto: usize) -> bool
+        requires mark { mark.now ≡ mark_of entry.now }
+        requires within { upto ≤ length self.now }
+        requires met { (k : ℕ) → k < upto → Meets met entry.now (slice_index_or self.now k entry.now) }
+        ensures { IsTrue result ↔ CommutesWith entry.now (take upto self.now) }
+    {
         for class in &Class::ALL {
-            if !own.always_commutes(*class) {
-                let heading = Heading::against(entry, *class);
-                if !self.commutes_under(entry, &heading, since, upto) {
+            if met & class.bit() != 0 {
+                let key = key_against(mark, *class);
+                if !self.index.commutes(entry, &self.entries, key, upto) {
                     return false;
                 }
             }
         }
-        true
-    }
-
-    /// Whether the entry commutes forward with each one under the heading from place `since` to
-    /// before place `upto`.
-    fn commutes_under(&self, entry: &Entry, heading: &Heading, since: usize, upto: usize) -> bool
-        requires ordered { since ≤ upto }
-        requires within { upto ≤ length self.now }
-        ensures { IsTrue result ↔ CommutesUnder entry.now self.now heading.now since upto }
-    {
-        commutes_at(entry, &self.entries, self.index.list(heading), since, upto)
+        commutes_past(entry, &self.entries, self.index.listed(), upto)
     }
 }
 
-/// Whether the entry commutes forward with the listed ones from place `since` to before `upto`. Of
-/// a span whose strictest entry is among them it looks at that one alone.
-fn commutes_at(entry: &Entry, entries: &[Entry], list: &[Listed], since: usize, upto: usize) -> bool
-    requires rising { IsRising (places list.now) }
-    requires places { AreWithin entries.now list.now }
-    requires spans { AreSpans entries.now list.now }
-    requires ordered { since ≤ upto }
-    requires within { upto ≤ length entries.now }
-    ensures { IsTrue result ↔ CommutesAtPlaces entry.now entries.now (places list.now) since upto }
+/// Puts entries at the end of a list, its filter and its index, which have room for them.
+fn put_all(entries: &mut Vec<Entry>, filter: &mut Filter, index: &mut Index, more: &[Entry])
+    requires room { vec_len entries.old + length more.now ≤ vec_capacity entries.old }
+    requires index_room { HasRoom index.old (length more.now) }
+    requires filter { IsFilterOf entries.old.items filter.old }
+    requires index { IsIndexOf entries.old.items index.old }
+    requires all { IsAllListed entries.old.items index.old }
+    ensures entries { entries.new.items ≡ entries.old.items ++ more.now }
+    ensures filter { IsFilterOf entries.new.items filter.new }
+    ensures index { IsIndexOf entries.new.items index.new }
+    ensures all { IsAllListed entries.new.items index.new }
 {
-    let first = first_from(list, since);
-    let mut end = first_from(list, upto);
-    while first < end {
-        let last = list[end - 1];
-        if first <= last.strictest {
-            if !commute(entry, listed_entry(list, entries, last.strictest)) {
-                return false;
-            }
-            end = last.start;
-        } else {
-            if !commute(entry, &entries[last.place]) {
-                return false;
-            }
-            end -= 1;
+    for entry in more {
+        let mark = Mark::of(entry);
+        filter.mark(&mark);
+        entries.push_reserved(*entry);
+        index.push(entries, &mark);
+    }
+}
+
+/// Whether the entry commutes forward with each of the first `upto` from a place on.
+fn commutes_past(entry: &Entry, entries: &[Entry], since: usize, upto: usize) -> bool
+    requires { upto ≤ length entries.now }
+    ensures { IsTrue result ↔ ((k : ℕ) → since ≤ k → k < upto → Commute entry.now (slice_index_or entries.now k entry.now)) }
+{
+    let mut place = since;
+    while place < upto {
+        if !commute(entry, &entries[place]) {
+            return false;
         }
+        place += 1;
     }
     true
-}
-
-/// How many of the listed places come before `since`.
-fn first_from(list: &[Listed], since: usize) -> usize
-    requires { IsRising (places list.now) }
-    ensures within { result ≤ length list.now }
-    ensures before { (j : ℕ) → j < result → slice_index (places list.now) j < since }
-    ensures from { (j : ℕ) → result ≤ j → j < length list.now → since ≤ slice_index (places list.now) j }
-{
-    let mut low = 0;
-    let mut high = list.len();
-    while low < high {
-        let middle = low + (high - low) / 2;
-        if list[middle].place < since {
-            low = middle + 1;
-        } else {
-            high = middle;
-        }
-    }
-    low
 }

@@ -1,18 +1,17 @@
 //! A filter of listed entries, which tells of most others at once that they commute with all of
 //! these (after B. H. Bloom, "Space/time trade-offs in hash coding with allowable errors", 1970).
-ghost use Rattle.std.specs.Prelude.{◌≡◌, ◌-◌, ◌++◌, [], ◌∷◌, length, IsTrue, IfOk, OnOk, OnErr};
+ghost use Rattle.std.specs.Prelude.{◌≡◌, ◌-◌, ℕ, [], length, IfOk, OnErr};
 ghost use Rattle.objects.specs.declared.entry.Entry.{Entry as OneEntry};
-ghost use Rattle.committed.specs.declared.headings.Heading.{Heading as OneHeading};
-ghost use Rattle.committed.specs.Filter.{hash_of, slot_of, set_at, Has, IsMarked, IsFilterOf};
-ghost use Rattle.committed.specs.Strictness.{Commute};
+ghost use Rattle.committed.specs.Marks.{mark_of};
+ghost use Rattle.committed.specs.Filter.{slot_of, set_at, HasAll, IsMarked, IsFilterOf, Meets};
 
 use crate::classes::Class;
-use crate::headings::{Heading, item_of};
-use objects::{Entry, Item, NoMemory};
+use crate::marks::Mark;
+use objects::{Entry, NoMemory};
 use std::alloc::Global;
 
-/// How many sets a filter has after its first entry.
-const FEWEST: usize = 256;
+/// How many sets a filter has at first.
+const FEWEST: usize = 1024;
 
 /// How many sets it grows to.
 const MOST: usize = 1048576;
@@ -35,17 +34,21 @@ impl Filter {
         }
     }
 
-    /// Adds the entry that comes next. On `NoMemory` the filter is as before.
-    pub fn push(&mut self, entries: &[Entry], entry: &Entry) -> Result<(), NoMemory>
+    /// Grows, so that it still clears most entries when so many more are marked. On `NoMemory` the
+    /// filter is as before.
+    pub fn reserve(&mut self, entries: &[Entry], more: usize) -> Result<(), NoMemory>
         requires { IsFilterOf entries.now self.old }
-        ensures ok { OnOk result (IsFilterOf (entries.now ++ entry.now ∷ []) self.new) }
+        ensures filter { IsFilterOf entries.now self.new }
         ensures err { OnErr result (self.new ≡ self.old) }
     {
-        if self.sets.len() / 8 <= entries.len() && self.sets.len() < MOST {
-            let size = FEWEST.max(self.sets.len() * 4);
+        let wanted = entries.len().saturating_add(more);
+        let mut size = FEWEST.max(self.sets.len());
+        while size < MOST && size / 32 <= wanted {
+            size *= 4;
+        }
+        if size > self.sets.len() {
             *self = Filter::of(*self.sets.allocator(), entries, size)?;
         }
-        self.mark(entry);
         Ok(())
     }
 
@@ -57,79 +60,57 @@ impl Filter {
             sets: vec![in alloc; 0u16; size]?,
         };
         for entry in entries {
-            filter.mark(entry);
+            filter.mark(&Mark::of(entry));
         }
         Ok(filter)
     }
 
-    /// Puts the entry's class into the sets of its headings.
-    fn mark(&mut self, entry: &Entry)
-        ensures own { IsMarked self.new entry.now }
-        ensures kept { (heading : OneHeading) → Has self.old heading → Has self.new heading }
+    /// Puts the class of the entries with this mark into their sets.
+    pub fn mark(&mut self, mark: &Mark)
+        ensures own { (entry : OneEntry) → mark.now ≡ mark_of entry → IsMarked self.new entry }
+        ensures kept { (entry : OneEntry) → IsMarked self.old entry → IsMarked self.new entry }
     {
-        let heading = Heading::of(entry);
-        self.insert(&heading);
-        if let Some(item) = item_of(&entry.call, &entry.reply) {
-            self.insert(&Heading {
-                item: Some(item),
-                ..heading
-            });
-        }
+        self.insert(mark.of_object, mark.class);
+        self.insert(mark.of_item, mark.class);
     }
 
-    /// Puts the heading's class into its set.
-    fn insert(&mut self, heading: &Heading)
-        ensures own { Has self.new heading.now }
-        ensures kept { (other : OneHeading) → Has self.old other → Has self.new other }
+    /// Puts classes into the set of a hash.
+    fn insert(&mut self, hash: u32, classes: u16)
+        ensures own { HasAll self.new hash classes }
+        ensures kept { (other more : ℕ) → HasAll self.old other more → HasAll self.new other more }
     {
-        let slot = self.slot(heading.object, heading.item);
+        let slot = self.slot(hash);
         if let Some(set) = self.sets.get_mut(slot) {
-            *set |= heading.class.bit();
+            *set |= classes;
         }
     }
 
-    /// Whether the entry commutes forward with each one of the filter for sure. The set of its object
-    /// has the classes of all entries about the object, so it is looked at first.
-    pub fn clears(&self, entry: &Entry) -> bool
-        ensures { IsTrue result → (other : OneEntry) → IsMarked self.now other → Commute entry.now other }
+    /// The set of the classes of marked entries that an entry with this mark may conflict with. The
+    /// set of its object has the classes of all entries about the object, so it is looked at first.
+    pub fn met(&self, mark: &Mark) -> u16
+        ensures { (entry other : OneEntry) → mark.now ≡ mark_of entry → IsMarked self.now other → Meets result entry other }
     {
-        let met = self.set(entry.object, None) & Class::of(entry).conflicts();
+        let met = self.set(mark.of_object) & mark.conflicts;
         if met & Class::BY_ITEM == 0 {
-            return met == 0;
+            return met;
         }
-        let of_item = self.set(entry.object, item_of(&entry.call, &entry.reply));
-        met & (of_item | !Class::BY_ITEM) == 0
+        met & (self.set(mark.of_item) | !Class::BY_ITEM)
     }
 
-    /// The classes that entries about the item, or about the object where there is none, may have.
-    fn set(&self, object: u32, item: Option<Item>) -> u16
-        ensures { result ≡ set_at self.now object item }
+    /// The classes that entries with this hash may have.
+    fn set(&self, hash: u32) -> u16
+        ensures { result ≡ set_at self.now hash }
     {
-        match self.sets.get(self.slot(object, item)) {
+        match self.sets.get(self.slot(hash)) {
             Some(set) => *set,
             None => u16::MAX,
         }
     }
 
-    /// Where the set of an object and item stands.
-    fn slot(&self, object: u32, item: Option<Item>) -> usize
-        ensures { result ≡ slot_of (length self.now.sets.items) object item }
+    /// Where the set of a hash stands.
+    fn slot(&self, hash: u32) -> usize
+        ensures { result ≡ slot_of (length self.now.sets.items) hash }
     {
-        hash(object, item) & self.sets.len().saturating_sub(1)
+        hash as usize & self.sets.len().saturating_sub(1)
     }
-}
-
-/// A hash of an object and item, whose low bits depend on all of theirs.
-fn hash(object: u32, item: Option<Item>) -> usize
-    ensures { result ≡ hash_of object item }
-{
-    let number = match item {
-        Some(item) => item.0 as u64 + 1,
-        None => 0,
-    };
-    let mixed = (object as u64)
-        .wrapping_mul(0x9E3779B97F4A7C15)
-        .wrapping_add(number)
-        .wrapping_mul(0xD6E8FEB86659FD93);
-    (mixed >> 32) as usize
 }

@@ -1,175 +1,368 @@
-//! Lists of entries by headings.
-ghost use Rattle.std.specs.Prelude.{◌≡◌, ◌≢◌, ◌∷◌, ◌++◌, [], ℕ, ◌<◌, ◌-◌, length, map, take, vec_len, OnOk, OnErr};
-ghost use Rattle.committed.specs.Index.{list_at, list_of, list_under, found_list, heading_cmp};
-ghost use Rattle.std.specs.BTreeMap.{get};
-ghost use Rattle.committed.specs.declared.headings.Heading.{Heading as OneHeading};
+//! Chains of entries by headings: by object and class, and by object, item and class.
+//!
+//! Each link of a chain ends a span, in which one entry is as strict as all, and knows a link further
+//! back to skip to. The skips are those of E. W. Myers's random-access stacks ("An applicative random-access
+//! stack", 1983), so that the last link below a place is found in logarithmic time.
+ghost use Rattle.std.specs.Prelude.{◌≡◌, ◌≢◌, ◌<◌, ◌≤◌, ◌+◌, ◌-◌, ◌*◌, ◌^◌, ℕ, [], min, length, slice_index_or, vec_len, vec_capacity, IsTrue, IfOk, OnOk, OnErr};
+ghost use Rattle.objects.specs.declared.entry.Entry.{Entry as OneEntry};
+ghost use Rattle.committed.specs.Marks.{mark_of};
+ghost use Rattle.committed.specs.Strictness.{Commute};
+ghost use Rattle.committed.specs.Index.{key_of, key_against, slot_of, slot_in, link_at, key_at, place_at, IsEnd, IsLink, IsSpan, AreChains, AreSpans, IsLinked, IsIndexOf, HasRoom, IsLastBelow};
 
-use crate::classes::{CLASSES, Class};
-use crate::headings::Heading;
-use objects::NoMemory;
+use crate::classes::Class;
+use crate::marks::Mark;
+use crate::strictness::is_as_strict;
+use objects::{Entry, NoMemory, commute};
 use std::alloc::Global;
-use std::collections::BTreeMap;
 
-/// An entry in the list of a heading.
-#[derive(Clone, Copy, Debug)]
-pub struct Listed {
+/// How many slots a table has at first.
+const FEWEST: usize = 64;
+
+/// How many slots it grows to.
+const MOST: usize = 1073741824;
+
+/// How many entries are listed at most. Each has two links or fewer, which are counted by 32 bits.
+const MOST_LISTED: u32 = 2147483647;
+
+/// An entry in the chain of a heading. Links are named by how many there are up to them, so that 0
+/// stands for none.
+#[derive(Clone, Copy)]
+pub struct Link {
+    /// A hash of its heading.
+    key: u32,
     /// Its place among all entries.
-    pub place: usize,
-    /// Where in the list the span begins that it ends.
-    pub start: usize,
-    /// Where in the span an entry stands that commutes forward with no more than each of it does.
-    pub strictest: usize,
+    place: u32,
+    /// The link before it in its chain.
+    before: u32,
+    /// The link before the span that it ends.
+    span: u32,
+    /// The place of an entry that commutes forward with no more than each of the span does.
+    strictest: u32,
+    /// A link further back in its chain, or none.
+    skip: u32,
+    /// How far it skips: over `2 ^ (rank + 1) - 1` links of its chain.
+    rank: u32,
+    /// How often the key of a link in its chain, up to it, is another than the one before.
+    turns: u32,
 }
 
-/// A list for each heading.
+/// A chain for each slot of a table. Keys that share a slot share its chain.
 #[derive(Drop)]
 pub struct Index {
-    /// Those of headings with no item.
-    by_class: Vec<Vec<Listed>>,
-    /// Those of headings with an item.
-    by_item: BTreeMap<Heading, Vec<Listed>>,
+    /// For each slot the last link of its chain.
+    last: Vec<u32>,
+    links: Vec<Link>,
+    /// How many entries are listed. They are the first ones.
+    listed: u32,
+    /// What keys are multiplied by to find their slots.
+    seed: u64,
+    /// How often keys take turns in the chain where they do so most.
+    turns: u32,
 }
 
 impl Index {
-    /// An index of empty lists. Takes no memory.
+    /// An index of no entries. Takes no memory.
     pub fn new(alloc: Global) -> Index
-        ensures { (heading : OneHeading) → list_under result heading ≡ [] }
+        ensures { IsIndexOf [] result }
     {
         Index {
-            by_class: Vec::new(alloc),
-            by_item: BTreeMap::new(alloc),
+            last: Vec::new(alloc),
+            links: Vec::new(alloc),
+            listed: 0,
+            seed: 0x9E3779B97F4A7C15,
+            turns: 0,
         }
     }
 
-    /// The list of a heading.
-    pub fn list(&self, heading: &Heading) -> &[Listed]
-        ensures { result.now ≡ list_under self.now heading.now }
+    /// How many entries are listed. They are the first ones.
+    pub fn listed(&self) -> usize
+        ensures { result ≡ self.now.listed }
     {
-        match heading.item {
-            Some(_) => list_by_item(&self.by_item, heading),
-            None => list_at(&self.by_class, list_of(heading.object, heading.class)),
-        }
+        self.listed as usize
     }
 
-    /// Puts an entry at the end of a heading's list. On `NoMemory` each list is as before.
-    pub fn push(&mut self, heading: Heading, listed: Listed) -> Result<(), NoMemory>
-        ensures own { OnOk result (list_under self.new heading ≡ list_under self.old heading ++ listed ∷ []) }
-        ensures others { (other : OneHeading) → other ≢ heading → list_under self.new other ≡ list_under self.old other }
-        ensures err { OnErr result ((other : OneHeading) → list_under self.new other ≡ list_under self.old other) }
+    /// Makes room for so many more entries. Where the keys of a chain take turns too often, the chains
+    /// are made anew by another seed, so that none can be made long by a choice of keys.
+    pub fn reserve(&mut self, entries: &[Entry], more: usize) -> Result<(), NoMemory>
+        requires { IsIndexOf entries.now self.old }
+        ensures index { IsIndexOf entries.now self.new }
+        ensures room { OnOk result (HasRoom self.new more) }
+        ensures listed { self.new.listed ≡ self.old.listed }
     {
-        match heading.item {
-            Some(_) => {
-                let alloc = *self.by_class.allocator();
-                push_by_item(alloc, &mut self.by_item, heading, listed)
+        let links = more.saturating_mul(2);
+        let wanted = self.links.len().saturating_add(links);
+        self.grow(entries, wanted)?;
+        self.links.reserve(links)?;
+        Ok(())
+    }
+
+    /// Makes the table large enough for so many links. Makes the chains anew where it wasn't, and where
+    /// keys take turns in a chain too often.
+    fn grow(&mut self, entries: &[Entry], wanted: usize) -> Result<(), NoMemory>
+        requires { IsIndexOf entries.now self.old }
+        ensures index { IsIndexOf entries.now self.new }
+        ensures slots { OnOk result (0 < length self.new.last.items) }
+        ensures listed { self.new.listed ≡ self.old.listed }
+    {
+        let mut size = FEWEST.max(self.last.len());
+        while size < MOST && size / 2 < wanted {
+            size *= 4;
+        }
+        let mut seed = self.seed;
+        if self.turns as usize > self.links.len() / 256 + 64 {
+            seed = seed.wrapping_mul(0xD6E8FEB86659FD93);
+            if size < MOST && size / 16 < wanted {
+                size *= 4;
             }
-            None => push_at(
-                &mut self.by_class,
-                list_of(heading.object, heading.class),
-                listed,
-            ),
         }
+        if size > self.last.len() || seed != self.seed {
+            let alloc = *self.links.allocator();
+            *self = Index::of(alloc, entries, self.listed, size, seed)?;
+        }
+        Ok(())
     }
 
-    /// Takes the last entry out of a heading's list.
-    pub fn pop(&mut self, heading: &Heading)
-        ensures own { list_under self.new heading.now ≡ take (length (list_under self.old heading.now) - 1) (list_under self.old heading.now) }
-        ensures others { (other : OneHeading) → other ≢ heading.now → list_under self.new other ≡ list_under self.old other }
+    /// An index of the first entries, with this many slots.
+    fn of(
+        alloc: Global,
+        entries: &[Entry],
+        listed: u32,
+        size: usize,
+        seed: u64,
+    ) -> Result<Index, NoMemory>
+        requires within { listed ≤ length entries.now }
+        requires few { listed < 2 ^ 31 }
+        requires size { 0 < size }
+        ensures index { IfOk result (IsIndexOf entries.now) }
+        ensures listed { IfOk result (λ made. made.listed ≡ listed) }
+        ensures size { IfOk result (λ made. 0 < length made.last.items) }
     {
-        match heading.item {
-            Some(_) => pop_by_item(&mut self.by_item, heading),
-            None => pop_at(&mut self.by_class, list_of(heading.object, heading.class)),
+        let mut index = Index {
+            last: vec![in alloc; 0u32; size]?,
+            links: Vec::with_capacity(alloc, listed as usize * 2)?,
+            listed: 0,
+            seed,
+            turns: 0,
+        };
+        for entry in &entries[..listed as usize] {
+            index.push(entries, &Mark::of(entry));
+        }
+        Ok(index)
+    }
+
+    /// Lists the next entry, which has this mark, under its object and its item.
+    pub fn push(&mut self, entries: &[Entry], mark: &Mark)
+        requires index { IsIndexOf entries.now self.old }
+        requires next { self.old.listed < length entries.now }
+        requires mark { (d : OneEntry) → self.old.listed < 2147483647 → mark.now ≡ mark_of (slice_index_or entries.now self.old.listed d) }
+        requires room { HasRoom self.old 1 }
+        ensures index { IsIndexOf entries.now self.new }
+        ensures listed { self.new.listed ≡ min (self.old.listed + 1) 2147483647 }
+        ensures room { (more : ℕ) → HasRoom self.old (more + 1) → HasRoom self.new more }
+    {
+        let place = self.listed;
+        if place < MOST_LISTED {
+            self.put(entries, mark, place);
+            self.listed = place + 1;
         }
     }
-}
 
-/// Which list has the entries of an object's class.
-fn list_of(object: u32, class: Class) -> usize
-    ensures { result ≡ list_of object class }
-{
-    object as usize * CLASSES + class.number()
-}
-
-/// A list, or none of it.
-fn list_at(lists: &[Vec<Listed>], list: usize) -> &[Listed]
-    ensures { result.now ≡ list_at (map (λ l. l.items) lists.now) list }
-{
-    match lists.get(list) {
-        Some(found) => found,
-        None => &[],
-    }
-}
-
-/// The list of a heading with an item.
-fn list_by_item<'a>(lists: &'a BTreeMap<Heading, Vec<Listed>>, heading: &Heading) -> &'a [Listed]
-    ensures { result.now ≡ found_list (get heading_cmp lists.now heading.now) }
-{
-    match lists.get(heading) {
-        Some(found) => found,
-        None => &[],
-    }
-}
-
-/// Puts an entry at the end of a list, which is made where there is none.
-fn push_at(lists: &mut Vec<Vec<Listed>>, list: usize, listed: Listed) -> Result<(), NoMemory>
-    ensures own { OnOk result (list_at (map (λ l. l.items) lists.new.items) list ≡ list_at (map (λ l. l.items) lists.old.items) list ++ listed ∷ []) }
-    ensures others { (other : ℕ) → other ≢ list → list_at (map (λ l. l.items) lists.new.items) other ≡ list_at (map (λ l. l.items) lists.old.items) other }
-    ensures err { OnErr result ((other : ℕ) → list_at (map (λ l. l.items) lists.new.items) other ≡ list_at (map (λ l. l.items) lists.old.items) other) }
-{
-    reach(lists, list)?;
-    lists[list].push(listed)?;
-    Ok(())
-}
-
-/// Makes lists up to this one.
-fn reach(lists: &mut Vec<Vec<Listed>>, list: usize) -> Result<(), NoMemory>
-    ensures reached { OnOk result (list < vec_len lists.new) }
-    ensures same { (o : ℕ) → list_at (map (λ l. l.items) lists.new.items) o ≡ list_at (map (λ l. l.items) lists.old.items) o }
-{
-    while lists.len() <= list {
-        let empty = Vec::new(*lists.allocator());
-        lists.push(empty)?;
-    }
-    Ok(())
-}
-
-/// Puts an entry at the end of the list of a heading, which is made where there is none.
-fn push_by_item(
-    alloc: Global,
-    lists: &mut BTreeMap<Heading, Vec<Listed>>,
-    heading: Heading,
-    listed: Listed,
-) -> Result<(), NoMemory>
-    ensures own { OnOk result (found_list (get heading_cmp lists.new heading) ≡ found_list (get heading_cmp lists.old heading) ++ listed ∷ []) }
-    ensures others { (other : OneHeading) → other ≢ heading → found_list (get heading_cmp lists.new other) ≡ found_list (get heading_cmp lists.old other) }
-    ensures err { OnErr result ((other : OneHeading) → found_list (get heading_cmp lists.new other) ≡ found_list (get heading_cmp lists.old other)) }
-{
-    match lists.get_mut(&heading) {
-        Some(list) => list.push(listed)?,
-        None => {
-            let mut list = Vec::with_capacity(alloc, 1)?;
-            list.push(listed)?;
-            lists.insert(heading, list)?;
+    /// Puts an entry, which has this mark, at the end of the chains of its object and its item.
+    fn put(&mut self, entries: &[Entry], mark: &Mark, place: u32)
+        requires chains { AreChains self.old }
+        requires spans { AreSpans entries.now self.old }
+        requires within { place < length entries.now }
+        requires last { (j : ℕ) → j < length self.old.links.items → place_at self.old.links.items j ≤ place }
+        requires room { HasRoom self.old 1 }
+        requires few { length self.old.links.items + 2 < 2 ^ 32 }
+        ensures chains { AreChains self.new }
+        ensures spans { AreSpans entries.now self.new }
+        ensures object { IsLinked self.new.links.items place (key_of mark.now.of_object mark.now.class) }
+        ensures item { IsLinked self.new.links.items place (key_of mark.now.of_item mark.now.class) }
+        ensures kept { (other key : ℕ) → IsLinked self.old.links.items other key → IsLinked self.new.links.items other key }
+        ensures last { (j : ℕ) → j < length self.new.links.items → place_at self.new.links.items j ≤ place }
+        ensures few { length self.new.links.items ≤ length self.old.links.items + 2 }
+        ensures room { (more : ℕ) → HasRoom self.old (more + 1) → HasRoom self.new more }
+    {
+        self.link(entries, key_of(mark.of_object, mark.class), place);
+        if mark.of_item != mark.of_object {
+            self.link(entries, key_of(mark.of_item, mark.class), place);
         }
     }
-    Ok(())
-}
 
-/// Takes the last entry out of a list, where there is one.
-fn pop_at(lists: &mut Vec<Vec<Listed>>, list: usize)
-    ensures own { list_at (map (λ l. l.items) lists.new.items) list ≡ take (length (list_at (map (λ l. l.items) lists.old.items) list) - 1) (list_at (map (λ l. l.items) lists.old.items) list) }
-    ensures others { (other : ℕ) → other ≢ list → list_at (map (λ l. l.items) lists.new.items) other ≡ list_at (map (λ l. l.items) lists.old.items) other }
-{
-    if list < lists.len() {
-        let _listed = lists[list].pop();
+    /// Puts an entry at the end of a key's chain.
+    fn link(&mut self, entries: &[Entry], key: u32, place: u32)
+        requires chains { AreChains self.old }
+        requires spans { AreSpans entries.now self.old }
+        requires within { place < length entries.now }
+        requires last { (j : ℕ) → j < length self.old.links.items → place_at self.old.links.items j ≤ place }
+        requires slots { 0 < length self.old.last.items }
+        requires room { vec_len self.old.links < vec_capacity self.old.links }
+        requires few { length self.old.links.items + 1 < 2 ^ 32 }
+        ensures chains { AreChains self.new }
+        ensures spans { AreSpans entries.now self.new }
+        ensures own { IsLinked self.new.links.items place key }
+        ensures kept { (other more : ℕ) → IsLinked self.old.links.items other more → IsLinked self.new.links.items other more }
+        ensures last { (j : ℕ) → j < length self.new.links.items → place_at self.new.links.items j ≤ place }
+        ensures one { length self.new.links.items ≡ length self.old.links.items + 1 }
+        ensures room { vec_capacity self.new.links ≡ vec_capacity self.old.links }
+        ensures slots { length self.new.last.items ≡ length self.old.last.items }
+        ensures listed { self.new.listed ≡ self.old.listed }
+    {
+        let slot = self.slot(key);
+        let last = self.last[slot];
+        let link = self.next(entries, key, place, last);
+        self.turns = self.turns.max(link.turns);
+        self.last[slot] = self.links.len() as u32 + 1;
+        self.links.push_reserved(link);
+    }
+
+    /// The link of an entry that comes next, where this is the last one of its chain. It lengthens the
+    /// span of the last, where one entry is as strict as the other.
+    fn next(&self, entries: &[Entry], key: u32, place: u32, last: u32) -> Link
+        requires chains { AreChains self.now }
+        requires spans { AreSpans entries.now self.now }
+        requires within { place < length entries.now }
+        requires last { (j : ℕ) → j < length self.now.links.items → place_at self.now.links.items j ≤ place }
+        requires end { IsEnd (slot_in self.now) self.now.links.items (length self.now.links.items) (slot_in self.now key) last }
+        requires after { (m : ℕ) → last ≤ m → m < length self.now.links.items → slot_in self.now (key_at self.now.links.items m) ≢ slot_in self.now key }
+        ensures link { IsLink (slot_in self.now) self.now.links.items (length self.now.links.items) result }
+        ensures span { IsSpan entries.now (slot_in self.now) self.now.links.items (length self.now.links.items) result }
+        ensures key { result.key ≡ key }
+        ensures place { result.place ≡ place }
+    {
+        let alone = Link {
+            key,
+            place,
+            before: last,
+            span: last,
+            strictest: place,
+            skip: last,
+            rank: 0,
+            turns: 0,
+        };
+        if last == 0 {
+            return alone;
+        }
+        let found = self.get(last);
+        let (skip, rank) = self.skip_behind(last);
+        let linked = Link {
+            skip,
+            rank,
+            turns: found.turns.saturating_add(u32::from(found.key != key)),
+            ..alone
+        };
+        let entry = &entries[place as usize];
+        let strictest = &entries[found.strictest as usize];
+        if is_as_strict(entry, strictest) {
+            Link {
+                span: found.span,
+                ..linked
+            }
+        } else if is_as_strict(strictest, entry) {
+            Link {
+                span: found.span,
+                strictest: found.strictest,
+                ..linked
+            }
+        } else {
+            linked
+        }
+    }
+
+    /// Where a link skips to that comes behind this one, and its rank.
+    fn skip_behind(&self, last: u32) -> (u32, u32)
+        requires some { 0 < last }
+        requires within { last ≤ length self.now.links.items }
+        requires chains { AreChains self.now }
+        ensures { IsEnd (slot_in self.now) self.now.links.items (length self.now.links.items) (slot_in self.now (key_at self.now.links.items (last - 1))) result.0 }
+    {
+        let found = self.get(last);
+        if found.skip == 0 {
+            return (last, 0);
+        }
+        let second = self.get(found.skip);
+        if second.rank == found.rank {
+            (second.skip, found.rank.saturating_add(1))
+        } else {
+            (last, 0)
+        }
+    }
+
+    /// Whether the entry commutes forward with each of the first `upto` that has the key. Of each span
+    /// it looks at the strictest alone. Entries of other keys in the chain may be among those that it
+    /// looks at.
+    pub fn commutes(&self, entry: &Entry, entries: &[Entry], key: u32, upto: usize) -> bool
+        requires chains { AreChains self.now }
+        requires spans { AreSpans entries.now self.now }
+        ensures found { IsTrue result → (k : ℕ) → k < upto → IsLinked self.now.links.items k key → Commute entry.now (slice_index_or entries.now k entry.now) }
+        ensures all { ((k : ℕ) → k < upto → Commute entry.now (slice_index_or entries.now k entry.now)) → IsTrue result }
+    {
+        let mut at = self.last_below(key, upto);
+        while at != 0 {
+            let found = self.get(at);
+            if !commute(entry, &entries[found.strictest as usize]) {
+                return false;
+            }
+            at = found.span;
+        }
+        true
+    }
+
+    /// The last link of a key's chain whose place is below `upto`.
+    fn last_below(&self, key: u32, upto: usize) -> u32
+        requires { AreChains self.now }
+        ensures { IsLastBelow self.now (slot_in self.now key) upto result }
+    {
+        let mut at = match self.last.get(self.slot(key)) {
+            Some(last) => *last,
+            None => 0,
+        };
+        while at != 0 && self.get(at).place as usize >= upto {
+            let found = self.get(at);
+            if found.skip != 0 && self.get(found.skip).place as usize >= upto {
+                at = found.skip;
+            } else {
+                at = found.before;
+            }
+        }
+        at
+    }
+
+    /// The link of a number.
+    fn get(&self, number: u32) -> &Link
+        requires some { 0 < number }
+        requires within { number ≤ length self.now.links.items }
+        ensures { result.now ≡ link_at self.now.links.items (number - 1) }
+    {
+        &self.links[number as usize - 1]
+    }
+
+    /// Where the last link of a key's chain is kept.
+    fn slot(&self, key: u32) -> usize
+        ensures slot { result ≡ slot_in self.now key }
+        ensures within { 0 < length self.now.last.items → result < length self.now.last.items }
+    {
+        let mixed = (key as u64).wrapping_mul(self.seed) >> 32;
+        mixed as usize & self.last.len().saturating_sub(1)
     }
 }
 
-/// Takes the last entry out of the list of a heading, where there is one.
-fn pop_by_item(lists: &mut BTreeMap<Heading, Vec<Listed>>, heading: &Heading)
-    ensures own { found_list (get heading_cmp lists.new heading.now) ≡ take (length (found_list (get heading_cmp lists.old heading.now)) - 1) (found_list (get heading_cmp lists.old heading.now)) }
-    ensures others { (other : OneHeading) → other ≢ heading.now → found_list (get heading_cmp lists.new other) ≡ found_list (get heading_cmp lists.old other) }
+/// The key of those entries of a class that an entry with this mark is compared with.
+pub fn key_against(mark: &Mark, class: Class) -> u32
+    ensures { result ≡ key_against mark.now class }
 {
-    if let Some(list) = lists.get_mut(heading) {
-        let _listed = list.pop();
-    }
+    let hash = if class.is_by_item() {
+        mark.of_item
+    } else {
+        mark.of_object
+    };
+    key_of(hash, class.bit())
+}
+
+/// The key of the entries of a class with this hash.
+pub(crate) fn key_of(hash: u32, class: u16) -> u32
+    ensures { result ≡ key_of hash class }
+{
+    hash.wrapping_add((class as u32).wrapping_mul(0x9E3779B9))
 }

@@ -7,14 +7,18 @@
 mod classes;
 mod committed;
 mod filter;
-mod headings;
 mod index;
-mod listing;
-mod spans;
+mod items;
+mod marks;
+mod number_set;
 mod strictness;
+mod watch;
 
 pub use committed::Committed;
+pub use marks::{Mark, mark_all, marks_of};
+pub use number_set::NumberSet;
 pub use objects::{Call, Entry, NoMemory, Reply};
+pub use watch::Watch;
 
 #[cfg(test)]
 mod tests;

@@ -4,11 +4,30 @@ use objects::{
     AccountCall, AccountReply, Amount, DirectoryCall, DirectoryReply, Item, MaxCall, MaxReply,
     QueueCall, QueueReply, SetCall, SetReply,
 };
+use std::alloc::Global;
 use std::process::Abort;
 use std::test::Fail;
 
 fn amount(rt: &impl Abort, number: u64) -> Amount {
     Amount::new(number).expect(rt, "an amount")
+}
+
+/// Whether the entries stand after the first `upto` of a list.
+fn stand_in(
+    committed: &Committed,
+    alloc: Global,
+    entries: &[Entry],
+    upto: usize,
+) -> Result<bool, NoMemory> {
+    let marks = marks_of(alloc, entries)?;
+    Ok(committed.stands(entries, &marks, upto.min(committed.len())))
+}
+
+/// Whether the entries stand after others.
+fn stand(alloc: Global, entries: &[Entry], others: &[Entry]) -> Result<bool, NoMemory> {
+    let mut committed = Committed::new(alloc);
+    committed.append(others)?;
+    stand_in(&committed, alloc, entries, others.len())
 }
 
 #[test]
@@ -28,14 +47,17 @@ fn stands(rt: HostRuntime) -> Result<(), Fail> {
         call: Call::Account(AccountCall::Balance),
         reply: Reply::Account(AccountReply::Number(5)),
     };
-    let mut committed = Committed::new(rt.alloc());
+    let alloc = rt.alloc();
+    let mut committed = Committed::new(alloc);
+    assert!(rt; stand_in(&committed, alloc, &[deposit, balance], 0)?);
     committed.append(&[elsewhere, deposit, deposit])?;
     committed.append(&[balance])?;
     assert_eq!(rt; committed.len(), 4);
-    assert!(rt; committed.stands(&[deposit, elsewhere], 0, 3));
-    assert!(rt; !committed.stands(&[deposit], 0, 4));
-    assert!(rt; committed.stands(&[balance], 3, 4));
-    assert!(rt; !committed.stands(&[balance], 2, 4));
+    assert!(rt; stand_in(&committed, alloc, &[deposit, elsewhere], 3)?);
+    assert!(rt; !stand_in(&committed, alloc, &[deposit], 4)?);
+    assert!(rt; stand_in(&committed, alloc, &[balance], 1)?);
+    assert!(rt; !stand_in(&committed, alloc, &[elsewhere, balance], 2)?);
+    assert!(rt; stand(alloc, &[balance], &[balance])?);
     Ok(())
 }
 
@@ -62,17 +84,18 @@ fn operations_on_other_items_stand(rt: HostRuntime) -> Result<(), Fail> {
         call: Call::Directory(DirectoryCall::Lookup(Item(1))),
         reply: Reply::Directory(DirectoryReply::Missing),
     };
-    let mut committed = Committed::new(rt.alloc());
+    let alloc = rt.alloc();
+    let mut committed = Committed::new(alloc);
     committed.append(&[first, put])?;
-    assert!(rt; committed.stands(&[second, put], 0, 2));
-    assert!(rt; !committed.stands(&[first], 0, 2));
-    assert!(rt; committed.stands(&[first], 1, 2));
-    assert!(rt; !committed.stands(&[absent], 0, 2));
-    assert!(rt; !committed.stands(&[size], 0, 2));
-    assert!(rt; !committed.stands(&[lookup], 0, 2));
+    assert!(rt; stand_in(&committed, alloc, &[second, put], 2)?);
+    assert!(rt; !stand_in(&committed, alloc, &[first], 2)?);
+    assert!(rt; stand(alloc, &[first], &[put])?);
+    assert!(rt; !stand_in(&committed, alloc, &[absent], 2)?);
+    assert!(rt; !stand_in(&committed, alloc, &[size], 2)?);
+    assert!(rt; !stand_in(&committed, alloc, &[lookup], 2)?);
     committed.append(&[size])?;
-    assert!(rt; !committed.stands(&[second], 0, 3));
-    assert!(rt; committed.stands(&[absent, size], 1, 3));
+    assert!(rt; !stand_in(&committed, alloc, &[second], 3)?);
+    assert!(rt; stand(alloc, &[absent, size], &[put, size])?);
     Ok(())
 }
 
@@ -90,8 +113,7 @@ fn runs_of_equal_entries_are_searched(rt: HostRuntime) -> Result<(), Fail> {
         call: Call::Account(AccountCall::Withdraw(amount(&rt, 9))),
         reply: Reply::Account(AccountReply::No),
     };
-    let mut committed = Committed::new(rt.alloc());
-    committed.append(&[
+    let entries = [
         enq(7),
         enq(7),
         refused,
@@ -100,15 +122,18 @@ fn runs_of_equal_entries_are_searched(rt: HostRuntime) -> Result<(), Fail> {
         enq(7),
         enq(7),
         refused,
-    ])?;
+    ];
+    let alloc = rt.alloc();
+    let mut committed = Committed::new(alloc);
+    committed.append(&entries)?;
     assert_eq!(rt; committed.len(), 8);
-    assert!(rt; committed.stands(&[enq(7), refused], 0, 4));
-    assert!(rt; !committed.stands(&[enq(7)], 0, 8));
-    assert!(rt; !committed.stands(&[enq(7)], 4, 5));
-    assert!(rt; committed.stands(&[enq(7)], 5, 8));
-    assert!(rt; !committed.stands(&[enq(8)], 6, 8));
-    assert!(rt; committed.stands(&[enq(8)], 4, 5));
-    assert!(rt; !committed.stands(&[enq(8)], 1, 5));
+    assert!(rt; stand_in(&committed, alloc, &[enq(7), refused], 4)?);
+    assert!(rt; !stand_in(&committed, alloc, &[enq(7)], 8)?);
+    assert!(rt; !stand_in(&committed, alloc, &[enq(8)], 4)?);
+    assert!(rt; !stand(alloc, &[enq(7)], &entries[4..5])?);
+    assert!(rt; stand(alloc, &[enq(7)], &entries[5..8])?);
+    assert!(rt; !stand(alloc, &[enq(8)], &entries[6..8])?);
+    assert!(rt; stand(alloc, &[enq(8)], &entries[4..5])?);
     Ok(())
 }
 
@@ -128,8 +153,7 @@ fn spans_of_raises_are_searched(rt: HostRuntime) -> Result<(), Fail> {
             reply: Reply::Max(MaxReply::Number(number)),
         }
     };
-    let mut committed = Committed::new(rt.alloc());
-    committed.append(&[
+    let entries = [
         raise(5),
         raise(3),
         raise(9),
@@ -137,15 +161,19 @@ fn spans_of_raises_are_searched(rt: HostRuntime) -> Result<(), Fail> {
         raise(7),
         raise(2),
         raise(8),
-    ])?;
-    assert!(rt; committed.stands(&[top(9), raise(6)], 0, 7));
-    assert!(rt; !committed.stands(&[top(8)], 0, 7));
-    assert!(rt; committed.stands(&[top(8)], 3, 7));
-    assert!(rt; !committed.stands(&[top(7)], 3, 7));
-    assert!(rt; committed.stands(&[top(7)], 3, 6));
-    assert!(rt; !committed.stands(&[top(6)], 3, 6));
-    assert!(rt; committed.stands(&[top(2)], 5, 6));
-    assert!(rt; !committed.stands(&[top(1)], 5, 6));
+    ];
+    let alloc = rt.alloc();
+    let mut committed = Committed::new(alloc);
+    committed.append(&entries)?;
+    assert!(rt; stand_in(&committed, alloc, &[top(9), raise(6)], 7)?);
+    assert!(rt; !stand_in(&committed, alloc, &[top(8)], 7)?);
+    assert!(rt; stand_in(&committed, alloc, &[top(5)], 2)?);
+    assert!(rt; !stand_in(&committed, alloc, &[top(4)], 2)?);
+    assert!(rt; stand(alloc, &[top(8)], &entries[3..])?);
+    assert!(rt; !stand(alloc, &[top(7)], &entries[3..])?);
+    assert!(rt; stand(alloc, &[top(7)], &entries[3..6])?);
+    assert!(rt; !stand(alloc, &[top(6)], &entries[3..6])?);
+    assert!(rt; !stand(alloc, &[top(1)], &entries[5..6])?);
     Ok(())
 }
 
@@ -164,15 +192,183 @@ fn dequeues_are_searched_by_item(rt: HostRuntime) -> Result<(), Fail> {
     let third = operation(QueueCall::Deq, QueueReply::Got(Item(3)));
     let none = operation(QueueCall::Deq, QueueReply::Empty);
     let length = operation(QueueCall::Length, QueueReply::Number(2));
-    let mut committed = Committed::new(rt.alloc());
+    let alloc = rt.alloc();
+    let mut committed = Committed::new(alloc);
     committed.append(&[first, enq, second])?;
-    assert!(rt; committed.stands(&[third, enq], 0, 3));
-    assert!(rt; !committed.stands(&[second], 0, 3));
-    assert!(rt; committed.stands(&[first, none], 2, 3));
-    assert!(rt; !committed.stands(&[none], 0, 3));
-    assert!(rt; !committed.stands(&[length], 2, 3));
-    committed.append(&[none, length])?;
-    assert!(rt; !committed.stands(&[first], 2, 5));
-    assert!(rt; committed.stands(&[first, second, length], 3, 4));
+    assert!(rt; stand_in(&committed, alloc, &[third, enq], 3)?);
+    assert!(rt; !stand_in(&committed, alloc, &[second], 3)?);
+    assert!(rt; !stand_in(&committed, alloc, &[none], 3)?);
+    assert!(rt; stand(alloc, &[first], &[second])?);
+    assert!(rt; !stand(alloc, &[length], &[second])?);
+    assert!(rt; !stand(alloc, &[first], &[second, none, length])?);
+    assert!(rt; stand(alloc, &[first, second, length], &[none])?);
+    Ok(())
+}
+
+#[test]
+fn long_chains_are_searched(rt: HostRuntime) -> Result<(), Fail> {
+    let raise = |number: u64| -> Entry {
+        Entry {
+            object: 5,
+            call: Call::Max(MaxCall::Raise(amount(&rt, number))),
+            reply: Reply::Max(MaxReply::Ok),
+        }
+    };
+    let top = |number: u64| -> Entry {
+        Entry {
+            object: 5,
+            call: Call::Max(MaxCall::Top),
+            reply: Reply::Max(MaxReply::Number(number)),
+        }
+    };
+    let alloc = rt.alloc();
+    let mut committed = Committed::new(alloc);
+    for number in 1..501u64 {
+        committed.append(&[raise(number), raise(1)])?;
+    }
+    for number in 1..501u64 {
+        let upto = 2 * number as usize;
+        assert!(rt; stand_in(&committed, alloc, &[top(number)], upto)?);
+        assert!(rt; !stand_in(&committed, alloc, &[top(number)], upto + 1)? || number == 500);
+        assert!(rt; number == 1 || !stand_in(&committed, alloc, &[top(number - 1)], upto - 1)?);
+    }
+    Ok(())
+}
+
+#[test]
+fn grown_lists_are_searched(rt: HostRuntime) -> Result<(), Fail> {
+    let put = |object: u32, key: u32, value: u32| -> Entry {
+        Entry {
+            object,
+            call: Call::Directory(DirectoryCall::Put(Item(key), Item(value))),
+            reply: Reply::Directory(DirectoryReply::Ok),
+        }
+    };
+    let alloc = rt.alloc();
+    let mut committed = Committed::new(alloc);
+    for key in 0..4000u32 {
+        committed.append(&[put(key % 7, key, 1)])?;
+    }
+    for key in 0..4000u32 {
+        let upto = key as usize;
+        assert!(rt; stand_in(&committed, alloc, &[put(key % 7, key, 2)], upto)?);
+        assert!(rt; !stand_in(&committed, alloc, &[put(key % 7, key, 2)], upto + 1)?);
+        assert!(rt; stand_in(&committed, alloc, &[put(key % 7, key, 1)], 4000)?);
+        assert!(rt; stand_in(&committed, alloc, &[put(key % 7 + 1, key, 2)], 4000)?);
+    }
+    Ok(())
+}
+
+#[test]
+fn entries_of_one_hash_are_told_apart(rt: HostRuntime) -> Result<(), Fail> {
+    let put = |object: u32, key: u32, value: u32| -> Entry {
+        Entry {
+            object,
+            call: Call::Directory(DirectoryCall::Put(Item(key), Item(value))),
+            reply: Reply::Directory(DirectoryReply::Ok),
+        }
+    };
+    let alloc = rt.alloc();
+    let mut committed = Committed::new(alloc);
+    for object in 0..40u32 {
+        let twin = object + 2971215073;
+        assert_eq!(rt;
+            Mark::of(&put(object, 7, 1)).of_item,
+            Mark::of(&put(twin, 50920850, 1)).of_item
+        );
+        committed.append(&[put(object, 7, 1), put(twin, 50920850, 2), put(object, 7, 1)])?;
+    }
+    for object in 0..40u32 {
+        let twin = object + 2971215073;
+        let upto = 3 * object as usize;
+        assert!(rt;
+            stand_in(
+                &committed,
+                alloc,
+                &[put(object, 7, 1), put(twin, 50920850, 2)],
+                120
+            )?
+        );
+        assert!(rt; stand_in(&committed, alloc, &[put(twin, 50920850, 1)], upto + 1)?);
+        assert!(rt; !stand_in(&committed, alloc, &[put(twin, 50920850, 1)], upto + 2)?);
+        assert!(rt; !stand_in(&committed, alloc, &[put(object, 7, 2)], 120)?);
+    }
+    Ok(())
+}
+
+/// A slot of the first tables, as an index finds it.
+fn slot(entry: &Entry) -> u64 {
+    let mark = Mark::of(entry);
+    let key = mark
+        .of_item
+        .wrapping_add((mark.class as u32).wrapping_mul(0x9E3779B9));
+    ((key as u64).wrapping_mul(0x9E3779B97F4A7C15) >> 32) & 4095
+}
+
+#[test]
+fn crowded_slots_are_searched(rt: HostRuntime) -> Result<(), Fail> {
+    let put = |key: u32, value: u32| -> Entry {
+        Entry {
+            object: 3,
+            call: Call::Directory(DirectoryCall::Put(Item(key), Item(value))),
+            reply: Reply::Directory(DirectoryReply::Ok),
+        }
+    };
+    let alloc = rt.alloc();
+    let mut committed = Committed::new(alloc);
+    let mut crowd = Vec::new(alloc);
+    for key in 0..1500000u32 {
+        if slot(&put(key, 1)) == 5 {
+            crowd.push(key)?;
+            committed.append(&[put(key, 1)])?;
+        }
+    }
+    assert!(rt; crowd.len() > 300);
+    for (place, key) in crowd.iter().enumerate() {
+        assert!(rt; stand_in(&committed, alloc, &[put(*key, 2)], place)?);
+        assert!(rt; !stand_in(&committed, alloc, &[put(*key, 2)], crowd.len())?);
+        assert!(rt;
+            stand_in(
+                &committed,
+                alloc,
+                &[put(*key, 1), put(key.wrapping_add(1), 2)],
+                crowd.len()
+            )?
+        );
+    }
+    Ok(())
+}
+
+#[test]
+fn runs_that_may_conflict_are_taken(rt: HostRuntime) -> Result<(), Fail> {
+    let set = |call: SetCall, reply: SetReply| -> Entry {
+        Entry {
+            object: 2,
+            call: Call::Set(call),
+            reply: Reply::Set(reply),
+        }
+    };
+    let insert = |item: u32| -> Entry { set(SetCall::Insert(Item(item)), SetReply::Added) };
+    let absent = |item: u32| -> Entry { set(SetCall::Has(Item(item)), SetReply::No) };
+    let alloc = rt.alloc();
+    let mut marks = Vec::new(alloc);
+    marks.push(marks_of(alloc, &[insert(1)])?)?;
+    marks.push(marks_of(alloc, &[insert(2), absent(3)])?)?;
+    marks.push(marks_of(alloc, &[absent(1), absent(4)])?)?;
+    marks.push(marks_of(alloc, &[set(SetCall::Size, SetReply::Number(0))])?)?;
+    let mut watch = Watch::of(alloc, &marks, 0)?;
+    let mut found = NumberSet::new(alloc);
+    watch.take(1, &[insert(4), absent(1)], &mut found)?;
+    assert!(rt; !found.contains(0));
+    assert!(rt; !found.contains(1));
+    assert!(rt; found.contains(2));
+    assert!(rt; found.contains(3));
+    watch.put(2, &marks[2])?;
+    found.clear();
+    watch.take(1, &[insert(1), insert(3)], &mut found)?;
+    assert_eq!(rt; found.members().len(), 2);
+    assert!(rt; found.contains(1));
+    assert!(rt; found.contains(2));
+    assert!(rt; !watch.is_stale());
     Ok(())
 }

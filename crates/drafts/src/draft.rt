@@ -155,6 +155,48 @@ impl<'s> Draft<'s> {
         }
     }
 
+    /// Performs a call that changes the value for good, and answers its reply: no change before it
+    /// can be taken back. A number takes no memory for it. On `NoMemory` the value is as before.
+    pub fn settle(&mut self, call: &Call) -> Result<Reply, NoMemory>
+        requires fits { kind_of_value self.old.value ≡ kind_of_call call.now }
+        requires room { HasRoom self.old.value call.now }
+        requires changes { IsSome (value_change self.old.value call.now) }
+        ensures reply { IfOk result (λ reply. one_value.reply self.old.value call.now ≡ Some reply) }
+        ensures ok { OnOk result (self.new ≡ unchanged (one_value.after self.old.value call.now)) }
+        ensures err { OnErr result (self.new ≡ self.old) }
+    {
+        match (&mut self.kept, call) {
+            (Kept::Account(draft), Call::Account(call)) => {
+                Ok(Reply::Account(draft.settle::<Account>(call)?))
+            }
+            (Kept::Counter(draft), Call::Counter(call)) => {
+                Ok(Reply::Counter(draft.settle::<Counter>(call)?))
+            }
+            (Kept::Max(draft), Call::Max(call)) => {
+                Ok(Reply::Max(draft.settle::<MaxRegister>(call)?))
+            }
+            _ => {
+                let reply = self.perform(call)?;
+                self.forget();
+                Ok(reply)
+            }
+        }
+    }
+
+    /// Forgets what the value was, so that no change can be taken back. It takes no memory.
+    fn forget(&mut self)
+        ensures { self.new ≡ unchanged self.old.value }
+    {
+        match &mut self.kept {
+            Kept::Account(draft) => draft.before.truncate(0),
+            Kept::Counter(draft) => draft.before.truncate(0),
+            Kept::Set(draft) => draft.forget(),
+            Kept::Queue(draft) => draft.forget(),
+            Kept::Directory(draft) => draft.forget(),
+            Kept::Max(draft) => draft.before.truncate(0),
+        }
+    }
+
     /// Takes the last change back, if there is one. It takes no memory.
     pub fn undo(&mut self)
         ensures { self.new ≡ undone self.old }

@@ -41,6 +41,19 @@ impl<T: Copy + Drop> NumberDraft<T> {
         Ok(reply)
     }
 
+    /// Performs a call for good, and answers its reply: no change before it can be taken back. It
+    /// takes no memory but what the call takes. On `NoMemory` the number is as before.
+    pub fn settle<A: Atom<Value = T>>(&mut self, call: &A::Call) -> Result<A::Reply, NoMemory>
+        requires { A.HasRoom self.old.number call.now }
+        ensures reply { IfOk result (λ reply. reply ≡ A.serial.reply self.old.number call.now) }
+        ensures ok { OnOk result (number_history self.new ≡ unchanged (A.serial.after self.old.number call.now)) }
+        ensures err { OnErr result (number_history self.new ≡ number_history self.old) }
+    {
+        let reply = A::perform(&mut self.number, call)?;
+        self.before.truncate(0);
+        Ok(reply)
+    }
+
     /// Takes the last change back, if there is one. It takes no memory.
     pub fn undo(&mut self)
         ensures { number_history self.new ≡ undone (number_history self.old) }

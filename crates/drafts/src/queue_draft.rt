@@ -139,6 +139,13 @@ impl<'s> QueueDraft<'s> {
         Ok(())
     }
 
+    /// Forgets what the queue was, so that no change can be taken back. It takes no memory.
+    pub fn forget(&mut self)
+        ensures { self.new ≡ unchanged self.old.value }
+    {
+        self.journal.truncate(0);
+    }
+
     /// Takes the last change back, if there is one. It takes no memory.
     pub fn undo(&mut self)
         ensures { self.new ≡ undone self.old }

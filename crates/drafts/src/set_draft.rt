@@ -144,6 +144,13 @@ impl<'s> SetDraft<'s> {
         Ok(())
     }
 
+    /// Forgets what the set was, so that no change can be taken back. It takes no memory.
+    pub fn forget(&mut self)
+        ensures { self.new ≡ unchanged self.old.value }
+    {
+        self.journal.truncate(0);
+    }
+
     /// Takes the last change back, if there is one. It takes no memory.
     pub fn undo(&mut self)
         ensures { self.new ≡ undone self.old }

@@ -13,6 +13,12 @@ fn perform(rt: &impl Abort, draft: &mut Draft<'_>, call: Call) -> Result<Reply, 
     draft.perform(&call)
 }
 
+/// Performs such a call for good.
+fn settle(rt: &impl Abort, draft: &mut Draft<'_>, call: Call) -> Result<Reply, NoMemory> {
+    assert!(rt; draft.fits(&call) && draft.has_room(&call) && draft.look(&call).is_none());
+    draft.settle(&call)
+}
+
 #[test]
 fn sets(rt: HostRuntime) -> Result<(), Fail> {
     let mut set = ItemSet::new(rt.alloc());
@@ -157,5 +163,32 @@ fn numbers(rt: HostRuntime) -> Result<(), Fail> {
     );
     let shown = Shown::Lent(&lent);
     assert!(rt; shown.fits(&read) && shown.has_room(&read));
+    Ok(())
+}
+
+#[test]
+fn settled_changes_stay(rt: HostRuntime) -> Result<(), Fail> {
+    let lent = Value::Counter(5);
+    let mut draft = Draft::of(rt.alloc(), &lent);
+    let sub = Call::Counter(CounterCall::Sub(Amount::new(7).expect(&rt, "an amount")));
+    let read = Call::Counter(CounterCall::Read);
+    perform(&rt, &mut draft, sub)?;
+    assert_eq!(rt;
+        settle(&rt, &mut draft, sub)?,
+        Reply::Counter(CounterReply::Ok)
+    );
+    draft.undo();
+    assert_eq!(rt;
+        draft.look(&read),
+        Some(Reply::Counter(CounterReply::Number(-9)))
+    );
+    let lent = Value::Queue(Queue::new(rt.alloc()));
+    let mut draft = Draft::of(rt.alloc(), &lent);
+    settle(&rt, &mut draft, Call::Queue(QueueCall::Enq(Item(2))))?;
+    draft.undo();
+    assert_eq!(rt;
+        draft.look(&Call::Queue(QueueCall::Length)),
+        Some(Reply::Queue(QueueReply::Number(1)))
+    );
     Ok(())
 }

@@ -1,23 +1,22 @@
 -- What drafts over a snapshot show, and what they showed before changes that are taken back.
-use Rattle.std.proofs.Common.{◌≡◌, ◌≢◌, ℕ, zero, suc, ◌<◌, ◌≤◌, arith, List, [], ◌∷◌, ◌++◌, Some, None, Option, length, length-append, ◌+◌, reverse, take, drop, Bool, true, false, cond, refl, sym, ap, ◌∙◌, subst}
-use Rattle.std.specs.Prelude.{slice_get, slice_set, option_map, option_and_then, unwrap_or, IsSome, IsSomeAnd, IfSome}
+use Rattle.std.proofs.Common.{◌≡◌, ℕ, zero, suc, ◌<◌, ◌≤◌, arith, List, [], ◌∷◌, ◌++◌, Some, None, Option, length, length-append, ◌+◌, reverse, take, drop, Bool, true, false, cond, refl, sym, ap, ◌∙◌, subst}
+use Rattle.std.specs.Prelude.{nat_eq, slice_get, slice_set, option_map, option_and_then, unwrap_or, IsSome, IsSomeAnd, IfSome}
 use Rattle.std.proofs.lemmas.List.{take-append-le, drop-append-le, take-take, reverse-append}
 use Rattle.std.proofs.Math.ListN.{drop_of_length-le}
-use Rattle.std.specs.Ordering.{nat_cmp, is_eq}
-use Rattle.std.specs.BTreeMap.{is_at}
-use Rattle.std.specs.Cmp.{nat_cmp_total, tied_itself, Equal-is}
-use Rattle.std.specs.FinMap.{nat_cmp-IsAntisymmetric}
-use Rattle.std.proofs.lemmas.Bool.{false≢true}
+use Rattle.std.proofs.lemmas.Bool.{eqb-true, eqb-false, eq-eqb}
 use Rattle.objects.specs.declared.value.Value.{Value}
 use Rattle.objects.specs.declared.call.Call.{Call}
 use Rattle.objects.specs.declared.change.Change.{Change}
 use Rattle.objects.specs.Objects.{objects, one_value, kind_of_value, kind_of_call, HasRoom, Fits, ObjectHasRoom}
 use Rattle.objects.specs.Changes.{value_change, objects_undoing}
 use Rattle.serial.specs.Places.{after_found}
+use Rattle.atoms.proofs.Undoings.{set_itself}
 use Rattle.drafts.specs.History.{History, unchanged, changed, undone}
 use Rattle.intentions.specs.Starts.{IsNested}
-use Rattle.intentions.specs.Layers.{States, Drafts, histories, values_now, undo_at, rewound, values_at, layered}
+use Rattle.intentions.specs.DraftTables.{Drafts, IsPut}
+use Rattle.intentions.specs.Layers.{States, histories, values_now, undo_at, rewound, values_at, layered}
 use Rattle.intentions.proofs.StartsLemmas.{innermost_joined}
+use Rattle.intentions.proofs.DraftTableLemmas.{same_list, get_set_same, get_set_other}
 
 -- states by their parts
 abbrev pub states : List Value → List (List Value) → States
@@ -25,31 +24,6 @@ states shown begun = record { shown = shown; begun = begun }
 
 pub states_of : {shown shown' : List Value} {begun begun' : List (List Value)} → shown ≡ shown' → begun ≡ begun' → states shown begun ≡ states shown' begun'
 states_of p q = cc
-
--- ---- lists
-
--- a list is what is found in it
-same_list : {A : Type 0} (xs ys : List A) → ((i : ℕ) → slice_get xs i ≡ slice_get ys i) → xs ≡ ys
-same_list [] [] h = refl
-same_list [] (y ∷ ys) h = let first = h 0 in cc
-same_list (x ∷ xs) [] h = let first = h 0 in cc
-same_list (x ∷ xs) (y ∷ ys) h =
-    let first : Some x ≡ Some y = h 0 in
-    let same : x ≡ y = cc in
-    let rest : xs ≡ ys = same_list xs ys (λ i. h (suc i)) in
-    cc
-
-get_set_same : {A : Type 0} (xs : List A) (i : ℕ) (x : A) → slice_get (slice_set xs i x) i ≡ option_map (λ _. x) (slice_get xs i)
-get_set_same [] i x = refl
-get_set_same (y ∷ xs) zero x = refl
-get_set_same (y ∷ xs) (suc i) x = get_set_same xs i x
-
-get_set_other : {A : Type 0} (xs : List A) (i j : ℕ) (x : A) → i ≢ j → slice_get (slice_set xs i x) j ≡ slice_get xs j
-get_set_other [] i j x ne = refl
-get_set_other (y ∷ xs) zero zero x ne = absurd (ne refl)
-get_set_other (y ∷ xs) zero (suc j) x ne = refl
-get_set_other (y ∷ xs) (suc i) zero x ne = refl
-get_set_other (y ∷ xs) (suc i) (suc j) x ne = get_set_other xs i j x (λ e. ne (ap suc e))
 
 -- ---- what each object became
 
@@ -83,26 +57,63 @@ pub now-none : (snapshot : List Value) → values_now (histories snapshot (λ ob
 now-none [] = refl
 now-none (lent ∷ snapshot) = ap (λ vs. lent ∷ vs) (now-none snapshot)
 
--- drafts in which one was put
-abbrev pub IsPut : Drafts → Drafts → ℕ → History Value → Type 0
-IsPut drafts put object h = (q : ℕ) → put q ≡ cond (is_at (nat_cmp object) q) (Some h) (drafts q)
-
 map_twice : {A B C : Type 0} (f : A → B) (c : C) (o : Option A) → option_map (λ _. c) (option_map f o) ≡ option_map (λ _. c) o
 map_twice f c None = refl
 map_twice f c (Some a) = refl
 
 pub histories-put : (snapshot : List Value) (drafts put : Drafts) (object : ℕ) (h : History Value) → IsPut drafts put object h → histories snapshot put ≡ slice_set (histories snapshot drafts) object h
 histories-put snapshot drafts put object h is = same_list _ _ (λ q.
-    get-histories snapshot put q ∙ ap (λ d. option_map (draft_or d) (slice_get snapshot q)) (is q) ∙ by_test q (is_at (nat_cmp object) q) refl)
+    get-histories snapshot put q ∙ ap (λ d. option_map (draft_or d) (slice_get snapshot q)) (is q) ∙ by_test q (nat_eq object q) refl)
   where
-    by_test : (q : ℕ) (b : Bool) → is_at (nat_cmp object) q ≡ b → option_map (draft_or (cond b (Some h) (drafts q))) (slice_get snapshot q) ≡ slice_get (slice_set (histories snapshot drafts) object h) q
+    by_test : (q : ℕ) (b : Bool) → nat_eq object q ≡ b
+        → option_map (draft_or (cond b (Some h) (drafts q))) (slice_get snapshot q) ≡ slice_get (slice_set (histories snapshot drafts) object h) q
     by_test q true e =
-        let same : object ≡ q = nat_cmp-IsAntisymmetric object q ((Equal-is (nat_cmp object q)).0 e) in
-        sym (subst (λ p. slice_get (slice_set (histories snapshot drafts) object h) p ≡ option_map (λ _. h) (slice_get (histories snapshot drafts) p)) same (get_set_same (histories snapshot drafts) object h)
+        let hs = histories snapshot drafts in
+        let here : slice_get (slice_set hs object h) object ≡ option_map (λ _. h) (slice_get hs object) = get_set_same hs object h in
+        sym (subst (λ p. slice_get (slice_set hs object h) p ≡ option_map (λ _. h) (slice_get hs p)) (eqb-true object q e) here
         ∙ ap (option_map (λ _. h)) (get-histories snapshot drafts q) ∙ map_twice (draft_or (drafts q)) h (slice_get snapshot q))
     by_test q false e =
-        sym (get_set_other (histories snapshot drafts) object q h (λ same. absurd (false≢true (sym e ∙ ap (is_at (nat_cmp object)) (sym same) ∙ ap is_eq (tied_itself nat_cmp_total object))))
-        ∙ get-histories snapshot drafts q)
+        sym (get_set_other (histories snapshot drafts) object q h (eqb-false object q e) ∙ get-histories snapshot drafts q)
+
+-- drafts that are the same for each object
+pub histories-same : (snapshot : List Value) (drafts drafts' : Drafts) → ((q : ℕ) → drafts' q ≡ drafts q)
+    → histories snapshot drafts' ≡ histories snapshot drafts
+histories-same [] drafts drafts' same = refl
+histories-same (lent ∷ snapshot) drafts drafts' same =
+    let here : draft_or (drafts' 0) lent ≡ draft_or (drafts 0) lent = ap (λ d. draft_or d lent) (same 0) in
+    let rest = histories-same snapshot (λ o. drafts (suc o)) (λ o. drafts' (suc o)) (λ q. same (suc q)) in
+    cc (here, rest)
+
+pub get-now : (hs : List (History Value)) (object : ℕ) (h : History Value) → slice_get hs object ≡ Some h → slice_get (values_now hs) object ≡ Some h.value
+get-now [] object h e = cc
+get-now (g ∷ hs) zero h e = let same : g ≡ h = cc in ap (λ (f : History Value). Some f.value) same
+get-now (g ∷ hs) (suc object) h e = get-now hs object h e
+
+-- an object that has the draft that it had, or else one of the value that is lent
+pub record HasDraft (snapshot : List Value) (drafts : Drafts) (starts journal : List ℕ) (state : States) (object : ℕ)
+    (h : History Value) : Type 0 where
+  pub draft : drafts object ≡ Some h
+  pub found : slice_get (histories snapshot drafts) object ≡ Some h
+  pub there : slice_get state.shown object ≡ Some h.value
+  pub shows : layered (histories snapshot drafts) starts journal ≡ state
+
+-- nothing else is shown where a draft of the value that is lent is added
+pub added : (snapshot : List Value) (drafts put : Drafts) (starts journal : List ℕ) (state : States) (object : ℕ) (lent : Value)
+    → layered (histories snapshot drafts) starts journal ≡ state → slice_get snapshot object ≡ Some lent
+    → IsPut drafts put object (draft_or (drafts object) lent)
+    → HasDraft snapshot put starts journal state object (draft_or (drafts object) lent)
+added snapshot drafts put starts journal state object lent is e put_is =
+    let h = draft_or (drafts object) lent in
+    let before : slice_get (histories snapshot drafts) object ≡ Some h =
+    get-histories snapshot drafts object ∙ ap (option_map (draft_or (drafts object))) e in
+    let same : histories snapshot put ≡ histories snapshot drafts =
+    histories-put snapshot drafts put object h put_is ∙ set_itself (histories snapshot drafts) object h before in
+    record {
+      draft = put_is object ∙ ap (λ b. cond b (Some h) (drafts object)) (eq-eqb object object refl);
+      found = ap (λ hs. slice_get hs object) same ∙ before;
+      there = sym (ap (λ (s : States). slice_get s.shown object) is) ∙ get-now (histories snapshot drafts) object h before;
+      shows = ap (λ hs. layered hs starts journal) same ∙ is;
+    }
 
 -- ---- changes, and changes that are taken back
 
@@ -110,11 +121,6 @@ now-set : (hs : List (History Value)) (object : ℕ) (h : History Value) → val
 now-set [] object h = refl
 now-set (g ∷ hs) zero h = refl
 now-set (g ∷ hs) (suc object) h = ap (λ vs. g.value ∷ vs) (now-set hs object h)
-
-pub get-now : (hs : List (History Value)) (object : ℕ) (h : History Value) → slice_get hs object ≡ Some h → slice_get (values_now hs) object ≡ Some h.value
-get-now [] object h e = cc
-get-now (g ∷ hs) zero h e = let same : g ≡ h = cc in ap (λ (f : History Value). Some f.value) same
-get-now (g ∷ hs) (suc object) h e = get-now hs object h e
 
 undo-changed : (hs : List (History Value)) (object : ℕ) (h : History Value) (v : Value) → slice_get hs object ≡ Some h → undo_at (slice_set hs object (changed h v)) object ≡ hs
 undo-changed [] object h v e = refl
@@ -157,25 +163,46 @@ values_at-changed hs object h v (start ∷ starts) journal e nested =
     ap (λ gs. values_now gs ∷ values_at gs starts (take start (journal ++ object ∷ []))) before
     ∙ ap (λ js. values_now (rewound hs (reverse (drop start journal))) ∷ values_at (rewound hs (reverse (drop start journal))) starts js) earlier
 
+-- what is shown where an object that became this becomes what a call leaves
+now-after : (hs : List (History Value)) (shown : List Value) (object : ℕ) (call : Call) (h new : History Value)
+    → values_now hs ≡ shown → slice_get hs object ≡ Some h → new.value ≡ one_value.after h.value call
+    → values_now (slice_set hs object new) ≡ objects.after shown (object, call)
+now-after hs shown object call h new is found value =
+    let there : slice_get shown object ≡ Some h.value = sym (ap (λ vs. slice_get vs object) is) ∙ get-now hs object h found in
+    now-set hs object new ∙ ap (λ vs. slice_set vs object new.value) is ∙ ap (slice_set shown object) value
+    ∙ sym (ap (after_found one_value shown object call) there)
+
 -- a call on an object that became this
 pub performed : (hs new : List (History Value)) (starts journal pushed : List ℕ) (state : States) (object : ℕ) (call : Call) (h : History Value)
     → layered hs starts journal ≡ state → IsNested starts (length journal) → slice_get hs object ≡ Some h
     → new ≡ slice_set hs object (changed h (one_value.after h.value call)) → pushed ≡ journal ++ object ∷ []
     → layered new starts pushed ≡ states (objects.after state.shown (object, call)) state.begun
 performed hs new starts journal pushed state object call h is nested found new_is pushed_is =
-    let v = one_value.after h.value call in
-    let shown : values_now hs ≡ state.shown = ap (λ (s : States). s.shown) is in
-    let there : slice_get state.shown object ≡ Some h.value = sym (ap (λ vs. slice_get vs object) shown) ∙ get-now hs object h found in
-    let after : objects.after state.shown (object, call) ≡ slice_set state.shown object v = ap (after_found one_value state.shown object call) there in
-    let here : layered new starts pushed ≡ layered (slice_set hs object (changed h v)) starts (journal ++ object ∷ []) = cc in
+    let g = changed h (one_value.after h.value call) in
+    let here : layered new starts pushed ≡ layered (slice_set hs object g) starts (journal ++ object ∷ []) = cc in
     here ∙ states_of
-    (now-set hs object (changed h v) ∙ ap (λ vs. slice_set vs object v) shown ∙ sym after)
-    (values_at-changed hs object h v starts journal found nested ∙ ap (λ (s : States). s.begun) is)
+    (now-after hs state.shown object call h g (ap (λ (s : States). s.shown) is) found refl)
+    (values_at-changed hs object h g.value starts journal found nested ∙ ap (λ (s : States). s.begun) is)
 
--- what was shown at the begin of each level
-pub length-values_at : (hs : List (History Value)) (starts journal : List ℕ) → length (values_at hs starts journal) ≡ length starts
-length-values_at hs [] journal = refl
-length-values_at hs (start ∷ starts) journal = ap suc (length-values_at (rewound hs (reverse (drop start journal))) starts (take start journal))
+-- with no level open, nothing is said of the journal
+values_at-base : (hs new : List (History Value)) (starts journal left : List ℕ) → starts ≡ []
+    → values_at new starts left ≡ values_at hs starts journal
+values_at-base hs new starts journal left base = ap (λ ss. values_at new ss left) base ∙ sym (ap (λ ss. values_at hs ss journal) base)
+
+pub layered-base : (hs : List (History Value)) (starts journal left : List ℕ) → starts ≡ []
+    → layered hs starts left ≡ layered hs starts journal
+layered-base hs starts journal left base = ap (states (values_now hs)) (values_at-base hs hs starts journal left base)
+
+-- a call for good on an object that became this
+pub settled : (hs new : List (History Value)) (starts journal left : List ℕ) (state : States) (object : ℕ) (call : Call) (h : History Value)
+    → layered hs starts journal ≡ state → starts ≡ [] → slice_get hs object ≡ Some h
+    → new ≡ slice_set hs object (unchanged (one_value.after h.value call))
+    → layered new starts left ≡ states (objects.after state.shown (object, call)) state.begun
+settled hs new starts journal left state object call h is base found new_is =
+    let g : History Value = unchanged (one_value.after h.value call) in
+    states_of
+    (ap values_now new_is ∙ now-after hs state.shown object call h g (ap (λ (s : States). s.shown) is) found refl)
+    (values_at-base hs new starts journal left base ∙ ap (λ (s : States). s.begun) is)
 
 -- the innermost level ends as part of the one around it
 values_at-joined : (hs : List (History Value)) (start : ℕ) (starts journal : List ℕ) → IsNested (start ∷ starts) (length journal)

@@ -1,11 +1,9 @@
 -- Drafts of changed values over a snapshot, with one journal of their changes.
-use Rattle.std.specs.Prelude.{◌≡◌, ℕ, zero, suc, List, [], ◌∷◌, length, map, take, drop, reverse, Option, unwrap_or}
-use Rattle.std.specs.Ordering.{nat_cmp}
-use Rattle.std.specs.BTreeMap.{is_at}
-use Rattle.std.specs.Map.{lookup}
+use Rattle.std.specs.Prelude.{◌≡◌, ℕ, zero, suc, List, [], ◌∷◌, length, map, take, drop, reverse, unwrap_or}
 use Rattle.objects.specs.declared.value.Value.{Value}
 use Rattle.objects.specs.declared.entry.Entry.{Entry}
 use Rattle.drafts.specs.History.{History, unchanged, undone}
+use Rattle.intentions.specs.DraftTables.{Drafts}
 use Rattle.intentions.specs.Levels.{after_entries, AllEntriesLegal, AllHaveRoom}
 use Rattle.intentions.specs.Starts.{IsNested, at_starts}
 
@@ -13,14 +11,6 @@ use Rattle.intentions.specs.Starts.{IsNested, at_starts}
 pub record States : Type 0 where
   pub shown : List Value
   pub begun : List (List Value)
-
--- the draft of each object that has one
-abbrev pub Drafts : Type 0
-Drafts = ℕ → Option (History Value)
-
--- the drafts that a map holds
-abbrev pub drafts_in : List (ℕ × History Value) → Drafts
-drafts_in entries object = lookup (is_at (nat_cmp object)) entries
 
 -- what each object became: its draft, or the value that is lent with no change
 abbrev pub histories : List Value → Drafts → List (History Value)

@@ -1,3 +1,4 @@
 pub mod Levels
 pub mod Starts
+pub mod DraftTables
 pub mod Layers

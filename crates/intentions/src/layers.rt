@@ -5,12 +5,13 @@ ghost use Rattle.objects.specs.Objects.{objects, Fits, ObjectHasRoom};
 ghost use Rattle.objects.specs.Changes.{objects_undoing};
 ghost use Rattle.intentions.specs.Levels.{after_entries, AllEntriesLegal, AllHaveRoom};
 ghost use Rattle.objects.specs.declared.value.Value.{Value};
-ghost use Rattle.intentions.specs.Layers.{States, drafts_in, histories, rewound};
+ghost use Rattle.intentions.specs.DraftTables.{drafts_of};
+ghost use Rattle.intentions.specs.Layers.{States, histories, rewound};
 
-use drafts::{Draft, Shown};
+use crate::draft_table::DraftTable;
+use drafts::Shown;
 use objects::{Call, Entry, NoMemory, Objects, Reply};
 use std::alloc::Global;
-use std::collections::BTreeMap;
 use std::marker::Model;
 
 /// The values of a snapshot and of what was changed since, by levels.
@@ -18,8 +19,9 @@ use std::marker::Model;
 pub struct Layers<'s> {
     snapshot: &'s Objects,
     /// A draft of each object that was changed. It stays where its changes are taken back.
-    drafts: BTreeMap<u32, Draft<'s>>,
-    /// The object of each change, the oldest first.
+    drafts: DraftTable<'s>,
+    /// The object of each change that was made in a level, the oldest first. It is emptied by the
+    /// first change after the last level was closed.
     journal: Vec<u32>,
     /// For each open level, how long the journal was at its begin.
     starts: Vec<usize>,
@@ -38,9 +40,10 @@ impl<'s> Model for Layers<'s> {
     ghost coded = { code_by (List OneValue × List (List OneValue)) (coded× (coded_list one_value_type.the_row.coded) (coded_list (coded_list one_value_type.the_row.coded))) (λ s. (s.shown, s.begun)) (λ p. record { shown = p.0; begun = p.1 }) (λ _. refl) };
 
     ghost use Rattle.intentions.specs.Starts.{IsNested};
-    ghost use Rattle.intentions.specs.Layers.{layered, histories, drafts_in};
+    ghost use Rattle.intentions.specs.DraftTables.{drafts_of};
+    ghost use Rattle.intentions.specs.Layers.{layered, histories};
 
-    ghost view = { λ layers. layered (histories layers.snapshot.now (drafts_in layers.drafts.entries)) (reverse layers.starts.items) layers.journal.items };
+    ghost view = { λ layers. layered (histories layers.snapshot.now (drafts_of layers.drafts)) (reverse layers.starts.items) layers.journal.items };
 
     ghost invariant = { λ layers. IsNested (reverse layers.starts.items) (length layers.journal.items) };
 }
@@ -52,17 +55,20 @@ impl<'s> Layers<'s> {
     {
         Layers {
             snapshot,
-            drafts: BTreeMap::new(alloc),
+            drafts: DraftTable::new(alloc),
             journal: Vec::new(alloc),
             starts: Vec::new(alloc),
         }
     }
 
-    /// The number of open levels.
-    pub fn depth(&self) -> usize
-        ensures { result ≡ length self.now.begun }
+    /// Shows this snapshot, with no level, as if it was just opened. The lists keep their memory.
+    pub fn restart(&mut self, snapshot: &'s Objects)
+        ensures { self.new ≡ record { shown = snapshot.now; begun = [] } }
     {
-        self.starts.len()
+        self.snapshot = snapshot;
+        self.drafts.clear();
+        self.journal.clear();
+        self.starts.clear();
     }
 
     /// What is shown of the object.
@@ -70,7 +76,7 @@ impl<'s> Layers<'s> {
         ensures { option_map shown_value result ≡ slice_get self.now.shown object }
     {
         match self.snapshot.value(object) {
-            Some(original) => match self.drafts.get(&object) {
+            Some(original) => match self.drafts.get(object) {
                 Some(draft) => Some(Shown::Changed(draft)),
                 None => Some(Shown::Lent(original)),
             },
@@ -79,7 +85,7 @@ impl<'s> Layers<'s> {
     }
 
     /// Performs a call on the object. The first change of an object makes a draft of it, and
-    /// nothing is copied.
+    /// nothing is copied. With no level open, what the object was before is not kept.
     pub fn perform(&mut self, object: u32, call: &Call) -> Result<Reply, NoMemory>
         requires fits { Fits self.old.shown object call.now }
         requires room { ObjectHasRoom self.old.shown object call.now }
@@ -93,21 +99,16 @@ impl<'s> Layers<'s> {
         let Some(lent) = self.snapshot.value(object) else {
             unreachable!()
         };
-        self.journal.reserve(1)?;
-        match self.drafts.get_mut(&object) {
-            Some(draft) => {
-                let reply = draft.perform(call)?;
-                self.journal.push_reserved(object);
-                Ok(reply)
-            }
-            None => {
-                let mut draft = Draft::of(*self.starts.allocator(), lent);
-                let reply = draft.perform(call)?;
-                self.drafts.insert(object, draft)?;
-                self.journal.push_reserved(object);
-                Ok(reply)
-            }
+        self.drafts.add(*self.starts.allocator(), object, lent)?;
+        if self.starts.is_empty() {
+            // No level is open that could take a change back.
+            self.journal.clear();
+            return self.drafts.settle(object, call);
         }
+        self.journal.reserve(1)?;
+        let reply = self.drafts.perform(object, call)?;
+        self.journal.push_reserved(object);
+        Ok(reply)
     }
 
     /// Performs the calls of entries, one after the other. On NoMemory some may have been
@@ -205,17 +206,15 @@ impl<'s> Layers<'s> {
 }
 
 /// Takes the changes from this place of the journal on back, the newest first. It takes no memory.
-fn undo_from(drafts: &mut BTreeMap<u32, Draft<'_>>, journal: &mut Vec<u32>, start: usize)
+fn undo_from(drafts: &mut DraftTable<'_>, journal: &mut Vec<u32>, start: usize)
     requires { start ≤ length journal.old.items }
-    ensures drafts { (snapshot : List Value) → histories snapshot (drafts_in drafts.new.entries)
-        ≡ rewound (histories snapshot (drafts_in drafts.old.entries)) (reverse (drop start journal.old.items)) }
+    ensures drafts { (snapshot : List Value) → histories snapshot (drafts_of drafts.new)
+        ≡ rewound (histories snapshot (drafts_of drafts.old)) (reverse (drop start journal.old.items)) }
     ensures journal { journal.new.items ≡ take start journal.old.items }
 {
     while journal.len() > start {
         if let Some(object) = journal.pop() {
-            if let Some(draft) = drafts.get_mut(&object) {
-                draft.undo();
-            }
+            drafts.undo(object);
         }
     }
 }

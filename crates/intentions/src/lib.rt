@@ -6,10 +6,11 @@
 //! committed, [`Committed`], is handed on.
 #![tactic(auto)]
 
+mod draft_table;
 mod layers;
 mod view;
 
-pub use committed::Committed;
+pub use committed::{Committed, Mark, NumberSet, Watch, mark_all, marks_of};
 pub use objects::{Call, Entry, NoMemory, Objects, Reply, Value};
 pub use view::{Lists, View, perform_each};
 

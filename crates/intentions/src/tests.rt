@@ -44,6 +44,12 @@ fn commit(rt: &impl Abort, view: &mut View<'_>) -> Result<(), NoMemory> {
     view.commit()
 }
 
+/// The lists of a view with no level but the base, which is then used again.
+fn take_run(rt: &impl Abort, view: &mut View<'_>) -> Result<Lists, NoMemory> {
+    assert!(rt; view.depth() == 0);
+    view.take_run()
+}
+
 /// Absorbs a child that enqueued the item twice and took the first of them back.
 fn absorb_enq(view: &mut View<'_>, object: u32, item: Item) -> Result<(), NoMemory> {
     let call = Call::Queue(QueueCall::Enq(item));
@@ -184,5 +190,32 @@ fn a_childs_lists_are_absorbed(rt: HostRuntime) -> Result<(), Fail> {
     for reply in got {
         assert_eq!(rt; perform(&rt, &mut later, 1, deq)?, reply);
     }
+    Ok(())
+}
+
+#[test]
+fn a_view_is_used_again(rt: HostRuntime) -> Result<(), Fail> {
+    let snapshot = objects(rt.alloc())?;
+    let mut view = View::open(rt.alloc(), &snapshot)?;
+    let five = amount(&rt, 5);
+    let raise = Call::Max(MaxCall::Raise(five));
+    let sub = Call::Counter(CounterCall::Sub(five));
+    let top = Call::Max(MaxCall::Top);
+    let read = Call::Counter(CounterCall::Read);
+    let _reply = perform(&rt, &mut view, 5, raise)?;
+    let Lists { entries, net } = take_run(&rt, &mut view)?;
+    assert_eq!(rt; entries.len(), 1);
+    assert_eq!(rt; net.len(), 1);
+    // In this run another object's draft stands where that of object 5 stood.
+    let _reply = perform(&rt, &mut view, 4, sub)?;
+    assert_eq!(rt;
+        perform(&rt, &mut view, 5, top)?,
+        Reply::Max(MaxReply::Number(0))
+    );
+    assert_eq!(rt;
+        perform(&rt, &mut view, 4, read)?,
+        Reply::Counter(CounterReply::Number(-5))
+    );
+    assert_eq!(rt; view.entries().len(), 3);
     Ok(())
 }

@@ -80,6 +80,13 @@ impl<'s> View<'s> {
         self.marks.len()
     }
 
+    /// The state that the view was opened on.
+    pub fn snapshot(&self) -> &Objects
+        ensures { result.now ≡ self.now.snapshot }
+    {
+        self.snapshot
+    }
+
     /// All entries, in the order of the calls, those of aborted levels included.
     pub fn entries(&self) -> &[Entry]
         ensures { result.now ≡ self.now.entries }
@@ -208,6 +215,25 @@ impl<'s> View<'s> {
                 Ok(state)
             }
         }
+    }
+
+    /// The entries and the net of the base, copied. The view is then as it was opened, on the same
+    /// snapshot, and what it keeps of its memory serves the next run. On `NoMemory` the view is
+    /// unchanged.
+    pub fn take_run(&mut self) -> Result<Lists, NoMemory>
+        requires { length self.old.outer ≡ 0 }
+        ensures entries { IfOk result (λ lists. lists.entries.items ≡ self.old.entries) }
+        ensures net { IfOk result (λ lists. lists.net.items ≡ self.old.net) }
+        ensures opened { OnOk result (self.new ≡ opened self.old.snapshot) }
+        ensures err { OnErr result (self.new ≡ self.old) }
+    {
+        let alloc = *self.entries.allocator();
+        let entries = Vec::from_slice(alloc, &self.entries)?;
+        let net = Vec::from_slice(alloc, &self.net)?;
+        self.layers.restart(self.snapshot);
+        self.entries.truncate(0);
+        self.net.truncate(0);
+        Ok(Lists { entries, net })
     }
 
     /// The entries, and the net of the base.

@@ -1,11 +1,10 @@
 -- The first run that does not stand, and the nets that runs are checked against.
 use Rattle.std.proofs.Common.{◌≡◌, ℕ, ◌+◌, ◌<◌, ◌≤◌, List, [], ◌∷◌, ◌++◌, length, get_or, take, drop, ◌-◌, arith, refl, sym, ap, ◌∙◌, subst, append_assoc, append-nil}
-use Rattle.std.specs.Prelude.{slice_range, IsTrue, ◌↔◌, Bool}
-use Rattle.std.proofs.lemmas.List.{take_more, get_or_default, take-append-drop, length-append, take-take, get_or-take, length-take-le, length_push, take_rest, get_or-drop, get_or_read}
+use Rattle.std.specs.Prelude.{IsTrue, ◌↔◌, Bool}
+use Rattle.std.proofs.lemmas.List.{take_more, get_or_default, take-append-drop, length-append, take-take, get_or-take, length-take-le, length_push, take_rest, take_all, get_or-drop, get_or_read}
 use Rattle.std.proofs.Math.Seq.{take-append_seam, get_or-append_seam}
 use Rattle.std.proofs.Math.ListN.{get_or-append, length-drop}
 use native.Mathlib.Decide.{dec_le}
-use Rattle.meaning.specs.Entries.{AllCommute}
 use Rattle.objects.specs.declared.entry.Entry.{Entry}
 use Rattle.speculate.specs.declared.speculated.Run.{Run}
 use Rattle.rounds.specs.Passes.{nets_of, StandsPast, StandsAt, IsFirstConflict, IsFirstFrom, AreStarts}
@@ -44,21 +43,17 @@ first_nets runs i = ap nets_of (sym (take-append-drop i runs)) ∙ nets_append (
 pub front_taken : (runs : List Run) (i n : ℕ) (nets : List Entry) → nets ≡ nets_of runs → n ≡ length (nets_of (take i runs)) → take n nets ≡ nets_of (take i runs)
 front_taken runs i n nets are size = ap (take n) (are ∙ first_nets runs i) ∙ (ap (λ m. take m (nets_of (take i runs) ++ nets_of (drop i runs))) size ∙ take-append_seam (nets_of (take i runs)) (nets_of (drop i runs)))
 
-pub front_nets : (runs : List Run) (i n : ℕ) (nets : List Entry) → nets ≡ nets_of runs → n ≡ length (nets_of (take i runs)) → slice_range nets 0 n ≡ nets_of (take i runs)
-front_nets runs i n nets are size = let whole : n - 0 ≡ n = omega arith in ap (λ m. take m nets) whole ∙ front_taken runs i n nets are size
-
 -- which is no longer than the list
 pub front_within : (runs : List Run) (i n : ℕ) (nets : List Entry) → nets ≡ nets_of runs → n ≡ length (nets_of (take i runs)) → n ≤ length nets
 front_within runs i n nets are size = omega (arith, ap length (are ∙ first_nets runs i), length-append (nets_of (take i runs)) (nets_of (drop i runs)))
 
 -- the test against the nets before a run is whether it stands
-pub stands_there : (runs : List Run) (i : ℕ) (run : Run) (entries before : List Entry) (told : Bool) → i < length runs → entries ≡ (get_or runs i run).entries.items → before ≡ nets_of (take i runs)
-    → (IsTrue told ↔ AllCommute entries before) → IsTrue told ↔ StandsAt runs i
-stands_there runs i run entries before told lt these so_far test =
-    let here : AllCommute entries before ≡ StandsPast (nets_of (take i runs)) (get_or runs i run) = ap (λ es. AllCommute es before) these ∙ ap (λ ns. StandsPast ns (get_or runs i run)) so_far in (
-      (λ told_so d. subst (StandsPast (nets_of (take i runs))) (get_or_default runs i run d lt) (subst (λ T. T) here (test.0 told_so))),
-      (λ stands. test.1 (subst (λ T. T) (sym here) (stands run))),
-    )
+pub stands_here : (runs : List Run) (i : ℕ) (before : List Entry) (told : Bool) → before ≡ nets_of (take i runs)
+    → (IsTrue told ↔ ((d : Run) → StandsPast before (get_or runs i d))) → IsTrue told ↔ StandsAt runs i
+stands_here runs i before told so_far test = (
+  (λ told_so d. subst (λ ns. StandsPast ns (get_or runs i d)) so_far (test.0 told_so d)),
+  (λ stands. test.1 (λ d. subst (λ ns. StandsPast ns (get_or runs i d)) (sym so_far) (stands d))),
+)
 
 -- a run at which the first ones end and that doesn't stand itself
 pub first_found : (runs : List Run) (first : ℕ) → first ≤ length runs → ((k : ℕ) → k < first → StandsAt runs k) → (first < length runs → ¬ StandsAt runs first) → IsFirstConflict runs first
@@ -122,3 +117,27 @@ block_seen runs n from first upto nets starts within inside listed are is before
       within = front_within (take n runs) first upto nets listed size;
       nets = front_taken (take n runs) first upto nets listed size ∙ before_front runs n first inside;
     }
+
+-- ---- run by run
+
+-- one run more stands
+pub clear_more : (runs : List Run) (i : ℕ) → ((k : ℕ) → k < i → StandsAt runs k) → StandsAt runs i → (k : ℕ) → k < i + 1 → StandsAt runs k
+clear_more runs i clear here k lt = elim (dec_le i k) [
+  | yes le ↦ let same : i ≡ k = omega arith in subst (StandsAt runs) same here
+  | no less ↦ clear k (omega arith)
+]
+
+-- all of the list
+pub all_taken : (nets : List Entry) (upto : ℕ) → upto ≡ length nets → take upto nets ≡ nets
+all_taken nets upto size = take_all upto nets (omega arith)
+
+-- the nets of the runs before a conflict are listed, and no others
+pub turn_seen : (runs : List Run) (first upto : ℕ) (nets : List Entry) → first ≤ length runs → upto ≡ length nets
+    → nets ≡ nets_of (take first runs)
+    → ((k : ℕ) → k < first → StandsAt runs k) → (first < length runs → ¬ StandsAt runs first)
+    → IsSeen runs (record { first = first; nets = nets; upto = upto })
+turn_seen runs first upto nets within size listed clear fails = record {
+  first = first_found runs first within clear fails;
+  within = omega arith;
+  nets = all_taken nets upto size ∙ listed;
+}

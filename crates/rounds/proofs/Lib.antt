@@ -1,6 +1,8 @@
 pub mod Times
+pub mod Marked
 pub mod Refuted
 pub mod Making
+pub mod Renewing
 pub mod Firsts
 pub mod Conflicts
 pub mod Room
@@ -8,3 +10,4 @@ pub mod Commits
 pub mod Reached
 pub mod Steps
 pub mod Ends
+pub mod Touched

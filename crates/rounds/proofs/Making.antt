@@ -5,12 +5,14 @@ use Rattle.std.proofs.lemmas.List.Elements.{All-push, All-same}
 use Rattle.std.specs.List.{All, sum_by, range_with_len}
 use native.Mathlib.Decide.{ℕ_discrete}
 use Rattle.meaning.specs.Entries.{State}
+use Rattle.meaning.specs.declared.held.Held.{Held}
+use Rattle.intentions.specs.Levels.{Intentions as View, opened}
 use Rattle.rounds.specs.Views.{meaning}
 use Rattle.speculate.specs.Runs.{IsRunOf}
 use Rattle.speculate.specs.declared.speculated.Run.{Run}
 use Rattle.batch.specs.declared.batch.Batch.{Batch}
 use Rattle.rounds.specs.declared.make.Made.{Made}
-use Rattle.rounds.specs.Passes.{bit, times, numbers_of, AreMade}
+use Rattle.rounds.specs.Passes.{bit, times, numbers_of, IsMade, AreMade}
 use Rattle.rounds.proofs.Times.{times_append, times_one, times_none, times_sum}
 use Rattle.std.specs.Fork.{slice_chunk}
 use Rattle.std.specs.Int.{div_ceil}
@@ -19,9 +21,6 @@ use Rattle.std.proofs.lemmas.List.Sums.{sum-map}
 use Rattle.std.proofs.lemmas.List.FromFn.{length-map-range_with_len, get_or-map-range_with_len}
 use Rattle.workers.specs.Working.{AreGivenOnce}
 use Rattle.workers.proofs.Once.{each_given, sum_given_once}
-
-abbrev pub IsMade : Batch → State → Made → Type 0
-IsMade batch state m = IsRunOf (meaning batch m.number state) m.run
 
 -- the numbers of two lists of runs
 times_numbers : (i : ℕ) (xs ys : List Made) → times i (numbers_of (xs ++ ys)) ≡ times i (numbers_of xs) + times i (numbers_of ys)
@@ -36,6 +35,12 @@ made_more batch state numbers i m made more lt is pushed so_far here = record {
       let right : times j (take (i + 1) numbers) ≡ times j (take i numbers) + times j (get_or numbers i 0 ∷ []) = ap (times j) (take_more numbers i 0 lt) ∙ times_append j (take i numbers) (get_or numbers i 0 ∷ []) in
       left ∙ (ap (λ n. n + times j (m.number ∷ [])) (so_far.dealt j) ∙ (ap (λ n. times j (take i numbers) + times j (n ∷ [])) is ∙ sym right));
 }
+
+-- runs that were made, and a view and labels that are ready for the next
+pub record IsGroupSoFar (batch : Batch) (state : State) (numbers : List ℕ) (view : View) (labels : List Held) (made : List Made) : Type 0 where
+  pub all_made : AreMade batch state numbers made
+  pub as_opened : view ≡ opened state
+  pub unlabelled : labels ≡ []
 
 -- a number stands in the chunks of a list, put together, as often as in the list
 times_chunks : (i size count : ℕ) (numbers : List ℕ) → 0 < size → count ≡ div_ceil (length numbers) size → sum_by (λ k. times i (slice_chunk numbers size k)) (range_with_len 0 count) ≡ times i numbers
@@ -81,6 +86,11 @@ all_front P (x ∷ xs) y all =
     let rest = all_front P xs y (λ k d lt. all (suc k) d (omega arith)) in
     (front P x xs (all 0 x (omega arith)) rest.0, rest.1)
 
+-- a run that is left was made, and has its marks
+pub last_made : (batch : Batch) (state : State) (left rest : List Made) (m : Made) → left ≡ rest ++ m ∷ [] → All (IsMade batch state) left
+    → IsMade batch state m
+last_made batch state left rest m popped each = (all_front (IsMade batch state) rest m (subst (All (IsMade batch state)) popped each)).1
+
 pub put_one : (batch : Batch) (state : State) (numbers : List ℕ) (old runs : List Run) (was counts : List ℕ) (left rest : List Made) (m : Made) → length was ≡ length old → m.number < length old → left ≡ rest ++ m ∷ [] → ArePut batch state numbers old runs was counts left → ArePut batch state numbers old (set runs m.number m.run) was (set counts m.number (get_or counts m.number 0 + 1)) rest
 put_one batch state numbers old runs was counts left rest m sizes inside popped put =
     let made = all_front (IsMade batch state) rest m (subst (All (IsMade batch state)) popped put.each) in
@@ -97,7 +107,7 @@ put_one batch state numbers old runs was counts left rest m sizes inside popped 
         | no other ↦ let s = split i in let none = times_none i m.number (λ h. other (sym h)) in get_or-set_other runs m.number i m.run d other ∙ put.same i d (omega arith)
       ];
       made = λ i d lt. elim (ℕ_discrete i m.number) [
-        | yes here ↦ let at : m.number < length runs = omega arith in subst (λ n. IsRunOf (meaning batch n state) (get_or (set runs m.number m.run) n d)) (sym here) (subst (IsRunOf (meaning batch m.number state)) (sym (get_or-set_same runs m.number m.run d at)) made.1)
+        | yes here ↦ let at : m.number < length runs = omega arith in subst (λ n. IsRunOf (meaning batch n state) (get_or (set runs m.number m.run) n d)) (sym here) (subst (IsRunOf (meaning batch m.number state)) (sym (get_or-set_same runs m.number m.run d at)) made.1.run)
         | no other ↦ let s = split i in let none = times_none i m.number (λ h. other (sym h)) in subst (IsRunOf (meaning batch i state)) (sym (get_or-set_other runs m.number i m.run d other)) (put.made i d (omega arith))
       ];
       told = λ i lt. elim (ℕ_discrete i m.number) [

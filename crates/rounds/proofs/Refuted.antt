@@ -1,11 +1,28 @@
 -- The runs that don't stand are told, each once.
-use Rattle.std.proofs.Common.{◌≡◌, ◌≢◌, ℕ, ◌+◌, ◌-◌, List, length, get_or, refl, sym, subst, arith}
+use Rattle.std.proofs.Common.{◌≡◌, ◌≢◌, ℕ, ◌+◌, ◌-◌, ◌<◌, ◌≤◌, inl, inr, List, [], ◌∷◌, ◌++◌, length, get_or, length-append, refl, sym, ap, ◌∙◌, subst, arith}
+use Rattle.std.proofs.lemmas.List.{get_or_default}
+use native.Mathlib.Decide.{ℕ_discrete}
 use Rattle.objects.specs.declared.entry.Entry.{Entry}
 use Rattle.speculate.specs.declared.speculated.Run.{Run}
 use Rattle.workers.specs.Working.{AreGivenOnce}
 use Rattle.workers.proofs.Once.{given_here, given_nowhere}
-use Rattle.rounds.specs.Passes.{times, Kept, IsDecided, AreRefuted}
-use Rattle.rounds.proofs.Times.{times_append}
+use Rattle.rounds.specs.Passes.{times, StandsPast, Kept, IsDecided, AreRefuted}
+use Rattle.rounds.proofs.Times.{times_append, times_one, times_none}
+
+-- of a run that stands nothing is told
+pub stands_decided : (runs : List Run) (since : List Entry) (place : ℕ) → ((d : Run) → StandsPast since (get_or runs place d))
+    → IsDecided runs since place []
+stands_decided runs since place stands = record { here = λ d. inl (stands d, refl); elsewhere = λ i other. refl; few = omega arith }
+
+-- of one that doesn't stand its number
+pub fails_decided : (runs : List Run) (since : List Entry) (place : ℕ) → place < length runs
+    → ¬ ((d : Run) → StandsPast since (get_or runs place d))
+    → IsDecided runs since place (place ∷ [])
+fails_decided runs since place lt fails = record {
+  here = λ d. inr ((λ past. fails (λ e. subst (StandsPast since) (get_or_default runs place d e lt) past)), times_one place);
+  elsewhere = λ i other. times_none i place (λ h. other (sym h));
+  few = omega arith;
+}
 
 -- what one place tells is all that is told of it
 told_at : (runs : List Run) (since : List Entry) (place i : ℕ) (own numbers : List ℕ) → place ≡ i → IsDecided runs since place own → times i numbers ≡ times i own → (d : Run) → Kept since (times i numbers) (get_or runs i d)
@@ -22,3 +39,47 @@ all_decided runs since from count numbers all given = record {
       let told = given_here (λ k. IsDecided runs since (from + k)) (times i) refl (times_append i) piece count (omega arith) (λ j own other decided. decided.elsewhere i (let apart : i ≢ from + j = omega arith in apart)) numbers given in
       told_at runs since (from + piece) i told.0 numbers place told.1 told.2 d;
 }
+
+-- what is told of the runs from one place on and before another, of which there are no more numbers than runs
+pub record AreToldUpto (runs : List Run) (since : List Entry) (from upto : ℕ) (numbers : List ℕ) : Type 0 where
+  pub ordered : from ≤ upto
+  pub refuted : AreRefuted runs since from upto numbers
+  pub few : length numbers + from ≤ upto
+
+-- nothing is told of no run
+pub none_told : (runs : List Run) (since : List Entry) (from : ℕ) → AreToldUpto runs since from from []
+none_told runs since from = record {
+  ordered = omega arith;
+  refuted = record { before = λ i lt. refl; beyond = λ i le. refl; each = λ i d low high. absurd (omega arith) };
+  few = omega arith;
+}
+
+-- one run more is decided
+pub told_more : (runs : List Run) (since : List Entry) (from place : ℕ) (numbers own more : List ℕ) → AreToldUpto runs since from place numbers → IsDecided runs since place own → more ≡ numbers ++ own
+    → AreToldUpto runs since from (place + 1) more
+told_more runs since from place numbers own more told decided is =
+    let split : (i : ℕ) → times i more ≡ times i numbers + times i own = λ i. ap (times i) is ∙ times_append i numbers own in
+    let size : length more ≡ length numbers + length own = ap (λ ns. length ns) is ∙ length-append numbers own in
+    let ordered = told.ordered in
+    let few = told.few in
+    let one = decided.few in
+    record {
+      ordered = omega arith;
+      refuted = record {
+        before = λ i lt. let s = split i in let apart : i ≢ place = omega arith in let none = decided.elsewhere i apart in let old = told.refuted.before i lt in omega arith;
+        beyond = λ i le. let s = split i in let apart : i ≢ place = omega arith in let none = decided.elsewhere i apart in let old = told.refuted.beyond i (omega arith) in omega arith;
+        each = λ i d low high. elim (ℕ_discrete i place) [
+          | yes here ↦
+              let s = split i in
+              let old = told.refuted.beyond i (omega arith) in
+              let same : times i more ≡ times i own = omega arith in
+              told_at runs since place i own more (sym here) decided same d
+          | no other ↦
+              let s = split i in
+              let none = decided.elsewhere i other in
+              let same : times i more ≡ times i numbers = omega arith in
+              subst (λ n. Kept since n (get_or runs i d)) (sym same) (told.refuted.each i d low (omega arith))
+        ];
+      };
+      few = omega arith;
+    }

@@ -3,3 +3,4 @@ pub mod Views
 pub mod Passes
 pub mod Openings
 pub mod Checks
+pub mod Pending

@@ -1,7 +1,12 @@
 -- What the passes over pending runs answer: which run is the first that doesn't stand, which are to be made again, and those that were made.
 use Rattle.std.specs.Prelude.{◌≡◌, ◌≢◌, ℕ, ◌+◌, ◌<◌, ◌≤◌, ◌⊎◌, ◌==◌, Bool, cond, List, [], ◌∷◌, ◌++◌, length, map, take, slice_index_or}
 use Rattle.std.specs.List.{All}
+use Rattle.std.specs.declared.vec.Vec.{Vec}
+use Rattle.std.specs.declared.alloc.Global.{Global}
 use Rattle.meaning.specs.Entries.{State, AllCommute}
+use Rattle.committed.specs.Marks.{marks_of}
+use Rattle.committed.specs.NumberSets.{Has}
+use Rattle.committed.specs.declared.marks.Mark.{Mark}
 use Rattle.objects.specs.declared.entry.Entry.{Entry}
 use Rattle.rounds.specs.Views.{blocks_of, meaning}
 use Rattle.speculate.specs.Runs.{IsRunOf, IsWithinOthers}
@@ -22,6 +27,10 @@ nets_of (run ∷ runs) = run.net.items ++ nets_of runs
 -- each entry of the run commutes forward with each of the list
 abbrev pub StandsPast : List Entry → Run → Type 0
 StandsPast since run = AllCommute run.entries.items since
+
+-- the marks of each run's entries
+abbrev pub AreMarked : List Run → List (Vec Mark Global) → Type 0
+AreMarked runs marks = map (λ m. m.items) marks ≡ map (λ r. marks_of r.entries.items) runs
 
 -- run i stands past the nets of those before it
 abbrev pub StandsAt : List Run → ℕ → Type 0
@@ -69,12 +78,23 @@ pub record AreRefuted (runs : List Run) (since : List Entry) (from upto : ℕ) (
   pub beyond : (i : ℕ) → upto ≤ i → times i numbers ≡ 0
   pub each : (i : ℕ) (d : Run) → from ≤ i → i < upto → Kept since (times i numbers) (slice_index_or runs i d)
 
+-- those of these places whose runs don't stand past these entries, each once
+pub record AreRefutedAmong (runs : List Run) (since : List Entry) (places numbers : List ℕ) : Type 0 where
+  pub elsewhere : (i : ℕ) → ¬ Has places i → times i numbers ≡ 0
+  pub each : (k : ℕ) (d : Run) → k < length places → Kept since (times (slice_index_or places k 0) numbers) (slice_index_or runs (slice_index_or places k 0) d)
+  pub few : length numbers ≤ length places
+
 abbrev pub numbers_of : List Made → List ℕ
 numbers_of = map (λ m. m.number)
 
+-- a run of its number on this state, with its marks
+pub record IsMade (batch : Batch) (state : State) (made : Made) : Type 0 where
+  pub run : IsRunOf (meaning batch made.number state) made.run
+  pub marks : made.marks.items ≡ marks_of made.run.entries.items
+
 -- a run for each of the numbers, in any order, made on this state
 pub record AreMade (batch : Batch) (state : State) (numbers : List ℕ) (made : List Made) : Type 0 where
-  pub each : All (λ m. IsRunOf (meaning batch m.number state) m.run) made
+  pub each : All (IsMade batch state) made
   pub dealt : (i : ℕ) → times i (numbers_of made) ≡ times i numbers
 
 -- the numbered runs were made on this state and put in their places, and counted. The others stay

@@ -1,11 +1,12 @@
 //! The first run that doesn't stand past those before it, which ends its round.
-ghost use Rattle.std.specs.Prelude.{◌≡◌, ◌↔◌, ◌+◌, ◌<◌, ◌≤◌, IfOk, OnOk, IsTrue, length, take};
-ghost use Rattle.rounds.specs.Passes.{nets_of, StandsAt, IsFirstConflict, IsFirstFrom, AreStarts};
+ghost use Rattle.std.specs.Prelude.{◌≡◌, ◌↔◌, ◌+◌, ◌<◌, ◌≤◌, IfOk, OnOk, IsTrue, length, take, slice_index_or};
+ghost use Rattle.rounds.specs.Passes.{nets_of, StandsAt, IsFirstConflict, IsFirstFrom, AreStarts, AreMarked, StandsPast};
 ghost use Rattle.rounds.specs.Checks.{IsSeen};
+ghost use Rattle.speculate.specs.declared.speculated.Run.{Run as OneRun};
 
-use crate::crew::{Crew, checkers};
+use crate::crew::Crew;
 use crate::plan::Plan;
-use intentions::Committed;
+use intentions::{Committed, Mark, marks_of};
 use speculate::{Gate, NoMemory, Run};
 use std::alloc::Global;
 use std::thread::Threads;
@@ -21,7 +22,7 @@ pub(crate) struct Seen {
 }
 
 /// How many runs the first block has above those that are expected to stand.
-const SPARE: usize = 8;
+const SPARE: usize = 2;
 
 // Lists the nets of the runs from one place on after those of the runs before it, and tells for each
 // run how many entries come before its net.
@@ -44,26 +45,35 @@ fn list_nets(
     Ok(())
 }
 
-// Whether a run stands past the nets of those before it.
-fn stands_at(runs: &[Run], place: usize, nets: &Committed, starts: &[usize]) -> bool
+/// Whether a run stands past the first entries of a list, up to a place. The marks are those of each
+/// run's entries.
+pub(crate) fn stands_past(
+    runs: &[Run],
+    marks: &[Vec<Mark>],
+    place: usize,
+    nets: &Committed,
+    upto: usize,
+) -> bool
     requires place { place < length runs.now }
-    requires nets { nets.now ≡ nets_of runs.now }
-    requires starts { AreStarts runs.now starts.now }
-    ensures { IsTrue result ↔ StandsAt runs.now place }
+    requires marked { AreMarked runs.now marks.now }
+    requires upto { upto ≤ length nets.now }
+    ensures { IsTrue result ↔ ((d : OneRun) → StandsPast (take upto nets.now) (slice_index_or runs.now place d)) }
 {
-    nets.stands(&runs[place].entries, 0, starts[place])
+    nets.stands(&runs[place].entries, &marks[place], upto)
 }
 
-// The first conflict from one place on. The workers check the runs side by side, a run as a piece.
+// The first conflict from one place on. All workers check the runs side by side, a run as a piece.
 fn first_from<R: Threads + Sync, G: Gate>(
     crew: &Crew<R, G>,
     runs: &[Run],
+    marks: &[Vec<Mark>],
     from: usize,
     nets: &Committed,
     starts: &[usize],
 ) -> Result<usize, NoMemory>
     requires few { length runs.now ≤ 10000 }
     requires from { from ≤ length runs.now }
+    requires marked { AreMarked runs.now marks.now }
     requires nets { nets.now ≡ nets_of runs.now }
     requires starts { AreStarts runs.now starts.now }
     ensures { IfOk result (λ first. IsFirstFrom runs.now from first) }
@@ -79,30 +89,29 @@ fn first_from<R: Threads + Sync, G: Gate>(
         threads,
         alloc,
         (runs.len() - from) as u32,
-        checkers(plan, &runs[from..]),
+        plan.workers,
         &|piece: u32| -> bool
-            requires { (from + piece < length runs.now) × (length runs.now ≤ 10000) × (nets.now ≡ nets_of runs.now) × AreStarts runs.now starts.now }
+            requires { (from + piece < length runs.now) × (length runs.now ≤ 10000) × AreMarked runs.now marks.now × (nets.now ≡ nets_of runs.now) × AreStarts runs.now starts.now }
             ensures { IsTrue result ↔ StandsAt runs.entry.now (from + piece) }
         {
             let place = from + piece as usize;
             gate.pass(0, place as u32 + 1);
-            stands_at(runs, place, nets, starts)
+            stands_past(runs, marks, place, nets, starts[place])
         },
     )?;
     Ok(from + passed as usize)
 }
 
-/// The first conflict, and the nets of the runs before it. The runs are looked at in blocks, each
-/// twice as long as the one before it, until one has a conflict. The first block has a few more runs
-/// than are expected to stand.
-///
-/// `NoMemory` is answered where a growth of memory was refused.
-pub(crate) fn seek_conflict<R: Threads + Sync, G: Gate>(
+// The first conflict, sought in blocks of runs, each twice as long as the one before it, until one
+// has a conflict. The first block has a few more runs than are expected to stand.
+fn seek_in_blocks<R: Threads + Sync, G: Gate>(
     crew: &Crew<R, G>,
     runs: &[Run],
+    marks: &[Vec<Mark>],
     expected: usize,
 ) -> Result<Seen, NoMemory>
     requires few { length runs.now ≤ 10000 }
+    requires marked { AreMarked runs.now marks.now }
     ensures { IfOk result (λ seen. IsSeen runs.now seen) }
 {
     let mut nets = Committed::new(crew.alloc);
@@ -112,7 +121,7 @@ pub(crate) fn seek_conflict<R: Threads + Sync, G: Gate>(
         let end = expected.saturating_add(2 * from + SPARE).min(runs.len());
         let block = &runs[..end];
         list_nets(block, from, &mut nets, &mut starts)?;
-        let first = first_from(crew, block, from, &nets, &starts)?;
+        let first = first_from(crew, block, &marks[..end], from, &nets, &starts)?;
         if first < end {
             let upto = starts[first];
             return Ok(Seen { first, nets, upto });
@@ -125,6 +134,74 @@ pub(crate) fn seek_conflict<R: Threads + Sync, G: Gate>(
         nets,
         upto,
     })
+}
+
+// The first conflict, sought run by run: the net of a run that stands is listed before the next one
+// is checked.
+fn seek_in_turn<G: Gate>(
+    alloc: Global,
+    runs: &[Run],
+    marks: &[Vec<Mark>],
+    gate: &G,
+) -> Result<Seen, NoMemory>
+    requires few { length runs.now ≤ 10000 }
+    requires marked { AreMarked runs.now marks.now }
+    ensures { IfOk result (λ seen. IsSeen runs.now seen) }
+{
+    let mut nets = Committed::new(alloc);
+    for place in 0..runs.len() {
+        gate.pass(0, place as u32 + 1);
+        let upto = nets.len();
+        if !stands_past(runs, marks, place, &nets, upto) {
+            return Ok(Seen {
+                first: place,
+                nets,
+                upto,
+            });
+        }
+        nets.append(&runs[place].net)?;
+    }
+    let upto = nets.len();
+    Ok(Seen {
+        first: runs.len(),
+        nets,
+        upto,
+    })
+}
+
+/// The first conflict, and the nets of the runs before it. Where each piece of work is to be a run of
+/// its own and there are several workers, the runs are looked at in blocks, whose runs the workers
+/// check side by side. Each block is twice as long as the one before it, until one has a conflict, and
+/// the first has a few more runs than are expected to stand. Otherwise one worker checks each run and
+/// lists its net, run by run, up to the first conflict: listing a net costs as much as checking it, and
+/// only one worker can list.
+///
+/// `NoMemory` is answered where a growth of memory was refused.
+pub(crate) fn seek_conflict<R: Threads + Sync, G: Gate>(
+    crew: &Crew<R, G>,
+    runs: &[Run],
+    marks: &[Vec<Mark>],
+    expected: usize,
+) -> Result<Seen, NoMemory>
+    requires few { length runs.now ≤ 10000 }
+    requires marked { AreMarked runs.now marks.now }
+    ensures { IfOk result (λ seen. IsSeen runs.now seen) }
+{
+    if crew.plan.cut > 1 || crew.plan.workers == 1 {
+        return seek_in_turn(crew.alloc, runs, marks, crew.gate);
+    }
+    seek_in_blocks(crew, runs, marks, expected)
+}
+
+/// The marks of each run's entries.
+pub(crate) fn mark_runs(alloc: Global, runs: &[Run]) -> Result<Vec<Vec<Mark>>, NoMemory>
+    ensures { IfOk result (λ marks. AreMarked runs.now marks.items) }
+{
+    let mut marks = Vec::with_capacity(alloc, runs.len())?;
+    for run in runs {
+        marks.push(marks_of(alloc, &run.entries)?)?;
+    }
+    Ok(marks)
 }
 
 /// The least place (from 0) of a run of which some entry doesn't commute forward with some net
@@ -150,6 +227,7 @@ pub fn first_conflict<R: Threads + Sync, G: Gate>(
         gate,
         operations_each: 1,
     };
-    let seen = seek_conflict(&crew, runs, 0)?;
+    let marks = mark_runs(alloc, runs)?;
+    let seen = seek_conflict(&crew, runs, &marks, 0)?;
     Ok(seen.first)
 }

@@ -1,5 +1,5 @@
 //! What the passes of a round are run with, and how many workers pay.
-ghost use Rattle.std.specs.Prelude.{◌≤◌};
+ghost use Rattle.std.specs.Prelude.{◌≡◌, ◌<◌, ◌≤◌, ℕ, length, slice_index_or};
 
 use crate::plan::Plan;
 use batch::Batch;
@@ -15,6 +15,27 @@ pub(crate) struct Crew<'a, R, G> {
     pub(crate) plan: Plan,
     pub(crate) gate: &'a G,
     pub(crate) operations_each: usize,
+}
+
+impl<'a, R, G> Crew<'a, R, G> {
+    /// For the runs of a batch.
+    pub(crate) fn of(
+        threads: &'a R,
+        alloc: Global,
+        batch: &Batch,
+        plan: Plan,
+        gate: &'a G,
+    ) -> Crew<'a, R, G>
+        ensures { result.plan ≡ plan }
+    {
+        Crew {
+            threads,
+            alloc,
+            plan,
+            gate,
+            operations_each: operations_each(batch),
+        }
+    }
 }
 
 /// How many operations a worker performs, at the least, for each transaction of a cut above 1: fewer
@@ -37,17 +58,26 @@ pub(crate) fn paying(plan: Plan, operations: usize) -> u32
     workers.max(1) as u32
 }
 
-/// How many workers to check these runs with.
-pub(crate) fn checkers(plan: Plan, runs: &[Run]) -> u32
+/// How many workers to make so many runs with.
+pub(crate) fn makers<R, G>(crew: &Crew<R, G>, runs: usize) -> u32
+    ensures { (1 ≤ result) × (result ≤ crew.now.plan.workers) }
+{
+    paying(crew.plan, runs.saturating_mul(crew.operations_each))
+}
+
+/// How many workers to check the runs of these numbers with.
+pub(crate) fn checkers(plan: Plan, runs: &[Run], numbers: &[usize]) -> u32
+    requires { (k : ℕ) → k < length numbers.now → slice_index_or numbers.now k 0 < length runs.now }
     ensures { (1 ≤ result) × (result ≤ plan.workers) }
 {
-    let operations = runs
-        .iter()
-        .fold(0usize, |sum, run| sum.saturating_add(run.entries.len()));
+    let mut operations: usize = 0;
+    for number in numbers {
+        operations = operations.saturating_add(runs[*number].entries.len());
+    }
     paying(plan, operations / CHECKS)
 }
 
-/// How many operations a transaction of the batch has, taken over all of them, rounded up.
-pub(crate) fn operations_each(batch: &Batch) -> usize {
+// How many operations a transaction of the batch has, taken over all of them, rounded up.
+fn operations_each(batch: &Batch) -> usize {
     (batch.operations() as usize).div_ceil(batch.transactions.len().max(1))
 }

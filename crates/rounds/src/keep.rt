@@ -1,9 +1,13 @@
 //! The runs that no longer stand after a commit.
-ghost use Rattle.std.specs.Prelude.{◌+◌, ◌<◌, ◌≤◌, IfOk, length, take};
-ghost use Rattle.rounds.specs.Passes.{AreRefuted, IsDecided};
+ghost use Rattle.std.specs.Prelude.{◌<◌, ◌≤◌, ℕ, IfOk, length, take, slice_index_or};
+ghost use Rattle.committed.specs.NumberSets.{Has};
+ghost use Rattle.rounds.specs.Passes.{AreMarked, AreRefuted, AreRefutedAmong, IsDecided, times};
+ghost use Rattle.rounds.specs.Pending.{ArePlaces, Tells};
 
+use crate::check::stands_past;
 use crate::crew::{Crew, checkers};
-use intentions::Committed;
+use crate::pending::Pending;
+use intentions::{Committed, Mark};
 use speculate::{Gate, NoMemory, Run};
 use std::alloc::Global;
 use std::thread::Threads;
@@ -14,38 +18,66 @@ use workers::give_all;
 fn refuted_at(
     alloc: Global,
     runs: &[Run],
+    marks: &[Vec<Mark>],
     place: usize,
     nets: &Committed,
     upto: usize,
 ) -> Result<Vec<usize>, NoMemory>
     requires place { place < length runs.now }
+    requires marked { AreMarked runs.now marks.now }
     requires upto { upto ≤ length nets.now }
     ensures { IfOk result (λ told. IsDecided runs.now (take upto nets.now) place told.items) }
 {
     let mut told = Vec::new(alloc);
-    if !nets.stands(&runs[place].entries, 0, upto) {
+    if !stands_past(runs, marks, place, nets, upto) {
         told.push(place)?;
     }
     Ok(told)
 }
 
-/// The numbers of the runs, from one place on, that don't stand past what was committed, in any
-/// order: that is the first nets, up to a place. The workers decide them side by side, a run as a
-/// piece.
-///
-/// `NoMemory` is answered where a growth of memory was refused.
-pub(crate) fn keep_all<R: Threads + Sync, G: Gate>(
+// The numbers of those of the listed runs that don't stand past what was committed, in the order of
+// the list: what one worker does alone. The list is of runs from one place on.
+fn refuted_among<G: Gate>(
+    alloc: Global,
+    runs: &[Run],
+    marks: &[Vec<Mark>],
+    from: usize,
+    touched: &[usize],
+    nets: &Committed,
+    upto: usize,
+    gate: &G,
+) -> Result<Vec<usize>, NoMemory>
+    requires few { length runs.now ≤ 10000 }
+    requires places { ArePlaces touched.now from (length runs.now) }
+    requires marked { AreMarked runs.now marks.now }
+    requires upto { upto ≤ length nets.now }
+    ensures { IfOk result (λ numbers. AreRefutedAmong runs.now (take upto nets.now) touched.now numbers.items) }
+{
+    let mut numbers = Vec::new(alloc);
+    for place in touched {
+        gate.pass(0, 10000 + (*place - from) as u32 + 1);
+        if !stands_past(runs, marks, *place, nets, upto) {
+            numbers.push(*place)?;
+        }
+    }
+    Ok(numbers)
+}
+
+// The same. The workers decide the runs side by side, a run as a piece.
+fn refuted_of<R: Threads + Sync, G: Gate>(
     crew: &Crew<R, G>,
     runs: &[Run],
+    marks: &[Vec<Mark>],
     from: usize,
+    touched: &[usize],
     nets: &Committed,
     upto: usize,
 ) -> Result<Vec<usize>, NoMemory>
     requires few { length runs.now ≤ 10000 }
-    requires from { from ≤ length runs.now }
+    requires places { ArePlaces touched.now from (length runs.now) }
+    requires marked { AreMarked runs.now marks.now }
     requires upto { upto ≤ length nets.now }
-    ensures refuted { IfOk result (λ numbers. AreRefuted runs.now (take upto nets.now) from (length runs.now) numbers.items) }
-    ensures few { IfOk result (λ numbers. length numbers.items ≤ 10000) }
+    ensures { IfOk result (λ numbers. AreRefutedAmong runs.now (take upto nets.now) touched.now numbers.items) }
 {
     let Crew {
         threads,
@@ -54,17 +86,50 @@ pub(crate) fn keep_all<R: Threads + Sync, G: Gate>(
         gate,
         ..
     } = *crew;
+    let workers = checkers(plan, runs, touched);
+    if workers == 1 {
+        return refuted_among(alloc, runs, marks, from, touched, nets, upto, gate);
+    }
     give_all(
         threads,
         alloc,
-        (runs.len() - from) as u32,
-        checkers(plan, &runs[from..]),
+        touched.len() as u32,
+        workers,
         &|piece: u32| -> Result<Vec<usize>, NoMemory>
-            requires { (from + piece < length runs.now) × (length runs.now ≤ 10000) × (upto ≤ length nets.now) }
-            ensures { IfOk result (λ told. IsDecided runs.entry.now (take upto nets.entry.now) (from + piece) told.items) }
+            requires { (piece < length touched.now) × (length runs.now ≤ 10000) × ArePlaces touched.now from (length runs.now) × AreMarked runs.now marks.now × (upto ≤ length nets.now) }
+            ensures { IfOk result (λ told. (piece < length touched.entry.now) × IsDecided runs.entry.now (take upto nets.entry.now) (slice_index_or touched.entry.now piece 0) told.items) }
         {
-            gate.pass(0, 10000 + piece + 1);
-            refuted_at(alloc, runs, from + piece as usize, nets, upto)
+            let place = touched[piece as usize];
+            gate.pass(0, 10000 + (place - from) as u32 + 1);
+            refuted_at(alloc, runs, marks, place, nets, upto)
         },
     )
+}
+
+/// The numbers of the runs, from one place on, that don't stand past what was committed, in any
+/// order: that is the first nets, up to a place. Only the runs that the commit may touch are decided,
+/// since the others stand: the workers decide them side by side, a run as a piece.
+///
+/// `NoMemory` is answered where a growth of memory was refused.
+pub(crate) fn keep_all<R: Threads + Sync, G: Gate>(
+    crew: &Crew<R, G>,
+    runs: &[Run],
+    marks: &[Vec<Mark>],
+    pending: &mut Pending,
+    from: usize,
+    nets: &Committed,
+    upto: usize,
+) -> Result<Vec<usize>, NoMemory>
+    requires few { length runs.now ≤ 10000 }
+    requires from { from ≤ length runs.now }
+    requires marked { AreMarked runs.now marks.now }
+    requires tells { Tells pending.old marks.now from }
+    requires upto { upto ≤ length nets.now }
+    ensures refuted { IfOk result (λ numbers. AreRefuted runs.now (take upto nets.now) from (length runs.now) numbers.items) }
+    ensures few { IfOk result (λ numbers. length numbers.items ≤ 10000) }
+    ensures tells { IfOk result (λ numbers. Tells pending.new marks.now from) }
+    ensures touched { IfOk result (λ numbers. (i : ℕ) → 0 < times i numbers.items → Has pending.new.touched i) }
+{
+    pending.touch(crew.alloc, marks, from, &nets.entries()[..upto])?;
+    refuted_of(crew, runs, marks, from, pending.touched(), nets, upto)
 }

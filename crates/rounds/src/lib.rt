@@ -8,7 +8,9 @@ mod keep;
 pub mod laws;
 mod make;
 mod openings;
+mod pending;
 mod plan;
+mod renew;
 
 pub use batch::{Batch, Outcome, Record};
 pub use check::first_conflict;

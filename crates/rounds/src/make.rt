@@ -5,21 +5,23 @@ ghost use Rattle.std.specs.List.{All};
 ghost use Rattle.meaning.specs.Entries.{kinds};
 ghost use Rattle.rounds.specs.Passes.{CanBeMade, AreMade};
 
-use crate::crew::{Crew, paying};
+use crate::crew::{Crew, makers};
 use batch::Batch;
-use speculate::{Gate, NoMemory, Objects, Run, run};
+use intentions::{Mark, marks_of};
+use speculate::{Gate, NoMemory, Objects, Run, View, run_in};
 use std::alloc::Global;
 use std::thread::Threads;
 use workers::give_all;
 
-/// A run of the transaction with this number, counted from 0.
+/// A run of the transaction with this number, counted from 0, and the marks of its entries.
 #[derive(Drop)]
 pub(crate) struct Made {
     pub(crate) number: usize,
     pub(crate) run: Run,
+    pub(crate) marks: Vec<Mark>,
 }
 
-// A run for each of the numbers of a group, one after the other.
+// A run for each of the numbers of a group, one after the other, in one view.
 fn make_group<R: Threads + Sync, G: Gate>(
     threads: &R,
     alloc: Global,
@@ -35,12 +37,25 @@ fn make_group<R: Threads + Sync, G: Gate>(
     ensures { IfOk result (λ made. AreMade batch.now objects.now group.now made.items) }
 {
     let mut all = Vec::with_capacity(alloc, group.len())?;
+    let mut view = View::open(alloc, objects)?;
+    let mut labels = Vec::new(alloc);
     for number in group {
         let transaction = (*number + 1) as u32;
-        let run = run(threads, alloc, objects, batch, transaction, width, gate)?;
+        let run = run_in(
+            threads,
+            alloc,
+            &mut view,
+            &mut labels,
+            batch,
+            transaction,
+            width,
+            gate,
+        )?;
+        let marks = marks_of(alloc, &run.entries)?;
         all.push(Made {
             number: *number,
             run,
+            marks,
         })?;
     }
     Ok(all)
@@ -78,16 +93,15 @@ pub(crate) fn make_all<R: Threads + Sync, G: Gate>(
         alloc,
         plan,
         gate,
-        operations_each,
+        ..
     } = *crew;
     let cut = plan.cut as usize;
-    let operations = numbers.len().saturating_mul(operations_each);
     let width = plan.width(numbers.len() as u32);
     give_all(
         threads,
         alloc,
         numbers.len().div_ceil(cut) as u32,
-        paying(plan, operations),
+        makers(crew, numbers.len()),
         &|piece: u32| -> Result<Vec<Made>, NoMemory>
             requires { (cut ≤ 1000) × (piece * cut < length numbers.now) × (1 ≤ width) × (width ≤ 64) × (kinds objects.now ≡ kinds batch.now.objects) × All (λ n. CanBeMade batch.now objects.now n) numbers.now }
             ensures { IfOk result (λ made. AreMade batch.entry.now objects.entry.now (slice_chunk numbers.entry.now cut piece) made.items) }

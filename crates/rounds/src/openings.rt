@@ -1,54 +1,27 @@
 //! The loop of openings: each round makes the runs that are needed, seeks the first that doesn't
 //! stand, commits those before it, and tells which of the others are kept.
-ghost use Rattle.std.specs.Prelude.{◌≡◌, ◌+◌, ◌<◌, ◌≤◌, ℕ, length, IfOk, OnOk, map, slice_index_or};
-ghost use Rattle.std.specs.List.{All};
-ghost use Rattle.meaning.specs.Entries.{after, kinds};
+ghost use Rattle.std.specs.Prelude.{◌≡◌, ◌<◌, ◌≤◌, ℕ, length, IfOk, OnOk, map, slice_index_or};
+ghost use Rattle.meaning.specs.Entries.{after};
 ghost use Rattle.meaning.specs.Batch.{all_shown, final_state, nets};
 ghost use Rattle.meaning.specs.Rounds.{Rounds};
 ghost use Rattle.batch.specs.Views.{record_view};
 ghost use Rattle.intentions.specs.Levels.{AllEntriesLegal, AllHaveRoom};
 ghost use Rattle.rounds.specs.Views.{start_of, blocks_of};
-ghost use Rattle.rounds.specs.Passes.{CanBeMade, nets_of, times, AreRenewed};
+ghost use Rattle.rounds.specs.Passes.{nets_of, times};
 ghost use Rattle.rounds.specs.Openings.{AreCounts};
 
-use crate::check::seek_conflict;
-use crate::crew::{Crew, operations_each};
+use crate::check::{mark_runs, seek_conflict};
+use crate::crew::Crew;
 use crate::keep::keep_all;
-use crate::make::{Made, make_all};
+use crate::pending::Pending;
 use crate::plan::Plan;
+use crate::renew::renew;
 use batch::{Batch, Outcome, Record};
 use intentions::perform_each;
 use meaning::End;
 use speculate::{Gate, NoMemory, Objects, Run};
 use std::alloc::Global;
 use std::thread::Threads;
-
-// Makes runs for the stale numbers, puts them in their places and counts them.
-fn renew<R: Threads + Sync, G: Gate>(
-    crew: &Crew<R, G>,
-    batch: &Batch,
-    objects: &Objects,
-    stale: &[usize],
-    runs: &mut Vec<Run>,
-    counts: &mut Vec<u32>,
-) -> Result<(), NoMemory>
-    requires every { length runs.old.items ≡ length batch.now.transactions.items }
-    requires counted { length counts.old.items ≡ length batch.now.transactions.items }
-    requires few { (length batch.now.transactions.items ≤ 10000) × (length stale.now ≤ 10000) }
-    requires numbers { (i : ℕ) → 0 < times i stale.now → i < length batch.now.transactions.items }
-    requires made { All (λ n. CanBeMade batch.now objects.now n) stale.now }
-    requires same_kinds { kinds objects.now ≡ kinds batch.now.objects }
-    requires room { (i : ℕ) → slice_index_or counts.old.items i 0 + times i stale.now ≤ 10001 }
-    ensures { IfOk result (λ _. AreRenewed batch.now objects.now stale.now runs.old.items runs.new.items counts.old.items counts.new.items) }
-{
-    let mut made = make_all(crew, batch, objects, stale)?;
-    'putting: while let Some(next) = made.pop() {
-        let Made { number, run } = next;
-        runs[number] = run;
-        counts[number] += 1;
-    }
-    Ok(())
-}
 
 // Commits runs in order: their nets are performed on the objects.
 fn commit(runs: &[Run], objects: &mut Objects) -> Result<(), NoMemory>
@@ -145,27 +118,39 @@ pub fn execute<R: Threads + Sync, G: Gate>(
     let count = batch.transactions.len();
     let mut objects = batch.objects.copy()?;
     let mut runs = blank_runs(alloc, count)?;
+    let mut marks = mark_runs(alloc, &runs)?;
     let mut counts = no_counts(alloc, count)?;
     let mut stale = all_numbers(alloc, count)?;
+    let mut pending = Pending::new(alloc, &marks)?;
     let mut opened: usize = 0;
     let mut passed: usize = 0;
     let mut rounds: u32 = 0;
-    let crew = Crew {
-        threads,
-        alloc,
-        plan,
-        gate,
-        operations_each: operations_each(batch),
-    };
+    let crew = Crew::of(threads, alloc, batch, plan, gate);
     'opening: while opened < count {
-        renew(&crew, batch, &objects, &stale, &mut runs, &mut counts)?;
+        renew(
+            &crew,
+            batch,
+            &objects,
+            &stale,
+            &mut runs,
+            &mut marks,
+            &mut counts,
+        )?;
         // As many are expected to stand as in the round before.
-        let seen = seek_conflict(&crew, &runs[opened..], passed)?;
+        let seen = seek_conflict(&crew, &runs[opened..], &marks[opened..], passed)?;
         passed = seen.first;
         commit(&runs[opened..opened + passed], &mut objects)?;
         opened += passed;
         rounds += 1;
-        stale = keep_all(&crew, &runs, opened, &seen.nets, seen.upto)?;
+        stale = keep_all(
+            &crew,
+            &runs,
+            &marks,
+            &mut pending,
+            opened,
+            &seen.nets,
+            seen.upto,
+        )?;
     }
     let records = records_of(alloc, runs)?;
     Ok(Outcome {

@@ -82,30 +82,29 @@ child_moves child held state since legal commute =
     }
 
 -- that a test was true of its entries and all that was listed
-pub stand : (run : Ahead) (since entries : List Entry) (count : ℕ) (stands : Bool) → (IsTrue stands ↔ AllStand entries (slice_range since 0 count)) → stands ≡ true → entries ≡ run.entries.items → count ≡ length since → AllStand run.entries.items since
+pub stand : (run : Ahead) (since entries : List Entry) (count : ℕ) (stands : Bool) → (IsTrue stands ↔ AllStand entries (take count since)) → stands ≡ true → entries ≡ run.entries.items → count ≡ length since → AllStand run.entries.items since
 stand run since entries count stands exact so is all =
-    let whole_length : count - 0 ≡ length since = omega arith in
-    let whole : slice_range since 0 count ≡ since = ap (λ n. take n since) whole_length ∙ take-length since in
-    subst (AllStand run.entries.items) whole (subst (λ es. AllStand es (slice_range since 0 count)) is (exact.0 so))
+    let whole : take count since ≡ since = ap (λ n. take n since) all ∙ take-length since in
+    subst (AllStand run.entries.items) whole (subst (λ es. AllStand es (take count since)) is (exact.0 so))
 
 -- where its entries stand, a child that was run before is run the same here
 module _ (child : Tried) (held : List Held) (since : List Entry) (state : State) (run : Ahead) (before : IsRunBefore child held since state run) (stand : AllStand run.entries.items since) where
   same_here : IsSameRun (acted child held before.from) (acted child held state)
   same_here =
-      let entries = ap (λ (v : View). v.entries) before.ahead.took in
+      let entries = ap (λ (v : View). v.entries) before.ahead.0.took in
       subst (λ s. IsSameRun (acted child held before.from) (acted child held s)) (sym before.leads.1)
       (child_moves child held before.from since before.leads.0 (subst (λ es. AllCommute es since) entries stand))
 
   -- so its net is what it leaves here
   net_here : run.net.items ≡ kept_of_child (record_of (acted child held state))
-  net_here = ap (λ (v : View). v.net) before.ahead.took ∙ ap kept_of_child (sym same_here.taken)
+  net_here = ap (λ (v : View). v.net) before.ahead.0.took ∙ ap kept_of_child (sym same_here.taken)
 
   -- and that is what is added to the list of what siblings left
   pub net_listed : (net later : List Entry) → net ≡ run.net.items → later ≡ since ++ net → later ≡ since ++ kept_of_child (record_of (acted child held state))
   net_listed net later is more = more ∙ ap (λ es. since ++ es) (is ∙ net_here)
 
   entries_here : run.entries.items ≡ entries_of_child (record_of (acted child held state))
-  entries_here = ap (λ (v : View). v.entries) before.ahead.took ∙ ap entries_of_child (sym same_here.taken)
+  entries_here = ap (λ (v : View). v.entries) before.ahead.0.took ∙ ap entries_of_child (sym same_here.taken)
 
   pub net_is_legal : AllEntriesLegal state run.net.items
   net_is_legal = subst (AllEntriesLegal state) (sym net_here) (acted_leads child held state).0
@@ -116,7 +115,7 @@ module _ (child : Tried) (held : List Held) (since : List Entry) (state : State)
   -- and its run can be taken in
   pub taken_in : (view next : View) (entries net : List Entry) → entries ≡ run.entries.items → net ≡ run.net.items → next ≡ absorbed view entries net → ShowsTried in_view child (acted child held state) run.tried view next
   taken_in view next entries net entries_are net_is is =
-      let shows = before.ahead in
+      let shows = before.ahead.0 in
       record {
         tree = shows.tree ∙ ap shown_child (sym same_here.taken);
         end = shows.end ∙ sym same_here.outcome;

@@ -13,10 +13,11 @@ ghost use Rattle.speculate.specs.Running.{in_view};
 ghost use Rattle.speculate.specs.Ahead.{CanAllTry, IsRunAhead, AreRunAhead, IsRunBefore};
 
 use crate::gate::Gate;
+use crate::worth::is_worth;
 use batch::{
     Block, Record, Step, Subaction, Taken, Tried, add_label, handled, taker, test_holds, untaken,
 };
-use intentions::{Committed, Entry, Lists, NoMemory, Objects, View};
+use intentions::{Committed, Entry, Lists, Mark, NoMemory, Objects, View, marks_of};
 use meaning::{End, Held};
 use std::alloc::Global;
 use std::thread::{Threads, join};
@@ -49,11 +50,12 @@ struct Fork {
 }
 
 /// The run of a child in a view of its own, with all its entries and its net (Weihl 1988: an
-/// intentions list).
+/// intentions list) and the marks of the former.
 #[derive(Drop)]
 struct Ahead {
     tried: Tried,
     entries: Vec<Entry>,
+    marks: Vec<Mark>,
     net: Vec<Entry>,
 }
 
@@ -90,7 +92,7 @@ fn run_steps<T: Threads + Sync, G: Gate>(
         (λ r. ShowsRun in_view (one (steps_view steps.now) labels.old.items (state_of_view view.old)) r view.old view.new) }
     ensures labels { OnOk result (StillSeen labels.old.items labels.new.items) }
 {
-    let mut taken = Vec::new(making.alloc);
+    let mut taken = Vec::with_capacity(making.alloc, steps.len())?;
     for step in steps {
         let (done, end) = run_step(making, step, labels, view, width)?;
         taken.push(done)?;
@@ -274,7 +276,7 @@ fn run_child<T: Threads + Sync, G: Gate>(
         making.pass(place);
         return run_subaction(making, child, labels, view, width);
     };
-    if kept.stands(&run.entries, 0, kept.len()) {
+    if kept.stands(&run.entries, &run.marks, kept.len()) {
         view.absorb(&run.entries, &run.net)?;
         kept.append(&run.net)?;
         return Ok(run.tried);
@@ -286,8 +288,8 @@ fn run_child<T: Threads + Sync, G: Gate>(
     Ok(tried)
 }
 
-// The runs of children ahead, where there are several and the width is for more than one: all on
-// a copy of the state that their parent shows.
+// The runs of children ahead, where there are several, the width is for more than one, and they are
+// worth the copies: all on a copy of the state that their parent shows.
 #[cycle(run)]
 fn run_if_wide<T: Threads + Sync, G: Gate>(
     making: &Making<'_, T, G>,
@@ -299,7 +301,7 @@ fn run_if_wide<T: Threads + Sync, G: Gate>(
     requires { CanAllTry children.now labels.now (state_of_view view.now) }
     ensures { IfOk result (λ runs. AreRunAhead children.now labels.now (state_of_view view.now) runs.items) }
 {
-    if width < 2 || children.len() < 2 {
+    if width < 2 || children.len() < 2 || !is_worth(children, labels.len(), view.snapshot()) {
         return Ok(Vec::new(making.alloc));
     }
     let fork = Fork {
@@ -410,9 +412,11 @@ fn run_alone<T: Threads + Sync, G: Gate>(
     let mut view = View::open(making.alloc, &fork.state)?;
     let tried = run_subaction(making, child, &mut labels, &mut view, width)?;
     let Lists { entries, net } = view.into_run();
+    let marks = marks_of(making.alloc, &entries)?;
     Ok(Ahead {
         tried,
         entries,
+        marks,
         net,
     })
 }

@@ -6,11 +6,12 @@ mod gate;
 pub mod laws;
 mod speculated;
 mod transaction;
+mod worth;
 
 pub use batch::{Batch, Block, Names, Outcome, Plain, Record, Step, Subaction, Taken};
 pub use gate::{Gate, NoGate};
-pub use intentions::{Entry, NoMemory, Objects};
-pub use meaning::End;
+pub use intentions::{Entry, NoMemory, Objects, View};
+pub use meaning::{End, Held};
 pub use one_thread::plain;
 pub use speculated::Run;
-pub use transaction::run;
+pub use transaction::{run, run_in};

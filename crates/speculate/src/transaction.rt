@@ -1,5 +1,6 @@
 //! The run of one transaction on the objects of an opening.
-ghost use Rattle.std.specs.Prelude.{◌≡◌, ◌-◌, ◌≤◌, [], map, length, IfOk};
+ghost use Rattle.std.specs.Prelude.{◌≡◌, ◌-◌, ◌≤◌, [], map, length, IfOk, OnOk};
+ghost use Rattle.intentions.specs.Levels.{opened};
 ghost use Rattle.batch.specs.Views.{block_view};
 ghost use Rattle.meaning.specs.Entries.{kinds};
 ghost use Rattle.meaning.specs.OneThread.{one};
@@ -11,7 +12,7 @@ use crate::gate::Gate;
 use crate::speculated::Run;
 use batch::Batch;
 use intentions::{Lists, NoMemory, Objects, View};
-use meaning::End;
+use meaning::{End, Held};
 use std::alloc::Global;
 use std::thread::Threads;
 
@@ -35,23 +36,59 @@ pub fn run<T: Threads + Sync, G: Gate>(
     requires room { IsWithinOthers (map block_view batch.now.transactions.items) (number - 1) objects.now }
     ensures { IfOk result (IsRunOf (one (block_at (map block_view batch.now.transactions.items) (number - 1)) [] objects.now)) }
 {
-    gate.pass(number, 0);
-    let block = &batch.transactions[number as usize - 1];
     let mut view = View::open(alloc, objects)?;
     let mut labels = Vec::new(alloc);
-    view.begin()?;
+    run_in(
+        threads,
+        alloc,
+        &mut view,
+        &mut labels,
+        batch,
+        number,
+        width,
+        gate,
+    )
+}
+
+/// Runs transaction `number` (from 1) of the batch as [`run`] does, in a view as it was opened on the
+/// objects, and with no labels. It leaves both so for the next run.
+///
+/// Where `NoMemory` is answered, the view and the labels are of no further use.
+pub fn run_in<T: Threads + Sync, G: Gate>(
+    threads: &T,
+    alloc: Global,
+    view: &mut View<'_>,
+    labels: &mut Vec<Held>,
+    batch: &Batch,
+    number: u32,
+    width: u32,
+    gate: &G,
+) -> Result<Run, NoMemory>
+    requires first { 1 ≤ number }
+    requires last { number ≤ length batch.now.transactions.items }
+    requires narrow { (1 ≤ width) × (width ≤ 64) }
+    requires opened { view.old ≡ opened view.old.snapshot }
+    requires unlabelled { labels.old.items ≡ [] }
+    requires same_kinds { kinds view.old.snapshot ≡ kinds batch.now.objects }
+    requires room { IsWithinOthers (map block_view batch.now.transactions.items) (number - 1) view.old.snapshot }
+    ensures run { IfOk result (IsRunOf (one (block_at (map block_view batch.now.transactions.items) (number - 1)) [] view.old.snapshot)) }
+    ensures again { OnOk result (view.new ≡ view.old) }
+    ensures unlabelled { OnOk result (labels.new.items ≡ []) }
+{
+    gate.pass(number, 0);
+    let block = &batch.transactions[number as usize - 1];
     let making = Making {
         threads,
         alloc,
         gate,
         number,
     };
-    let tree = run_block(&making, block, &mut labels, &mut view, width)?;
-    match tree.outcome {
-        End::Ended => view.commit()?,
-        End::Aborted(_) => view.abort(),
-    }
-    let Lists { entries, net } = view.into_run();
+    let tree = run_block(&making, block, labels, view, width)?;
+    let Lists { entries, net: kept } = view.take_run()?;
+    let net = match tree.outcome {
+        End::Ended => kept,
+        End::Aborted(_) => Vec::new(alloc),
+    };
     let run = Run { tree, entries, net };
     gate.made(number, &run);
     Ok(run)

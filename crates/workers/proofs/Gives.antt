@@ -1,5 +1,5 @@
 -- What the items of some pieces are, and what workers have given once they are back.
-use Rattle.std.proofs.Common.{◌≡◌, ℕ, zero, suc, ◌<◌, Bool, true, false, true≢false, List, [], ◌∷◌, ◌++◌, length, map, sym, refl, ap, ◌∙◌, subst, append_assoc, append-nil, arith}
+use Rattle.std.proofs.Common.{◌≡◌, ℕ, zero, suc, ◌<◌, Bool, true, false, List, [], ◌∷◌, ◌++◌, length, map, sym, refl, ap, ◌∙◌, subst, append_assoc, append-nil, arith}
 use Rattle.std.proofs.lemmas.Bool.{or_parts}
 use Rattle.std.proofs.lemmas.List.Elements.{All-tail}
 use Rattle.std.proofs.lemmas.List.{length-map}
@@ -7,14 +7,14 @@ use Rattle.std.specs.List.{All, list_any, flat_map}
 use Rattle.std.specs.declared.vec.Vec.{Vec}
 use Rattle.std.specs.declared.alloc.Global.{Global}
 use Rattle.serial.specs.declared.NoMemory.{NoMemory}
-use Rattle.std.specs.Prelude.{Result, Ok, Err, IfOk, OnOk, is_err}
+use Rattle.std.specs.Prelude.{Result, Ok, IfOk}
 use Rattle.std.proofs.lemmas.Result.{IfOk-weaker}
 use Rattle.claims.specs.Views.{is_over, HoldsEachBelow, all_drawn}
 use Rattle.claims.specs.declared.view.View.{View}
 use Rattle.claims.specs.Steps.{with_piece}
 use Rattle.claims.specs.Seated.{Seated, Opened, IsSeatOf, views_of}
 use Rattle.workers.specs.declared.work.Worked.{Worked}
-use Rattle.workers.specs.Working.{Gives, AreGiven, AreGivenOnce, HasWorked}
+use Rattle.workers.specs.Working.{Gives, IsAdded, AreGiven, AreGivenOnce, HasWorked, RaisedOnly}
 use Rattle.workers.proofs.Boards.{all_pieces}
 
 module _ {X : Type 0} (giving : ℕ → List X → Type 0) where
@@ -70,24 +70,21 @@ module _ {X : Type 0} (giving : ℕ → List X → Type 0) where
         given = subst (λ ss. AreGiven giving (all_drawn (views_of ss)) items) (sym of_seats) (subst (AreGiven giving (all_drawn (views_of (seats_of all)))) (sym of_items) (all_given all (λ k d lt. (each k d lt).given (calm k d lt))));
       }
 
--- what a call says that was no error
-pub at_ok : {T E P : Type 0} (r : Result T E) → is_err r ≡ false → OnOk r P → P
-at_ok (Ok x) calm h = h
-at_ok (Err e) calm h = absurd (true≢false calm)
-
 -- the items of a seat, unless it raised
 abbrev pub SeatGave : {X : Type 0} → (ℕ → List X → Type 0) → View → List X → Type 0
 SeatGave giving v items = v.raised ≡ false → AreGiven giving v.drawn items
 
--- the piece that the seat drew was done
-pub given_next : {X : Type 0} (giving : ℕ → List X → Type 0) (v w : View) (k : ℕ) (xs ys : List X) → w ≡ with_piece v k → SeatGave giving v xs → (own : List X) × (ys ≡ xs ++ own) × giving k own → SeatGave giving w ys
-given_next giving v w k xs ys drew given (own, is, here) calm =
-    let before = given (sym (ap (λ u. u.raised) drew) ∙ calm) in
-    subst (λ ks. AreGiven giving ks ys) (sym (ap (λ u. u.drawn) drew)) (subst (AreGiven giving (v.drawn ++ k ∷ [])) (sym is) (given_push giving v.drawn k xs own before here))
-
--- the seat was told that it is over
-pub given_same : {X : Type 0} (giving : ℕ → List X → Type 0) (v w : View) (xs : List X) → w.drawn ≡ v.drawn → w.raised ≡ v.raised → SeatGave giving v xs → SeatGave giving w xs
-given_same giving v w xs drawn raised given calm = subst (λ ks. AreGiven giving ks xs) (sym drawn) (given (sym raised ∙ calm))
+-- the piece that the seat drew was done, unless the seat raised
+pub given_next : {X : Type 0} (giving : ℕ → List X → Type 0) (v mid w : View) (k : ℕ) (xs ys : List X)
+    → mid ≡ with_piece v k → SeatGave giving v xs → RaisedOnly mid w
+    → (w.raised ≡ false → (mid.raised ≡ false) × IsAdded giving k xs ys) → SeatGave giving w ys
+given_next giving v mid w k xs ys drew given same done calm =
+    let (quiet, added) = done calm in
+    let (own, is, here) = added in
+    let before = given (sym (ap (λ u. u.raised) drew) ∙ quiet) in
+    let drawn = ap (λ u. u.drawn) same ∙ ap (λ u. u.drawn) drew in
+    subst (λ ks. AreGiven giving ks ys) (sym drawn)
+    (subst (AreGiven giving (v.drawn ++ k ∷ [])) (sym is) (given_push giving v.drawn k xs own before here))
 
 -- items of pieces, of which more is known
 pub given_weaker : {X : Type 0} (giving more : ℕ → List X → Type 0) → ((k : ℕ) (own : List X) → giving k own → more k own) → (ks : List ℕ) (items : List X) → AreGiven giving ks items → AreGiven more ks items

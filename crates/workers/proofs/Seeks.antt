@@ -1,10 +1,9 @@
 -- What seats that seek the least failing piece know once they are back.
 use Rattle.std.proofs.Common.{◌≡◌, ◌⊎◌, ℕ, zero, suc, ◌<◌, ◌≤◌, min, Bool, true, List, [], ◌∷◌, ◌++◌, length, get_or, sym, refl, ap, ◌∙◌, subst, inl, ⊎_elim, arith}
-use Rattle.std.proofs.lemmas.List.Elements.{All-tail}
+use Rattle.std.proofs.lemmas.List.Elements.{All-nil, All-tail}
 use native.Mathlib.Decide.{dec_le}
 use Rattle.std.specs.List.{All, list_any}
-use Rattle.claims.specs.declared.view.View.{View}
-use Rattle.claims.specs.Views.{is_over, claims_left, HoldsEachBelow, all_drawn, least}
+use Rattle.claims.specs.Views.{fresh, is_over, HoldsEachBelow, all_drawn, least}
 use Rattle.claims.specs.Seated.{Seated, Opened, IsSeatOf, views_of}
 use Rattle.claims.specs.Steps.{with_piece}
 use Rattle.workers.specs.Testing.{Judged, LowFails, Sought, LowAndTold}
@@ -54,6 +53,15 @@ module _ (passing failing : ℕ → Type 0) (board : Opened) (seats : List Seate
       (in_list (Judged passing (get_or seats i d).view) (get_or seats i d).view.drawn k (each i d below).0.judged here))
       (omega (arith, once k, once_some k drawn (omega arith)))
 
+-- a seat that has taken no step
+pub sought_none : (passing failing : ℕ → Type 0) (board : Opened) → Sought passing failing board (record { board = board.id; view = fresh 1 board.pieces })
+sought_none passing failing board = record {
+  own = (refl, refl);
+  judged = All-nil (Judged passing (fresh 1 board.pieces));
+  low = inl refl;
+  raised = refl;
+}
+
 -- one element more
 all_push : (Q : ℕ → Type 0) (xs : List ℕ) (k : ℕ) → All Q xs → Q k → All Q (xs ++ k ∷ [])
 all_push Q [] k each here zero d lt = here
@@ -71,16 +79,3 @@ sought_next passing failing board before mid after k was drew own same kept judg
   low = low (subst (LowFails failing board.pieces) (sym drew) was.low);
   raised = ap (λ v. v.raised) same ∙ (ap (λ v. v.raised) drew ∙ was.raised);
 }
-
--- a seat whose pieces and marks stay
-pub sought_same : (passing failing : ℕ → Type 0) (board : Opened) (before after : Seated) → Sought passing failing board before → IsSeatOf board after → after.view.drawn ≡ before.view.drawn → after.view.low ≡ before.view.low → after.view.told ≡ before.view.told → after.view.raised ≡ before.view.raised → Sought passing failing board after
-sought_same passing failing board before after was own drawn low told raised = record {
-  own = own;
-  judged = subst (λ ds. All (Judged passing after.view) ds) (sym drawn) (subst (λ l. All (λ j. passing j ⊎ ((l ≤ j) ⊎ (after.view.told ≤ j))) before.view.drawn) (sym low) (subst (λ t. All (λ j. passing j ⊎ ((before.view.low ≤ j) ⊎ (t ≤ j))) before.view.drawn) (sym told) was.judged));
-  low = subst (λ l. (l ≡ board.pieces) ⊎ ((l < board.pieces) × failing l)) (sym low) was.low;
-  raised = raised ∙ was.raised;
-}
-
--- marks change nothing of the claims that are left
-pub same_left : (pieces : ℕ) (v w : View) → LowAndTold v w → claims_left pieces w ≡ claims_left pieces v
-same_left pieces v w same = ap (claims_left pieces) same

@@ -1,2 +1,3 @@
 pub mod Testing
 pub mod Working
+pub mod Seating

@@ -1,14 +1,16 @@
 // The least piece that doesn't pass a test.
 ghost use Rattle.std.specs.Prelude.{◌≡◌, ℕ, ◌<◌, ◌≤◌, true, false, length, IfOk};
 ghost use Rattle.std.specs.List.{All};
-ghost use Rattle.claims.specs.Views.{most_pieces, most_seats, fresh, is_over};
+ghost use Rattle.claims.specs.Views.{most_pieces, most_seats, is_over};
 ghost use Rattle.claims.specs.Seated.{IsSeatOf};
+ghost use Rattle.workers.specs.Seating.{IsNewSeat, HasClaimed};
 ghost use Rattle.workers.specs.Testing.{Passing, Failing, Judged, LowFails, Sought, LowAndTold};
 
+use crate::cascade::at_each_seat;
 use crate::seats::seats_for;
 use claims::{Board, Claim, NoMemory, Seat};
 use std::alloc::{AllocError, Global};
-use std::thread::{Threads, map_vec};
+use std::thread::Threads;
 
 // Tests a piece that the seat drew, unless it is at or above the bound, and lowers the bound to
 // it where it doesn't pass.
@@ -30,42 +32,45 @@ fn judge<F: Fn(u32) -> bool>(board: &Board, passes: &F, seat: &mut Seat, piece: 
     }
 }
 
-// Claims and judges until the seat is over.
-fn seek<F: Fn(u32) -> bool>(board: &Board, passes: &F, mut seat: Seat) -> Seat
-    requires own { IsSeatOf board.now seat }
-    requires new { seat.view ≡ fresh 1 board.now.pieces }
+// Judges from the seat's first claim on, until the seat is over.
+fn seek<F: Fn(u32) -> bool>(board: &Board, passes: &F, mut seat: Seat, first: Claim) -> Seat
+    requires first { HasClaimed board.now seat first }
     requires can { (k : ℕ) → k < board.now.pieces → F.pre passes.now k }
     ensures sought { Sought (Passing (F.post passes.now)) (Failing (F.post passes.now)) board.now result }
     ensures over { is_over result.view ≡ true }
 {
-    'claiming: while !seat.is_over() {
-        match board.claim(&mut seat) {
-            Claim::Piece(piece) => judge(board, passes, &mut seat, piece),
-            Claim::Done => {}
-            Claim::Stopped => {}
-        }
+    let mut claim = first;
+    'claiming: while let Claim::Piece(piece) = claim {
+        judge(board, passes, &mut seat, piece);
+        claim = board.claim(&mut seat);
     }
     seat
 }
 
-// Each seat seeks, in a thread of its own where one can be made.
+// Each seat seeks, in a thread of its own where one can be made and there are pieces left.
 fn seek_all<R: Threads + Sync, F: Fn(u32) -> bool + Sync>(
     threads: &R,
+    alloc: Global,
     board: &Board,
     passes: &F,
     seats: Vec<Seat>,
 ) -> Result<Vec<Seat>, AllocError>
-    requires seats { All (λ s. IsSeatOf board.now s × (s.view ≡ fresh 1 board.now.pieces)) seats.items }
+    requires seats { All (IsNewSeat board.now) seats.items }
     requires can { (k : ℕ) → k < board.now.pieces → F.pre passes.now k }
-    ensures { IfOk result (λ all. (length all.items ≡ length seats.items) × All (λ s. Sought (Passing (F.post passes.now)) (Failing (F.post passes.now)) board.now s × (is_over s.view ≡ true)) all.items) }
+    ensures { IfOk result (λ all. (length all.items ≡ length seats.items)
+        × All (λ s. Sought (Passing (F.post passes.now)) (Failing (F.post passes.now)) board.now s
+        × (is_over s.view ≡ true)) all.items) }
 {
-    map_vec(
+    at_each_seat(
         threads,
+        alloc,
+        board,
+        &|seat: Seat, first: Claim| -> Seat
+            requires { HasClaimed board.now seat first × ((k : ℕ) → k < board.now.pieces → F.pre passes.now k) }
+            ensures { Sought (Passing (F.post passes.entry.now)) (Failing (F.post passes.entry.now)) board.entry.now result
+                × (is_over result.view ≡ true) }
+        { seek(board, passes, seat, first) },
         seats,
-        &|seat: Seat| -> Seat
-            requires { IsSeatOf board.now seat × (seat.view ≡ fresh 1 board.now.pieces) × ((k : ℕ) → k < board.now.pieces → F.pre passes.now k) }
-            ensures { Sought (Passing (F.post passes.entry.now)) (Failing (F.post passes.entry.now)) board.entry.now result × (is_over result.view ≡ true) }
-        { seek(board, passes, seat) },
     )
 }
 
@@ -74,7 +79,7 @@ fn seek_all<R: Threads + Sync, F: Fn(u32) -> bool + Sync>(
 /// Whatever the workers and the order of their tests, the answer is the same: a worker passes over
 /// a piece only at or above one that was found to fail.
 ///
-/// `NoMemory` is answered where the board, its seats or the threads' lists found no memory.
+/// `NoMemory` is answered where the board, its seats or a list found no memory.
 pub fn first_failing<R: Threads + Sync, F: Fn(u32) -> bool + Sync>(
     threads: &R,
     alloc: Global,
@@ -90,7 +95,7 @@ pub fn first_failing<R: Threads + Sync, F: Fn(u32) -> bool + Sync>(
     ensures fails { IfOk result (λ n. n < pieces → F.post passes.now n false) }
 {
     let (board, seats) = Board::open(alloc, pieces, seats_for(pieces, workers))?;
-    let seats = seek_all(threads, &board, passes, seats)?;
+    let seats = seek_all(threads, alloc, &board, passes, seats)?;
     let tally = board.gather(seats);
     Ok(tally.first)
 }

@@ -2,10 +2,12 @@
 //! give.
 //!
 //! The pieces are the numbers below a bound. Each worker has a seat at one board (`claims`), and
-//! claims one piece after the other until there are none. There are never more workers than pieces,
-//! and one worker alone is no thread of its own.
+//! claims one piece after the other until there are none. Threads are started one after the other,
+//! each by the one before it, as long as there are pieces left. There are never more workers than
+//! pieces, and one worker alone is no thread of its own.
 #![tactic(auto)]
 
+mod cascade;
 mod least;
 mod seats;
 mod work;

@@ -1,14 +1,16 @@
 // What all pieces of a work give.
-ghost use Rattle.std.specs.Prelude.{◌≡◌, ℕ, ◌<◌, ◌≤◌, ◌++◌, List, length, map, IfOk, OnOk};
+ghost use Rattle.std.specs.Prelude.{◌≡◌, ℕ, ◌<◌, ◌≤◌, false, length, map, IfOk, OnOk};
 ghost use Rattle.std.specs.List.{All, flat_map};
-ghost use Rattle.claims.specs.Views.{most_pieces, most_seats, fresh};
+ghost use Rattle.claims.specs.Views.{most_pieces, most_seats};
 ghost use Rattle.claims.specs.Seated.{IsSeatOf};
-ghost use Rattle.workers.specs.Working.{Gives, HasWorked, AreGivenOnce};
+ghost use Rattle.workers.specs.Seating.{IsNewSeat, HasClaimed};
+ghost use Rattle.workers.specs.Working.{Gives, IsAdded, RaisedOnly, HasWorked, AreGivenOnce};
 
+use crate::cascade::at_each_seat;
 use crate::seats::seats_for;
 use claims::{Board, Claim, NoMemory, Seat};
 use std::alloc::{AllocError, Global};
-use std::thread::{Threads, map_vec};
+use std::thread::Threads;
 
 /// What a worker brings back: its seat, and the items of its pieces.
 #[derive(Drop)]
@@ -24,42 +26,56 @@ fn give_one<X: Drop, F: Fn(u32) -> Result<Vec<X>, NoMemory>>(
     items: &mut Vec<X>,
 ) -> Result<(), NoMemory>
     requires { F.pre give.now piece }
-    ensures { OnOk result ((own : List X) × (items.new.items ≡ items.old.items ++ own) × Gives (F.post give.now) piece own) }
+    ensures { OnOk result (IsAdded (Gives (F.post give.now)) piece items.old.items items.new.items) }
 {
     let mut own = give(piece)?;
     items.append(&mut own)?;
     Ok(())
 }
 
-// Claims and does pieces until the seat is over. A worker that finds no memory raises,
-// and so is told `Stopped` by its next claim.
+// Does a piece that the seat drew, and adds what it gives. A worker that finds no memory raises, and
+// so is told `Stopped` by its next claim.
+fn do_piece<X: Drop, F: Fn(u32) -> Result<Vec<X>, NoMemory>>(
+    board: &Board,
+    give: &F,
+    seat: &mut Seat,
+    piece: u32,
+    items: &mut Vec<X>,
+)
+    requires own { IsSeatOf board.now seat.old }
+    requires can { F.pre give.now piece }
+    ensures own { IsSeatOf board.now seat.new }
+    ensures same { RaisedOnly seat.old.view seat.new.view }
+    ensures given { seat.new.view.raised ≡ false → (seat.old.view.raised ≡ false)
+        × IsAdded (Gives (F.post give.now)) piece items.old.items items.new.items }
+{
+    if give_one(give, piece, items).is_err() {
+        board.raise(seat);
+    }
+}
+
+// Does pieces from the seat's first claim on, until the seat is over.
 fn work_one<X: Drop, F: Fn(u32) -> Result<Vec<X>, NoMemory>>(
     alloc: Global,
     board: &Board,
     give: &F,
     mut seat: Seat,
+    first: Claim,
 ) -> Worked<X>
-    requires own { IsSeatOf board.now seat }
-    requires new { seat.view ≡ fresh 1 board.now.pieces }
+    requires first { HasClaimed board.now seat first }
     requires can { (k : ℕ) → k < board.now.pieces → F.pre give.now k }
     ensures { HasWorked (Gives (F.post give.now)) board.now result }
 {
     let mut items = Vec::new(alloc);
-    'claiming: while !seat.is_over() {
-        match board.claim(&mut seat) {
-            Claim::Piece(piece) => {
-                if give_one(give, piece, &mut items).is_err() {
-                    board.raise(&mut seat);
-                }
-            }
-            Claim::Done => {}
-            Claim::Stopped => {}
-        }
+    let mut claim = first;
+    'claiming: while let Claim::Piece(piece) = claim {
+        do_piece(board, give, &mut seat, piece, &mut items);
+        claim = board.claim(&mut seat);
     }
     Worked { seat, items }
 }
 
-// Each seat works, in a thread of its own where one can be made.
+// Each seat works, in a thread of its own where one can be made and there are pieces left.
 fn work_all<R: Threads + Sync, X: Send + Drop, F: Fn(u32) -> Result<Vec<X>, NoMemory> + Sync>(
     threads: &R,
     alloc: Global,
@@ -67,17 +83,20 @@ fn work_all<R: Threads + Sync, X: Send + Drop, F: Fn(u32) -> Result<Vec<X>, NoMe
     give: &F,
     seats: Vec<Seat>,
 ) -> Result<Vec<Worked<X>>, AllocError>
-    requires seats { All (λ s. IsSeatOf board.now s × (s.view ≡ fresh 1 board.now.pieces)) seats.items }
+    requires seats { All (IsNewSeat board.now) seats.items }
     requires can { (k : ℕ) → k < board.now.pieces → F.pre give.now k }
-    ensures { IfOk result (λ all. (length all.items ≡ length seats.items) × All (HasWorked (Gives (F.post give.now)) board.now) all.items) }
+    ensures { IfOk result (λ all. (length all.items ≡ length seats.items)
+        × All (HasWorked (Gives (F.post give.now)) board.now) all.items) }
 {
-    map_vec(
+    at_each_seat(
         threads,
-        seats,
-        &|seat: Seat| -> Worked<X>
-            requires { IsSeatOf board.now seat × (seat.view ≡ fresh 1 board.now.pieces) × ((k : ℕ) → k < board.now.pieces → F.pre give.now k) }
+        alloc,
+        board,
+        &|seat: Seat, first: Claim| -> Worked<X>
+            requires { HasClaimed board.now seat first × ((k : ℕ) → k < board.now.pieces → F.pre give.now k) }
             ensures { HasWorked (Gives (F.post give.entry.now)) board.entry.now result }
-        { work_one(alloc, board, give, seat) },
+        { work_one(alloc, board, give, seat, first) },
+        seats,
     )
 }
 

@@ -18,7 +18,7 @@ use Rattle.speculate.proofs.executor.+run.Goals.{run_step-then-holds, run_step-e
 -- ---- steps one after the other
 
 pub run_steps-loop-step-init : goal.run_steps-loop-step-init
-run_steps-loop-step-init g t c = rw c.new-taken.ensures.items (part_run-start ground c.args.steps.now c.args.labels.now.items c.args.view.now c.requires)
+run_steps-loop-step-init g t c = rw c.in_ok-taken.ensures.items (part_run-start ground c.args.steps.now c.args.labels.now.items c.args.view.now c.requires)
 
 pub run_steps-returns-in-Aborted-clause-shows : goal.run_steps-returns-in-Aborted-clause-shows
 run_steps-returns-in-Aborted-clause-shows g t c =
@@ -110,6 +110,10 @@ run_part-loop-place-preserved g t c =
     }
 
 -- ---- one child after another
+
+pub run_child-stands-requires-clause-marks : goal.run_child-stands-requires-clause-marks
+run_child-stands-requires-clause-marks g t c =
+    rw (c.deref.ensures.value, c.deref-2.ensures.value) (c.requires.ahead c.in-Some.run' c.in-Some.is).ahead.1
 
 pub run_child-absorb-requires-clause-legal : goal.run_child-absorb-requires-clause-legal
 run_child-absorb-requires-clause-legal g t c =

@@ -1,22 +1,33 @@
-use Rattle.std.proofs.Common.{ap, arith}
+use Rattle.claims.specs.Views.{fresh}
 use Rattle.workers.specs.Testing.{Passing, Failing}
-use Rattle.workers.proofs.Seeks.{sought_next, sought_same, same_left}
+use Rattle.workers.proofs.Given.{drew}
+use Rattle.workers.proofs.Seeks.{sought_none, sought_next}
 use Rattle.workers.proofs.least.seek.Goals as goal
 
-pub claiming-smaller-in-Piece : goal.claiming-smaller-in-Piece
-claiming-smaller-in-Piece g c = omega (arith, same_left c.args.board.now.pieces c.claim.new.seat.view c.judge.new.seat.view c.judge.ensures.same, c.claim.ensures.fewer)
-
-pub claiming-preserved-in-Piece : goal.claiming-preserved-in-Piece
-claiming-preserved-in-Piece g c =
-    let judge = c.judge.ensures in
-    sought_next (Passing (λ k b. g.F.Fn.post c.args.passes.now (k, tt) b)) (Failing (λ k b. g.F.Fn.post c.args.passes.now (k, tt) b)) c.args.board.now c.claiming.seat c.claim.new.seat c.judge.new.seat c.in-Piece.piece c.claiming.invariant c.in-Piece.ensures.answer.2 judge.own judge.same judge.kept judge.judged judge.low
-
-pub claiming-preserved-in-Done : goal.claiming-preserved-in-Done
-claiming-preserved-in-Done g c =
-    let answer = c.in-Done.ensures.answer in
-    sought_same (Passing (λ k b. g.F.Fn.post c.args.passes.now (k, tt) b)) (Failing (λ k b. g.F.Fn.post c.args.passes.now (k, tt) b)) c.args.board.now c.claiming.seat c.claim.new.seat c.claiming.invariant c.claim.ensures.board (ap (λ v. v.drawn) answer) (ap (λ v. v.low) answer) (ap (λ v. v.told) answer) (ap (λ v. v.raised) answer)
+pub claiming-init : goal.claiming-init
+claiming-init g c = record {
+  own = c.requires.first.own;
+  over = c.requires.first.over;
+  before = record { board = c.args.board.now.id; view = fresh 1 c.args.board.now.pieces };
+  answer = c.requires.first.answer;
+  sought = sought_none
+      (Passing (λ k b. g.F.Fn.post c.args.passes.now (k, tt) b)) (Failing (λ k b. g.F.Fn.post c.args.passes.now (k, tt) b))
+      c.args.board.now;
+}
 
 pub claiming-preserved : goal.claiming-preserved
 claiming-preserved g c =
-    let answer = c.in-Stopped.ensures.answer in
-    sought_same (Passing (λ k b. g.F.Fn.post c.args.passes.now (k, tt) b)) (Failing (λ k b. g.F.Fn.post c.args.passes.now (k, tt) b)) c.args.board.now c.claiming.seat c.claim.new.seat c.claiming.invariant c.claim.ensures.board (ap (λ v. v.drawn) answer) (ap (λ v. v.low) answer) (ap (λ v. v.told) answer) (ap (λ v. v.raised) answer)
+    let was = c.claiming.invariant in
+    let judge = c.judge.ensures in
+    let piece = drew c.args.board.now.pieces was.before.view c.claiming.seat.view c.claiming.claim
+    c.in-Piece.piece c.in-Piece.is was.answer in
+    record {
+      own = c.claim-claim.ensures.board;
+      over = c.claim-claim.ensures.over;
+      before = c.judge.new.seat;
+      answer = c.claim-claim.ensures.answer;
+      sought = sought_next
+          (Passing (λ k b. g.F.Fn.post c.args.passes.now (k, tt) b)) (Failing (λ k b. g.F.Fn.post c.args.passes.now (k, tt) b))
+          c.args.board.now was.before c.claiming.seat c.judge.new.seat c.in-Piece.piece was.sought piece
+          judge.own judge.same judge.kept judge.judged judge.low;
+    }

@@ -1,7 +1,8 @@
 use Rattle.std.proofs.Common.{◌≡◌, ◌∷◌, length, reverse, sym, ap, ◌∙◌, subst}
 use Rattle.drafts.proofs.HistoryLemmas.{reverse_push}
+use Rattle.intentions.specs.DraftTables.{drafts_of}
 use Rattle.intentions.specs.Starts.{IsNested}
-use Rattle.intentions.specs.Layers.{layered, histories, drafts_in}
+use Rattle.intentions.specs.Layers.{layered, histories}
 use Rattle.intentions.proofs.StartsLemmas.{nested_more}
 use Rattle.intentions.proofs.LayersLemmas.{committed_level}
 use Rattle.intentions.proofs.layers.Layers.commit.Goals as goal
@@ -17,7 +18,7 @@ invariant_of-self c =
 pub returns : goal.returns
 returns c =
     let starts = reverse c.pop.new.self.items in
-    let hs = histories c.self.inside.snapshot.now (drafts_in c.self.inside.drafts.entries) in
+    let hs = histories c.self.inside.snapshot.now (drafts_of c.self.inside.drafts) in
     let journal = c.self.inside.journal.items in
     let is : reverse c.self.inside.starts.items ≡ c.in-Some._start ∷ starts = reverse_push _ _ _ c.in-Some.ensures.items in
     let nested : IsNested (c.in-Some._start ∷ starts) (length journal) = subst (λ ss. IsNested ss (length journal)) is c.self.invariant in

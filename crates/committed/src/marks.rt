@@ -1,0 +1,73 @@
+//! Marks of entries: what a filter needs to know of each.
+ghost use Rattle.std.specs.Prelude.{◌≡◌, IfOk, OnOk};
+ghost use Rattle.committed.specs.Marks.{hash_of, mark_of, marks_of};
+
+use crate::classes::Class;
+use crate::items::item_of;
+use objects::{Entry, Item, NoMemory};
+use std::alloc::Global;
+
+/// A digest of an entry. It is made once, however often the entry is compared with others.
+#[derive(Clone, Copy, Debug, PartialEq, Eq)]
+pub struct Mark {
+    /// A hash of its object.
+    pub of_object: u32,
+    /// A hash of its object and item, or of its object again where it is about none.
+    pub of_item: u32,
+    /// The set of its class.
+    pub class: u16,
+    /// The set of the classes that it doesn't always commute with.
+    pub conflicts: u16,
+}
+
+impl Mark {
+    /// The mark of an entry.
+    pub fn of(entry: &Entry) -> Mark
+        ensures { result ≡ mark_of entry.now }
+    {
+        let class = Class::of(entry);
+        Mark {
+            of_object: hash(entry.object, None),
+            of_item: hash(entry.object, item_of(&entry.call, &entry.reply)),
+            class: class.bit(),
+            conflicts: class.conflicts(),
+        }
+    }
+}
+
+/// The marks of entries, in order.
+pub fn marks_of(alloc: Global, entries: &[Entry]) -> Result<Vec<Mark>, NoMemory>
+    ensures { IfOk result (λ marks. marks.items ≡ marks_of entries.now) }
+{
+    let mut marks = Vec::new(alloc);
+    mark_all(&mut marks, entries)?;
+    Ok(marks)
+}
+
+/// Puts the marks of entries, in order, in the place of what a list has. Where memory is refused, the
+/// list is left with some of them, or as it was.
+pub fn mark_all(marks: &mut Vec<Mark>, entries: &[Entry]) -> Result<(), NoMemory>
+    ensures { OnOk result (marks.new.items ≡ marks_of entries.now) }
+{
+    marks.clear();
+    marks.reserve(entries.len())?;
+    for entry in entries {
+        marks.push(Mark::of(entry))?;
+    }
+    Ok(())
+}
+
+/// A hash of an object and item, whose low bits depend on all of theirs.
+fn hash(object: u32, item: Option<Item>) -> u32
+    ensures { result ≡ hash_of object item }
+{
+    let number = match item {
+        Some(item) => item.0 as u64 + 1,
+        None => 0,
+    };
+    let mixed = (object as u64)
+        .wrapping_mul(0x9E3779B97F4A7C15)
+        .wrapping_add(number)
+        .wrapping_mul(0xD6E8FEB86659FD93);
+    (mixed >> 32) as u32
+}

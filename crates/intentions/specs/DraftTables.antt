@@ -1,0 +1,30 @@
+-- Drafts by their objects, in a table whose places may be stale.
+use Rattle.std.specs.Prelude.{◌≡◌, ℕ, nat_eq, List, Option, Some, None, option_and_then, slice_get, if◌then◌else◌, IsSomeAnd}
+use Rattle.objects.specs.declared.value.Value.{Value}
+use Rattle.drafts.specs.History.{History}
+use Rattle.intentions.specs.declared.draft_table.Drafted.{Drafted}
+use Rattle.intentions.specs.declared.draft_table.DraftTable.{DraftTable}
+
+-- the draft of each object that has one
+abbrev pub Drafts : Type 0
+Drafts = ℕ → Option (History Value)
+
+-- a draft, if it is of this object
+abbrev pub draft_of : ℕ → Drafted → Option (History Value)
+draft_of object drafted = if nat_eq drafted.object object then Some drafted.draft else None
+
+-- the draft at the place of each object, if it is of that object
+abbrev pub drafts_in : List ℕ → List Drafted → Drafts
+drafts_in places drafts object = option_and_then (draft_of object) (option_and_then (slice_get drafts) (slice_get places object))
+
+abbrev pub drafts_of : DraftTable → Drafts
+drafts_of table = drafts_in table.places.items table.drafts.items
+
+-- the draft of the object stands at this place
+pub record IsPlaceOf (table : DraftTable) (object place : ℕ) : Type 0 where
+  pub placed : slice_get table.places.items object ≡ Some place
+  pub named : IsSomeAnd (slice_get table.drafts.items place) (λ drafted. drafted.object ≡ object)
+
+-- drafts in which the object has this one, and each other object what it had
+abbrev pub IsPut : Drafts → Drafts → ℕ → History Value → Type 0
+IsPut drafts put object h = (q : ℕ) → put q ≡ (if nat_eq object q then Some h else drafts q)

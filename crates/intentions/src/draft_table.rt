@@ -1,0 +1,147 @@
+//! The drafts of the objects that were changed, by object.
+ghost use Rattle.std.specs.Prelude.{◌≡◌, ◌<◌, ℕ, List, length, option_map, None, Some, IsSomeAnd, IfSome, IfOk, IsSome, IsNone, OnOk, OnErr, slice_get, unwrap_or};
+ghost use Rattle.objects.specs.Objects.{kind_of_value, kind_of_call, one_value, HasRoom};
+ghost use Rattle.objects.specs.Changes.{value_change};
+ghost use Rattle.objects.specs.declared.value.Value.{Value};
+ghost use Rattle.drafts.specs.History.{History, unchanged, changed, undone};
+ghost use Rattle.intentions.specs.DraftTables.{drafts_of, IsPut, IsPlaceOf};
+ghost use Rattle.intentions.specs.Layers.{histories, undo_at};
+
+use drafts::Draft;
+use objects::{Call, NoMemory, Reply, Value};
+use std::alloc::Global;
+
+/// A draft, and the object that it is of.
+#[derive(Drop)]
+struct Drafted<'s> {
+    object: u32,
+    draft: Draft<'s>,
+}
+
+/// The drafts of objects, as a sparse set: it is emptied at once, and keeps its memory (P. Briggs
+/// and L. Torczon, "An efficient representation for sparse sets", 1993).
+#[derive(Drop)]
+pub struct DraftTable<'s> {
+    /// For each object, the place where its draft stands. Where that place is past the end, or
+    /// another object's draft stands there, the object has none.
+    places: Vec<usize>,
+    drafts: Vec<Drafted<'s>>,
+}
+
+impl<'s> DraftTable<'s> {
+    /// A table with no draft.
+    pub fn new(alloc: Global) -> DraftTable<'s>
+        ensures { (object : ℕ) → drafts_of result object ≡ None }
+    {
+        DraftTable {
+            places: Vec::new(alloc),
+            drafts: Vec::new(alloc),
+        }
+    }
+
+    /// Lets all drafts go. It takes no time that grows with the number of objects.
+    pub fn clear(&mut self)
+        ensures { (object : ℕ) → drafts_of self.new object ≡ None }
+    {
+        // The places are stale from now on.
+        self.drafts.clear();
+    }
+
+    /// Where the draft of the object stands, if it has one.
+    fn place(&self, object: u32) -> Option<usize>
+        ensures found { IfSome result (λ place. IsPlaceOf self.now object place) }
+        ensures none { IsNone result → drafts_of self.now object ≡ None }
+    {
+        let place = *self.places.get(object as usize)?;
+        let drafted = self.drafts.get(place)?;
+        if drafted.object == object {
+            Some(place)
+        } else {
+            None
+        }
+    }
+
+    /// The draft of the object, if it has one.
+    pub fn get(&self, object: u32) -> Option<&Draft<'s>>
+        ensures { option_map (λ draft. draft.now) result ≡ drafts_of self.now object }
+    {
+        match self.place(object) {
+            Some(place) => Some(&self.drafts[place].draft),
+            None => None,
+        }
+    }
+
+    /// Makes a draft of the value that is lent, where the object has none. On `NoMemory` the table
+    /// is unchanged.
+    pub fn add(&mut self, alloc: Global, object: u32, lent: &'s Value) -> Result<(), NoMemory>
+        ensures ok { OnOk result (IsPut (drafts_of self.old) (drafts_of self.new) object
+            (unwrap_or (drafts_of self.old object) (unchanged lent.now))) }
+        ensures err { OnErr result ((q : ℕ) → drafts_of self.new q ≡ drafts_of self.old q) }
+    {
+        if self.place(object).is_some() {
+            return Ok(());
+        }
+        self.lengthen(object)?;
+        let place = self.drafts.len();
+        let draft = Draft::of(alloc, lent);
+        self.drafts.push(Drafted { object, draft })?;
+        self.places[object as usize] = place;
+        Ok(())
+    }
+
+    /// Makes the list of places long enough for the object. All drafts stay.
+    fn lengthen(&mut self, object: u32) -> Result<(), NoMemory>
+        ensures long { OnOk result (object < length self.new.places.items) }
+        ensures places { (q : ℕ) → drafts_of self.new q ≡ drafts_of self.old q }
+        ensures drafts { self.new.drafts.items ≡ self.old.drafts.items }
+    {
+        if self.places.len() <= object as usize {
+            // No draft stands at the place past the end.
+            self.places.resize(object as usize + 1, self.drafts.len())?;
+        }
+        Ok(())
+    }
+
+    /// Performs a call that changes the draft of the object. On `NoMemory` the draft is as before.
+    pub fn perform(&mut self, object: u32, call: &Call) -> Result<Reply, NoMemory>
+        requires fits { IsSomeAnd (drafts_of self.old object) (λ h. kind_of_value h.value ≡ kind_of_call call.now) }
+        requires room { IfSome (drafts_of self.old object) (λ h. HasRoom h.value call.now) }
+        requires changes { IfSome (drafts_of self.old object) (λ h. IsSome (value_change h.value call.now)) }
+        ensures reply { IfOk result (λ reply. IfSome (drafts_of self.old object) (λ h. one_value.reply h.value call.now ≡ Some reply)) }
+        ensures ok { OnOk result (IfSome (drafts_of self.old object)
+            (λ h. IsPut (drafts_of self.old) (drafts_of self.new) object (changed h (one_value.after h.value call.now)))) }
+        ensures err { OnErr result ((q : ℕ) → drafts_of self.new q ≡ drafts_of self.old q) }
+    {
+        let Some(place) = self.place(object) else {
+            unreachable!()
+        };
+        self.drafts[place].draft.perform(call)
+    }
+
+    /// Performs a call as `perform` does, for good: no change of the object before it can be taken
+    /// back. A number takes no memory.
+    pub fn settle(&mut self, object: u32, call: &Call) -> Result<Reply, NoMemory>
+        requires fits { IsSomeAnd (drafts_of self.old object) (λ h. kind_of_value h.value ≡ kind_of_call call.now) }
+        requires room { IfSome (drafts_of self.old object) (λ h. HasRoom h.value call.now) }
+        requires changes { IfSome (drafts_of self.old object) (λ h. IsSome (value_change h.value call.now)) }
+        ensures reply { IfOk result (λ reply. IfSome (drafts_of self.old object) (λ h. one_value.reply h.value call.now ≡ Some reply)) }
+        ensures ok { OnOk result (IfSome (drafts_of self.old object)
+            (λ h. IsPut (drafts_of self.old) (drafts_of self.new) object (unchanged (one_value.after h.value call.now)))) }
+        ensures err { OnErr result ((q : ℕ) → drafts_of self.new q ≡ drafts_of self.old q) }
+    {
+        let Some(place) = self.place(object) else {
+            unreachable!()
+        };
+        self.drafts[place].draft.settle(call)
+    }
+
+    /// Takes the last change of the object back. It takes no memory.
+    pub fn undo(&mut self, object: u32)
+        ensures { (snapshot : List Value) → histories snapshot (drafts_of self.new)
+            ≡ undo_at (histories snapshot (drafts_of self.old)) object }
+    {
+        if let Some(place) = self.place(object) {
+            self.drafts[place].draft.undo();
+        }
+    }
+}

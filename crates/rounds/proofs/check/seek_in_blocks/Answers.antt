@@ -1,0 +1,22 @@
+use Rattle.std.proofs.Common.{◌≤◌, length, arith}
+use Rattle.rounds.proofs.Marked.{marked_front}
+use Rattle.rounds.proofs.Firsts.{block_clear, block_seen}
+use Rattle.rounds.proofs.check.seek_in_blocks.Goals as goal
+
+pub returns-then-first-end : goal.returns-then-first-end
+returns-then-first-end g c =
+    block_seen c.args.runs.now c.min-end.result c.looking.from c.in_ok-first.first c.index-upto.result.now c.list_nets.new.nets c.list_nets.new.starts.items (omega (arith, c.min-end.ensures)) c.if-first-end.true
+    c.in_ok-list_nets.ensures.nets c.in_ok-list_nets.ensures.starts c.index-upto.ensures c.looking.invariant.clear c.in_ok-first.ensures
+
+pub looking-preserved : goal.looking-preserved
+looking-preserved g c =
+    let within : c.min-end.result ≤ length c.args.runs.now = omega (arith, c.min-end.ensures) in
+    record {
+      within = within;
+      nets = c.in_ok-list_nets.ensures.nets;
+      starts = c.in_ok-list_nets.ensures.starts;
+      clear = λ k lt. block_clear c.args.runs.now c.min-end.result c.looking.from c.in_ok-first.first c.looking.invariant.clear c.in_ok-first.ensures k lt (omega (arith, c.if-first-end.false, lt));
+    }
+
+pub first_from-requires-clause-marked : goal.first_from-requires-clause-marked
+first_from-requires-clause-marked g c κs within = marked_front c.args.runs.now c.args.marks.now c.requires.marked c.min-end.result

@@ -1,0 +1,31 @@
+use Rattle.std.proofs.Common.{◌∙◌, sym, ap, take, arith, rules}
+use Rattle.rounds.proofs.Firsts.{nets_more, all_taken, stands_here, clear_more, turn_seen}
+use Rattle.rounds.proofs.check.seek_in_turn.Goals as goal
+
+pub loop-place-preserved : goal.loop-place-preserved
+loop-place-preserved g c =
+    let runs = c.args.runs.now in
+    let place = c.loop-place.place in
+    let so_far = c.loop-place.invariant.nets in
+    let run_is = c.index-runs-place.is in
+    let net = c.deref.ensures.value ∙ ap (λ r. r.net.items) (sym run_is) in
+    let listed = all_taken c.loop-place.nets c.len-upto.result c.len-upto.ensures ∙ so_far in
+    let here = (stands_here runs place (take c.len-upto.result c.loop-place.nets) c.stands_past.result listed c.stands_past.ensures).0
+    c.if-not-stands_past.false in
+    record {
+      nets = nets_more runs place c.index-runs-place.result c.loop-place.nets c.append.new.self c.deref.result.now c.loop-place-test.true
+          run_is net c.in_ok-append.ensures.ok so_far;
+      clear = clear_more runs place c.loop-place.invariant.clear here;
+    }
+
+pub returns-then-not-stands_past : goal.returns-then-not-stands_past
+returns-then-not-stands_past g c =
+    let runs = c.args.runs.now in
+    let place = c.loop-place.place in
+    let so_far = c.loop-place.invariant.nets in
+    let low = c.loop-place-test.true in
+    let failed = c.if-not-stands_past.true in
+    let listed = all_taken c.loop-place.nets c.len-upto.result c.len-upto.ensures ∙ so_far in
+    let here = stands_here runs place (take c.len-upto.result c.loop-place.nets) c.stands_past.result listed c.stands_past.ensures in
+    turn_seen runs place c.len-upto.result c.loop-place.nets (omega arith) c.len-upto.ensures so_far c.loop-place.invariant.clear
+    (λ lt stands. let passed = here.1 stands in search rules)

@@ -1,0 +1,103 @@
+//! Runs that are made anew, each in the place of the one before it.
+ghost use Rattle.std.specs.Prelude.{◌≡◌, ◌+◌, ◌<◌, ◌≤◌, ℕ, length, IfOk, slice_index_or};
+ghost use Rattle.std.specs.List.{All};
+ghost use Rattle.meaning.specs.Entries.{kinds};
+ghost use Rattle.rounds.specs.Passes.{CanBeMade, times, AreMarked, AreRenewed};
+
+use crate::crew::{Crew, makers};
+use crate::make::{Made, make_all};
+use batch::Batch;
+use intentions::{Mark, mark_all};
+use speculate::{Gate, NoMemory, Objects, Run, View, run_in};
+use std::thread::Threads;
+
+// The same by one worker, in one view: each run takes its place at once, and lets the memory of the
+// one before it go. Its marks are put where the marks of the one before it were.
+fn renew_in_turn<R: Threads + Sync, G: Gate>(
+    crew: &Crew<R, G>,
+    batch: &Batch,
+    objects: &Objects,
+    stale: &[usize],
+    runs: &mut Vec<Run>,
+    marks: &mut Vec<Vec<Mark>>,
+    counts: &mut Vec<u32>,
+) -> Result<(), NoMemory>
+    requires every { length runs.old.items ≡ length batch.now.transactions.items }
+    requires marked { AreMarked runs.old.items marks.old.items }
+    requires counted { length counts.old.items ≡ length batch.now.transactions.items }
+    requires few { (length batch.now.transactions.items ≤ 10000) × (length stale.now ≤ 10000) }
+    requires numbers { (i : ℕ) → 0 < times i stale.now → i < length batch.now.transactions.items }
+    requires made { All (λ n. CanBeMade batch.now objects.now n) stale.now }
+    requires same_kinds { kinds objects.now ≡ kinds batch.now.objects }
+    requires room { (i : ℕ) → slice_index_or counts.old.items i 0 + times i stale.now ≤ 10001 }
+    ensures renewed { IfOk result (λ _. AreRenewed batch.now objects.now stale.now runs.old.items runs.new.items counts.old.items counts.new.items) }
+    ensures marked { IfOk result (λ _. AreMarked runs.new.items marks.new.items) }
+{
+    let Crew {
+        threads,
+        alloc,
+        plan,
+        gate,
+        ..
+    } = *crew;
+    let width = plan.width(stale.len() as u32);
+    let mut view = View::open(alloc, objects)?;
+    let mut labels = Vec::new(alloc);
+    for number in stale {
+        let place = *number;
+        let transaction = place as u32 + 1;
+        runs[place] = run_in(
+            threads,
+            alloc,
+            &mut view,
+            &mut labels,
+            batch,
+            transaction,
+            width,
+            gate,
+        )?;
+        mark_all(&mut marks[place], &runs[place].entries)?;
+        counts[place] += 1;
+    }
+    Ok(())
+}
+
+/// Makes runs for the stale numbers, puts them and their marks in their places and counts them.
+///
+/// `NoMemory` is answered where a growth of memory was refused.
+pub(crate) fn renew<R: Threads + Sync, G: Gate>(
+    crew: &Crew<R, G>,
+    batch: &Batch,
+    objects: &Objects,
+    stale: &[usize],
+    runs: &mut Vec<Run>,
+    marks: &mut Vec<Vec<Mark>>,
+    counts: &mut Vec<u32>,
+) -> Result<(), NoMemory>
+    requires every { length runs.old.items ≡ length batch.now.transactions.items }
+    requires marked { AreMarked runs.old.items marks.old.items }
+    requires counted { length counts.old.items ≡ length batch.now.transactions.items }
+    requires few { (length batch.now.transactions.items ≤ 10000) × (length stale.now ≤ 10000) }
+    requires numbers { (i : ℕ) → 0 < times i stale.now → i < length batch.now.transactions.items }
+    requires made { All (λ n. CanBeMade batch.now objects.now n) stale.now }
+    requires same_kinds { kinds objects.now ≡ kinds batch.now.objects }
+    requires room { (i : ℕ) → slice_index_or counts.old.items i 0 + times i stale.now ≤ 10001 }
+    ensures renewed { IfOk result (λ _. AreRenewed batch.now objects.now stale.now runs.old.items runs.new.items counts.old.items counts.new.items) }
+    ensures marked { IfOk result (λ _. AreMarked runs.new.items marks.new.items) }
+{
+    if makers(crew, stale.len()) == 1 {
+        return renew_in_turn(crew, batch, objects, stale, runs, marks, counts);
+    }
+    let mut made = make_all(crew, batch, objects, stale)?;
+    'putting: while let Some(next) = made.pop() {
+        let Made {
+            number,
+            run,
+            marks: made_marks,
+        } = next;
+        runs[number] = run;
+        marks[number] = made_marks;
+        counts[number] += 1;
+    }
+    Ok(())
+}

@@ -1,0 +1,98 @@
+//! Whether children are worth being run ahead.
+//!
+//! Children that are run ahead work on a copy of the whole state, and each on a copy of all labels.
+//! Where they do little beside that, running them one after the other is faster. Any answer is
+//! right: the children's runs mean the same either way.
+use batch::{Block, Otherwise, Step, Subaction, Value};
+use intentions::Objects;
+
+/// How many copied items or labels one operation outweighs.
+const COPIES: u64 = 16;
+
+/// Whether the operations of the children outweigh the copies of this many labels, one for each
+/// child and one that they share, and of these objects.
+///
+/// It takes time for each node of the children's trees, and for no more objects than `COPIES` times
+/// their operations.
+pub(crate) fn is_worth(children: &[Subaction], labels: usize, objects: &Objects) -> bool {
+    let outweighed = operations_in_children(children).saturating_mul(COPIES);
+    let copies = (children.len() as u64).saturating_add(1);
+    let copied = (labels as u64).saturating_mul(copies);
+    copied < outweighed && are_within(objects, outweighed - copied)
+}
+
+// Whether the objects have no more items than this. It looks at no more objects either.
+fn are_within(objects: &Objects, most: u64) -> bool {
+    let mut left = most;
+    for place in 0..u32::MAX {
+        let Some(value) = objects.value(place) else {
+            return true;
+        };
+        let size = size_of(value);
+        if size > left {
+            return false;
+        }
+        left -= size;
+    }
+    false
+}
+
+// The number of its items, and 1 for itself.
+fn size_of(value: &Value) -> u64 {
+    let items = match value {
+        Value::Account(_) => 0,
+        Value::Counter(_) => 0,
+        Value::Set(set) => set.len(),
+        Value::Queue(queue) => queue.items().len(),
+        Value::Directory(directory) => directory.entries().len(),
+        Value::Max(_) => 0,
+    };
+    (items as u64).saturating_add(1)
+}
+
+// All operations, in branches and handlers too, which a run may not take.
+#[cycle(count)]
+fn operations_in(block: &Block) -> u64 {
+    let mut count: u64 = 0;
+    for step in &block.steps {
+        count = count.saturating_add(operations_in_step(step));
+    }
+    count
+}
+
+#[cycle(count)]
+fn operations_in_step(step: &Step) -> u64 {
+    match step {
+        Step::Op { .. } => 1,
+        Step::If {
+            then,
+            otherwise,
+            ..
+        } => operations_in(then).saturating_add(operations_in(otherwise)),
+        Step::Sub(child) => operations_in_subaction(child),
+        Step::Abort(_) => 0,
+        Step::Parallel(children) => operations_in_children(children),
+    }
+}
+
+#[cycle(count)]
+fn operations_in_children(children: &[Subaction]) -> u64 {
+    let mut count: u64 = 0;
+    for child in children {
+        count = count.saturating_add(operations_in_subaction(child));
+    }
+    count
+}
+
+#[cycle(count)]
+fn operations_in_subaction(child: &Subaction) -> u64 {
+    let mut count = operations_in(&child.body);
+    for handler in &child.handlers {
+        count = count.saturating_add(operations_in(&handler.block));
+    }
+    match &child.otherwise {
+        Otherwise::Run(block) => count.saturating_add(operations_in(block)),
+        Otherwise::GoOn => count,
+        Otherwise::Pass => count,
+    }
+}

@@ -1,0 +1,74 @@
+// Threads that are started one after the other, as long as there are pieces left.
+ghost use Rattle.std.specs.Prelude.{◌≡◌, ◌+◌, length, IfOk};
+ghost use Rattle.std.specs.List.{All};
+ghost use Rattle.std.specs.Thread.{IsSync, IsSend};
+ghost use Rattle.std.specs.Vec.{vec_capacity};
+ghost use Rattle.workers.specs.Seating.{IsNewSeat, CanWork, IsGivenBy, AreNext};
+
+use claims::{Board, Claim, Seat};
+use std::alloc::{AllocError, Global};
+use std::thread::{Threads, join};
+
+/// What `work` gives of each seat. It is called with the seat, and with the answer to the seat's
+/// first claim.
+///
+/// A seat that draws a piece leaves the other seats to a new thread, where one can be made, and
+/// works in its own. A seat that draws none starts no thread.
+///
+/// `AllocError` where the list of the results found no memory. No seat has claimed then.
+pub(crate) fn at_each_seat<R: Threads + Sync, X: Send + Drop, F: Fn(Seat, Claim) -> X + Sync>(
+    threads: &R,
+    alloc: Global,
+    board: &Board,
+    work: &F,
+    seats: Vec<Seat>,
+) -> Result<Vec<X>, AllocError>
+    requires seats { All (IsNewSeat board.now) seats.items }
+    requires can { CanWork board.now (F.pre work.now) }
+    ensures count { IfOk result (λ all. length all.items ≡ length seats.items) }
+    ensures each { IfOk result (λ all. All (IsGivenBy (F.post work.now)) all.items) }
+{
+    let all = Vec::with_capacity(alloc, seats.len())?;
+    Ok(seat_by_seat(threads, board, work, seats, all))
+}
+
+// Adds what `work` gives of each seat. There is room for it. The other seats are left to a new
+// thread before the piece is done, so that a long piece holds none of them up.
+#[cycle(cascade)]
+fn seat_by_seat<R: Threads + Sync, X: Send + Drop, F: Fn(Seat, Claim) -> X + Sync>(
+    threads: &R,
+    board: &Board,
+    work: &F,
+    mut seats: Vec<Seat>,
+    mut all: Vec<X>,
+) -> Vec<X>
+    requires next { AreNext board.now (F.post work.now) seats.items all.items (vec_capacity all) }
+    requires can { CanWork board.now (F.pre work.now) }
+    ensures room { vec_capacity result ≡ vec_capacity all }
+    ensures count { length result.items ≡ length all.items + length seats.items }
+    ensures each { All (IsGivenBy (F.post work.now)) result.items }
+{
+    let Some(mut seat) = seats.pop() else {
+        return all;
+    };
+    let first = board.claim(&mut seat);
+    let has_piece = matches!(first, Claim::Piece(_));
+    if !has_piece || seats.is_empty() {
+        all.push_reserved(work(seat, first));
+        return seat_by_seat(threads, board, work, seats, all);
+    }
+    let others = move || -> Vec<X>
+        requires { IsSync R.row × IsSync F.row × IsSend X.row × CanWork board.now (F.pre work.now)
+            × AreNext board.now (F.post work.now) seats.items all.items (vec_capacity all) }
+        ensures { (vec_capacity result ≡ vec_capacity all)
+            × (length result.items ≡ length all.items + length seats.items)
+            × All (IsGivenBy (F.post work.entry.now)) result.items }
+    { seat_by_seat(threads, board, work, seats, all) };
+    let own = move || -> X
+        requires { F.pre work.now seat first }
+        ensures { F.post work.entry.now seat first result }
+    { work(seat, first) };
+    let (mut given, last) = join(threads, others, own);
+    given.push_reserved(last);
+    given
+}
