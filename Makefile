@@ -44,6 +44,7 @@ bin/refusals: $(SOURCES)
 bench: bin/ordtx
 	RT=$(RT) bench/claims
 	bench/run bin/ordtx
+	bench/growth bin/ordtx
 	cd crates/bench_stages && $(RT) run > /dev/null
 	bench/stages crates/bench_stages/out/bench_stages
 

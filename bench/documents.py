@@ -138,6 +138,68 @@ def transfers(count=10_000, accounts=2_000, seed=3):
     return document(objects, blocks)
 
 
+def chain(count=10_000):
+    """Transactions, each of which asks for the item that the one before it inserts, and for eight that nobody does."""
+    return document(
+        ['{"name":"s","kind":"set","start":[]}'],
+        [block([operation("s", "insert", "p%d" % number), operation("s", "has", "p%d" % (number - 1)),
+                *(operation("s", "has", "q%d" % (8 * number + other)) for other in range(8))])
+         for number in range(1, count + 1)])
+
+
+def taken(count=40_000):
+    """So many binds of a key that is bound, and then so many puts of one value on it, in two transactions."""
+    return document(
+        ['{"name":"d","kind":"directory","start":[["k","v"]]}'],
+        [block([operation("d", "bind", "k", "yz"[number & 1]) for number in range(count)]),
+         block([operation("d", "put", "k", "v")] * count)])
+
+
+def forks(count=20_000, items=100_000):
+    """Parallel steps of two empty children, beside a set of many items."""
+    start = block(['"i%d"' % item for item in range(items)])
+    return document(
+        ['{"name":"s","kind":"set","start":%s}' % start],
+        [block(['{"parallel":[{"sub":[]},{"sub":[]}]}'] * count)])
+
+
+def labels(count=20_000):
+    """A parallel step of so many empty children, after ten labels for each."""
+    balances = ['{"op":["a","balance"],"as":"l%d"}' % label for label in range(10 * count)]
+    return document(
+        [account("a", 0)],
+        [block([*balances, '{"parallel":%s}' % block(['{"sub":[]}'] * count)])])
+
+
+def heavy(mixed=False, transactions=64, operations=10_000, seed=5):
+    """Few transactions of many operations, none of which conflict: each has 15 accounts of its own, or one account, one
+    set and one directory."""
+    rng = random.Random(seed)
+    objects, blocks = [], []
+    for number in range(transactions):
+        accounts = ["a%d_%d" % (number, place) for place in range(1 if mixed else 15)]
+        bag, book = "s%d" % number, "d%d" % number
+        objects += [account(name, 1_000_000_000) for name in accounts]
+        if mixed:
+            objects += ['{"name":"%s","kind":"set","start":[]}' % bag, '{"name":"%s","kind":"directory","start":[]}' % book]
+        calls = [lambda: operation(rng.choice(accounts), *rng.choice((("deposit", 3), ("withdraw", 2), ("balance",))))]
+        if mixed:
+            calls.append(lambda: operation(bag, rng.choice(("insert", "remove", "has")), "i%d" % rng.randrange(500)))
+            calls.append(lambda: operation(book, "put", "k%d" % rng.randrange(500), "v%d" % rng.randrange(50)))
+            calls.append(lambda: operation(book, "lookup", "k%d" % rng.randrange(500)))
+        blocks.append(block([rng.choice(calls)() for _ in range(operations)]))
+    return document(objects, blocks)
+
+
+def jobs(count=10_000):
+    """A log of settings in which every tenth command enqueues a job of its own."""
+    return document(
+        ['{"name":"config","kind":"directory","start":[]}', '{"name":"jobs","kind":"queue","start":[]}'],
+        [block([operation("jobs", "enq", "j%d" % number) if number % 10 == 0 else
+                operation("config", "put", "k%d" % (number * 7919 % 400), "v%d" % (number % 50))])
+         for number in range(count)])
+
+
 def levels(count=20_000):
     """A transaction of so many subactions, each of which inserts an item into one set; one in ten aborts."""
     steps = []

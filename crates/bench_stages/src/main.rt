@@ -1,15 +1,18 @@
 //! How long each stage of `ordtx serial` takes. `bench_stages read FILE` prints the milliseconds of reading a batch from the
 //! file's bytes, of running it on one thread, and of writing its report into a text. `bench_stages value FILE` prints those
 //! of making the JSON value alone (`serde_json`) and of freeing it: in a process of its own, since a second value would be
-//! made on the heap that the first one left. With no argument it prints nothing.
+//! made on the heap that the first one left. `bench_stages run FILE` prints the milliseconds of running the batch on one
+//! thread, and in rounds with 1, 2 and 4 workers. With no argument it prints nothing.
 #![tactic(auto)]
 
 use lang::read;
 use one_thread::plain;
 use report::render_plain;
+use rounds::{Batch, NoGate, Plan, execute};
 use serde_json::Value;
 use std::alloc::Global;
 use std::process::ExitCode;
+use std::thread::Threads;
 use std::time::{Clock, Instant};
 use std::{env, fs};
 
@@ -52,6 +55,59 @@ fn time_stages(rt: &HostRuntime, alloc: Global, bytes: &[u8]) -> Option<()> {
     Some(())
 }
 
+/// How many transactions a worker takes at once, as in the program where nothing else is asked for.
+const CUT: u32 = 16;
+
+// The milliseconds of running the batch in rounds.
+fn time_rounds<R: Clock + Threads + Sync>(
+    rt: &R,
+    alloc: Global,
+    batch: &Batch,
+    workers: u32,
+) -> Option<u64> {
+    let plan = Plan::new(workers, CUT)?;
+    let start = Instant::now(rt).ok()?;
+    let outcome = execute(rt, alloc, batch, plan, &NoGate).ok()?;
+    let taken = since(rt, start);
+    drop(outcome);
+    Some(taken)
+}
+
+/// The milliseconds of running a batch: on one thread, and in rounds with so many workers.
+#[derive(Clone, Copy)]
+struct Runs {
+    serial: u64,
+    with_one: u64,
+    with_two: u64,
+    with_four: u64,
+}
+
+fn time_runs<R: Clock + Threads + Sync>(rt: &R, alloc: Global, bytes: &[u8]) -> Option<Runs> {
+    let batch = read(alloc, bytes).ok()?;
+    let start = Instant::now(rt).ok()?;
+    let answer = plain(alloc, &batch).ok()?;
+    let serial = since(rt, start);
+    drop(answer);
+    Some(Runs {
+        serial,
+        with_one: time_rounds(rt, alloc, &batch, 1)?,
+        with_two: time_rounds(rt, alloc, &batch, 2)?,
+        with_four: time_rounds(rt, alloc, &batch, 4)?,
+    })
+}
+
+fn print_runs(rt: &HostRuntime, runs: &Runs) {
+    let Runs {
+        serial,
+        with_one,
+        with_two,
+        with_four,
+    } = runs;
+    let _ = println!(rt;
+        "run {serial} ms, in rounds with 1 worker {with_one} ms, 2 {with_two} ms, 4 {with_four} ms"
+    );
+}
+
 fn main(rt: HostRuntime) -> ExitCode {
     let Ok(mut words) = env::args(&rt) else {
         return ExitCode::FAILURE;
@@ -67,6 +123,7 @@ fn main(rt: HostRuntime) -> ExitCode {
     };
     let timed = match stage.as_str() {
         "value" => time_value(&rt, rt.alloc(), bytes.as_slice()),
+        "run" => time_runs(&rt, rt.alloc(), bytes.as_slice()).map(|runs| print_runs(&rt, &runs)),
         "read" => time_stages(&rt, rt.alloc(), bytes.as_slice()),
         _ => None,
     };
