@@ -131,6 +131,17 @@ def try_bytes(program, whole):
         program.expect_fault("a document's first %d bytes" % length, ["check"],
                              whole[:length], 1, 0)
     program.expect_fault_everywhere("200 brackets", b"[" * 200, 1, 0)
+    program.expect_fault_everywhere(
+        "127 arrays, each in another", b"[" * 127 + b"]" * 127, 2, 0)
+    program.expect_fault_everywhere(
+        "128 arrays, each in another", b"[" * 128 + b"]" * 128, 1, 0)
+    program.expect_fault_everywhere(
+        "a number that is too large", document([], ["[1e309]"]), 1, 0)
+    program.expect_fault_everywhere(
+        "a fault, and then a number that is too large",
+        document([], ["[7]", "[1e309]"]), 1, 0)
+    program.expect_fault_everywhere(
+        "the largest number", document([], ["[1e308]"]), 2, 1)
     program.expect_fault_everywhere("a byte that is no text", b"\xff", 1, 0)
     program.expect_fault("64 MiB of spaces", ["check"], b" " * 67_108_864, 1, 0)
     program.expect_fault("a byte more", ["check"], b" " * 67_108_865, 12, 0)
@@ -204,9 +215,108 @@ def try_forms(program):
         program.expect_fault_everywhere(name, text.encode(), 1, 0)
 
 
+def try_refusals(program):
+    """Faults of each kind, in both orders of a document's members."""
+    account = ACCOUNT
+    broken = '{"name":"b","kind":"account","start":-1}'
+    below = '[{"op":["a","deposit",-1]}]'
+    rows = (
+        ("a later fault", account, "[],%s,[7]" % below, 7, 2),
+        ("a fault behind a turned step", account,
+         '[{"as":"n","op":["a","balance"]}],[7]', 2, 2),
+        ("a fault of JSON behind another", account, "[7],[01]", 1, 0),
+        ("a fault of an object", broken, "[7]", 13, 0),
+        ("an object that is none", "7", "[7]", 2, 0),
+    )
+    for name, objects, transactions, number, transaction in rows:
+        members = ['"ordtx":1', '"objects":[%s]' % objects,
+                   '"transactions":[%s]' % transactions]
+        for order in (members, members[::-1]):
+            text = "{%s}" % ",".join(order)
+            program.expect_fault_everywhere(
+                name, text.encode(), number, transaction)
+            for other in ('"at":7,', '"objects":7,'):
+                more = "{%s%s}" % (other, ",".join(order))
+                program.expect_fault_everywhere(
+                    name + " beside " + other, more.encode(),
+                    *((number, transaction)
+                      if number == 1 or "objects" in other else (2, 0)))
+            for lacking in members:
+                fewer = "{%s}" % ",".join(m for m in order if m != lacking)
+                if number > 1:
+                    program.expect_fault_everywhere(
+                        name + " without " + lacking, fewer.encode(), 2, 0)
+
+
+def try_steps(program):
+    """Steps whose members stand in other orders, each with the same report."""
+    queued = '{"op":["q","enq","%s"]}'
+    body = '"sub":[%s,{"abort":"x"}]' % (queued % "b")
+    handlers = ('"handlers":{"y":[{"abort":true}],"x":[%s]}' % (queued % "h"))
+    handler = '"handler":[%s]' % (queued % "g")
+    label = '"as":"o"'
+    label_tested = '"if":"n"'
+    test = '"atleast":-3'
+    first = '"then":[%s]' % (queued % "t")
+    second = '"else":[%s]' % (queued % "e")
+    children = ('{"parallel":[{"sub":[{"op":["c","add",1]}],"as":"m"},'
+                '{"sub":[{"parallel":[{"sub":[]}]},{"abort":true}],'
+                '"handler":[]}]}')
+    after = ('{"if":"o","is":"aborted","then":[{"op":["c","sub",9]}]},'
+             '{"if":"m","is":"committed","then":[%s]}' % (queued % "z"))
+    report = lines([
+        "T 1 committed", "O 1.1 c read = -3", "I 1.2 then",
+        "O 1.2.t.1 q enq t = ok", "S 1.3 aborted x",
+        "O 1.3.b.1 q enq b = ok", "A 1.3.b.2 x", "O 1.3.h:x.1 q enq h = ok",
+        "S 1.4.1 committed", "O 1.4.1.b.1 c add 1 = ok",
+        "S 1.4.2 aborted", "S 1.4.2.b.1.1 committed", "A 1.4.2.b.2",
+        "I 1.5 then", "O 1.5.t.1 c sub 9 = ok",
+        "I 1.6 then", "O 1.6.t.1 q enq z = ok",
+        "= c counter -11", "= q queue [t h z]", "rounds 1"])
+    orders = (
+        ((label_tested, test, first, second), (body, handlers, handler, label)),
+        ((test, label_tested, first, second), (body, label, handlers, handler)),
+        ((label_tested, first, test, second), (body, handlers, label, handler)),
+        ((label_tested, second, first, test), (body, handler, handlers, label)),
+        ((second, first, test, label_tested), (label, handler, handlers, body)),
+    )
+    for condition, subaction in orders:
+        program.expect_report(
+            "steps with %s and %s first" % (condition[1], subaction[1]),
+            document(['{"name":"c","kind":"counter","start":-3}',
+                      '{"name":"q","kind":"queue","start":[]}'],
+                     ['[{"op":["c","read"],"as":"n"},{%s},{%s},%s,%s]'
+                      % (",".join(condition), ",".join(subaction), children,
+                         after)], 4), report, [])
+    for name, step, version, fault in (
+            ("a reason before there were any", '{"abort":"x"}', 2, 2),
+            ("handlers before there were any",
+             '{"sub":[],"handlers":{"x":[]}}', 2, 2),
+            ("an abort with a label", '{"abort":true,"as":"n"}', 4, 2),
+            ("no abort", '{"abort":false}', 4, 2),
+            ("two handlers", '{"sub":[],"handler":[],"handler":{}}', 4, 2),
+            ("a child that is no subaction",
+             '{"parallel":[{"op":["a","balance"]}]}', 4, 2),
+            ("a label that its own body sets",
+             '{"sub":[{"sub":[],"as":"n"}],"as":"n"}', 4, None),
+            ("a label that is not seen in its own body",
+             '{"sub":[{"if":"n","is":"aborted","then":[]}],"as":"n"}', 4, 8),
+            ("a label of an elder child", '{"parallel":[{"sub":[],"as":"n"},'
+             '{"sub":[],"as":"n"}]}', 4, 9),
+            ("a label that is no name", '{"sub":[],"as":""}', 4, 3),
+            ("a handler that is no block", '{"sub":[],"handler":{}}', 4, 2)):
+        given = document([ACCOUNT], ["[%s]" % step], version)
+        if fault:
+            program.expect_fault_everywhere(name, given, fault, 1)
+        else:
+            program.expect(name, ["check"], given, None)
+
+
 def try_all(program, whole):
     try_nesting(program)
     try_forms(program)
+    try_refusals(program)
+    try_steps(program)
     try_limits(program)
     try_bytes(program, whole)
     try_withdrawals(program)

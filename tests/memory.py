@@ -1,28 +1,16 @@
 """Each request for memory refused in turn, until a run meets no refusal."""
 
 import json
-import os
-import pathlib
-import subprocess
-import tempfile
+
+import preloaded
 
 FAULT = (b"", 1, b"fault 20 transaction 0\n")
 
 
 def refuse(library, number, words, path, document):
     """What a run answers whose Nth request is refused, and how many it made."""
-    with tempfile.TemporaryFile() as kept:
-        kept.write(bytes(8))
-        kept.flush()
-        environment = dict(os.environ, LD_PRELOAD=library, REFUSE=str(number),
-                           COUNT=str(kept.fileno()))
-        done = subprocess.run([path, *words], input=document,
-                              stdout=subprocess.PIPE, stderr=subprocess.PIPE,
-                              pass_fds=(kept.fileno(),), env=environment,
-                              timeout=60)
-        kept.seek(0)
-        made = int.from_bytes(kept.read(8), "little")
-    return (done.stdout, done.returncode, done.stderr), made
+    got, made, _started = preloaded.run(library, number, words, path, document)
+    return got, made
 
 
 def try_loops(program, library, path):
@@ -62,15 +50,9 @@ def try_case(program, library, words, case):
                  turned_round(document), report)
 
 
-def try_all(program, loops, cases):
-    source = pathlib.Path(__file__).with_name("refuse.c")
-    with tempfile.TemporaryDirectory() as folder:
-        library = os.path.join(folder, "refuse.so")
-        compiler = os.environ.get("CC", "cc")
-        subprocess.run([compiler, "-O2", "-shared", "-fPIC", "-o", library,
-                        str(source)], check=True)
-        try_loops(program, library, loops)
-        for case in cases:
-            for workers in ("1", "4"):
-                words = ["run", "--workers", workers, "--cut", "1"]
-                try_case(program, library, words, case)
+def try_all(program, library, loops, cases):
+    try_loops(program, library, loops)
+    for case in cases:
+        for workers in ("1", "4"):
+            words = ["run", "--workers", workers, "--cut", "1"]
+            try_case(program, library, words, case)

@@ -1,0 +1,147 @@
+"""How many more requests for memory, and threads, a document of twice the size takes. Counts, not seconds."""
+
+import preloaded
+from documents import ACCOUNT, document
+
+SET = '{"name":"s","kind":"set","start":[]}'
+LARGE = ('{"name":"s","kind":"set","start":[%s]}'
+         % ",".join('"i%d"' % item for item in range(10_000)))
+HOT = '{"name":"a","kind":"account","start":1000000}'
+BOUND = '{"name":"d","kind":"directory","start":[["k","v"]]}'
+
+PLANS = (["--workers", "4"], ["--workers", "16", "--cut", "1"])
+
+# Threads that one pass may start, which a document of any size may have more.
+A_PASS = 16
+
+
+def op(*words):
+    return '{"op":[%s]}' % ",".join(
+        str(word) if isinstance(word, int) else '"%s"' % word for word in words)
+
+
+def block(*steps):
+    return "[%s]" % ",".join(steps)
+
+
+def chain(count):
+    """Each transaction depends on the one before it."""
+    return document([SET], [
+        block(op("s", "insert", "p%d" % i), op("s", "has", "p%d" % (i - 1)))
+        for i in range(1, count + 1)])
+
+
+def hot(count):
+    """Withdrawals from one account, which conflict with one another."""
+    return document([HOT], [block(op("a", "withdraw", 1))] * count)
+
+
+def taken(count):
+    """Binds of a key that is bound already, and then puts on it."""
+    return document([BOUND], [
+        block(*(op("d", "bind", "k", "yz"[i & 1]) for i in range(count))),
+        block(*[op("d", "put", "k", "v")] * count)], version=4)
+
+
+def forks(count):
+    """Parallel steps of empty children beside a large set."""
+    return document([LARGE], [block(*['{"parallel":[{"sub":[]},{"sub":[]}]}'] * count)])
+
+
+def labels(count):
+    """Ten labels for each child of one wide parallel step."""
+    balances = ['{"op":["a","balance"],"as":"l%d"}' % i for i in range(10 * count)]
+    return document([ACCOUNT], [
+        block(*balances, '{"parallel":[%s]}' % ",".join(['{"sub":[]}'] * count))])
+
+
+def nested(depth):
+    """Parallel steps in one another, whose younger child reads what the elder changes."""
+    inner = block(*[op("a", "balance")] * 20)
+    for _ in range(depth):
+        inner = block('{"parallel":[{"sub":[%s]},{"sub":[%s,%s]}]}' % (
+            op("a", "deposit", 1), op("a", "balance"), inner[1:-1]))
+    return document([ACCOUNT], [inner])
+
+
+# For each shape a size, and how many times as much a document of twice the size may take.
+SHAPES = ((chain, 250, 2.2), (hot, 250, 4.4), (taken, 2_000, 2.2),
+          (forks, 250, 2.2), (labels, 1_000, 2.2), (nested, 11, 2.2))
+
+
+def try_shape(program, library, plan, shape, size, times):
+    words = ["run", *plan]
+    counts = []
+    for count in (size, 2 * size):
+        got, made, started = preloaded.run(
+            library, 0, words, program.path, shape(count))
+        counts.append((made, started))
+        program.compare("%s of %d" % (shape.__name__, count), words, got,
+                        (None, 0, b""))
+    (made, started), (more, later) = counts
+    told = "requests %d, then %d; threads %d, then %d" % (
+        made, more, started, later)
+    grows = more <= times * made and later <= 2.2 * started + A_PASS
+    program.compare("growth of %s: %s" % (shape.__name__, told), words,
+                    (grows, None, None), (True, None, None))
+
+
+def try_threads_of_nested(program, library):
+    """One transaction, whose children run ahead once."""
+    words = ["run", "--workers", "64", "--cut", "1"]
+    got, _, started = preloaded.run(
+        library, 0, words, program.path, nested(23))
+    program.compare("nested of 23 starts %d threads" % started, words,
+                    (got[1], started <= 64, None), (0, True, None))
+
+
+# A step, and how many requests for memory its reading may take. By a tree it takes three times as many.
+STEPS = (
+    ("operations", op("a", "deposit", 1), 0),
+    ("subactions", '{"sub":[%s],"handler":[{"abort":true}]}'
+     % op("a", "deposit", 1), 6),
+    ("conditions", '{"if":"n","atleast":1,"then":[%s],"else":[{"abort":true}]}'
+     % op("a", "deposit", 1), 6),
+    ("children", '{"parallel":[{"sub":[%s]},{"sub":[]}]}'
+     % op("a", "deposit", 1), 8),
+)
+
+
+def try_reading(program, library):
+    """Steps are read straight from the text, not by trees of their members."""
+    first = '{"op":["a","balance"],"as":"n"}'
+    for name, step, most in STEPS:
+        words = ["check"]
+        got, made, _ = preloaded.run(
+            library, 0, words, program.path,
+            document([ACCOUNT], [block(first, *[step] * 1_000)]))
+        program.compare("reading of 1,000 %s: %d requests" % (name, made), words,
+                        (got[1], made <= 1_000 * most + 200, None), (0, True, None))
+
+
+def try_refusing(program, library):
+    """What is no document is refused without a tree, or with one of the first 1,000 objects."""
+    many = ",".join(['{"a":0}'] * 10_000)
+    for name, given, most in (
+            ("a list", "[%s]" % many, 200),
+            ("a fault of JSON", "[%s" % many, 200),
+            ("another member",
+             '{"ordtx":1,"objects":[],"transactions":[],"at":[%s]}' % many, 200),
+            ("a later number that is too large",
+             '{"ordtx":1,"objects":[],"transactions":[%s,1e309]}' % many, 200),
+            ("too many objects",
+             '{"ordtx":1,"objects":[%s],"transactions":[]}' % many, 2_200)):
+        words = ["check"]
+        got, made, _ = preloaded.run(
+            library, 0, words, program.path, given.encode())
+        program.compare("refusing of %s: %d requests" % (name, made), words,
+                        (got[1], made <= most, None), (1, True, None))
+
+
+def try_all(program, library):
+    try_refusing(program, library)
+    try_reading(program, library)
+    for plan in PLANS:
+        for shape, size, times in SHAPES:
+            try_shape(program, library, plan, shape, size, times)
+    try_threads_of_nested(program, library)
