@@ -1,5 +1,5 @@
 -- Where the parts of a tree can be run, so can theirs.
-use Rattle.std.proofs.Common.{◌≡◌, ℕ, ◌+◌, ◌<◌, ◌≤◌, Bool, List, [], ◌∷◌, ◌++◌, map, length, get_or, take, sym, ap, subst, ◌∙◌, arith, append_assoc, zero, suc}
+use Rattle.std.proofs.Common.{◌≡◌, ℕ, ◌+◌, ◌<◌, ◌≤◌, Bool, List, [], ◌∷◌, ◌++◌, map, length, get_or, take, sym, ap, subst, ◌∙◌, arith, append_assoc, zero, suc, Box, Global}
 use Rattle.std.proofs.lemmas.List.{append-nil, get_or-map}
 use Rattle.std.proofs.lemmas.Option.{slice_get_within, get_or_from_slice_get}
 use Rattle.objects.specs.declared.call.Call.{Call}
@@ -61,17 +61,17 @@ op-can step object call labelled held state is h =
     perform state object call here.well_formed here.room
 
 -- the label of an if
-bound : (step : Step) (label : ℕ) (t : Test) (then otherwise : Block) (held : List Held) (state : State) → step ≡ If label t then otherwise → CanStepHere (step_view step) held state → IsBound held label t
+bound : (step : Step) (label : ℕ) (t : Test) (then otherwise : Box Block Global) (held : List Held) (state : State) → step ≡ If label t then otherwise → CanStepHere (step_view step) held state → IsBound held label t
 bound step label t then otherwise held state is h =
-    let here = can_as step (meant.If label t (block_view then) (block_view otherwise)) held state (ap step_view is ∙ step_view-If label t then otherwise) h in
+    let here = can_as step (meant.If label t (block_view then.value) (block_view otherwise.value)) held state (ap step_view is ∙ step_view-If label t then otherwise) h in
     test held here.labels label t here.held_by here.well_formed.0
 
-pub if-bound : (step : Step) (label : ℕ) (t : Test) (then otherwise : Block) (held : List Held) (state : State) → step ≡ If label t then otherwise → CanStepHere (step_view step) held state → label < length held
+pub if-bound : (step : Step) (label : ℕ) (t : Test) (then otherwise : Box Block Global) (held : List Held) (state : State) → step ≡ If label t then otherwise → CanStepHere (step_view step) held state → label < length held
 if-bound step label t then otherwise held state is h =
     let b = bound step label t then otherwise held state is h in slice_get_within held label b.found b.is
 
 -- the test of what was read is that of the label
-pub if-holds : (step : Step) (label : ℕ) (t : Test) (then otherwise : Block) (held : List Held) (state : State) (read : Held) → step ≡ If label t then otherwise → CanStepHere (step_view step) held state → read ≡ get_or held label read
+pub if-holds : (step : Step) (label : ℕ) (t : Test) (then otherwise : Box Block Global) (held : List Held) (state : State) (read : Held) → step ≡ If label t then otherwise → CanStepHere (step_view step) held state → read ≡ get_or held label read
     → holds held label t ≡ holds_of t read
 if-holds step label t then otherwise held state read is h reads =
     let b = bound step label t then otherwise held state is h in

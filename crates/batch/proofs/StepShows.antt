@@ -1,5 +1,5 @@
 -- What the steps of a block show, kind by kind.
-use Rattle.std.proofs.Common.{◌≡◌, ℕ, Bool, true, false, List, [], ◌∷◌, ◌++◌, get_or, refl, sym, ap, subst, ◌∙◌, Option, Some, Vec, Global}
+use Rattle.std.proofs.Common.{◌≡◌, ℕ, Bool, true, false, List, [], ◌∷◌, ◌++◌, get_or, refl, sym, ap, subst, ◌∙◌, Option, Some, Vec, Box, Global}
 use Rattle.std.proofs.lemmas.List.{append-nil}
 use Rattle.objects.specs.declared.call.Call.{Call}
 use Rattle.objects.specs.declared.entry.Entry.{Entry}
@@ -13,14 +13,14 @@ use Rattle.meaning.specs.Entries.{reply_at}
 use Rattle.meaning.specs.Labels.{holds_of}
 use Rattle.meaning.specs.Shown.{ShownStep}
 use Rattle.meaning.specs.OneThread.{Run, label_if, as_branch, one, one_step, one_children}
-use Rattle.batch.specs.Views.{block_view, step_view, subaction_view, children_view}
+use Rattle.batch.specs.Views.{block_view, step_view, subaction_view, children_view, record_view, taken_view, tried_view}
 use Rattle.batch.specs.Running.{CanStepHere, acted}
 use Rattle.batch.specs.declared.tree.Block.{Block}
 use Rattle.batch.specs.declared.tree.Step.{Step, Op, If, Sub, Abort, Parallel}
 use Rattle.batch.specs.declared.tree.Subaction.{Subaction}
 use Rattle.batch.specs.declared.record.Record.{Record}
 use Rattle.batch.specs.declared.record.Taken as taken
-use Rattle.batch.proofs.ViewLemmas.{taken_view-Op, taken_view-If, taken_view-Sub, taken_view-Abort, taken_view-Parallel}
+use Rattle.batch.proofs.ViewLemmas.{taken_view-Op, taken_view-If, taken_view-Abort, taken_view-Parallel}
 use Rattle.batch.proofs.Stepping.{op-runs, if-runs, sub-runs, abort-runs, parallel-runs}
 use Rattle.batch.specs.Grounds.{Ground, IsGround}
 use Rattle.batch.specs.Shows.{ShowsRun, ShowsStep, ShowsTried, ShowsChildren}
@@ -38,40 +38,42 @@ module _ {V : Type 0} {g : Ground V} (on : IsGround g) where
 
   -- ---- ifs
 
-  branch_shows : (chosen : Bool) (run : Run _) (held seen : List Held) (before now : V) (done : Record) → ShowsRun g run done before now → seen ≡ held → ShowsStep g (as_branch chosen run) (taken.If chosen done) done.outcome held seen before now
-  branch_shows chosen run held seen before now done shows labels =
-      record { tree = taken_view-If chosen done ∙ ap (ShownStep.Branched chosen) shows.tree; end = shows.end; labels = λ _. labels ∙ sym (append-nil held); took = shows.took }
+  branch_shows : (chosen : Bool) (run : Run _) (held seen : List Held) (before now : V) (done : Record) (branch : Box Record Global) → branch.value ≡ done → ShowsRun g run done before now → seen ≡ held
+      → ShowsStep g (as_branch chosen run) (taken.If chosen branch) done.outcome held seen before now
+  branch_shows chosen run held seen before now done branch boxes shows labels =
+      record { tree = taken_view-If chosen branch ∙ ap (λ r. ShownStep.Branched chosen (record_view r)) boxes ∙ ap (ShownStep.Branched chosen) shows.tree; end = shows.end; labels = λ _. labels ∙ sym (append-nil held); took = shows.took }
 
-  pub if-shows_then : (step : Step) (label : ℕ) (t : Test) (then otherwise : Block) (held seen : List Held) (before now : V) (read : Held) (chosen : Bool) (done : Record)
+  pub if-shows_then : (step : Step) (label : ℕ) (t : Test) (then otherwise : Box Block Global) (held seen : List Held) (before now : V) (read : Held) (chosen : Bool) (done : Record) (branch : Box Record Global)
       → step ≡ If label t then otherwise → CanStepHere (step_view step) held (g.state before) → read ≡ get_or held label read → chosen ≡ holds_of t read → chosen ≡ true
-      → ShowsRun g (one (block_view then) held (g.state before)) done before now → seen ≡ held
-      → ShowsStep g (one_step (step_view step) held (g.state before)) (taken.If chosen done) done.outcome held seen before now
-  if-shows_then step label t then otherwise held seen before now read chosen done is h reads tests yes_it_is shows labels =
+      → ShowsRun g (one (block_view then.value) held (g.state before)) done before now → seen ≡ held → branch.value ≡ done
+      → ShowsStep g (one_step (step_view step) held (g.state before)) (taken.If chosen branch) done.outcome held seen before now
+  if-shows_then step label t then otherwise held seen before now read chosen done branch is h reads tests yes_it_is shows labels boxes =
       let state = g.state before in
       let run = if-runs step label t then otherwise held state read true is h reads (sym tests ∙ yes_it_is) in
-      subst (λ r. ShowsStep g r (taken.If chosen done) done.outcome held seen before now) run
-      (subst (λ b. ShowsStep g (as_branch true (one (block_view then) held state)) (taken.If b done) done.outcome held seen before now) (sym yes_it_is) (branch_shows true _ held seen before now done shows labels))
+      subst (λ r. ShowsStep g r (taken.If chosen branch) done.outcome held seen before now) run
+      (subst (λ b. ShowsStep g (as_branch true (one (block_view then.value) held state)) (taken.If b branch) done.outcome held seen before now) (sym yes_it_is) (branch_shows true _ held seen before now done branch boxes shows labels))
 
-  pub if-shows_else : (step : Step) (label : ℕ) (t : Test) (then otherwise : Block) (held seen : List Held) (before now : V) (read : Held) (chosen : Bool) (done : Record)
+  pub if-shows_else : (step : Step) (label : ℕ) (t : Test) (then otherwise : Box Block Global) (held seen : List Held) (before now : V) (read : Held) (chosen : Bool) (done : Record) (branch : Box Record Global)
       → step ≡ If label t then otherwise → CanStepHere (step_view step) held (g.state before) → read ≡ get_or held label read → chosen ≡ holds_of t read → chosen ≡ false
-      → ShowsRun g (one (block_view otherwise) held (g.state before)) done before now → seen ≡ held
-      → ShowsStep g (one_step (step_view step) held (g.state before)) (taken.If chosen done) done.outcome held seen before now
-  if-shows_else step label t then otherwise held seen before now read chosen done is h reads tests no_it_is shows labels =
+      → ShowsRun g (one (block_view otherwise.value) held (g.state before)) done before now → seen ≡ held → branch.value ≡ done
+      → ShowsStep g (one_step (step_view step) held (g.state before)) (taken.If chosen branch) done.outcome held seen before now
+  if-shows_else step label t then otherwise held seen before now read chosen done branch is h reads tests no_it_is shows labels boxes =
       let state = g.state before in
       let run = if-runs step label t then otherwise held state read false is h reads (sym tests ∙ no_it_is) in
-      subst (λ r. ShowsStep g r (taken.If chosen done) done.outcome held seen before now) run
-      (subst (λ b. ShowsStep g (as_branch false (one (block_view otherwise) held state)) (taken.If b done) done.outcome held seen before now) (sym no_it_is) (branch_shows false _ held seen before now done shows labels))
+      subst (λ r. ShowsStep g r (taken.If chosen branch) done.outcome held seen before now) run
+      (subst (λ b. ShowsStep g (as_branch false (one (block_view otherwise.value) held state)) (taken.If b branch) done.outcome held seen before now) (sym no_it_is) (branch_shows false _ held seen before now done branch boxes shows labels))
 
   -- ---- subactions
 
-  pub sub-shows : (step : Step) (child : Subaction) (held seen : List Held) (before now : V) (done : executed.Tried)
-      → step ≡ Sub child → ShowsTried g (subaction_view child) (acted (subaction_view child) held (g.state before)) done before now
-      → seen ≡ held ++ label_if (subaction_view child).labelled (Outcome done.body.outcome)
-      → ShowsStep g (one_step (step_view step) held (g.state before)) (taken.Sub done.body done.handler) done.end held seen before now
-  sub-shows step child held seen before now done is shows labels =
+  pub sub-shows : (step : Step) (child : Box Subaction Global) (held seen : List Held) (before now : V) (done : executed.Tried) (as_taken : taken.Taken)
+      → step ≡ Sub child → ShowsTried g (subaction_view child.value) (acted (subaction_view child.value) held (g.state before)) done before now
+      → seen ≡ held ++ label_if (subaction_view child.value).labelled (Outcome done.body.outcome)
+      → taken_view as_taken ≡ ShownStep.Acted (tried_view (done.body, done.handler))
+      → ShowsStep g (one_step (step_view step) held (g.state before)) as_taken done.end held seen before now
+  sub-shows step child held seen before now done as_taken is shows labels tree =
       let run = sub-runs step child held (g.state before) is in
-      subst (λ r. ShowsStep g r (taken.Sub done.body done.handler) done.end held seen before now) run (record {
-        tree = taken_view-Sub done.body done.handler ∙ ap ShownStep.Acted shows.tree;
+      subst (λ r. ShowsStep g r as_taken done.end held seen before now) run (record {
+        tree = tree ∙ ap ShownStep.Acted shows.tree;
         end = shows.end;
         labels = λ ended. labels ∙ ap (λ ls. held ++ ls) (sym (shows.labels ended));
         took = shows.took;

@@ -1,5 +1,5 @@
 -- What the steps of a block run to, kind by kind.
-use Rattle.std.proofs.Common.{◌≡◌, ℕ, Bool, List, [], get_or, refl, sym, ap, ◌∙◌, Option, Some, Vec, Global}
+use Rattle.std.proofs.Common.{◌≡◌, ℕ, Bool, List, [], get_or, refl, sym, ap, ◌∙◌, Option, Some, Vec, Box, Global}
 use Rattle.objects.specs.declared.call.Call.{Call}
 use Rattle.objects.specs.declared.call.Reply.{Reply}
 use Rattle.meaning.specs.declared.end.End.TheVariants.{Ended, Aborted}
@@ -38,21 +38,21 @@ if_runs : (label : ℕ) (t : Test) (then otherwise : meant.Block) (held : List H
 unfolding one
 if_runs label t then otherwise held state chosen is = ap (λ b. choose b (one then held) (one otherwise held) state) is
 
-pub if-runs : (step : Step) (label : ℕ) (t : Test) (then otherwise : Block) (held : List Held) (state : State) (read : Held) (chosen : Bool)
+pub if-runs : (step : Step) (label : ℕ) (t : Test) (then otherwise : Box Block Global) (held : List Held) (state : State) (read : Held) (chosen : Bool)
     → step ≡ If label t then otherwise → CanStepHere (step_view step) held state → read ≡ get_or held label read → holds_of t read ≡ chosen
-    → choose chosen (one (block_view then) held) (one (block_view otherwise) held) state ≡ one_step (step_view step) held state
+    → choose chosen (one (block_view then.value) held) (one (block_view otherwise.value) held) state ≡ one_step (step_view step) held state
 if-runs step label t then otherwise held state read chosen is h reads tests =
-    shows_as step (meant.If label t (block_view then) (block_view otherwise)) held state _ (ap step_view is ∙ step_view-If label t then otherwise)
-    (if_runs label t (block_view then) (block_view otherwise) held state chosen (if-holds step label t then otherwise held state read is h reads ∙ tests))
+    shows_as step (meant.If label t (block_view then.value) (block_view otherwise.value)) held state _ (ap step_view is ∙ step_view-If label t then otherwise)
+    (if_runs label t (block_view then.value) (block_view otherwise.value) held state chosen (if-holds step label t then otherwise held state read is h reads ∙ tests))
 
 sub_runs : (body : meant.Block) (handlers : meant.Handlers) (labelled : Bool) (held : List Held) (state : State)
     → one_step (meant.Subaction body handlers labelled) held state ≡ as_step Acted (act labelled (one body held state) (one_handler handlers held) state)
 unfolding one
 sub_runs body handlers labelled held state = refl
 
-pub sub-runs : (step : Step) (child : Subaction) (held : List Held) (state : State) → step ≡ Sub child → as_step Acted (acted (subaction_view child) held state) ≡ one_step (step_view step) held state
+pub sub-runs : (step : Step) (child : Box Subaction Global) (held : List Held) (state : State) → step ≡ Sub child → as_step Acted (acted (subaction_view child.value) held state) ≡ one_step (step_view step) held state
 sub-runs step child held state is =
-    let tried = subaction_view child in
+    let tried = subaction_view child.value in
     shows_as step (meant.Subaction tried.body tried.handlers tried.labelled) held state _ (ap step_view is ∙ step_view-Sub child) (sub_runs tried.body tried.handlers tried.labelled held state)
 
 abort_runs : (reason : Option ℕ) (held : List Held) (state : State) → one_step (meant.Abort reason) held state ≡ Ran TakenStep.Abort (Aborted reason) [] state

@@ -1,11 +1,11 @@
 -- The trees of blocks and records, level by level.
-use Rattle.std.proofs.Common.{◌≡◌, ℕ, Bool, List, [], ◌∷◌, Option, Some, None, Vec, Global, map, refl, ap, rules}
+use Rattle.std.proofs.Common.{◌≡◌, ℕ, Bool, List, [], ◌∷◌, Option, Some, None, Vec, Box, Global, map, refl, ap, rules}
 use Rattle.objects.specs.declared.call.Call.{Call}
 use Rattle.objects.specs.declared.call.Reply.{Reply}
 use Rattle.meaning.specs.declared.test.Test.{Test}
 use Rattle.meaning.specs.Trees.{Operation, If, Subaction as subaction_step, Abort as abort_step, Parallel as parallel_step, Otherwise, GoOn}
 use Rattle.meaning.specs.Trees.{Pass, for_reasons}
-use Rattle.meaning.specs.Shown.{Shown, AtEnd, ShownStep, Replied, Branched, Acted, InParallel, NoChild}
+use Rattle.meaning.specs.Shown.{Shown, AtEnd, ShownStep, Replied, Branched, InParallel, NoChild}
 use Rattle.batch.specs.Views.{block_view, step_view, handler_view, otherwise_view, subaction_view, steps_view, children_view, record_view}
 use Rattle.batch.specs.Views.{taken_view, tried_view, all_tried_view, before_end, shown_child, before_younger}
 use Rattle.batch.specs.declared.tree.Block.{Block}
@@ -25,10 +25,10 @@ handler_view-is handler = search (rules, the_lemmas)
 pub step_view-Op : (object : ℕ) (call : Call) (labelled : Bool) → step_view (Op object call labelled) ≡ Operation object call labelled
 step_view-Op object call labelled = search (rules, the_lemmas)
 
-pub step_view-If : (label : ℕ) (test : Test) (then otherwise : Block) → step_view (if_variant label test then otherwise) ≡ If label test (block_view then) (block_view otherwise)
+pub step_view-If : (label : ℕ) (test : Test) (then otherwise : Box Block Global) → step_view (if_variant label test then otherwise) ≡ If label test (block_view then.value) (block_view otherwise.value)
 step_view-If label test then otherwise = search (rules, the_lemmas)
 
-pub step_view-Sub : (child : Subaction) → step_view (Sub child) ≡ subaction_step (subaction_view child).body (subaction_view child).handlers (subaction_view child).labelled
+pub step_view-Sub : (child : Box Subaction Global) → step_view (Sub child) ≡ subaction_step (subaction_view child.value).body (subaction_view child.value).handlers (subaction_view child.value).labelled
 step_view-Sub child = search (rules, the_lemmas)
 
 pub step_view-Abort : (reason : Option ℕ) → step_view (Abort reason) ≡ abort_step reason
@@ -43,12 +43,8 @@ record_view-is done = search (rules, taken.the_lemmas)
 pub taken_view-Op : (reply : Reply) → taken_view (taken.Op reply) ≡ Replied reply
 taken_view-Op reply = search (rules, taken.the_lemmas)
 
-pub taken_view-If : (then : Bool) (branch : Record) → taken_view (taken.If then branch) ≡ Branched then (record_view branch)
+pub taken_view-If : (then : Bool) (branch : Box Record Global) → taken_view (taken.If then branch) ≡ Branched then (record_view branch.value)
 taken_view-If then branch = search (rules, taken.the_lemmas)
-
-pub taken_view-Sub : (body : Record) (handler : Option Record) → taken_view (taken.Sub body handler) ≡ Acted (tried_view (body, handler))
-taken_view-Sub body None = search (rules, taken.the_lemmas)
-taken_view-Sub body (Some handler) = search (rules, taken.the_lemmas)
 
 pub taken_view-Abort : taken_view taken.Abort ≡ ShownStep.Abort
 taken_view-Abort = search (rules, taken.the_lemmas)

@@ -1,5 +1,5 @@
 -- The trees of the meaning that a block and a record stand for.
-use Rattle.std.specs.Prelude.{ℕ, Bool, List, [], ◌∷◌, map, Option, Some, None, option_map}
+use Rattle.std.specs.Prelude.{ℕ, Bool, List, [], ◌∷◌, map, Option, Some, None, option_map, box_value}
 use Rattle.meaning.specs.Trees as meant
 use Rattle.meaning.specs.Trees.{NoStep, Steps, Operation, If, Abort, Parallel, Handlers, Otherwise, GoOn, Pass, for_reasons, Children}
 use Rattle.meaning.specs.Trees.{NoChild, Child}
@@ -31,8 +31,8 @@ children_of (child ∷ younger) = Child child.body child.handlers child.labelled
 -- one level, where each part inside is seen as its tree already
 abbrev pub step_layer : Step-F Handlers meant.Step meant.Block (ℕ × meant.Block) Tried → meant.Step
 step_layer (Step-F.Op object call labelled) = Operation object call labelled
-step_layer (Step-F.If label test then otherwise) = If label test then otherwise
-step_layer (Step-F.Sub child) = meant.Subaction child.body child.handlers child.labelled
+step_layer (Step-F.If label test then otherwise) = If label test then.value otherwise.value
+step_layer (Step-F.Sub child) = meant.Subaction child.value.body child.value.handlers child.value.labelled
 step_layer (Step-F.Abort reason) = Abort reason
 step_layer (Step-F.Parallel children) = Parallel (children_of children.items)
 
@@ -91,8 +91,8 @@ before_younger (child ∷ children) younger = ShownChildren.Child child (before_
 
 abbrev pub taken_layer : Taken-F ShownStep Shown → ShownStep
 taken_layer (Taken-F.Op reply) = Replied reply
-taken_layer (Taken-F.If then branch) = Branched then branch
-taken_layer (Taken-F.Sub body handler) = Acted (shown_child (body, handler))
+taken_layer (Taken-F.If then branch) = Branched then branch.value
+taken_layer (Taken-F.Sub body handler) = Acted (shown_child (body.value, option_map box_value handler))
 taken_layer Taken-F.Abort = ShownStep.Abort
 taken_layer (Taken-F.Parallel children) = InParallel (before_younger (map shown_child children.items) ShownChildren.NoChild)
 

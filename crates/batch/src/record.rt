@@ -16,9 +16,9 @@ pub struct Record {
 pub enum Taken {
     Op(Reply),
     /// Whether the test held, and the branch that was run.
-    If(bool, Record),
+    If(bool, Box<Record>),
     /// A body, and the handler where one ran.
-    Sub(Record, Option<Record>),
+    Sub(Box<Record>, Option<Box<Record>>),
     Abort,
     /// The children that were reached, each as a subaction.
     Parallel(Vec<(Record, Option<Record>)>),

@@ -24,10 +24,10 @@ pub enum Step {
     If {
         label: u32,
         test: Test,
-        then: Block,
-        otherwise: Block,
+        then: Box<Block>,
+        otherwise: Box<Block>,
     },
-    Sub(Subaction),
+    Sub(Box<Subaction>),
     /// Ends the innermost subaction or the transaction around it, for a reason or without one.
     Abort(Option<u32>),
     /// Subactions that may run at once; they mean the same as one after the other.

@@ -1,8 +1,12 @@
 //! What trying a subaction gives.
-ghost use Rattle.std.specs.Prelude.{◌≡◌, Some};
+ghost use Rattle.std.specs.Prelude.{◌≡◌, IfOk, Some};
+ghost use Rattle.meaning.specs.Shown.{Acted};
+ghost use Rattle.batch.specs.Views.{taken_view, tried_view};
 
-use crate::record::Record;
+use crate::record::{Record, Taken};
 use meaning::End;
+use objects::NoMemory;
+use std::alloc::Global;
 
 /// What running a subaction gives: its body and its handler, and how the block goes on.
 #[derive(Drop)]
@@ -10,6 +14,17 @@ pub struct Tried {
     pub body: Record,
     pub handler: Option<Record>,
     pub end: End,
+}
+
+impl Tried {
+    /// The subaction as a step that was taken.
+    pub fn into_taken(self, alloc: Global) -> Result<Taken, NoMemory>
+        ensures { IfOk result (λ taken. taken_view taken ≡ Acted (tried_view (self.body, self.handler))) }
+    {
+        let body = Box::new(alloc, self.body)?;
+        let handler = self.handler.map(|done| Box::new(alloc, done)).transpose()?;
+        Ok(Taken::Sub(body, handler))
+    }
 }
 
 /// A handler that ran, and how the block goes on.

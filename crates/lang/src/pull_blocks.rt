@@ -179,7 +179,7 @@ fn pull_sub_step(
         &state.counts,
     )
     .ok()?;
-    Some(Step::Sub(read))
+    Some(Step::Sub(Box::new(alloc, read).ok()?))
 }
 
 // ---- children
@@ -352,8 +352,8 @@ fn pull_if(
     Some(Step::If {
         label,
         test,
-        then,
-        otherwise,
+        then: Box::new(alloc, then).ok()?,
+        otherwise: Box::new(alloc, otherwise).ok()?,
     })
 }
 

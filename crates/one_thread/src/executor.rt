@@ -97,12 +97,13 @@ fn run_step(
             let branch = if holds { then } else { otherwise };
             let record = run_block(alloc, branch, labels, workspace)?;
             let end = record.outcome;
-            Ok((Taken::If(holds, record), end))
+            Ok((Taken::If(holds, Box::new(alloc, record)?), end))
         }
         Step::Sub(child) => {
             let tried = run_subaction(alloc, child, labels, workspace)?;
             add_label(labels, child.labelled, Held::Outcome(tried.body.outcome))?;
-            Ok((Taken::Sub(tried.body, tried.handler), tried.end))
+            let end = tried.end;
+            Ok((tried.into_taken(alloc)?, end))
         }
         Step::Abort(reason) => Ok((Taken::Abort, End::Aborted(*reason))),
         Step::Parallel(children) => {

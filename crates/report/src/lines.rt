@@ -1,5 +1,5 @@
 //! The lines of a record.
-ghost use Rattle.std.specs.Prelude.{◌≡◌, ◌++◌, IfOk, OnOk, codes, string_bytes};
+ghost use Rattle.std.specs.Prelude.{◌≡◌, ◌++◌, IfOk, OnOk, codes, option_copied, string_bytes};
 ghost use Rattle.meaning.specs.Texts.{line, reason_text, outcome_text, choice_text, operation_line, steps_text, step_text, child_text, children_text, handler_path, handler_block, part, reason_of};
 ghost use Rattle.batch.specs.Names.{names_of};
 ghost use Rattle.batch.specs.Views.{block_view, record_view, step_view, taken_view, subaction_view, tried_view, children_view, all_tried_view};
@@ -67,7 +67,7 @@ fn write_step(
             }
         }
         (Step::Sub(child), Taken::Sub(body, handler)) => {
-            write_child(alloc, out, names, path, child, body, handler)
+            write_child(alloc, out, names, path, child, body, handler.as_deref())
         }
         (Step::Abort(reason), Taken::Abort) => write_abort(out, names, path, *reason),
         (Step::Parallel(children), Taken::Parallel(tried)) => {
@@ -85,10 +85,10 @@ fn write_child(
     path: &str,
     child: &Subaction,
     body: &Record,
-    handler: &Option<Record>,
+    handler: Option<&Record>,
 ) -> Result<(), NoMemory>
     ensures { OnOk result (let child = subaction_view child.now in
-        string_bytes out.new ≡ string_bytes out.old ++ child_text (names_of names.now) path.now child.body child.handlers (tried_view (body.now, handler.now))) }
+        string_bytes out.new ≡ string_bytes out.old ++ child_text (names_of names.now) path.now child.body child.handlers (tried_view (body.now, option_copied handler.entry))) }
 {
     write_outcome(out, names, path, body.outcome)?;
     let body_path = format!(in alloc; "{path}.b")?;
@@ -157,7 +157,15 @@ fn write_children(
         let child = &children[index];
         let child_path = part_path(alloc, path, index + 1)?;
         let (body, handler) = tried;
-        write_child(alloc, out, names, child_path.as_str(), child, body, handler)?;
+        write_child(
+            alloc,
+            out,
+            names,
+            child_path.as_str(),
+            child,
+            body,
+            handler.as_ref(),
+        )?;
     }
     Ok(())
 }

@@ -15,7 +15,7 @@ use Rattle.lang.proofs.LabelLemmas.{extends_twice, scope_after_extends, cut_back
 use Rattle.lang.proofs.PulledLemmas.{reads_item, reads_no_items, reads_shorter, reads_array, reads_deeper, reads_member, reads_no_members, reads_object, reads_string}
 use Rattle.json.specs.Token.{Token}
 use Rattle.batch.specs.declared.tree.Block.{roll-Block}
-use Rattle.batch.proofs.ViewLemmas.{block_view-is, step_view-Sub, step_view-Parallel}
+use Rattle.batch.proofs.ViewLemmas.{block_view-is, step_view-If, step_view-Sub, step_view-Parallel}
 use Rattle.lang.proofs.BlockLemmas.{block_asks, block_spells}
 use Rattle.std.specs.Prelude.{codes, is_some}
 use Rattle.json.proofs.Grammar.{read_key-shorter}
@@ -26,7 +26,7 @@ use Rattle.lang.specs.Answer.{IsMet}
 use Rattle.lang.proofs.PulledSubs.{label_anywhere, sub_label, sub_met, sub_sort, sub_spelled, sub_step_met, sub_step_scope, sub_step_spelled, tail_handler, tail_handlers, tail_label, tail_none, parallel_met, parallel_scope, parallel_spelled, parallel_step}
 use Rattle.lang.specs.declared.words.Subject.TheVariants.{Outcome}
 use Rattle.std.proofs.lemmas.Option.{IfSome_then}
-use Rattle.batch.specs.declared.tree.Step.{If, the_lemmas as step_lemmas}
+use Rattle.batch.specs.declared.tree.Step.{If}
 use Rattle.lang.proofs.PulledTests.{if_met, if_scope, if_spelled}
 use Rattle.lang.proofs.pull_blocks.+blocks.Goals as goal
 
@@ -268,7 +268,8 @@ pull_sub_step-returns t c =
     let next = c.pull_sub.new.state.counts in
     let numbers = numbers_of c.args.state.now.numbering in
     let last = numbers_of c.pull_sub.new.state.numbering in
-    let child = c.in_ok-read.read in
+    let child = c.in_ok-ok-2.field-0 in
+    let boxes : child.value ≡ c.in_ok-read.read = grind (arith, rules) in
     let done = c.in_ok-read.ensures in
     let d = done.0 in
     let label : option_map (λ text. text.now) c.in_ok-read.label ≡ label_in d = done.4 in
@@ -282,7 +283,8 @@ pull_sub_step-returns t c =
       d,
       done.1,
       sub_step_met setting scope d asks start next done.5 (done.2 [] allowed),
-      ap (λ (x : tree.Step). (x, last)) (step_view-Sub child) ∙ ap (spelled_map sub_step) done.3
+      ap (λ (x : tree.Step). (x, last)) (step_view-Sub child) ∙ ap (λ read. (sub_step (subaction_view read), last)) boxes
+          ∙ ap (spelled_map sub_step) done.3
           ∙ sym (sub_step_spelled setting scope d block numbers done.5),
       added ∙ ap (λ s. with_label (option_map (λ text. text.now) c.in_ok-read.label) Outcome s) within
           ∙ ap (λ o. with_label o Outcome scope) label ∙ sym (sub_step_scope setting scope d done.5),
@@ -467,9 +469,12 @@ pull_if-returns t c =
     let reads1 = reads_member k no_members (codes "if") (Token.key (codes "if") ∷ Token.string s ∷ r1) (Token.string s ∷ r1) r1 new
     (string s) ms refl
     (omega arith) (reads_string k s r1) (test.2 k m1 ms new reads3) in
-    let shown : step_view (If c.in_ok-label.label c.in_ok-test.test c.in_ok-then.then c.in_ok-otherwise.otherwise)
+    let boxes : c.in_ok-ok-2.field-0.value ≡ c.in_ok-then.then = grind (arith, rules) in
+    let boxes_too : c.in_ok-ok-3.field-0.value ≡ c.in_ok-otherwise.otherwise = grind (arith, rules) in
+    let shown : step_view (If c.in_ok-label.label c.in_ok-test.test c.in_ok-ok-2.field-0 c.in_ok-ok-3.field-0)
     ≡ tree.If (label_number s scope) c.in_ok-test.test (block_view c.in_ok-then.then) (block_view c.in_ok-otherwise.otherwise)
-    = rw number (search (rules, step_lemmas)) in (
+    = step_view-If c.in_ok-label.label c.in_ok-test.test c.in_ok-ok-2.field-0 c.in_ok-ok-3.field-0
+    ∙ rw (number, boxes, boxes_too) refl in (
       whole,
       subst (λ ts. ReadsValue (5 * c.args.levels + 1) (Token.begin_object ∷ Token.key (codes "if") ∷ ts) whole new) (sym named)
           (reads_deeper (suc k) (k + 1) _ whole new (omega arith) (reads_object k _ ms new reads1)),

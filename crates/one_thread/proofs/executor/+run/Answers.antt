@@ -40,26 +40,29 @@ pub run_step-returns-in_ok-add_label-in-Op-clause-shows : goal.run_step-returns-
 run_step-returns-in_ok-add_label-in-Op-clause-shows t c =
     op-shows ground c.args.step.now _ _ _ _ _ _ _ _ c.in-Op.is c.in_ok-reply-in-Op.ensures.reply (call_took _ _ _ _ c.in_ok-reply-in-Op.reply c.in_ok-reply-in-Op.ensures.ok) c.in_ok-add_label-in-Op.ensures
 
-pub run_step-returns-in_ok-record-in-If-clause-shows : goal.run_step-returns-in_ok-record-in-If-clause-shows
-run_step-returns-in_ok-record-in-If-clause-shows t c =
+pub run_step-returns-in_ok-new-in-If-clause-shows : goal.run_step-returns-in_ok-new-in-If-clause-shows
+run_step-returns-in_ok-new-in-If-clause-shows t c =
+    let ran = c.in_ok-record-in-If in
     elim c.if-holds.branch [
-      | run_step-then-holds w ↦ if-shows_then ground c.args.step.now c.in-If.label c.in-If.test c.in-If.then c.in-If.otherwise c.args.labels.now.items _ c.args.workspace.now _ c.index.result.now c.test_holds-holds.result _ c.in-If.is c.requires c.index.ensures c.test_holds-holds.ensures w.if-holds.true
-          (rw w.branch'-is at c.in_ok-record-in-If.ensures.shows) c.in_ok-record-in-If.ensures.labels
-      | run_step-else-holds w ↦ if-shows_else ground c.args.step.now c.in-If.label c.in-If.test c.in-If.then c.in-If.otherwise c.args.labels.now.items _ c.args.workspace.now _ c.index.result.now c.test_holds-holds.result _ c.in-If.is c.requires c.index.ensures c.test_holds-holds.ensures w.if-holds.false
-          (rw w.branch'-is at c.in_ok-record-in-If.ensures.shows) c.in_ok-record-in-If.ensures.labels
+      | run_step-then-holds w ↦ if-shows_then ground c.args.step.now c.in-If.label c.in-If.test c.in-If.then c.in-If.otherwise c.args.labels.now.items _ c.args.workspace.now _ c.index.result.now c.test_holds-holds.result _ _ c.in-If.is c.requires c.index.ensures c.test_holds-holds.ensures w.if-holds.true
+          (rw (c.deref.ensures, w.branch'-is) at ran.ensures.shows) ran.ensures.labels c.in_ok-new-in-If.ensures.ok
+      | run_step-else-holds w ↦ if-shows_else ground c.args.step.now c.in-If.label c.in-If.test c.in-If.then c.in-If.otherwise c.args.labels.now.items _ c.args.workspace.now _ c.index.result.now c.test_holds-holds.result _ _ c.in-If.is c.requires c.index.ensures c.test_holds-holds.ensures w.if-holds.false
+          (rw (c.deref.ensures, w.branch'-is) at ran.ensures.shows) ran.ensures.labels c.in_ok-new-in-If.ensures.ok
     ]
 
-pub run_step-returns-in_ok-add_label-in-Sub-clause-shows : goal.run_step-returns-in_ok-add_label-in-Sub-clause-shows
-run_step-returns-in_ok-add_label-in-Sub-clause-shows t c =
-    sub-shows ground c.args.step.now c.in-Sub.child c.args.labels.now.items _ c.args.workspace.now _ c.in_ok-tried-in-Sub.tried c.in-Sub.is c.in_ok-tried-in-Sub.ensures.shows
-    (rw (c.in_ok-add_label-in-Sub.ensures, c.in_ok-tried-in-Sub.ensures.labels, subaction_view-labelled c.in-Sub.child) refl)
+pub run_step-returns-in_ok-into_taken-in-Sub-clause-shows : goal.run_step-returns-in_ok-into_taken-in-Sub-clause-shows
+run_step-returns-in_ok-into_taken-in-Sub-clause-shows t c =
+    let child = c.in-Sub.child in
+    let tried = c.in_ok-tried-in-Sub in
+    sub-shows ground c.args.step.now child c.args.labels.now.items _ c.args.workspace.now _ tried.tried _ c.in-Sub.is (rw c.deref-in-Sub.ensures at tried.ensures.shows)
+    (rw (c.in_ok-add_label-in-Sub.ensures, tried.ensures.labels, c.deref-in-Sub-2.ensures, subaction_view-labelled child.value) refl) c.in_ok-into_taken-in-Sub.ensures
 
 pub run_step-returns-in-Abort-clause-shows : goal.run_step-returns-in-Abort-clause-shows
 run_step-returns-in-Abort-clause-shows t c = abort-shows ground c.args.step.now c.in-Abort.reason c.args.labels.now.items c.args.workspace.now c.in-Abort.is
 
 pub run_step-returns-in_ok-append-in-Parallel-clause-shows : goal.run_step-returns-in_ok-append-in-Parallel-clause-shows
 run_step-returns-in_ok-append-in-Parallel-clause-shows t c =
-    parallel-shows ground c.args.step.now c.in-Parallel.children c.args.labels.now.items _ c.run_children.new.outcomes.items c.args.workspace.now _ c.in_ok-tried-in-Parallel.tried c.in_ok-tried-in-Parallel.end c.in-Parallel.is (rw c.deref.ensures.value at c.in_ok-tried-in-Parallel.ensures.shows)
+    parallel-shows ground c.args.step.now c.in-Parallel.children c.args.labels.now.items _ c.run_children.new.outcomes.items c.args.workspace.now _ c.in_ok-tried-in-Parallel.tried c.in_ok-tried-in-Parallel.end c.in-Parallel.is (rw c.deref-in-Parallel.ensures.value at c.in_ok-tried-in-Parallel.ensures.shows)
     (c.in_ok-append-in-Parallel.ensures.items ∙ ap (λ ls. ls ++ c.run_children.new.outcomes.items) c.in_ok-tried-in-Parallel.ensures.labels)
 
 -- ---- children one after the other

@@ -1,6 +1,6 @@
 use Rattle.std.proofs.Common.{◌≡◌, ◌<◌, ◌≤◌, ◌+◌, ◌++◌, length, refl, sym, ap, ◌∙◌, arith, append-nil, append_assoc, string_bytes, Some}
 use Rattle.std.proofs.Common.{None}
-use Rattle.std.specs.Prelude.{codes}
+use Rattle.std.specs.Prelude.{codes, option_copied}
 use Rattle.meaning.specs.Texts.{part, reason_of}
 use Rattle.batch.specs.Names.{names_of}
 use Rattle.batch.specs.Views.{record_view, subaction_view}
@@ -46,7 +46,7 @@ pub write_children-loop-index-preserved : goal.write_children-loop-index-preserv
 write_children-loop-index-preserved t c =
     let path : c.as_str.result.now ≡ part c.args.path.now (c.loop-index.index + 1) = c.as_str.ensures.value ∙ c.in_ok-child_path.ensures in
     let splits = rest_children_text-more _ c.args.path.now c.loop-index.index _ _ _ _ c.if-index-children.false c.index-children-index.is c.loop-index-test.true c.index-all_tried-index.is in
-    after_text _ _ _ _ _ _ c.loop-index.invariant (rw path at c.in_ok-write_child.ensures) splits
+    after_text _ _ _ _ _ _ c.loop-index.invariant (rw (path, c.as_ref.ensures.value) at c.in_ok-write_child.ensures) splits
 
 pub write_children-returns-then-index-children : goal.write_children-returns-then-index-children
 write_children-returns-then-index-children t c =
@@ -58,7 +58,7 @@ write_children-returns t c =
 
 pub write_step-returns-in-Parallel-Parallel : goal.write_step-returns-in-Parallel-Parallel
 write_step-returns-in-Parallel-Parallel t c =
-    rw (c.in-Parallel-Parallel.is-0, c.in-Parallel-Parallel.is-1, step_view-Parallel, taken_view-Parallel) (rw (c.deref.ensures.value, c.deref-in-Parallel-Parallel.ensures.value) at c.write_children.ensures)
+    rw (c.in-Parallel-Parallel.is-0, c.in-Parallel-Parallel.is-1, step_view-Parallel, taken_view-Parallel) (rw (c.deref-in-Parallel-Parallel.ensures.value, c.deref-in-Parallel-Parallel-2.ensures.value) at c.write_children.ensures)
 
 -- ---- a subaction
 
@@ -66,7 +66,7 @@ pub write_child-returns : goal.write_child-returns
 write_child-returns t c =
     let path : c.as_str.result.now ≡ c.args.path.now ++ codes ".b" = c.as_str.ensures.value ∙ c.in_ok-body_path.ensures.ok in
     after_two _ _ _ _ _ c.in_ok-write_outcome.ensures (rw path at c.in_ok-write_block.ensures)
-    ∙ ap (λ text. string_bytes c.args.out.now ++ text) (sym (child_text-body _ c.args.path.now c.args.child.now c.args.body.now c.args.handler.now c.in-None.is))
+    ∙ ap (λ text. string_bytes c.args.out.now ++ text) (sym (child_text-body _ c.args.path.now c.args.child.now c.args.body.now (option_copied c.args.handler) (ap option_copied c.in-None.is)))
 
 pub write_child-returns-in-Some : goal.write_child-returns-in-Some
 write_child-returns-in-Some t c =
@@ -74,8 +74,8 @@ write_child-returns-in-Some t c =
     let names = names_of c.args.names.now in
     let lines = body_lines names c.args.path.now c.args.child.now c.args.body.now in
     let wrote : string_bytes c.write_block.new.out ≡ string_bytes c.args.out.now ++ lines = after_two _ _ _ _ _ c.in_ok-write_outcome.ensures (rw path at c.in_ok-write_block.ensures) in
-    let handled = handled_text names c.args.path.now (reason_of c.args.body.now.outcome) (record_view c.in-Some.done) (subaction_view c.args.child.now).handlers in
-    rw (child_text-handler names c.args.path.now c.args.child.now c.args.body.now c.args.handler.now c.in-Some.done c.in-Some.is, sym (append_assoc (string_bytes c.args.out.now) lines handled)) (rw (wrote, c.reason_of.ensures) at c.write_handler.ensures)
+    let handled = handled_text names c.args.path.now (reason_of c.args.body.now.outcome) (record_view c.in-Some.done.now) (subaction_view c.args.child.now).handlers in
+    rw (child_text-handler names c.args.path.now c.args.child.now c.args.body.now (option_copied c.args.handler) c.in-Some.done.now (ap option_copied c.in-Some.is), sym (append_assoc (string_bytes c.args.out.now) lines handled)) (rw (wrote, c.reason_of.ensures) at c.write_handler.ensures)
 
 -- ---- what takes an abort
 
