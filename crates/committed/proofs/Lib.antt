@@ -7,3 +7,4 @@ pub mod StandsLemmas
 pub mod IndexLemmas
 pub mod NumberSetLemmas
 pub mod WatchLemmas
+pub mod SummaryLemmas

@@ -15,13 +15,17 @@ use Rattle.committed.specs.Marks.{hash_of, mark_of}
 use Rattle.committed.specs.Index.{key_of, key_against, IsLinked, IsListed}
 use Rattle.committed.proofs.FilterLemmas.{same_hash, same_object}
 
+-- of two entries that commute one after the other, each does
+pub commute_turned : (p q : Entry) → Commute p q → Commute q p
+commute_turned p q h v legal_q legal_p = let both = h v legal_p legal_q in record { first = both.second; second = both.first; same = sym both.same }
+
 -- an entry that commutes with each one of a list
 pub all_commute : (e : Entry) (xs : List Entry) → ((n : ℕ) → n < length xs → Commute e (get_or xs n e)) → CommutesWith e xs
 all_commute e [] h = tt
 all_commute e (x ∷ xs) h = (h 0 (omega arith), all_commute e xs (λ n l. h (suc n) (omega arith)))
 
 -- commutes with each
-one_commutes : (e : Entry) (xs : List Entry) (n : ℕ) → n < length xs → CommutesWith e xs → Commute e (get_or xs n e)
+pub one_commutes : (e : Entry) (xs : List Entry) (n : ℕ) → n < length xs → CommutesWith e xs → Commute e (get_or xs n e)
 one_commutes e [] n l h = absurd (omega arith)
 one_commutes e (x ∷ xs) zero l h = h.0
 one_commutes e (x ∷ xs) (suc n) l h = one_commutes e xs n (omega arith) h.1

@@ -6,4 +6,6 @@ pub mod Index
 pub mod Marks
 pub mod Filter
 pub mod NumberSets
+pub mod Chains
 pub mod Watching
+pub mod Summaries

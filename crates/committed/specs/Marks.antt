@@ -1,5 +1,5 @@
 -- Marks: digests of entries, of which a filter tells that they commute forward with all that it has.
-use Rattle.std.specs.Prelude.{List, ℕ, ◌+◌, ◌*◌, ◌/◌, ◌%◌, ◌^◌, Option, Some, None, map}
+use Rattle.std.specs.Prelude.{ℕ, ◌+◌, ◌*◌, ◌/◌, ◌%◌, ◌^◌, Option, Some, None}
 use Rattle.atoms.specs.declared.item.Item.{Item}
 use Rattle.objects.specs.declared.entry.Entry.{Entry}
 use Rattle.committed.specs.declared.marks.Mark.{Mark}
@@ -23,6 +23,3 @@ mark_of e = record {
   class = 2 ^ number_of (class_of e.call e.reply);
   conflicts = conflicts_of (class_of e.call e.reply);
 }
-
-abbrev pub marks_of : List Entry → List Mark
-marks_of es = map mark_of es

@@ -1,7 +1,8 @@
 //! A list of entries, against which others are checked.
 ghost use Rattle.std.specs.Prelude.{◌≡◌, ◌↔◌, ◌+◌, ◌<◌, ◌≤◌, ℕ, [], ◌++◌, length, take, slice_index_or, vec_len, vec_capacity, IsTrue, OnOk, OnErr};
 ghost use Rattle.committed.specs.Committed.{CommutesWith, AllStand};
-ghost use Rattle.committed.specs.Marks.{mark_of, marks_of};
+ghost use Rattle.committed.specs.Marks.{mark_of};
+ghost use Rattle.committed.specs.Summaries.{entries_of};
 ghost use Rattle.committed.specs.Filter.{IsFilterOf, Meets};
 ghost use Rattle.committed.specs.Index.{IsIndexOf, IsAllListed, HasRoom};
 ghost use Rattle.committed.specs.Strictness.{Commute};
@@ -9,7 +10,8 @@ ghost use Rattle.committed.specs.Strictness.{Commute};
 use crate::classes::Class;
 use crate::filter::Filter;
 use crate::index::{Index, key_against};
-use crate::marks::Mark;
+use crate::marks::{Mark, MarkedEntry};
+use crate::summary::mark_all;
 use objects::{Entry, NoMemory, commute};
 use std::alloc::Global;
 use std::marker::Model;
@@ -77,6 +79,15 @@ impl Committed {
         ensures ok { OnOk result (self.new ≡ self.old ++ entries.now) }
         ensures err { OnErr result (self.new ≡ self.old) }
     {
+        let marked = mark_all(*self.entries.allocator(), entries)?;
+        self.append_marked(&marked)
+    }
+
+    /// Adds entries that have their marks. On `NoMemory` none is added.
+    pub fn append_marked(&mut self, entries: &[MarkedEntry]) -> Result<(), NoMemory>
+        ensures ok { OnOk result (self.new ≡ self.old ++ entries_of entries.now) }
+        ensures err { OnErr result (self.new ≡ self.old) }
+    {
         self.entries.reserve(entries.len())?;
         self.filter.reserve(&self.entries, entries.len())?;
         self.index.reserve(&self.entries, entries.len())?;
@@ -90,14 +101,13 @@ impl Committed {
     }
 
     /// Whether each entry commutes forward, over all states, with each of the first `upto` of the list.
-    /// Each entry comes with its mark. Takes no memory.
-    pub fn stands(&self, entries: &[Entry], marks: &[Mark], upto: usize) -> bool
-        requires marks { marks.now ≡ marks_of entries.now }
+    /// Takes no memory.
+    pub fn stands(&self, entries: &[MarkedEntry], upto: usize) -> bool
         requires within { upto ≤ length self.now }
-        ensures { IsTrue result ↔ AllStand entries.now (take upto self.now) }
+        ensures { IsTrue result ↔ AllStand (entries_of entries.now) (take upto self.now) }
     {
-        for (entry, mark) in entries.iter().zip(marks.iter()) {
-            if !self.commutes_with(entry, mark, upto) {
+        for marked in entries {
+            if !self.commutes_with(&marked.entry, &marked.mark, upto) {
                 return false;
             }
         }
@@ -135,22 +145,21 @@ impl Committed {
 }
 
 /// Puts entries at the end of a list, its filter and its index, which have room for them.
-fn put_all(entries: &mut Vec<Entry>, filter: &mut Filter, index: &mut Index, more: &[Entry])
+fn put_all(entries: &mut Vec<Entry>, filter: &mut Filter, index: &mut Index, more: &[MarkedEntry])
     requires room { vec_len entries.old + length more.now ≤ vec_capacity entries.old }
     requires index_room { HasRoom index.old (length more.now) }
     requires filter { IsFilterOf entries.old.items filter.old }
     requires index { IsIndexOf entries.old.items index.old }
     requires all { IsAllListed entries.old.items index.old }
-    ensures entries { entries.new.items ≡ entries.old.items ++ more.now }
+    ensures entries { entries.new.items ≡ entries.old.items ++ entries_of more.now }
     ensures filter { IsFilterOf entries.new.items filter.new }
     ensures index { IsIndexOf entries.new.items index.new }
     ensures all { IsAllListed entries.new.items index.new }
 {
-    for entry in more {
-        let mark = Mark::of(entry);
-        filter.mark(&mark);
-        entries.push_reserved(*entry);
-        index.push(entries, &mark);
+    for marked in more {
+        filter.mark(&marked.mark);
+        entries.push_reserved(marked.entry);
+        index.push(entries, &marked.mark);
     }
 }
 

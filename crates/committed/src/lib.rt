@@ -12,12 +12,15 @@ mod items;
 mod marks;
 mod number_set;
 mod strictness;
+mod summary;
 mod watch;
+mod watching;
 
 pub use committed::Committed;
-pub use marks::{Mark, mark_all, marks_of};
+pub use marks::{Mark, MarkedEntry};
 pub use number_set::NumberSet;
 pub use objects::{Call, Entry, NoMemory, Reply};
+pub use summary::{mark_all, summary_of};
 pub use watch::Watch;
 
 #[cfg(test)]

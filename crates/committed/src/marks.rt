@@ -1,11 +1,10 @@
 //! Marks of entries: what a filter needs to know of each.
-ghost use Rattle.std.specs.Prelude.{◌≡◌, IfOk, OnOk};
-ghost use Rattle.committed.specs.Marks.{hash_of, mark_of, marks_of};
+ghost use Rattle.std.specs.Prelude.{◌≡◌};
+ghost use Rattle.committed.specs.Marks.{hash_of, mark_of};
 
 use crate::classes::Class;
 use crate::items::item_of;
-use objects::{Entry, Item, NoMemory};
-use std::alloc::Global;
+use objects::{Entry, Item};
 
 /// A digest of an entry. It is made once, however often the entry is compared with others.
 #[derive(Clone, Copy, Debug, PartialEq, Eq)]
@@ -35,26 +34,24 @@ impl Mark {
     }
 }
 
-/// The marks of entries, in order.
-pub fn marks_of(alloc: Global, entries: &[Entry]) -> Result<Vec<Mark>, NoMemory>
-    ensures { IfOk result (λ marks. marks.items ≡ marks_of entries.now) }
-{
-    let mut marks = Vec::new(alloc);
-    mark_all(&mut marks, entries)?;
-    Ok(marks)
+/// An entry with its mark.
+#[derive(Clone, Copy, Debug, PartialEq, Eq)]
+pub struct MarkedEntry {
+    pub entry: Entry,
+    pub mark: Mark,
+    pub ghost is_marked: { mark ≡ mark_of entry },
 }
 
-/// Puts the marks of entries, in order, in the place of what a list has. Where memory is refused, the
-/// list is left with some of them, or as it was.
-pub fn mark_all(marks: &mut Vec<Mark>, entries: &[Entry]) -> Result<(), NoMemory>
-    ensures { OnOk result (marks.new.items ≡ marks_of entries.now) }
-{
-    marks.clear();
-    marks.reserve(entries.len())?;
-    for entry in entries {
-        marks.push(Mark::of(entry))?;
+impl MarkedEntry {
+    /// The entry with its mark.
+    pub fn of(entry: &Entry) -> MarkedEntry
+        ensures { result.entry ≡ entry.now }
+    {
+        MarkedEntry {
+            entry: *entry,
+            mark: Mark::of(entry),
+        }
     }
-    Ok(())
 }
 
 /// A hash of an object and item, whose low bits depend on all of theirs.

@@ -19,8 +19,8 @@ fn stand_in(
     entries: &[Entry],
     upto: usize,
 ) -> Result<bool, NoMemory> {
-    let marks = marks_of(alloc, entries)?;
-    Ok(committed.stands(entries, &marks, upto.min(committed.len())))
+    let marked = mark_all(alloc, entries)?;
+    Ok(committed.stands(&marked, upto.min(committed.len())))
 }
 
 /// Whether the entries stand after others.
@@ -340,7 +340,7 @@ fn crowded_slots_are_searched(rt: HostRuntime) -> Result<(), Fail> {
 }
 
 #[test]
-fn runs_that_may_conflict_are_taken(rt: HostRuntime) -> Result<(), Fail> {
+fn runs_that_may_conflict_are_found(rt: HostRuntime) -> Result<(), Fail> {
     let set = |call: SetCall, reply: SetReply| -> Entry {
         Entry {
             object: 2,
@@ -350,25 +350,88 @@ fn runs_that_may_conflict_are_taken(rt: HostRuntime) -> Result<(), Fail> {
     };
     let insert = |item: u32| -> Entry { set(SetCall::Insert(Item(item)), SetReply::Added) };
     let absent = |item: u32| -> Entry { set(SetCall::Has(Item(item)), SetReply::No) };
+    let size = set(SetCall::Size, SetReply::Number(0));
     let alloc = rt.alloc();
-    let mut marks = Vec::new(alloc);
-    marks.push(marks_of(alloc, &[insert(1)])?)?;
-    marks.push(marks_of(alloc, &[insert(2), absent(3)])?)?;
-    marks.push(marks_of(alloc, &[absent(1), absent(4)])?)?;
-    marks.push(marks_of(alloc, &[set(SetCall::Size, SetReply::Number(0))])?)?;
-    let mut watch = Watch::of(alloc, &marks, 0)?;
+    let mut watch = Watch::new(alloc, 4, 6)?;
+    watch.put(0, &mark_all(alloc, &[insert(1)])?)?;
+    watch.put(1, &mark_all(alloc, &[insert(2), absent(3)])?)?;
+    watch.put(2, &mark_all(alloc, &[absent(1), absent(4)])?)?;
+    watch.put(3, &mark_all(alloc, &[size])?)?;
     let mut found = NumberSet::new(alloc);
-    watch.take(1, &[insert(4), absent(1)], &mut found)?;
-    assert!(rt; !found.contains(0));
-    assert!(rt; !found.contains(1));
+    watch.find(1, &mark_all(alloc, &[insert(4), absent(1)])?, &mut found)?;
+    assert_eq!(rt; found.members().len(), 2);
     assert!(rt; found.contains(2));
     assert!(rt; found.contains(3));
-    watch.put(2, &marks[2])?;
     found.clear();
-    watch.take(1, &[insert(1), insert(3)], &mut found)?;
-    assert_eq!(rt; found.members().len(), 2);
-    assert!(rt; found.contains(1));
-    assert!(rt; found.contains(2));
+    watch.find(1, &mark_all(alloc, &[insert(1), insert(3)])?, &mut found)?;
+    assert_eq!(rt; found.members().len(), 3);
+    assert!(rt; !found.contains(0));
     assert!(rt; !watch.is_stale());
+    Ok(())
+}
+
+#[test]
+fn a_run_put_in_again_is_found_by_what_it_had(rt: HostRuntime) -> Result<(), Fail> {
+    let insert = |item: u32| -> Entry {
+        Entry {
+            object: 2,
+            call: Call::Set(SetCall::Insert(Item(item))),
+            reply: Reply::Set(SetReply::Added),
+        }
+    };
+    let alloc = rt.alloc();
+    let mut watch = Watch::new(alloc, 8, 2)?;
+    watch.put(5, &mark_all(alloc, &[insert(1)])?)?;
+    watch.put(5, &mark_all(alloc, &[insert(2)])?)?;
+    for item in 1..3u32 {
+        let mut found = NumberSet::new(alloc);
+        watch.find(5, &mark_all(alloc, &[insert(item)])?, &mut found)?;
+        assert_eq!(rt; found.members().len(), 1);
+        assert!(rt; found.contains(5));
+    }
+    let mut found = NumberSet::new(alloc);
+    watch.find(5, &mark_all(alloc, &[insert(3)])?, &mut found)?;
+    watch.find(6, &mark_all(alloc, &[insert(1)])?, &mut found)?;
+    assert_eq!(rt; found.members().len(), 0);
+    Ok(())
+}
+
+#[test]
+fn many_operations_have_a_short_summary(rt: HostRuntime) -> Result<(), Fail> {
+    let account = |call: AccountCall, reply: AccountReply| -> Entry {
+        Entry {
+            object: 4,
+            call: Call::Account(call),
+            reply: Reply::Account(reply),
+        }
+    };
+    let alloc = rt.alloc();
+    let mut entries = Vec::new(alloc);
+    for number in 1..501u64 {
+        let some = amount(&rt, number);
+        entries.push(account(AccountCall::Deposit(some), AccountReply::Ok))?;
+        entries.push(account(AccountCall::Withdraw(some), AccountReply::Ok))?;
+    }
+    let summary = summary_of(alloc, &entries)?;
+    assert_eq!(rt; summary.len(), 2);
+    let few = amount(&rt, 1);
+    let mut others = Vec::new(alloc);
+    others.push(account(AccountCall::Deposit(few), AccountReply::Ok))?;
+    others.push(account(AccountCall::Withdraw(few), AccountReply::Ok))?;
+    others.push(account(AccountCall::Withdraw(few), AccountReply::No))?;
+    for number in 0..3u64 {
+        others.push(account(AccountCall::Balance, AccountReply::Number(number)))?;
+    }
+    for other in &others {
+        let mut committed = Committed::new(alloc);
+        committed.append(&[*other])?;
+        let all_stand = stand_in(&committed, alloc, &entries, 1)?;
+        let upto = committed.len();
+        assert_eq!(rt; committed.stands(&summary, upto), all_stand);
+        let past_all = stand(alloc, &[*other], &entries)?;
+        let mut short = Committed::new(alloc);
+        short.append_marked(&summary)?;
+        assert_eq!(rt; stand_in(&short, alloc, &[*other], 2)?, past_all);
+    }
     Ok(())
 }

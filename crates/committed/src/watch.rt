@@ -1,21 +1,14 @@
-//! Which runs have an entry that may conflict with one of some others.
-ghost use Rattle.std.specs.Prelude.{◌≡◌, ◌↔◌, ◌<◌, ◌≤◌, ◌⊎◌, ◌++◌, ℕ, List, [], ◌∷◌, length, IsTrue, IfOk, OnOk, slice_index_or, vec_len};
-ghost use Rattle.objects.specs.declared.entry.Entry.{Entry as OneEntry};
-ghost use Rattle.committed.specs.Committed.{AllStand};
-ghost use Rattle.committed.specs.Marks.{marks_of};
+//! Which runs have a link in a slot.
+ghost use Rattle.std.specs.Prelude.{◌≡◌, ◌↔◌, ◌<◌, ◌≤◌, ◌^◌, ◌⊎◌, ℕ, length, IsTrue, IfOk, OnOk};
+ghost use Rattle.committed.specs.Chains.{slot_of, AreChains, HasLink};
 ghost use Rattle.committed.specs.NumberSets.{Has};
-ghost use Rattle.committed.specs.Watching.{slot_of, marks_at, AreChains, HasLink, AreLinked};
-ghost use Rattle.committed.specs.declared.marks.Mark.{Mark as OneMark};
 
-use crate::classes::Class;
-use crate::index::{key_against, key_of};
-use crate::marks::Mark;
 use crate::number_set::NumberSet;
-use objects::{Entry, NoMemory};
+use objects::NoMemory;
 use std::alloc::Global;
 
 /// How many slots there are at the least.
-const FEWEST: usize = 16384;
+const FEWEST: usize = 1024;
 
 /// How many slots there are at most.
 const MOST: usize = 4194304;
@@ -24,16 +17,16 @@ const MOST: usize = 4194304;
 #[derive(Clone, Copy, Debug)]
 struct Link {
     /// Where the links of the heading stand, and some others.
-    slot: usize,
-    run: usize,
+    slot: u32,
+    run: u32,
     /// The number of the link before it in its slot, counted from 1; 0 where it is the first.
     before: usize,
-    /// Whether its run was taken out.
-    is_out: bool,
 }
 
-/// The headings that runs have entries under. Of the runs that were put in, it tells those that have
+/// The headings that runs have entries under. Of the runs that were put in, it finds those that have
 /// an entry that may conflict with one of some others, without a look at the rest.
+///
+/// Nothing is taken out. A run that is put in again is still found by what it had before.
 #[derive(Drop)]
 pub struct Watch {
     /// For each slot the number of its last link, counted from 1; 0 where it has none.
@@ -44,34 +37,25 @@ pub struct Watch {
     /// How many links it should have at most: more are mostly stale.
     limit: usize,
     ghost chains: { AreChains last.items links.items count },
+    ghost small: { (length last.items ≤ 2 ^ 32) × (count ≤ 2 ^ 32) },
 }
 
 impl Watch {
-    /// A watch of the runs from one on, by the marks of their entries.
-    ///
-    /// `NoMemory` is answered where a growth of memory was refused.
-    pub fn of(alloc: Global, marks: &[Vec<Mark>], from: usize) -> Result<Watch, NoMemory>
-        requires { from ≤ length marks.now }
-        ensures count { IfOk result (λ watch. watch.count ≡ length marks.now) }
-        ensures watched { IfOk result (λ watch. (run : ℕ) → from ≤ run → run < length marks.now → AreLinked (length watch.last.items) watch.links.items run (marks_at marks.now run)) }
+    /// A watch of so many runs, which have about so many entries together. None is in it yet.
+    pub fn new(alloc: Global, count: usize, entries: usize) -> Result<Watch, NoMemory>
+        requires { count ≤ 2 ^ 32 }
+        ensures count { IfOk result (λ watch. watch.count ≡ count) }
     {
-        let entries = marks[from..]
-            .iter()
-            .fold(0usize, |sum, list| sum.saturating_add(list.len()));
         let mut size = FEWEST;
         while size < MOST && size / 4 < entries {
             size *= 2;
         }
-        let mut watch = Watch {
+        Ok(Watch {
             last: vec![in alloc; 0usize; size]?,
             links: Vec::new(alloc),
-            count: marks.len(),
-            limit: entries.saturating_mul(4).saturating_add(FEWEST),
-        };
-        for run in from..marks.len() {
-            watch.put(run, &marks[run])?;
-        }
-        Ok(watch)
+            count,
+            limit: entries.saturating_mul(3).saturating_add(FEWEST),
+        })
     }
 
     /// Whether most of the links are those of entries that a run no longer has.
@@ -81,80 +65,32 @@ impl Watch {
         self.links.len() > self.limit
     }
 
-    /// Puts a run in, by the marks of its entries. On `NoMemory` it may be in by some of them.
-    pub fn put(&mut self, run: usize, marks: &[Mark]) -> Result<(), NoMemory>
-        requires { run < self.old.count }
-        ensures count { self.new.count ≡ self.old.count }
-        ensures put { OnOk result (AreLinked (length self.new.last.items) self.new.links.items run marks.now) }
-        ensures others { OnOk result ((other : ℕ) (kept : List OneMark) → AreLinked (length self.old.last.items) self.old.links.items other kept → AreLinked (length self.new.last.items) self.new.links.items other kept) }
-    {
-        for mark in marks {
-            let by_object = self.slot(key_of(mark.of_object, mark.class));
-            self.link(by_object, run)?;
-            let by_item = self.slot(key_of(mark.of_item, mark.class));
-            if by_item != by_object {
-                self.link(by_item, run)?;
-            }
-        }
-        Ok(())
-    }
-
-    /// Takes out, and adds to those that were found, all runs from one on with an entry that may not commute
-    /// forward with each of these. The others stay in, and all their entries commute forward with these.
-    ///
-    /// `NoMemory` is answered where a growth of memory was refused; some runs may be out then.
-    pub fn take(
-        &mut self,
+    /// Adds to those that were found all runs from one on with a link in a slot.
+    pub(crate) fn find_in(
+        &self,
+        slot: usize,
         from: usize,
-        entries: &[Entry],
         found: &mut NumberSet,
     ) -> Result<(), NoMemory>
-        ensures count { self.new.count ≡ self.old.count }
+        requires { slot < length self.now.last.items }
         ensures more { OnOk result ((run : ℕ) → Has found.old run → Has found.new run) }
-        ensures only { OnOk result ((run : ℕ) → Has found.new run → Has found.old run ⊎ ((from ≤ run) × (run < self.old.count))) }
-        ensures kept { OnOk result ((run : ℕ) (marks : List OneMark) → from ≤ run → ¬ Has found.new run → AreLinked (length self.old.last.items) self.old.links.items run marks → AreLinked (length self.new.last.items) self.new.links.items run marks) }
-        ensures stand { OnOk result ((run : ℕ) (others : List OneEntry) → from ≤ run → ¬ Has found.new run → AreLinked (length self.old.last.items) self.old.links.items run (marks_of others) → AllStand others entries.now) }
-    {
-        for entry in entries {
-            let mark = Mark::of(entry);
-            for class in &Class::ALL {
-                if mark.conflicts & class.bit() != 0 {
-                    let slot = self.slot(key_against(&mark, *class));
-                    self.take_slot(slot, from, found)?;
-                }
-            }
-        }
-        Ok(())
-    }
-
-    /// The same of the runs with a link in a slot.
-    fn take_slot(&mut self, slot: usize, from: usize, found: &mut NumberSet) -> Result<(), NoMemory>
-        requires { slot < length self.old.last.items }
-        ensures count { self.new.count ≡ self.old.count }
-        ensures size { length self.new.last.items ≡ length self.old.last.items }
-        ensures more { OnOk result ((run : ℕ) → Has found.old run → Has found.new run) }
-        ensures only { OnOk result ((run : ℕ) → Has found.new run → Has found.old run ⊎ ((from ≤ run) × (run < self.old.count))) }
-        ensures kept { OnOk result ((run other : ℕ) → from ≤ run → ¬ Has found.new run → HasLink self.old.links.items run other → HasLink self.new.links.items run other) }
-        ensures taken { OnOk result ((run : ℕ) → from ≤ run → HasLink self.old.links.items run slot → Has found.new run) }
+        ensures only { OnOk result ((run : ℕ) → Has found.new run → Has found.old run ⊎ ((from ≤ run) × (run < self.now.count))) }
+        ensures all { OnOk result ((run : ℕ) → from ≤ run → HasLink self.now.links.items run slot → Has found.new run) }
     {
         let mut at = self.last[slot];
         while at > 0 {
             let link = self.links[at - 1];
-            if link.run >= from {
-                found.insert(link.run)?;
+            let run = link.run as usize;
+            if run >= from {
+                found.insert(run)?;
             }
-            self.links[at - 1] = Link {
-                is_out: true,
-                ..link
-            };
             at = link.before;
         }
-        self.last[slot] = 0;
         Ok(())
     }
 
     /// Adds a link of a run in a slot.
-    fn link(&mut self, slot: usize, run: usize) -> Result<(), NoMemory>
+    pub(crate) fn link(&mut self, slot: usize, run: usize) -> Result<(), NoMemory>
         requires slot { slot < length self.old.last.items }
         requires run { run < self.old.count }
         ensures count { self.new.count ≡ self.old.count }
@@ -164,17 +100,16 @@ impl Watch {
     {
         let before = self.last[slot];
         self.links.push(Link {
-            slot,
-            run,
+            slot: slot as u32,
+            run: run as u32,
             before,
-            is_out: false,
         })?;
         self.last[slot] = self.links.len();
         Ok(())
     }
 
     /// Where the links of a key stand.
-    fn slot(&self, key: u32) -> usize
+    pub(crate) fn slot(&self, key: u32) -> usize
         ensures is { result ≡ slot_of (length self.now.last.items) key }
         ensures within { result < length self.now.last.items }
     {

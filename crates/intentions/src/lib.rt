@@ -10,7 +10,7 @@ mod draft_table;
 mod layers;
 mod view;
 
-pub use committed::{Committed, Mark, NumberSet, Watch, mark_all, marks_of};
+pub use committed::{Committed, Mark, MarkedEntry, NumberSet, Watch, mark_all, summary_of};
 pub use objects::{Call, Entry, NoMemory, Objects, Reply, Value};
 pub use view::{Lists, View, perform_each};
 

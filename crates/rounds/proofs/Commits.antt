@@ -5,8 +5,8 @@ use Rattle.objects.specs.declared.entry.Entry.{Entry}
 use Rattle.intentions.specs.Levels.{after_entries, AllEntriesLegal, AllHaveRoom}
 use Rattle.intentions.proofs.EntriesLemmas.{after_entries-append}
 use Rattle.objects.specs.Objects.{objects}
-use Rattle.speculate.specs.declared.speculated.Run.{Run}
-use Rattle.rounds.specs.Passes.{nets_of}
+use Rattle.rounds.specs.declared.pending_run.PendingRun.{PendingRun}
+use Rattle.rounds.specs.PendingRuns.{own_nets}
 
 -- two lists, one after the other
 split_legal : (values : List Value) (xs ys : List Entry) → AllEntriesLegal values (xs ++ ys) → AllEntriesLegal values xs × AllEntriesLegal (after_entries values xs) ys
@@ -18,26 +18,26 @@ split_room values [] ys h = (tt, h)
 split_room values (x ∷ xs) ys h = let rest = split_room (objects.after values (x.object, x.call)) xs ys h.1 in ((h.0, rest.0), rest.1)
 
 -- of these runs the first i are committed
-pub record ArePartCommitted (runs : List Run) (start : List Value) (i : ℕ) (now : List Value) : Type 0 where
-  pub legal : AllEntriesLegal now (nets_of (drop i runs))
-  pub room : AllHaveRoom now (nets_of (drop i runs))
-  pub leads : after_entries now (nets_of (drop i runs)) ≡ after_entries start (nets_of runs)
+pub record ArePartCommitted (runs : List PendingRun) (start : List Value) (i : ℕ) (now : List Value) : Type 0 where
+  pub legal : AllEntriesLegal now (own_nets (drop i runs))
+  pub room : AllHaveRoom now (own_nets (drop i runs))
+  pub leads : after_entries now (own_nets (drop i runs)) ≡ after_entries start (own_nets runs)
 
 -- the runs from the next one on
-next_run : (runs : List Run) (i : ℕ) (x : Run) → i < length runs → x ≡ get_or runs i x → nets_of (drop i runs) ≡ x.net.items ++ nets_of (drop (i + 1) runs)
+next_run : (runs : List PendingRun) (i : ℕ) (x : PendingRun) → i < length runs → x ≡ get_or runs i x → own_nets (drop i runs) ≡ x.net.items ++ own_nets (drop (i + 1) runs)
 next_run runs i x lt is =
-    ap nets_of (drop-cons runs i x lt) ∙ ap (λ (y : Run). y.net.items ++ nets_of (drop (suc i) runs)) (sym is) ∙ rw add-one refl
+    ap own_nets (drop-cons runs i x lt) ∙ ap (λ (y : PendingRun). y.net.items ++ own_nets (drop (suc i) runs)) (sym is) ∙ rw add-one refl
 
-module _ (runs : List Run) (start : List Value) (i : ℕ) (now : List Value) (x : Run) (net : List Entry)
+module _ (runs : List PendingRun) (start : List Value) (i : ℕ) (now : List Value) (x : PendingRun) (net : List Entry)
     (part : ArePartCommitted runs start i now) (lt : i < length runs) (is : x ≡ get_or runs i x) (these : net ≡ x.net.items) where
-  rest : nets_of (drop i runs) ≡ net ++ nets_of (drop (i + 1) runs)
-  rest = next_run runs i x lt is ∙ ap (λ es. es ++ nets_of (drop (i + 1) runs)) (sym these)
+  rest : own_nets (drop i runs) ≡ net ++ own_nets (drop (i + 1) runs)
+  rest = next_run runs i x lt is ∙ ap (λ es. es ++ own_nets (drop (i + 1) runs)) (sym these)
 
-  both_legal : AllEntriesLegal now net × AllEntriesLegal (after_entries now net) (nets_of (drop (i + 1) runs))
-  both_legal = split_legal now net (nets_of (drop (i + 1) runs)) (subst (AllEntriesLegal now) rest part.legal)
+  both_legal : AllEntriesLegal now net × AllEntriesLegal (after_entries now net) (own_nets (drop (i + 1) runs))
+  both_legal = split_legal now net (own_nets (drop (i + 1) runs)) (subst (AllEntriesLegal now) rest part.legal)
 
-  both_have_room : AllHaveRoom now net × AllHaveRoom (after_entries now net) (nets_of (drop (i + 1) runs))
-  both_have_room = split_room now net (nets_of (drop (i + 1) runs)) (subst (AllHaveRoom now) rest part.room)
+  both_have_room : AllHaveRoom now net × AllHaveRoom (after_entries now net) (own_nets (drop (i + 1) runs))
+  both_have_room = split_room now net (own_nets (drop (i + 1) runs)) (subst (AllHaveRoom now) rest part.room)
 
   pub next_legal : AllEntriesLegal now net
   next_legal = both_legal.0
@@ -47,7 +47,7 @@ module _ (runs : List Run) (start : List Value) (i : ℕ) (now : List Value) (x 
 
   pub part_committed-more : (next : List Value) → next ≡ after_entries now net → ArePartCommitted runs start (i + 1) next
   part_committed-more next on = record {
-    legal = subst (λ v. AllEntriesLegal v (nets_of (drop (i + 1) runs))) (sym on) both_legal.1;
-    room = subst (λ v. AllHaveRoom v (nets_of (drop (i + 1) runs))) (sym on) both_have_room.1;
-    leads = ap (λ v. after_entries v (nets_of (drop (i + 1) runs))) on ∙ sym (after_entries-append now net (nets_of (drop (i + 1) runs))) ∙ ap (after_entries now) (sym rest) ∙ part.leads;
+    legal = subst (λ v. AllEntriesLegal v (own_nets (drop (i + 1) runs))) (sym on) both_legal.1;
+    room = subst (λ v. AllHaveRoom v (own_nets (drop (i + 1) runs))) (sym on) both_have_room.1;
+    leads = ap (λ v. after_entries v (own_nets (drop (i + 1) runs))) on ∙ sym (after_entries-append now net (own_nets (drop (i + 1) runs))) ∙ ap (after_entries now) (sym rest) ∙ part.leads;
   }

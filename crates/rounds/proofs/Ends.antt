@@ -9,14 +9,14 @@ use Rattle.meaning.specs.Batch.{state_at, answer, nets, shown_of, shown_from, al
 use Rattle.meaning.specs.Rounds.{Rounds}
 use Rattle.meaning.proofs.Batches.{batch_leads}
 use Rattle.rounds.specs.Views.{start_of, blocks_of}
-use Rattle.speculate.specs.declared.speculated.Run.{Run}
+use Rattle.rounds.specs.declared.pending_run.PendingRun.{PendingRun}
 use Rattle.batch.specs.declared.record.Record.{Record}
 use Rattle.batch.specs.declared.batch.Batch.{Batch}
 use Rattle.rounds.specs.Openings.{AreCounts}
 use Rattle.rounds.proofs.Conflicts.{some_run}
 use Rattle.rounds.proofs.Reached.{AtOpening, IsRecordOf, AreAnswers}
 
-module _ (batch : Batch) (b rounds : ℕ) (state : State) (runs : List Run) (counts stale : List ℕ) where
+module _ (batch : Batch) (b rounds : ℕ) (state : State) (runs : List PendingRun) (counts stale : List ℕ) where
   abbrev pub AtTheEnd : Type 0
   AtTheEnd = AtOpening batch b rounds state runs counts stale × (length (blocks_of batch) ≤ b)
 

@@ -1,5 +1,4 @@
 pub mod Times
-pub mod Marked
 pub mod Refuted
 pub mod Making
 pub mod Renewing
@@ -8,6 +7,7 @@ pub mod Conflicts
 pub mod Room
 pub mod Commits
 pub mod Reached
+pub mod Summed
 pub mod Steps
 pub mod Ends
 pub mod Touched

@@ -8,11 +8,16 @@ use Rattle.meaning.specs.Entries.{State}
 use Rattle.meaning.specs.declared.held.Held.{Held}
 use Rattle.intentions.specs.Levels.{Intentions as View, opened}
 use Rattle.rounds.specs.Views.{meaning}
+use Rattle.meaning.specs.Records.{Taken, entries as entries_in}
+use Rattle.meaning.specs.Batch.{net_of}
+use Rattle.meaning.specs.OneThread.{Run as OneRun, record_of}
+use Rattle.batch.specs.Views.{record_view}
 use Rattle.speculate.specs.Runs.{IsRunOf}
 use Rattle.speculate.specs.declared.speculated.Run.{Run}
+use Rattle.rounds.specs.declared.pending_run.PendingRun.{PendingRun}
 use Rattle.batch.specs.declared.batch.Batch.{Batch}
 use Rattle.rounds.specs.declared.make.Made.{Made}
-use Rattle.rounds.specs.Passes.{bit, times, numbers_of, IsMade, AreMade}
+use Rattle.rounds.specs.PendingRuns.{AreSumsOf, IsPendingOf, IsPendingFor, bit, times, numbers_of, IsMade, AreMade}
 use Rattle.rounds.proofs.Times.{times_append, times_one, times_none, times_sum}
 use Rattle.std.specs.Fork.{slice_chunk}
 use Rattle.std.specs.Int.{div_ceil}
@@ -60,16 +65,16 @@ all_groups batch state numbers cut count made some are given =
     }
 
 -- Some of the runs are in their places, and these are left.
-pub record ArePut (batch : Batch) (state : State) (numbers : List ℕ) (old runs : List Run) (was counts : List ℕ) (left : List Made) : Type 0 where
+pub record ArePut (batch : Batch) (state : State) (numbers : List ℕ) (old runs : List PendingRun) (was counts : List ℕ) (left : List Made) : Type 0 where
   pub each : All (IsMade batch state) left
   pub runs_all : length runs ≡ length old
   pub counts_all : length counts ≡ length was
   pub few : (i : ℕ) → times i (numbers_of left) ≤ times i numbers
-  pub same : (i : ℕ) (d : Run) → times i (numbers_of left) ≡ times i numbers → get_or runs i d ≡ get_or old i d
-  pub made : (i : ℕ) (d : Run) → times i (numbers_of left) < times i numbers → IsRunOf (meaning batch i state) (get_or runs i d)
+  pub same : (i : ℕ) (d : PendingRun) → times i (numbers_of left) ≡ times i numbers → get_or runs i d ≡ get_or old i d
+  pub made : (i : ℕ) (d : PendingRun) → times i (numbers_of left) < times i numbers → IsPendingOf (meaning batch i state) (get_or runs i d)
   pub told : (i : ℕ) → i < length was → get_or counts i 0 + times i (numbers_of left) ≡ get_or was i 0 + times i numbers
 
-pub put_inside : (batch : Batch) (state : State) (numbers : List ℕ) (old runs : List Run) (was counts : List ℕ) (left rest : List Made) (m : Made) → left ≡ rest ++ m ∷ [] → ArePut batch state numbers old runs was counts left → 0 < times m.number numbers
+pub put_inside : (batch : Batch) (state : State) (numbers : List ℕ) (old runs : List PendingRun) (was counts : List ℕ) (left rest : List Made) (m : Made) → left ≡ rest ++ m ∷ [] → ArePut batch state numbers old runs was counts left → 0 < times m.number numbers
 put_inside batch state numbers old runs was counts left rest m popped put =
     let split : times m.number (numbers_of left) ≡ times m.number (numbers_of rest) + times m.number (m.number ∷ []) = ap (λ ms. times m.number (numbers_of ms)) popped ∙ times_numbers m.number rest (m ∷ []) in
     let once = times_one m.number in
@@ -86,12 +91,17 @@ all_front P (x ∷ xs) y all =
     let rest = all_front P xs y (λ k d lt. all (suc k) d (omega arith)) in
     (front P x xs (all 0 x (omega arith)) rest.0, rest.1)
 
--- a run that is left was made, and has its marks
-pub last_made : (batch : Batch) (state : State) (left rest : List Made) (m : Made) → left ≡ rest ++ m ∷ [] → All (IsMade batch state) left
-    → IsMade batch state m
-last_made batch state left rest m popped each = (all_front (IsMade batch state) rest m (subst (All (IsMade batch state)) popped each)).1
+-- a pending run of a run of a meaning
+pub pending_of : (meant : OneRun Taken) (run : Run) (pending : PendingRun) → IsRunOf meant run → IsPendingFor run pending → IsPendingOf meant pending
+pending_of meant run pending is own =
+    let net_is : pending.net.items ≡ net_of meant = ap (λ v. v.items) own.net ∙ is.net in
+    record {
+      tree = ap record_view own.tree ∙ is.tree;
+      net = net_is;
+      sums = subst (AreSumsOf pending.sums (entries_in (record_of meant))) is.net (subst (λ es. AreSumsOf pending.sums es run.net.items) is.entries own.sums);
+    }
 
-pub put_one : (batch : Batch) (state : State) (numbers : List ℕ) (old runs : List Run) (was counts : List ℕ) (left rest : List Made) (m : Made) → length was ≡ length old → m.number < length old → left ≡ rest ++ m ∷ [] → ArePut batch state numbers old runs was counts left → ArePut batch state numbers old (set runs m.number m.run) was (set counts m.number (get_or counts m.number 0 + 1)) rest
+pub put_one : (batch : Batch) (state : State) (numbers : List ℕ) (old runs : List PendingRun) (was counts : List ℕ) (left rest : List Made) (m : Made) → length was ≡ length old → m.number < length old → left ≡ rest ++ m ∷ [] → ArePut batch state numbers old runs was counts left → ArePut batch state numbers old (set runs m.number m.run) was (set counts m.number (get_or counts m.number 0 + 1)) rest
 put_one batch state numbers old runs was counts left rest m sizes inside popped put =
     let made = all_front (IsMade batch state) rest m (subst (All (IsMade batch state)) popped put.each) in
     let split : (i : ℕ) → times i (numbers_of left) ≡ times i (numbers_of rest) + times i (m.number ∷ []) = λ i. ap (λ ms. times i (numbers_of ms)) popped ∙ times_numbers i rest (m ∷ []) in
@@ -107,8 +117,8 @@ put_one batch state numbers old runs was counts left rest m sizes inside popped 
         | no other ↦ let s = split i in let none = times_none i m.number (λ h. other (sym h)) in get_or-set_other runs m.number i m.run d other ∙ put.same i d (omega arith)
       ];
       made = λ i d lt. elim (ℕ_discrete i m.number) [
-        | yes here ↦ let at : m.number < length runs = omega arith in subst (λ n. IsRunOf (meaning batch n state) (get_or (set runs m.number m.run) n d)) (sym here) (subst (IsRunOf (meaning batch m.number state)) (sym (get_or-set_same runs m.number m.run d at)) made.1.run)
-        | no other ↦ let s = split i in let none = times_none i m.number (λ h. other (sym h)) in subst (IsRunOf (meaning batch i state)) (sym (get_or-set_other runs m.number i m.run d other)) (put.made i d (omega arith))
+        | yes here ↦ let at : m.number < length runs = omega arith in subst (λ n. IsPendingOf (meaning batch n state) (get_or (set runs m.number m.run) n d)) (sym here) (subst (IsPendingOf (meaning batch m.number state)) (sym (get_or-set_same runs m.number m.run d at)) made.1)
+        | no other ↦ let s = split i in let none = times_none i m.number (λ h. other (sym h)) in subst (IsPendingOf (meaning batch i state)) (sym (get_or-set_other runs m.number i m.run d other)) (put.made i d (omega arith))
       ];
       told = λ i lt. elim (ℕ_discrete i m.number) [
         | yes here ↦ let s = split i in let t = put.told i lt in let once : times i (m.number ∷ []) ≡ 1 = ap (λ n. times i (n ∷ [])) (sym here) ∙ times_one i in

@@ -3,33 +3,33 @@ use Rattle.std.proofs.Common.{◌≡◌, ◌≢◌, ℕ, ◌+◌, ◌-◌, ◌<�
 use Rattle.std.proofs.lemmas.List.{get_or_default}
 use native.Mathlib.Decide.{ℕ_discrete}
 use Rattle.objects.specs.declared.entry.Entry.{Entry}
-use Rattle.speculate.specs.declared.speculated.Run.{Run}
+use Rattle.rounds.specs.declared.pending_run.PendingRun.{PendingRun}
 use Rattle.workers.specs.Working.{AreGivenOnce}
 use Rattle.workers.proofs.Once.{given_here, given_nowhere}
-use Rattle.rounds.specs.Passes.{times, StandsPast, Kept, IsDecided, AreRefuted}
+use Rattle.rounds.specs.PendingRuns.{times, HoldsPast, Kept, IsDecided, AreRefuted}
 use Rattle.rounds.proofs.Times.{times_append, times_one, times_none}
 
 -- of a run that stands nothing is told
-pub stands_decided : (runs : List Run) (since : List Entry) (place : ℕ) → ((d : Run) → StandsPast since (get_or runs place d))
+pub stands_decided : (runs : List PendingRun) (since : List Entry) (place : ℕ) → ((d : PendingRun) → HoldsPast since (get_or runs place d))
     → IsDecided runs since place []
 stands_decided runs since place stands = record { here = λ d. inl (stands d, refl); elsewhere = λ i other. refl; few = omega arith }
 
 -- of one that doesn't stand its number
-pub fails_decided : (runs : List Run) (since : List Entry) (place : ℕ) → place < length runs
-    → ¬ ((d : Run) → StandsPast since (get_or runs place d))
+pub fails_decided : (runs : List PendingRun) (since : List Entry) (place : ℕ) → place < length runs
+    → ¬ ((d : PendingRun) → HoldsPast since (get_or runs place d))
     → IsDecided runs since place (place ∷ [])
 fails_decided runs since place lt fails = record {
-  here = λ d. inr ((λ past. fails (λ e. subst (StandsPast since) (get_or_default runs place d e lt) past)), times_one place);
+  here = λ d. inr ((λ past. fails (λ e. subst (HoldsPast since) (get_or_default runs place d e lt) past)), times_one place);
   elsewhere = λ i other. times_none i place (λ h. other (sym h));
   few = omega arith;
 }
 
 -- what one place tells is all that is told of it
-told_at : (runs : List Run) (since : List Entry) (place i : ℕ) (own numbers : List ℕ) → place ≡ i → IsDecided runs since place own → times i numbers ≡ times i own → (d : Run) → Kept since (times i numbers) (get_or runs i d)
+told_at : (runs : List PendingRun) (since : List Entry) (place i : ℕ) (own numbers : List ℕ) → place ≡ i → IsDecided runs since place own → times i numbers ≡ times i own → (d : PendingRun) → Kept since (times i numbers) (get_or runs i d)
 told_at runs since place i own numbers same decided is d = subst (λ n. Kept since n (get_or runs i d)) (sym is) (subst (λ k. Kept since (times k own) (get_or runs k d)) same (decided.here d))
 
 -- what all places together tell
-pub all_decided : (runs : List Run) (since : List Entry) (from count : ℕ) (numbers : List ℕ) → from + count ≡ length runs → AreGivenOnce (λ piece. IsDecided runs since (from + piece)) count numbers → AreRefuted runs since from (length runs) numbers
+pub all_decided : (runs : List PendingRun) (since : List Entry) (from count : ℕ) (numbers : List ℕ) → from + count ≡ length runs → AreGivenOnce (λ piece. IsDecided runs since (from + piece)) count numbers → AreRefuted runs since from (length runs) numbers
 all_decided runs since from count numbers all given = record {
   before = λ i lt. given_nowhere (λ piece. IsDecided runs since (from + piece)) (times i) refl (times_append i) count numbers (λ j own below decided. decided.elsewhere i (let apart : i ≢ from + j = omega arith in apart)) given;
   beyond = λ i le. given_nowhere (λ piece. IsDecided runs since (from + piece)) (times i) refl (times_append i) count numbers (λ j own below decided. decided.elsewhere i (let apart : i ≢ from + j = omega arith in apart)) given;
@@ -41,13 +41,13 @@ all_decided runs since from count numbers all given = record {
 }
 
 -- what is told of the runs from one place on and before another, of which there are no more numbers than runs
-pub record AreToldUpto (runs : List Run) (since : List Entry) (from upto : ℕ) (numbers : List ℕ) : Type 0 where
+pub record AreToldUpto (runs : List PendingRun) (since : List Entry) (from upto : ℕ) (numbers : List ℕ) : Type 0 where
   pub ordered : from ≤ upto
   pub refuted : AreRefuted runs since from upto numbers
   pub few : length numbers + from ≤ upto
 
 -- nothing is told of no run
-pub none_told : (runs : List Run) (since : List Entry) (from : ℕ) → AreToldUpto runs since from from []
+pub none_told : (runs : List PendingRun) (since : List Entry) (from : ℕ) → AreToldUpto runs since from from []
 none_told runs since from = record {
   ordered = omega arith;
   refuted = record { before = λ i lt. refl; beyond = λ i le. refl; each = λ i d low high. absurd (omega arith) };
@@ -55,7 +55,7 @@ none_told runs since from = record {
 }
 
 -- one run more is decided
-pub told_more : (runs : List Run) (since : List Entry) (from place : ℕ) (numbers own more : List ℕ) → AreToldUpto runs since from place numbers → IsDecided runs since place own → more ≡ numbers ++ own
+pub told_more : (runs : List PendingRun) (since : List Entry) (from place : ℕ) (numbers own more : List ℕ) → AreToldUpto runs since from place numbers → IsDecided runs since place own → more ≡ numbers ++ own
     → AreToldUpto runs since from (place + 1) more
 told_more runs since from place numbers own more told decided is =
     let split : (i : ℕ) → times i more ≡ times i numbers + times i own = λ i. ap (times i) is ∙ times_append i numbers own in

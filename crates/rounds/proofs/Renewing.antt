@@ -1,22 +1,19 @@
 -- Runs take their places one after the other.
-use Rattle.std.proofs.Common.{◌≡◌, ℕ, zero, suc, ◌+◌, ◌<◌, ◌≤◌, List, [], ◌∷◌, length, get_or, set, take, refl, sym, ap, ◌∙◌, subst, arith, Vec, Global}
+use Rattle.std.proofs.Common.{◌≡◌, ℕ, zero, suc, ◌+◌, ◌<◌, ◌≤◌, List, [], ◌∷◌, length, get_or, set, take, refl, sym, ap, ◌∙◌, subst, arith}
 use Rattle.std.proofs.lemmas.List.{take_more, get_or-set_same, get_or-set_other, length-set}
 use native.Mathlib.Decide.{ℕ_discrete}
 use Rattle.meaning.specs.Entries.{State}
 use Rattle.meaning.specs.declared.held.Held.{Held}
 use Rattle.intentions.specs.Levels.{Intentions as View, opened}
 use Rattle.rounds.specs.Views.{meaning}
-use Rattle.speculate.specs.Runs.{IsRunOf}
-use Rattle.speculate.specs.declared.speculated.Run.{Run}
+use Rattle.rounds.specs.declared.pending_run.PendingRun.{PendingRun}
 use Rattle.batch.specs.declared.batch.Batch.{Batch}
-use Rattle.committed.specs.declared.marks.Mark.{Mark}
-use Rattle.rounds.specs.Passes.{times, AreMarked, AreRenewed}
+use Rattle.rounds.specs.PendingRuns.{IsPendingOf, times, AreRenewed}
 use Rattle.rounds.proofs.Times.{times_append, times_one, times_none}
 
--- the runs of some numbers and their marks are in their places, and a view and labels are ready for the next
-pub record AreInPlace (batch : Batch) (state : State) (numbers : List ℕ) (old runs : List Run) (marks : List (Vec Mark Global)) (was counts : List ℕ) (view : View) (labels : List Held) : Type 0 where
+-- the runs of some numbers are in their places, and a view and labels are ready for the next
+pub record AreInPlace (batch : Batch) (state : State) (numbers : List ℕ) (old runs : List PendingRun) (was counts : List ℕ) (view : View) (labels : List Held) : Type 0 where
   pub renewed : AreRenewed batch state numbers old runs was counts
-  pub marked : AreMarked runs marks
   pub as_opened : view ≡ opened state
   pub unlabelled : labels ≡ []
 
@@ -27,7 +24,7 @@ times_take x (suc k) [] = omega arith
 times_take x (suc k) (y ∷ ys) = omega (arith, times_take x k ys)
 
 -- none is made yet
-pub none_renewed : (batch : Batch) (state : State) (runs : List Run) (counts : List ℕ) → AreRenewed batch state [] runs runs counts counts
+pub none_renewed : (batch : Batch) (state : State) (runs : List PendingRun) (counts : List ℕ) → AreRenewed batch state [] runs runs counts counts
 none_renewed batch state runs counts = record {
   runs = refl;
   counted = refl;
@@ -37,8 +34,8 @@ none_renewed batch state runs counts = record {
 }
 
 -- the run of one number more takes its place
-pub renewed_more : (batch : Batch) (state : State) (numbers : List ℕ) (k n : ℕ) (run : Run) (old runs : List Run) (was counts : List ℕ) → k < length numbers → n ≡ get_or numbers k 0
-    → length was ≡ length old → n < length old → IsRunOf (meaning batch n state) run → AreRenewed batch state (take k numbers) old runs was counts
+pub renewed_more : (batch : Batch) (state : State) (numbers : List ℕ) (k n : ℕ) (run : PendingRun) (old runs : List PendingRun) (was counts : List ℕ) → k < length numbers → n ≡ get_or numbers k 0
+    → length was ≡ length old → n < length old → IsPendingOf (meaning batch n state) run → AreRenewed batch state (take k numbers) old runs was counts
     → AreRenewed batch state (take (k + 1) numbers) old (set runs n run) was (set counts n (get_or counts n 0 + 1))
 renewed_more batch state numbers k n run old runs was counts lt is sizes inside here so_far =
     let split : (i : ℕ) → times i (take (k + 1) numbers) ≡ times i (take k numbers) + times i (n ∷ []) = λ i.
@@ -53,8 +50,8 @@ renewed_more batch state numbers k n run old runs was counts lt is sizes inside 
         | no other ↦ let s = split i in get_or-set_other runs n i run d other ∙ so_far.same i d (omega arith)
       ];
       made = λ i d some. elim (ℕ_discrete i n) [
-        | yes at ↦ let place : n < length runs = omega arith in subst (λ m. IsRunOf (meaning batch m state) (get_or (set runs n run) m d)) (sym at) (subst (IsRunOf (meaning batch n state)) (sym (get_or-set_same runs n run d place)) here)
-        | no other ↦ let s = split i in let none = times_none i n (λ h. other (sym h)) in subst (IsRunOf (meaning batch i state)) (sym (get_or-set_other runs n i run d other)) (so_far.made i d (omega arith))
+        | yes at ↦ let place : n < length runs = omega arith in subst (λ m. IsPendingOf (meaning batch m state) (get_or (set runs n run) m d)) (sym at) (subst (IsPendingOf (meaning batch n state)) (sym (get_or-set_same runs n run d place)) here)
+        | no other ↦ let s = split i in let none = times_none i n (λ h. other (sym h)) in subst (IsPendingOf (meaning batch i state)) (sym (get_or-set_other runs n i run d other)) (so_far.made i d (omega arith))
       ];
       told = λ i below. elim (ℕ_discrete i n) [
         | yes at ↦

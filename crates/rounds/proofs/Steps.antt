@@ -14,24 +14,25 @@ use Rattle.meaning.specs.Rounds.{IsNextOpening, Rounds, CountFrom, IsCommitted, 
 use Rattle.meaning.proofs.Batches.{batch_leads}
 use Rattle.meaning.proofs.Openings.{comes_on}
 use Rattle.rounds.specs.Views.{start_of, blocks_of}
-use Rattle.speculate.specs.Runs.{IsRunOf}
 use Rattle.objects.specs.declared.entry.Entry.{Entry}
-use Rattle.speculate.specs.declared.speculated.Run.{Run}
+use Rattle.committed.specs.Summaries.{IsSummary}
+use Rattle.rounds.specs.declared.pending_run.PendingRun.{PendingRun}
 use Rattle.batch.specs.declared.batch.Batch.{Batch}
 use Rattle.rounds.proofs.Room.{kinds_at, made_at, nets_have_room}
 use Rattle.rounds.proofs.Times.{times_read}
-use Rattle.rounds.specs.Passes.{CanBeMade, nets_of, times, Kept, StandsPast, AreRefuted, AreRenewed, IsFirstConflict}
+use Rattle.rounds.specs.Passes.{CanBeMade}
+use Rattle.rounds.specs.PendingRuns.{IsPendingOf, own_nets, all_left, times, Kept, HoldsPast, AreRefuted, AreRenewed, IsFirstFrom}
 use Rattle.rounds.specs.Checks.{IsSeen}
 use Rattle.rounds.specs.declared.check.Seen.{Seen}
 use Rattle.rounds.proofs.Reached.{AtOpening}
-use Rattle.rounds.proofs.Conflicts.{some_run, AreAlone, left, stands_past, still_stands, keeps_answers, next_opening}
+use Rattle.rounds.proofs.Conflicts.{some_run, AreAlone, left, holds_past, still_stands, keeps_answers, next_opening}
 
 none_or_some : (n : ℕ) → (n ≡ 0) ⊎ (0 < n)
 none_or_some zero = inl refl
 none_or_some (suc n) = inr (omega arith)
 
 -- before the first round every number is stale
-pub starts : (batch : Batch) (state : State) (runs : List Run) (counts stale : List ℕ) → state ≡ start_of batch → length runs ≡ length (blocks_of batch) → length counts ≡ length (blocks_of batch) → ((i : ℕ) → get_or counts i 0 ≡ 0) → ((i : ℕ) → i < length (blocks_of batch) → times i stale ≡ 1) → ((i : ℕ) → length (blocks_of batch) ≤ i → times i stale ≡ 0) → AtOpening batch 0 0 state runs counts stale
+pub starts : (batch : Batch) (state : State) (runs : List PendingRun) (counts stale : List ℕ) → state ≡ start_of batch → length runs ≡ length (blocks_of batch) → length counts ≡ length (blocks_of batch) → ((i : ℕ) → get_or counts i 0 ≡ 0) → ((i : ℕ) → i < length (blocks_of batch) → times i stale ≡ 1) → ((i : ℕ) → length (blocks_of batch) ≤ i → times i stale ≡ 0) → AtOpening batch 0 0 state runs counts stale
 unfolding state_at
 starts batch state runs counts stale is all counted none once past = record {
   within = omega arith;
@@ -49,23 +50,23 @@ starts batch state runs counts stale is all counted none once past = record {
 }
 
 -- a committed number isn't stale
-old_fresh : (batch : Batch) (b rounds : ℕ) (state : State) (runs : List Run) (counts stale : List ℕ) → AtOpening batch b rounds state runs counts stale → (i : ℕ) → i < b → times i stale ≡ 0
+old_fresh : (batch : Batch) (b rounds : ℕ) (state : State) (runs : List PendingRun) (counts stale : List ℕ) → AtOpening batch b rounds state runs counts stale → (i : ℕ) → i < b → times i stale ≡ 0
 old_fresh batch b rounds state runs counts stale at i lt = ⊎_elim
     (λ (none : times i stale ≡ 0). none)
     (λ (some : 0 < times i stale). let from = (at.numbers i some).0 in absurd (omega arith))
     (none_or_some (times i stale))
 
 -- the stale runs are made again, so none is stale
-pub renewed : (batch : Batch) (b rounds : ℕ) (state : State) (runs new : List Run) (was counts stale : List ℕ) → AtOpening batch b rounds state runs was stale → AreRenewed batch state stale runs new was counts → AtOpening batch b rounds state new counts []
+pub renewed : (batch : Batch) (b rounds : ℕ) (state : State) (runs new : List PendingRun) (was counts stale : List ℕ) → AtOpening batch b rounds state runs was stale → AreRenewed batch state stale runs new was counts → AtOpening batch b rounds state new counts []
 renewed batch b rounds state runs new was counts stale at put = record {
   within = at.within;
   all = put.runs ∙ at.all;
   counted = put.counted ∙ at.counted;
   reached = at.reached;
-  committed = λ i d lt. subst (IsRunOf (answer (start_of batch) (blocks_of batch) i)) (sym (put.same i d (old_fresh batch b rounds state runs was stale at i lt))) (at.committed i d lt);
+  committed = λ i d lt. subst (IsPendingOf (answer (start_of batch) (blocks_of batch) i)) (sym (put.same i d (old_fresh batch b rounds state runs was stale at i lt))) (at.committed i d lt);
   pending = λ i d low lt fresh. ⊎_elim
-      (λ (none : times i stale ≡ 0). subst (IsRunOf (alone (start_of batch) (blocks_of batch) i b)) (sym (put.same i d none)) (at.pending i d low lt none))
-      (λ (some : 0 < times i stale). subst (λ s. IsRunOf (one (block_at (blocks_of batch) i) [] s) (get_or new i d)) at.reached (put.made i d some))
+      (λ (none : times i stale ≡ 0). subst (IsPendingOf (alone (start_of batch) (blocks_of batch) i b)) (sym (put.same i d none)) (at.pending i d low lt none))
+      (λ (some : 0 < times i stale). subst (λ s. IsPendingOf (one (block_at (blocks_of batch) i) [] s) (get_or new i d)) at.reached (put.made i d some))
       (none_or_some (times i stale));
   numbers = λ i some. absurd (omega arith);
   few_rounds = at.few_rounds;
@@ -79,23 +80,23 @@ renewed batch b rounds state runs new was counts stale at put = record {
 }
 
 -- the pending runs of an opening, by number from it on
-pub alone_from : (batch : Batch) (b rounds : ℕ) (state : State) (runs : List Run) (counts : List ℕ) → AtOpening batch b rounds state runs counts [] → AreAlone (start_of batch) (blocks_of batch) b (drop b runs)
+pub alone_from : (batch : Batch) (b rounds : ℕ) (state : State) (runs : List PendingRun) (counts : List ℕ) → AtOpening batch b rounds state runs counts [] → AreAlone (start_of batch) (blocks_of batch) b (drop b runs)
 alone_from batch b rounds state runs counts at k d lt =
     let size = length-drop b runs in
     let all = at.all in
-    subst (IsRunOf (alone (start_of batch) (blocks_of batch) (b + k) b)) (sym (get_or-drop b runs k d)) (at.pending (b + k) d (omega arith) (omega arith) refl)
+    subst (IsPendingOf (alone (start_of batch) (blocks_of batch) (b + k) b)) (sym (get_or-drop b runs k d)) (at.pending (b + k) d (omega arith) (omega arith) refl)
 
-pub opens : (batch : Batch) (b rounds first : ℕ) (state : State) (runs : List Run) (counts : List ℕ) → AtOpening batch b rounds state runs counts [] → IsFirstConflict (drop b runs) first → IsNextOpening (start_of batch) (blocks_of batch) b (b + first)
+pub opens : (batch : Batch) (b rounds first : ℕ) (state : State) (runs : List PendingRun) (counts : List ℕ) → AtOpening batch b rounds state runs counts [] → IsFirstFrom (drop b runs) 0 first → IsNextOpening (start_of batch) (blocks_of batch) b (b + first)
 opens batch b rounds first state runs counts at conflict =
     let size = length-drop b runs in
     let all = at.all in
     let within = at.within in
     next_opening (start_of batch) (blocks_of batch) b (drop b runs) first (omega arith) (alone_from batch b rounds state runs counts at) conflict
 
-kept_once : (since : List Entry) (told : ℕ) (run : Run) → Kept since told run → told ≤ 1
-kept_once since told run kept = ⊎_elim (λ (stands : StandsPast since run × (told ≡ 0)). omega arith) (λ (fails : (¬ StandsPast since run) × (told ≡ 1)). omega arith) kept
+kept_once : (since : List Entry) (told : ℕ) (run : PendingRun) → Kept since told run → told ≤ 1
+kept_once since told run kept = ⊎_elim (λ (stands : HoldsPast since run × (told ≡ 0)). omega arith) (λ (fails : (¬ HoldsPast since run) × (told ≡ 1)). omega arith) kept
 
-module _ (batch : Batch) (b m : ℕ) (rounds : ℕ) (state next : State) (runs : List Run) (counts stale : List ℕ) (since : List Entry) where
+module _ (batch : Batch) (b m : ℕ) (rounds : ℕ) (state next : State) (runs : List PendingRun) (counts stale : List ℕ) (since : List Entry) where
   few_stale : AreRefuted runs since m (length runs) stale → (i : ℕ) → times i stale ≤ 1
   few_stale told i = elim (dec_le (length runs) i) [
     | yes beyond ↦ let none = told.beyond i beyond in omega arith
@@ -112,37 +113,37 @@ module _ (batch : Batch) (b m : ℕ) (rounds : ℕ) (state next : State) (runs :
   )
 
   -- a run that isn't stale is a run at the next opening
-  kept_pending : AtOpening batch b rounds state runs counts [] → since ≡ nets (start_of batch) (blocks_of batch) b (m - b) → b ≤ m → AreRefuted runs since m (length runs) stale → (i : ℕ) (d : Run) → m ≤ i → i < length (blocks_of batch) → times i stale ≡ 0 → IsRunOf (alone (start_of batch) (blocks_of batch) i m) (get_or runs i d)
+  kept_pending : AtOpening batch b rounds state runs counts [] → IsSummary since (nets (start_of batch) (blocks_of batch) b (m - b)) → b ≤ m → AreRefuted runs since m (length runs) stale → (i : ℕ) (d : PendingRun) → m ≤ i → i < length (blocks_of batch) → times i stale ≡ 0 → IsPendingOf (alone (start_of batch) (blocks_of batch) i m) (get_or runs i d)
   kept_pending at left on told i d from lt fresh =
       let all = at.all in
       let here = at.pending i d (omega arith) lt refl in
       ⊎_elim
-      (λ (stands : StandsPast since (get_or runs i d) × (times i stale ≡ 0)).
-      let past = subst (λ ns. StandsPast ns (get_or runs i d)) left stands.0 in
+      (λ (stands : HoldsPast since (get_or runs i d) × (times i stale ≡ 0)).
+      let past = (holds_past (start_of batch) (blocks_of batch) i b since (nets (start_of batch) (blocks_of batch) b (m - b)) (get_or runs i d) here left).0 stands.0 in
       let same : b + (m - b) ≡ m = omega arith in
-      subst (λ j. IsRunOf (alone (start_of batch) (blocks_of batch) i j) (get_or runs i d)) same (still_stands (start_of batch) (blocks_of batch) i b (m - b) (get_or runs i d) here (stands_past (start_of batch) (blocks_of batch) i b (nets (start_of batch) (blocks_of batch) b (m - b)) (get_or runs i d) here past)))
-      (λ (fails : (¬ StandsPast since (get_or runs i d)) × (times i stale ≡ 1)). absurd (omega arith))
+      subst (λ j. IsPendingOf (alone (start_of batch) (blocks_of batch) i j) (get_or runs i d)) same (still_stands (start_of batch) (blocks_of batch) i b (m - b) (get_or runs i d) here past))
+      (λ (fails : (¬ HoldsPast since (get_or runs i d)) × (times i stale ≡ 1)). absurd (omega arith))
       (told.each i d from (omega arith))
 
   -- its count goes on
-  counts_on : AtOpening batch b rounds state runs counts [] → IsNextOpening (start_of batch) (blocks_of batch) b m → since ≡ nets (start_of batch) (blocks_of batch) b (m - b) → b ≤ m → AreRefuted runs since m (length runs) stale → (i more : ℕ) → m ≤ i → i < length (blocks_of batch) → CountFrom (start_of batch) (blocks_of batch) i m (suc more) → Count (start_of batch) (blocks_of batch) i (get_or counts i 0 + times i stale + more)
+  counts_on : AtOpening batch b rounds state runs counts [] → IsNextOpening (start_of batch) (blocks_of batch) b m → IsSummary since (nets (start_of batch) (blocks_of batch) b (m - b)) → b ≤ m → AreRefuted runs since m (length runs) stale → (i more : ℕ) → m ≤ i → i < length (blocks_of batch) → CountFrom (start_of batch) (blocks_of batch) i m (suc more) → Count (start_of batch) (blocks_of batch) i (get_or counts i 0 + times i stale + more)
   counts_on at opening left on told i more from lt rest =
       let all = at.all in
       let within : i < length runs = omega arith in
       some_run (Count (start_of batch) (blocks_of batch) i (get_or counts i 0 + times i stale + more)) runs i within (λ d.
       let here = at.pending i d (omega arith) lt refl in
       ⊎_elim
-      (λ (stands : StandsPast since (get_or runs i d) × (times i stale ≡ 0)).
-      let past = subst (λ ns. StandsPast ns (get_or runs i d)) left stands.0 in
+      (λ (stands : HoldsPast since (get_or runs i d) × (times i stale ≡ 0)).
+      let past = (holds_past (start_of batch) (blocks_of batch) i b since (nets (start_of batch) (blocks_of batch) b (m - b)) (get_or runs i d) here left).0 stands.0 in
       let same : get_or counts i 0 + times i [] + more ≡ get_or counts i 0 + times i stale + more = omega arith in
-      subst (Count (start_of batch) (blocks_of batch) i) same (at.pending_counts i more (omega arith) lt (StillStands opening from (stands_past (start_of batch) (blocks_of batch) i b (nets (start_of batch) (blocks_of batch) b (m - b)) (get_or runs i d) here past) rest)))
-      (λ (fails : (¬ StandsPast since (get_or runs i d)) × (times i stale ≡ 1)).
+      subst (Count (start_of batch) (blocks_of batch) i) same (at.pending_counts i more (omega arith) lt (StillStands opening from past rest)))
+      (λ (fails : (¬ HoldsPast since (get_or runs i d)) × (times i stale ≡ 1)).
       let same : get_or counts i 0 + times i [] + suc more ≡ get_or counts i 0 + times i stale + more = omega arith in
-      subst (Count (start_of batch) (blocks_of batch) i) same (at.pending_counts i (suc more) (omega arith) lt (IsRefuted opening from (λ commute. fails.0 (subst (λ ns. StandsPast ns (get_or runs i d)) (sym left) (subst (λ es. serial.AllCommute es (nets (start_of batch) (blocks_of batch) b (m - b))) (sym here.entries) commute))) rest)))
+      subst (Count (start_of batch) (blocks_of batch) i) same (at.pending_counts i (suc more) (omega arith) lt (IsRefuted opening from (λ commute. fails.0 ((holds_past (start_of batch) (blocks_of batch) i b since (nets (start_of batch) (blocks_of batch) b (m - b)) (get_or runs i d) here left).1 commute)) rest)))
       (told.each i d from within))
 
   -- the prefix is committed
-  pub moves_on : AtOpening batch b rounds state runs counts [] → b < length (blocks_of batch) → IsNextOpening (start_of batch) (blocks_of batch) b m → since ≡ nets (start_of batch) (blocks_of batch) b (m - b) → next ≡ after state since → AreRefuted runs since m (length runs) stale → AtOpening batch m (rounds + 1) next runs counts stale
+  pub moves_on : AtOpening batch b rounds state runs counts [] → b < length (blocks_of batch) → IsNextOpening (start_of batch) (blocks_of batch) b m → IsSummary since (nets (start_of batch) (blocks_of batch) b (m - b)) → next ≡ after state (nets (start_of batch) (blocks_of batch) b (m - b)) → AreRefuted runs since m (length runs) stale → AtOpening batch m (rounds + 1) next runs counts stale
   moves_on at going opening left on told =
       let later = comes_on (start_of batch) (blocks_of batch) b m going opening in
       let few = at.few_rounds in
@@ -153,7 +154,7 @@ module _ (batch : Batch) (b m : ℕ) (rounds : ℕ) (state next : State) (runs :
         counted = at.counted;
         reached =
             let same : b + (m - b) ≡ m = omega arith in
-            on ∙ (ap (λ s. after s since) at.reached ∙ (ap (after (state_at (start_of batch) (blocks_of batch) b)) left ∙ (sym (batch_leads (start_of batch) (blocks_of batch) b (m - b)).1 ∙ ap (state_at (start_of batch) (blocks_of batch)) same)));
+            on ∙ (ap (λ s. after s (nets (start_of batch) (blocks_of batch) b (m - b))) at.reached ∙ (sym (batch_leads (start_of batch) (blocks_of batch) b (m - b)).1 ∙ ap (state_at (start_of batch) (blocks_of batch)) same));
         committed = λ i d lt. elim (dec_le b i) [
           | yes le ↦ let within = opening.within in keeps_answers (start_of batch) (blocks_of batch) i b (get_or runs i d) le (at.pending i d le (omega arith) refl) (opening.all_keep i le lt)
           | no less ↦ at.committed i d (omega arith)
@@ -171,50 +172,64 @@ module _ (batch : Batch) (b m : ℕ) (rounds : ℕ) (state next : State) (runs :
         pending_counts = counts_on at opening left (omega arith) told;
       }
 
-rest_of : (runs : List Run) (b : ℕ) → take (length runs - b) (drop b runs) ≡ drop b runs
+rest_of : (runs : List PendingRun) (b : ℕ) → take (length runs - b) (drop b runs) ≡ drop b runs
 rest_of runs b = let size = length-drop b runs in take_all (length runs - b) (drop b runs) (omega arith)
 
+-- what was listed is what the runs that are committed leave
+pub listed_nets : (b : ℕ) (seen : Seen) (new first_of kept_of : List PendingRun)
+    → first_of ≡ new
+    → IsSeen (take (length first_of - b) (drop b first_of)) seen
+    → kept_of ≡ new
+    → take seen.upto seen.nets ≡ all_left (take ((b + seen.first) - ((b + seen.first) - seen.first)) (drop ((b + seen.first) - seen.first) kept_of))
+listed_nets b seen new first_of kept_of first_is saw kept_is =
+    let first = seen.first in
+    let here = subst (λ rs. IsSeen rs seen) (rest_of new b) (subst (λ rs. IsSeen (take (length rs - b) (drop b rs)) seen) first_is saw) in
+    let start : b ≡ (b + first) - first = omega arith in
+    let size : first ≡ (b + first) - ((b + first) - first) = omega arith in
+    here.nets ∙ (ap (λ n. all_left (take n (drop b new))) size ∙ (ap (λ n. all_left (take ((b + first) - ((b + first) - first)) (drop n new))) start
+    ∙ ap (λ rs. all_left (take ((b + first) - ((b + first) - first)) (drop ((b + first) - first) rs))) (sym kept_is)))
+
 -- what a round commits is legal on the objects of its opening, and has room
-pub round_commits : (batch : Batch) (b rounds passed : ℕ) (state : State) (old new first_of prefix_of : List Run) (was counts given stale : List ℕ)
+pub round_commits : (batch : Batch) (b rounds passed : ℕ) (state : State) (old new first_of prefix_of : List PendingRun) (was counts given stale : List ℕ)
     → AtOpening batch b rounds state old was stale
     → given ≡ stale
     → AreRenewed batch state given old new was counts
     → first_of ≡ new
-    → IsFirstConflict (take (length first_of - b) (drop b first_of)) passed
+    → IsFirstFrom (take (length first_of - b) (drop b first_of)) 0 passed
     → prefix_of ≡ new
-    → AllEntriesLegal state (nets_of (take ((b + passed) - b) (drop b prefix_of))) × AllHaveRoom state (nets_of (take ((b + passed) - b) (drop b prefix_of)))
+    → AllEntriesLegal state (own_nets (take ((b + passed) - b) (drop b prefix_of))) × AllHaveRoom state (own_nets (take ((b + passed) - b) (drop b prefix_of)))
 round_commits batch b rounds passed state old new first_of prefix_of was counts given stale at stale_is put first_is first prefix_is =
     let fresh = renewed batch b rounds state old new was counts stale at (subst (λ ns. AreRenewed batch state ns old new was counts) stale_is put) in
-    let conflict = subst (λ rs. IsFirstConflict rs passed) (rest_of new b) (subst (λ rs. IsFirstConflict (take (length rs - b) (drop b rs)) passed) first_is first) in
+    let conflict = subst (λ rs. IsFirstFrom rs 0 passed) (rest_of new b) (subst (λ rs. IsFirstFrom (take (length rs - b) (drop b rs)) 0 passed) first_is first) in
     let count : (b + passed) - b ≡ passed = omega arith in
-    let prefix : nets_of (take ((b + passed) - b) (drop b prefix_of)) ≡ nets_of (take passed (drop b new)) = ap (λ k. nets_of (take k (drop b prefix_of))) count ∙ ap (λ rs. nets_of (take passed (drop b rs))) prefix_is in
-    let one_thread = prefix ∙ left (start_of batch) (blocks_of batch) b (drop b new) passed (alone_from batch b rounds state new counts fresh) conflict in
+    let prefix : own_nets (take ((b + passed) - b) (drop b prefix_of)) ≡ own_nets (take passed (drop b new)) = ap (λ k. own_nets (take k (drop b prefix_of))) count ∙ ap (λ rs. own_nets (take passed (drop b rs))) prefix_is in
+    let one_thread = prefix ∙ (left (start_of batch) (blocks_of batch) b (drop b new) passed (alone_from batch b rounds state new counts fresh) conflict).0 in
     let legal = (batch_leads (start_of batch) (blocks_of batch) b passed).0 in
     let room = nets_have_room batch b at.within passed legal in (
-      subst (λ s. AllEntriesLegal s (nets_of (take ((b + passed) - b) (drop b prefix_of)))) (sym at.reached) (subst (AllEntriesLegal (state_at (start_of batch) (blocks_of batch) b)) (sym one_thread) legal),
-      subst (λ s. AllHaveRoom s (nets_of (take ((b + passed) - b) (drop b prefix_of)))) (sym at.reached) (subst (AllHaveRoom (state_at (start_of batch) (blocks_of batch) b)) (sym one_thread) room),
+      subst (λ s. AllEntriesLegal s (own_nets (take ((b + passed) - b) (drop b prefix_of)))) (sym at.reached) (subst (AllEntriesLegal (state_at (start_of batch) (blocks_of batch) b)) (sym one_thread) legal),
+      subst (λ s. AllHaveRoom s (own_nets (take ((b + passed) - b) (drop b prefix_of)))) (sym at.reached) (subst (AllHaveRoom (state_at (start_of batch) (blocks_of batch) b)) (sym one_thread) room),
     )
 
 -- every stale transaction can be run on the objects of the opening
-pub stale_can_be_made : (batch : Batch) (b rounds : ℕ) (state : State) (runs : List Run) (counts stale given : List ℕ) → AtOpening batch b rounds state runs counts stale → given ≡ stale → All (λ n. CanBeMade batch state n) given
+pub stale_can_be_made : (batch : Batch) (b rounds : ℕ) (state : State) (runs : List PendingRun) (counts stale given : List ℕ) → AtOpening batch b rounds state runs counts stale → given ≡ stale → All (λ n. CanBeMade batch state n) given
 stale_can_be_made batch b rounds state runs counts stale given at is k d lt =
     let number = get_or given k d in
     let stands : 0 < times number given = times_read given k d lt in
     let there = at.numbers number (subst (λ ns. 0 < times number ns) is stands) in
     subst (λ s. CanBeMade batch s number) (sym at.reached) (made_at batch b at.within number there.0 there.1)
 
-pub same_kinds : (batch : Batch) (b rounds : ℕ) (state : State) (runs : List Run) (counts stale : List ℕ) → AtOpening batch b rounds state runs counts stale → kinds state ≡ kinds (start_of batch)
+pub same_kinds : (batch : Batch) (b rounds : ℕ) (state : State) (runs : List PendingRun) (counts stale : List ℕ) → AtOpening batch b rounds state runs counts stale → kinds state ≡ kinds (start_of batch)
 same_kinds batch b rounds state runs counts stale at = ap kinds at.reached ∙ kinds_at batch b at.within
 
 -- one round: runs are made, the first that doesn't stand is sought, those before it are committed, and the kept are told
-pub one_round : (batch : Batch) (b rounds : ℕ) (seen : Seen) (state next : State) (old new first_of prefix_of kept_of : List Run) (was counts given stale later : List ℕ)
+pub one_round : (batch : Batch) (b rounds : ℕ) (seen : Seen) (state next : State) (old new first_of prefix_of kept_of : List PendingRun) (was counts given stale later : List ℕ)
     → AtOpening batch b rounds state old was stale
     → given ≡ stale
     → AreRenewed batch state given old new was counts
     → first_of ≡ new
     → IsSeen (take (length first_of - b) (drop b first_of)) seen
     → prefix_of ≡ new
-    → next ≡ after state (nets_of (take ((b + seen.first) - b) (drop b prefix_of)))
+    → next ≡ after state (own_nets (take ((b + seen.first) - b) (drop b prefix_of)))
     → kept_of ≡ new
     → AreRefuted kept_of (take seen.upto seen.nets) (b + seen.first) (length kept_of) later
     → b < length (blocks_of batch)
@@ -224,8 +239,13 @@ one_round batch b rounds seen state next old new first_of prefix_of kept_of was 
     let here = subst (λ rs. IsSeen rs seen) (rest_of new b) (subst (λ rs. IsSeen (take (length rs - b) (drop b rs)) seen) first_is saw) in
     let opening = opens batch b rounds seen.first state new counts fresh here.first in
     let count : (b + seen.first) - b ≡ seen.first = omega arith in
-    let prefix : nets_of (take ((b + seen.first) - b) (drop b prefix_of)) ≡ nets_of (take seen.first (drop b new)) = ap (λ k. nets_of (take k (drop b prefix_of))) count ∙ ap (λ rs. nets_of (take seen.first (drop b rs))) prefix_is in
-    let one_thread = left (start_of batch) (blocks_of batch) b (drop b new) seen.first (alone_from batch b rounds state new counts fresh) here.first in
-    let nets_are : nets_of (take seen.first (drop b new)) ≡ nets (start_of batch) (blocks_of batch) b ((b + seen.first) - b) = one_thread ∙ ap (nets (start_of batch) (blocks_of batch) b) (sym count) in
-    let told_here = subst (λ ns. AreRefuted new ns (b + seen.first) (length new) later) here.nets (subst (λ rs. AreRefuted rs (take seen.upto seen.nets) (b + seen.first) (length rs) later) kept_is told) in
-    (opening, moves_on batch b (b + seen.first) rounds state next new counts later (nets_of (take seen.first (drop b new))) fresh going opening nets_are (moved ∙ ap (after state) prefix) told_here)
+    let prefix : own_nets (take ((b + seen.first) - b) (drop b prefix_of)) ≡ own_nets (take seen.first (drop b new)) = ap (λ k. own_nets (take k (drop b prefix_of))) count ∙ ap (λ rs. own_nets (take seen.first (drop b rs))) prefix_is in
+    let here_left = left (start_of batch) (blocks_of batch) b (drop b new) seen.first (alone_from batch b rounds state new counts fresh) here.first in
+    let counted = ap (nets (start_of batch) (blocks_of batch) b) (sym count) in
+    let summed = subst (IsSummary (all_left (take seen.first (drop b new)))) counted here_left.1 in
+    let told_here = subst (λ ns. AreRefuted new ns (b + seen.first) (length new) later) here.nets
+    (subst (λ rs. AreRefuted rs (take seen.upto seen.nets) (b + seen.first) (length rs) later) kept_is told) in (
+      opening,
+      moves_on batch b (b + seen.first) rounds state next new counts later (all_left (take seen.first (drop b new))) fresh going opening summed
+          (moved ∙ ap (after state) (prefix ∙ (here_left.0 ∙ counted))) told_here,
+    )

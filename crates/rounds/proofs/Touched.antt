@@ -1,21 +1,21 @@
 -- Numbers that stand in a list once, and what is told of the runs of these numbers.
-use Rattle.std.proofs.Common.{◌≡◌, ◌≢◌, ◌⊎◌, ℕ, zero, suc, ◌+◌, ◌<◌, ◌≤◌, inl, inr, List, [], ◌∷◌, ◌++◌, length, get_or, length-append, refl, sym, ap, ◌∙◌, subst, arith, Vec, Global}
-use Rattle.std.proofs.lemmas.List.{get_or-map}
+use Rattle.std.proofs.Common.{◌≡◌, ◌≢◌, ◌⊎◌, ℕ, zero, suc, ◌+◌, ◌<◌, ◌≤◌, inl, inr, List, [], ◌∷◌, ◌++◌, length, get_or, take, length-append, refl, sym, ap, ◌∙◌, subst, arith}
 use native.Mathlib.Decide.{ℕ_discrete}
-use Rattle.committed.specs.Marks.{marks_of}
-use Rattle.committed.specs.Watching.{marks_at, AreLinked}
+use Rattle.committed.specs.Committed.{AllStand, CommutesWith}
+use Rattle.committed.specs.Summaries.{entries_of}
+use Rattle.committed.specs.Watching.{Watches}
 use Rattle.committed.specs.NumberSets.{Has, AreDistinct}
-use Rattle.committed.specs.declared.marks.Mark.{Mark}
 use Rattle.committed.specs.declared.watch.Watch.{Watch}
 use Rattle.objects.specs.declared.entry.Entry.{Entry}
-use Rattle.speculate.specs.declared.speculated.Run.{Run}
+use Rattle.rounds.specs.declared.pending_run.PendingRun.{PendingRun}
 use Rattle.workers.specs.Working.{AreGivenOnce}
 use Rattle.workers.proofs.Once.{given_here, given_nowhere, few_given_once}
-use Rattle.rounds.specs.Passes.{times, Kept, IsDecided, AreRefuted, AreRefutedAmong, AreMarked}
-use Rattle.rounds.specs.Pending.{Tells, ArePlaces, AreTouched, IsIn}
+use Rattle.rounds.specs.PendingRuns.{times, all_left, left_by, HoldsPast, Kept, IsDecided, AreRefuted, AreRefutedAmong, AreRenewed}
+use Rattle.rounds.specs.Pending.{WatchesAll, Tells, ArePlaces, AreTouched, IsIn}
 use Rattle.rounds.specs.declared.pending.Pending.{Pending}
-use Rattle.rounds.proofs.Conflicts.{some_run}
-use Rattle.rounds.proofs.Marked.{marked_all, marks_in}
+use Rattle.batch.specs.declared.batch.Batch.{Batch}
+use Rattle.meaning.specs.Entries.{State}
+use Rattle.rounds.proofs.Firsts.{next_nets}
 use Rattle.rounds.proofs.Times.{times_append, times_one, times_none, times_read}
 
 -- ---- numbers that stand in a list once
@@ -112,12 +112,12 @@ few_places numbers from n are =
 -- ---- what is told of the runs of these numbers
 
 -- what is told of the first places of a list
-pub record AreToldOf (runs : List Run) (since : List Entry) (places : List ℕ) (upto : ℕ) (numbers : List ℕ) : Type 0 where
+pub record AreToldOf (runs : List PendingRun) (since : List Entry) (places : List ℕ) (upto : ℕ) (numbers : List ℕ) : Type 0 where
   pub elsewhere : (i : ℕ) → ((k : ℕ) → k < upto → get_or places k 0 ≢ i) → times i numbers ≡ 0
-  pub each : (k : ℕ) (d : Run) → k < upto → Kept since (times (get_or places k 0) numbers) (get_or runs (get_or places k 0) d)
+  pub each : (k : ℕ) (d : PendingRun) → k < upto → Kept since (times (get_or places k 0) numbers) (get_or runs (get_or places k 0) d)
   pub few : length numbers ≤ upto
 
-module _ (runs : List Run) (since : List Entry) (places : List ℕ) where
+module _ (runs : List PendingRun) (since : List Entry) (places : List ℕ) where
   -- of none nothing is told
   pub none_told_of : AreToldOf runs since places 0 []
   none_told_of = record { elsewhere = λ i out. refl; each = λ k d lt. absurd (omega arith); few = omega arith }
@@ -180,35 +180,18 @@ module _ (runs : List Run) (since : List Entry) (places : List ℕ) where
     few = few_given_once IsToldAt (λ k own told. told.1.few) (length places) numbers given;
   }
 
--- the marks of a run among those of all
-pub own_marks : (runs : List Run) (marks : List (Vec Mark Global)) (i : ℕ) (d : Run) → AreMarked runs marks → i < length runs
-    → marks_at marks i ≡ marks_of (get_or runs i d).entries.items
-own_marks runs marks i d are lt = ap (λ ms. get_or ms i []) are ∙ get_or-map marks_in runs i d [] lt
-
-module _ (runs : List Run) (marks : List (Vec Mark Global)) (since : List Entry) (from : ℕ) (touched numbers : List ℕ)
-    (marked : AreMarked runs marks) (places : ArePlaces touched from (length runs)) (are : AreTouched touched marks from since)
-    (among : AreRefutedAmong runs since touched numbers) where
-  -- what isn't touched stands, so that what is told of the touched ones is told of all
+module _ (runs : List PendingRun) (since : List Entry) (from : ℕ) (touched numbers : List ℕ)
+    (are : AreTouched touched runs from since) (among : AreRefutedAmong runs since touched numbers) where
+  -- what isn't touched holds, so that what is told of the touched ones is told of all
   pub refuted_among_all : AreRefuted runs since from (length runs) numbers
   refuted_among_all = record {
     before = λ i lt. among.elsewhere i (λ has. let low = are.low i has in absurd (omega arith));
-    beyond = λ i le. among.elsewhere i (λ has.
-        let high : i < length runs = subst (λ k. k < length runs) has.is (places.high has.at has.within) in absurd (omega arith));
+    beyond = λ i le. among.elsewhere i (λ has. let high = are.high i has in absurd (omega arith));
     each = λ i d low high. elim (has_or_not touched i) [
       | inl has ↦ subst (λ j. Kept since (times j numbers) (get_or runs j d)) has.is (among.each has.at d has.within)
-      | inr out ↦
-          let size = marked_all runs marks marked in
-          inl (are.stand i (get_or runs i d).entries.items low (omega arith) out (own_marks runs marks i d marked high), among.elsewhere i out)
+      | inr out ↦ inl (are.hold i d low high out, among.elsewhere i out)
     ];
   }
-
--- each number that is told is touched
-pub refuted_is_touched : (runs : List Run) (since : List Entry) (touched numbers : List ℕ) → AreRefutedAmong runs since touched numbers
-    → (i : ℕ) → 0 < times i numbers → Has touched i
-refuted_is_touched runs since touched numbers among i some = elim (has_or_not touched i) [
-  | inl has ↦ has
-  | inr out ↦ let none = among.elsewhere i out in absurd (omega arith)
-]
 
 -- the places of what is touched
 pub touched_places : (shown touched : List ℕ) (from upto : ℕ) → shown ≡ touched → AreDistinct shown
@@ -219,55 +202,78 @@ touched_places shown touched from upto is distinct within low = record {
   high = λ k lt. within (get_or shown k 0) (subst (λ l. Has l (get_or shown k 0)) is (record { at = k; within = lt; is = refl }));
 }
 
--- ---- where some runs are made anew
+-- ---- what is watched
 
--- the others have the marks they had
-pub tells_renewed : (pending : Pending) (runs new : List Run) (marks more : List (Vec Mark Global)) (stale : List ℕ) (from later : ℕ)
-    → Tells pending marks from → AreMarked runs marks → AreMarked new more → length new ≡ length runs
-    → ((i : ℕ) (d : Run) → times i stale ≡ 0 → get_or new i d ≡ get_or runs i d)
-    → ((i : ℕ) → 0 < times i stale → Has pending.touched i) → from ≤ later → Tells pending more later
-tells_renewed pending runs new marks more stale from later tells marked now size same touched le =
-    let old_size = marked_all runs marks marked in
-    let new_size = marked_all new more now in
-    let sizes : length more ≡ length marks = omega arith in
+-- where all are watched, so are all but some
+pub tells_all : (pending : Pending) (runs : List PendingRun) (from : ℕ) (made : List ℕ) → WatchesAll pending.watch runs from → Tells pending runs from made
+tells_all pending runs from made watches = record { all = watches.all; watched = λ run d low high out. watches.each run d low high }
+
+-- those that weren't made anew are watched as before
+pub tells_renewed : (batch : Batch) (state : State) (pending : Pending) (runs new : List PendingRun) (made : List ℕ) (was counts : List ℕ) (from : ℕ)
+    → Tells pending runs from made → AreRenewed batch state made runs new was counts → Tells pending new from made
+tells_renewed batch state pending runs new made was counts from tells put =
+    let sizes = put.runs in
     record {
-      all = tells.all ∙ sym sizes;
-      within = λ run has. let low = tells.within run has in omega arith;
-      watched = λ run low high out.
-          let inside : run < length new = omega arith in
-          some_run (IsIn pending.watch more run) new run inside (λ d.
-          let kept : times run stale ≡ 0 = let none : ¬ (0 < times run stale) = λ some. out (touched run some) in omega arith in
-          let own : marks_at marks run ≡ marks_at more run =
-          own_marks runs marks run d marked (omega arith)
-          ∙ (ap (λ r. marks_of r.entries.items) (sym (same run d kept)) ∙ sym (own_marks new more run d now inside)) in
-          let watched = tells.watched run (omega arith) (omega arith) out in
-          subst (AreLinked (length pending.watch.last.items) pending.watch.links.items run) own watched);
+      all = tells.all ∙ sym put.runs;
+      watched = λ run d low high out.
+          let none : ¬ (0 < times run made) = λ some. out (has_of_times made run some) in
+          subst (λ r. Watches pending.watch run (entries_of r.sums.entries.items)) (sym (put.same run d (omega arith)))
+          (tells.watched run d low (omega arith) out);
     }
 
--- ---- all pending runs are watched
-
--- each run from one place on is watched by its marks
-pub record WatchesAll (watch : Watch) (marks : List (Vec Mark Global)) (from : ℕ) : Type 0 where
-  pub all : watch.count ≡ length marks
-  pub each : (run : ℕ) → from ≤ run → run < length marks → IsIn watch marks run
-
--- once the touched runs are put in again
-pub all_put : (pending : Pending) (watch : Watch) (marks : List (Vec Mark Global)) (from : ℕ) → Tells pending marks from
+-- once those that were made anew are put in, all are watched
+pub all_put : (pending : Pending) (watch : Watch) (runs : List PendingRun) (opened from : ℕ) (made : List ℕ) → opened ≤ from → Tells pending runs opened made
     → watch.count ≡ pending.watch.count
-    → ((run : ℕ) → from ≤ run → Has pending.touched run → IsIn watch marks run)
-    → ((run : ℕ) → IsIn pending.watch marks run → IsIn watch marks run) → WatchesAll watch marks from
-all_put pending watch marks from tells count put others = record {
+    → ((run : ℕ) (d : PendingRun) → from ≤ run → Has made run → IsIn watch runs run d)
+    → ((run : ℕ) (d : PendingRun) → IsIn pending.watch runs run d → IsIn watch runs run d) → WatchesAll watch runs from
+all_put pending watch runs opened from made le tells count put others = record {
   all = count ∙ tells.all;
-  each = λ run low high. elim (has_or_not pending.touched run) [
-    | inl has ↦ put run low has
-    | inr out ↦ others run (tells.watched run low high out)
+  each = λ run d low high. elim (has_or_not made run) [
+    | inl has ↦ put run d low has
+    | inr out ↦ others run d (tells.watched run d (omega arith) high out)
   ];
 }
 
--- of an empty set and what was found, only what was found
-pub found_only : (none found : List ℕ) (P : ℕ → Type 0) → none ≡ [] → ((run : ℕ) → Has found run → Has none run ⊎ P run)
-    → (run : ℕ) → Has found run → P run
-found_only none found P empty only run has = elim (only run has) [
-  | inl old ↦ absurd (has_none run (subst (λ l. Has l run) empty old))
-  | inr new ↦ new
-]
+-- every list stands past none
+past_none : (es : List Entry) → AllStand es []
+past_none [] = tt
+past_none (e ∷ es) = (tt, past_none es)
+
+-- what commutes with all of two lists commutes with all of both
+commutes_both : (e : Entry) (xs ys : List Entry) → CommutesWith e xs → CommutesWith e ys → CommutesWith e (xs ++ ys)
+commutes_both e [] ys first second = second
+commutes_both e (x ∷ xs) ys first second = (first.0, commutes_both e xs ys first.1 second)
+
+-- past two lists, one after the other
+past_both : (es xs ys : List Entry) → AllStand es xs → AllStand es ys → AllStand es (xs ++ ys)
+past_both [] xs ys first second = tt
+past_both (e ∷ es) xs ys first second = (commutes_both e xs ys first.0 second.0, past_both es xs ys first.1 second.1)
+
+-- nothing is touched by no run
+pub none_touched : (touched : List ℕ) (runs : List PendingRun) (from : ℕ) → touched ≡ [] → AreTouched touched runs from []
+none_touched touched runs from empty = record {
+  low = λ run has. absurd (has_none run (subst (λ l. Has l run) empty has));
+  high = λ run has. absurd (has_none run (subst (λ l. Has l run) empty has));
+  hold = λ run d low high out. past_none (entries_of (get_or runs run d).sums.entries.items);
+}
+
+-- one run more is committed
+pub touched_more : (watch : Watch) (touched found : List ℕ) (runs : List PendingRun) (from : ℕ) (done : List PendingRun) (k : ℕ) (run : PendingRun) (net : List Entry)
+    → k < length done → run ≡ get_or done k run → net ≡ left_by run.sums → WatchesAll watch runs from → AreTouched touched runs from (all_left (take k done))
+    → ((r : ℕ) → Has touched r → Has found r)
+    → ((r : ℕ) → Has found r → Has touched r ⊎ ((from ≤ r) × (r < watch.count)))
+    → ((r : ℕ) (others : List Entry) → from ≤ r → ¬ Has found r → Watches watch r others → AllStand others net)
+    → AreTouched found runs from (all_left (take (k + 1) done))
+touched_more watch touched found runs from done k run net lt is net_is watches are more only stand =
+    let next : all_left (take k done) ++ net ≡ all_left (take (k + 1) done) =
+    ap (λ ns. all_left (take k done) ++ ns) net_is ∙ sym (next_nets done k run lt is) in
+    subst (AreTouched found runs from) next (record {
+      low = λ r has. elim (only r has) [ inl old ↦ are.low r old | inr new ↦ new.0 ];
+      high = λ r has. elim (only r has) [
+        | inl old ↦ are.high r old
+        | inr new ↦ subst (λ n. r < n) watches.all new.1
+      ];
+      hold = λ r d low high out.
+          let others = entries_of (get_or runs r d).sums.entries.items in
+          past_both others (all_left (take k done)) net (are.hold r d low high (λ has. out (more r has))) (stand r others low out (watches.each r d low high));
+    })

@@ -1,11 +1,11 @@
--- What a check of pending runs answers.
+-- What a check of pending runs returns.
 use Rattle.std.specs.Prelude.{◌≡◌, ◌≤◌, List, length, take}
-use Rattle.speculate.specs.declared.speculated.Run.{Run}
-use Rattle.rounds.specs.Passes.{nets_of, IsFirstConflict}
+use Rattle.rounds.specs.PendingRuns.{all_left, IsFirstFrom}
+use Rattle.rounds.specs.declared.pending_run.PendingRun.{PendingRun}
 use Rattle.rounds.specs.declared.check.Seen.{Seen}
 
--- the first conflict was found, and the list begins with the nets of the runs before it
-pub record IsSeen (runs : List Run) (seen : Seen) : Type 0 where
-  pub first : IsFirstConflict runs seen.first
+-- the first conflict was found, and the list begins with what the runs before it leave
+pub record IsSeen (runs : List PendingRun) (seen : Seen) : Type 0 where
+  pub first : IsFirstFrom runs 0 seen.first
   pub within : seen.upto ≤ length seen.nets
-  pub nets : take seen.upto seen.nets ≡ nets_of (take seen.first runs)
+  pub nets : take seen.upto seen.nets ≡ all_left (take seen.first runs)

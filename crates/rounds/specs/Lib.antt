@@ -1,6 +1,7 @@
 pub mod Plans
 pub mod Views
 pub mod Passes
+pub mod PendingRuns
 pub mod Openings
 pub mod Checks
 pub mod Pending

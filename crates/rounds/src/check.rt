@@ -1,12 +1,14 @@
 //! The first run that doesn't stand past those before it, which ends its round.
 ghost use Rattle.std.specs.Prelude.{◌≡◌, ◌↔◌, ◌+◌, ◌<◌, ◌≤◌, IfOk, OnOk, IsTrue, length, take, slice_index_or};
-ghost use Rattle.rounds.specs.Passes.{nets_of, StandsAt, IsFirstConflict, IsFirstFrom, AreStarts, AreMarked, StandsPast};
+ghost use Rattle.rounds.specs.Passes.{IsFirstConflict};
+ghost use Rattle.rounds.specs.PendingRuns.{all_left, HoldsPast, HoldsAt, IsFirstFrom, AreStarts, AreSummed};
 ghost use Rattle.rounds.specs.Checks.{IsSeen};
-ghost use Rattle.speculate.specs.declared.speculated.Run.{Run as OneRun};
+ghost use Rattle.rounds.specs.declared.pending_run.PendingRun.{PendingRun as OnePending};
 
 use crate::crew::Crew;
+use crate::pending_run::{PendingRun, Sums, blank_record};
 use crate::plan::Plan;
-use intentions::{Committed, Mark, marks_of};
+use intentions::Committed;
 use speculate::{Gate, NoMemory, Run};
 use std::alloc::Global;
 use std::thread::Threads;
@@ -27,54 +29,44 @@ const SPARE: usize = 2;
 // Lists the nets of the runs from one place on after those of the runs before it, and tells for each
 // run how many entries come before its net.
 fn list_nets(
-    runs: &[Run],
+    runs: &[PendingRun],
     from: usize,
     nets: &mut Committed,
     starts: &mut Vec<usize>,
 ) -> Result<(), NoMemory>
     requires from { from ≤ length runs.now }
-    requires nets { nets.old ≡ nets_of (take from runs.now) }
+    requires nets { nets.old ≡ all_left (take from runs.now) }
     requires starts { AreStarts (take from runs.now) starts.old.items }
-    ensures nets { OnOk result (nets.new ≡ nets_of runs.now) }
+    ensures nets { OnOk result (nets.new ≡ all_left runs.now) }
     ensures starts { OnOk result (AreStarts runs.now starts.new.items) }
 {
     for run in &runs[from..] {
         starts.push(nets.len())?;
-        nets.append(&run.net)?;
+        nets.append_marked(run.sums.net())?;
     }
     Ok(())
 }
 
-/// Whether a run stands past the first entries of a list, up to a place. The marks are those of each
-/// run's entries.
-pub(crate) fn stands_past(
-    runs: &[Run],
-    marks: &[Vec<Mark>],
-    place: usize,
-    nets: &Committed,
-    upto: usize,
-) -> bool
+/// Whether a run stands past the first entries of a list, up to a place.
+pub(crate) fn stands_past(runs: &[PendingRun], place: usize, nets: &Committed, upto: usize) -> bool
     requires place { place < length runs.now }
-    requires marked { AreMarked runs.now marks.now }
     requires upto { upto ≤ length nets.now }
-    ensures { IsTrue result ↔ ((d : OneRun) → StandsPast (take upto nets.now) (slice_index_or runs.now place d)) }
+    ensures { IsTrue result ↔ ((d : OnePending) → HoldsPast (take upto nets.now) (slice_index_or runs.now place d)) }
 {
-    nets.stands(&runs[place].entries, &marks[place], upto)
+    nets.stands(&runs[place].sums.entries, upto)
 }
 
 // The first conflict from one place on. All workers check the runs side by side, a run as a piece.
 fn first_from<R: Threads + Sync, G: Gate>(
     crew: &Crew<R, G>,
-    runs: &[Run],
-    marks: &[Vec<Mark>],
+    runs: &[PendingRun],
     from: usize,
     nets: &Committed,
     starts: &[usize],
 ) -> Result<usize, NoMemory>
     requires few { length runs.now ≤ 10000 }
     requires from { from ≤ length runs.now }
-    requires marked { AreMarked runs.now marks.now }
-    requires nets { nets.now ≡ nets_of runs.now }
+    requires nets { nets.now ≡ all_left runs.now }
     requires starts { AreStarts runs.now starts.now }
     ensures { IfOk result (λ first. IsFirstFrom runs.now from first) }
 {
@@ -91,12 +83,12 @@ fn first_from<R: Threads + Sync, G: Gate>(
         (runs.len() - from) as u32,
         plan.workers,
         &|piece: u32| -> bool
-            requires { (from + piece < length runs.now) × (length runs.now ≤ 10000) × AreMarked runs.now marks.now × (nets.now ≡ nets_of runs.now) × AreStarts runs.now starts.now }
-            ensures { IsTrue result ↔ StandsAt runs.entry.now (from + piece) }
+            requires { (from + piece < length runs.now) × (length runs.now ≤ 10000) × (nets.now ≡ all_left runs.now) × AreStarts runs.now starts.now }
+            ensures { IsTrue result ↔ HoldsAt runs.entry.now (from + piece) }
         {
             let place = from + piece as usize;
             gate.pass(0, place as u32 + 1);
-            stands_past(runs, marks, place, nets, starts[place])
+            stands_past(runs, place, nets, starts[place])
         },
     )?;
     Ok(from + passed as usize)
@@ -106,12 +98,10 @@ fn first_from<R: Threads + Sync, G: Gate>(
 // has a conflict. The first block has a few more runs than are expected to stand.
 fn seek_in_blocks<R: Threads + Sync, G: Gate>(
     crew: &Crew<R, G>,
-    runs: &[Run],
-    marks: &[Vec<Mark>],
+    runs: &[PendingRun],
     expected: usize,
 ) -> Result<Seen, NoMemory>
     requires few { length runs.now ≤ 10000 }
-    requires marked { AreMarked runs.now marks.now }
     ensures { IfOk result (λ seen. IsSeen runs.now seen) }
 {
     let mut nets = Committed::new(crew.alloc);
@@ -121,7 +111,7 @@ fn seek_in_blocks<R: Threads + Sync, G: Gate>(
         let end = expected.saturating_add(2 * from + SPARE).min(runs.len());
         let block = &runs[..end];
         list_nets(block, from, &mut nets, &mut starts)?;
-        let first = first_from(crew, block, &marks[..end], from, &nets, &starts)?;
+        let first = first_from(crew, block, from, &nets, &starts)?;
         if first < end {
             let upto = starts[first];
             return Ok(Seen { first, nets, upto });
@@ -138,28 +128,22 @@ fn seek_in_blocks<R: Threads + Sync, G: Gate>(
 
 // The first conflict, sought run by run: the net of a run that stands is listed before the next one
 // is checked.
-fn seek_in_turn<G: Gate>(
-    alloc: Global,
-    runs: &[Run],
-    marks: &[Vec<Mark>],
-    gate: &G,
-) -> Result<Seen, NoMemory>
+fn seek_in_turn<G: Gate>(alloc: Global, runs: &[PendingRun], gate: &G) -> Result<Seen, NoMemory>
     requires few { length runs.now ≤ 10000 }
-    requires marked { AreMarked runs.now marks.now }
     ensures { IfOk result (λ seen. IsSeen runs.now seen) }
 {
     let mut nets = Committed::new(alloc);
     for place in 0..runs.len() {
         gate.pass(0, place as u32 + 1);
         let upto = nets.len();
-        if !stands_past(runs, marks, place, &nets, upto) {
+        if !stands_past(runs, place, &nets, upto) {
             return Ok(Seen {
                 first: place,
                 nets,
                 upto,
             });
         }
-        nets.append(&runs[place].net)?;
+        nets.append_marked(runs[place].sums.net())?;
     }
     let upto = nets.len();
     Ok(Seen {
@@ -179,29 +163,31 @@ fn seek_in_turn<G: Gate>(
 /// `NoMemory` is answered where a growth of memory was refused.
 pub(crate) fn seek_conflict<R: Threads + Sync, G: Gate>(
     crew: &Crew<R, G>,
-    runs: &[Run],
-    marks: &[Vec<Mark>],
+    runs: &[PendingRun],
     expected: usize,
 ) -> Result<Seen, NoMemory>
     requires few { length runs.now ≤ 10000 }
-    requires marked { AreMarked runs.now marks.now }
     ensures { IfOk result (λ seen. IsSeen runs.now seen) }
 {
     if crew.plan.cut > 1 || crew.plan.workers == 1 {
-        return seek_in_turn(crew.alloc, runs, marks, crew.gate);
+        return seek_in_turn(crew.alloc, runs, crew.gate);
     }
-    seek_in_blocks(crew, runs, marks, expected)
+    seek_in_blocks(crew, runs, expected)
 }
 
-/// The marks of each run's entries.
-pub(crate) fn mark_runs(alloc: Global, runs: &[Run]) -> Result<Vec<Vec<Mark>>, NoMemory>
-    ensures { IfOk result (λ marks. AreMarked runs.now marks.items) }
+// Pending runs that have nothing but the sums of these.
+fn summed(alloc: Global, runs: &[Run]) -> Result<Vec<PendingRun>, NoMemory>
+    ensures { IfOk result (λ pending. AreSummed runs.now pending.items) }
 {
-    let mut marks = Vec::with_capacity(alloc, runs.len())?;
+    let mut pending = Vec::with_capacity(alloc, runs.len())?;
     for run in runs {
-        marks.push(marks_of(alloc, &run.entries)?)?;
+        pending.push(PendingRun {
+            tree: blank_record(alloc),
+            net: Vec::new(alloc),
+            sums: Sums::of(alloc, &run.entries, &run.net)?,
+        })?;
     }
-    Ok(marks)
+    Ok(pending)
 }
 
 /// The least place (from 0) of a run of which some entry doesn't commute forward with some net
@@ -227,7 +213,7 @@ pub fn first_conflict<R: Threads + Sync, G: Gate>(
         gate,
         operations_each: 1,
     };
-    let marks = mark_runs(alloc, runs)?;
-    let seen = seek_conflict(&crew, runs, &marks, 0)?;
+    let pending = summed(alloc, runs)?;
+    let seen = seek_conflict(&crew, &pending, 0)?;
     Ok(seen.first)
 }

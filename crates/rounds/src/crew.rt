@@ -1,9 +1,9 @@
 //! What the passes of a round are run with, and how many workers pay.
 ghost use Rattle.std.specs.Prelude.{◌≡◌, ◌<◌, ◌≤◌, ℕ, length, slice_index_or};
 
+use crate::pending_run::PendingRun;
 use crate::plan::Plan;
 use batch::Batch;
-use speculate::Run;
 use std::alloc::Global;
 
 /// The right to start threads, the allocator, how many workers there are, the gate that sees them, and
@@ -66,13 +66,13 @@ pub(crate) fn makers<R, G>(crew: &Crew<R, G>, runs: usize) -> u32
 }
 
 /// How many workers to check the runs of these numbers with.
-pub(crate) fn checkers(plan: Plan, runs: &[Run], numbers: &[usize]) -> u32
+pub(crate) fn checkers(plan: Plan, runs: &[PendingRun], numbers: &[usize]) -> u32
     requires { (k : ℕ) → k < length numbers.now → slice_index_or numbers.now k 0 < length runs.now }
     ensures { (1 ≤ result) × (result ≤ plan.workers) }
 {
     let mut operations: usize = 0;
     for number in numbers {
-        operations = operations.saturating_add(runs[*number].entries.len());
+        operations = operations.saturating_add(runs[*number].sums.entries.len());
     }
     paying(plan, operations / CHECKS)
 }

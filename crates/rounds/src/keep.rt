@@ -1,14 +1,14 @@
 //! The runs that no longer stand after a commit.
-ghost use Rattle.std.specs.Prelude.{◌<◌, ◌≤◌, ℕ, IfOk, length, take, slice_index_or};
-ghost use Rattle.committed.specs.NumberSets.{Has};
-ghost use Rattle.rounds.specs.Passes.{AreMarked, AreRefuted, AreRefutedAmong, IsDecided, times};
+ghost use Rattle.std.specs.Prelude.{◌≡◌, ◌<◌, ◌≤◌, ℕ, IfOk, length, take, slice_index_or, slice_range};
+ghost use Rattle.rounds.specs.PendingRuns.{all_left, AreRefuted, AreRefutedAmong, IsDecided};
 ghost use Rattle.rounds.specs.Pending.{ArePlaces, Tells};
 
 use crate::check::stands_past;
 use crate::crew::{Crew, checkers};
 use crate::pending::Pending;
-use intentions::{Committed, Mark};
-use speculate::{Gate, NoMemory, Run};
+use crate::pending_run::PendingRun;
+use intentions::Committed;
+use speculate::{Gate, NoMemory};
 use std::alloc::Global;
 use std::thread::Threads;
 use workers::give_all;
@@ -17,19 +17,17 @@ use workers::give_all;
 // a place.
 fn refuted_at(
     alloc: Global,
-    runs: &[Run],
-    marks: &[Vec<Mark>],
+    runs: &[PendingRun],
     place: usize,
     nets: &Committed,
     upto: usize,
 ) -> Result<Vec<usize>, NoMemory>
     requires place { place < length runs.now }
-    requires marked { AreMarked runs.now marks.now }
     requires upto { upto ≤ length nets.now }
     ensures { IfOk result (λ told. IsDecided runs.now (take upto nets.now) place told.items) }
 {
     let mut told = Vec::new(alloc);
-    if !stands_past(runs, marks, place, nets, upto) {
+    if !stands_past(runs, place, nets, upto) {
         told.push(place)?;
     }
     Ok(told)
@@ -39,8 +37,7 @@ fn refuted_at(
 // the list: what one worker does alone. The list is of runs from one place on.
 fn refuted_among<G: Gate>(
     alloc: Global,
-    runs: &[Run],
-    marks: &[Vec<Mark>],
+    runs: &[PendingRun],
     from: usize,
     touched: &[usize],
     nets: &Committed,
@@ -49,14 +46,13 @@ fn refuted_among<G: Gate>(
 ) -> Result<Vec<usize>, NoMemory>
     requires few { length runs.now ≤ 10000 }
     requires places { ArePlaces touched.now from (length runs.now) }
-    requires marked { AreMarked runs.now marks.now }
     requires upto { upto ≤ length nets.now }
     ensures { IfOk result (λ numbers. AreRefutedAmong runs.now (take upto nets.now) touched.now numbers.items) }
 {
     let mut numbers = Vec::new(alloc);
     for place in touched {
         gate.pass(0, 10000 + (*place - from) as u32 + 1);
-        if !stands_past(runs, marks, *place, nets, upto) {
+        if !stands_past(runs, *place, nets, upto) {
             numbers.push(*place)?;
         }
     }
@@ -66,8 +62,7 @@ fn refuted_among<G: Gate>(
 // The same. The workers decide the runs side by side, a run as a piece.
 fn refuted_of<R: Threads + Sync, G: Gate>(
     crew: &Crew<R, G>,
-    runs: &[Run],
-    marks: &[Vec<Mark>],
+    runs: &[PendingRun],
     from: usize,
     touched: &[usize],
     nets: &Committed,
@@ -75,7 +70,6 @@ fn refuted_of<R: Threads + Sync, G: Gate>(
 ) -> Result<Vec<usize>, NoMemory>
     requires few { length runs.now ≤ 10000 }
     requires places { ArePlaces touched.now from (length runs.now) }
-    requires marked { AreMarked runs.now marks.now }
     requires upto { upto ≤ length nets.now }
     ensures { IfOk result (λ numbers. AreRefutedAmong runs.now (take upto nets.now) touched.now numbers.items) }
 {
@@ -88,7 +82,7 @@ fn refuted_of<R: Threads + Sync, G: Gate>(
     } = *crew;
     let workers = checkers(plan, runs, touched);
     if workers == 1 {
-        return refuted_among(alloc, runs, marks, from, touched, nets, upto, gate);
+        return refuted_among(alloc, runs, from, touched, nets, upto, gate);
     }
     give_all(
         threads,
@@ -96,12 +90,12 @@ fn refuted_of<R: Threads + Sync, G: Gate>(
         touched.len() as u32,
         workers,
         &|piece: u32| -> Result<Vec<usize>, NoMemory>
-            requires { (piece < length touched.now) × (length runs.now ≤ 10000) × ArePlaces touched.now from (length runs.now) × AreMarked runs.now marks.now × (upto ≤ length nets.now) }
+            requires { (piece < length touched.now) × (length runs.now ≤ 10000) × ArePlaces touched.now from (length runs.now) × (upto ≤ length nets.now) }
             ensures { IfOk result (λ told. (piece < length touched.entry.now) × IsDecided runs.entry.now (take upto nets.entry.now) (slice_index_or touched.entry.now piece 0) told.items) }
         {
             let place = touched[piece as usize];
             gate.pass(0, 10000 + (place - from) as u32 + 1);
-            refuted_at(alloc, runs, marks, place, nets, upto)
+            refuted_at(alloc, runs, place, nets, upto)
         },
     )
 }
@@ -113,23 +107,25 @@ fn refuted_of<R: Threads + Sync, G: Gate>(
 /// `NoMemory` is answered where a growth of memory was refused.
 pub(crate) fn keep_all<R: Threads + Sync, G: Gate>(
     crew: &Crew<R, G>,
-    runs: &[Run],
-    marks: &[Vec<Mark>],
+    runs: &[PendingRun],
     pending: &mut Pending,
+    made: &[usize],
+    opened: usize,
     from: usize,
     nets: &Committed,
     upto: usize,
 ) -> Result<Vec<usize>, NoMemory>
     requires few { length runs.now ≤ 10000 }
+    requires opened { opened ≤ from }
     requires from { from ≤ length runs.now }
-    requires marked { AreMarked runs.now marks.now }
-    requires tells { Tells pending.old marks.now from }
+    requires made { (k : ℕ) → k < length made.now → slice_index_or made.now k 0 < length runs.now }
+    requires tells { Tells pending.old runs.now opened made.now }
     requires upto { upto ≤ length nets.now }
+    requires nets { take upto nets.now ≡ all_left (slice_range runs.now opened from) }
     ensures refuted { IfOk result (λ numbers. AreRefuted runs.now (take upto nets.now) from (length runs.now) numbers.items) }
     ensures few { IfOk result (λ numbers. length numbers.items ≤ 10000) }
-    ensures tells { IfOk result (λ numbers. Tells pending.new marks.now from) }
-    ensures touched { IfOk result (λ numbers. (i : ℕ) → 0 < times i numbers.items → Has pending.new.touched i) }
+    ensures tells { IfOk result (λ numbers. Tells pending.new runs.now from numbers.items) }
 {
-    pending.touch(crew.alloc, marks, from, &nets.entries()[..upto])?;
-    refuted_of(crew, runs, marks, from, pending.touched(), nets, upto)
+    pending.touch(crew.alloc, runs, made, opened, from)?;
+    refuted_of(crew, runs, from, pending.touched(), nets, upto)
 }

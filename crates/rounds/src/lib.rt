@@ -9,6 +9,7 @@ pub mod laws;
 mod make;
 mod openings;
 mod pending;
+mod pending_run;
 mod plan;
 mod renew;
 

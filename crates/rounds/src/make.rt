@@ -3,22 +3,22 @@ ghost use Rattle.std.specs.Prelude.{◌≡◌, ◌*◌, ◌<◌, ◌≤◌, IfOk
 ghost use Rattle.std.specs.Fork.{slice_chunk};
 ghost use Rattle.std.specs.List.{All};
 ghost use Rattle.meaning.specs.Entries.{kinds};
-ghost use Rattle.rounds.specs.Passes.{CanBeMade, AreMade};
+ghost use Rattle.rounds.specs.Passes.{CanBeMade};
+ghost use Rattle.rounds.specs.PendingRuns.{AreMade};
 
 use crate::crew::{Crew, makers};
+use crate::pending_run::PendingRun;
 use batch::Batch;
-use intentions::{Mark, marks_of};
-use speculate::{Gate, NoMemory, Objects, Run, View, run_in};
+use speculate::{Gate, NoMemory, Objects, View, run_in};
 use std::alloc::Global;
 use std::thread::Threads;
 use workers::give_all;
 
-/// A run of the transaction with this number, counted from 0, and the marks of its entries.
+/// A run of the transaction with this number, counted from 0.
 #[derive(Drop)]
 pub(crate) struct Made {
     pub(crate) number: usize,
-    pub(crate) run: Run,
-    pub(crate) marks: Vec<Mark>,
+    pub(crate) run: PendingRun,
 }
 
 // A run for each of the numbers of a group, one after the other, in one view.
@@ -51,11 +51,10 @@ fn make_group<R: Threads + Sync, G: Gate>(
             width,
             gate,
         )?;
-        let marks = marks_of(alloc, &run.entries)?;
+        let pending = PendingRun::of(alloc, run)?;
         all.push(Made {
             number: *number,
-            run,
-            marks,
+            run: pending,
         })?;
     }
     Ok(all)

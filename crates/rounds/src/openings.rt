@@ -7,27 +7,27 @@ ghost use Rattle.meaning.specs.Rounds.{Rounds};
 ghost use Rattle.batch.specs.Views.{record_view};
 ghost use Rattle.intentions.specs.Levels.{AllEntriesLegal, AllHaveRoom};
 ghost use Rattle.rounds.specs.Views.{start_of, blocks_of};
-ghost use Rattle.rounds.specs.Passes.{nets_of, times};
+ghost use Rattle.rounds.specs.PendingRuns.{own_nets, times};
 ghost use Rattle.rounds.specs.Openings.{AreCounts};
 
-use crate::check::{mark_runs, seek_conflict};
+use crate::check::seek_conflict;
 use crate::crew::Crew;
 use crate::keep::keep_all;
 use crate::pending::Pending;
+use crate::pending_run::{PendingRun, Sums, blank_record};
 use crate::plan::Plan;
 use crate::renew::renew;
 use batch::{Batch, Outcome, Record};
 use intentions::perform_each;
-use meaning::End;
-use speculate::{Gate, NoMemory, Objects, Run};
+use speculate::{Gate, NoMemory, Objects};
 use std::alloc::Global;
 use std::thread::Threads;
 
 // Commits runs in order: their nets are performed on the objects.
-fn commit(runs: &[Run], objects: &mut Objects) -> Result<(), NoMemory>
-    requires legal { AllEntriesLegal objects.old (nets_of runs.now) }
-    requires room { AllHaveRoom objects.old (nets_of runs.now) }
-    ensures { OnOk result (objects.new ≡ after objects.old (nets_of runs.now)) }
+fn commit(runs: &[PendingRun], objects: &mut Objects) -> Result<(), NoMemory>
+    requires legal { AllEntriesLegal objects.old (own_nets runs.now) }
+    requires room { AllHaveRoom objects.old (own_nets runs.now) }
+    ensures { OnOk result (objects.new ≡ after objects.old (own_nets runs.now)) }
 {
     for run in runs {
         perform_each(objects, &run.net)?;
@@ -36,19 +36,18 @@ fn commit(runs: &[Run], objects: &mut Objects) -> Result<(), NoMemory>
 }
 
 // A place for each transaction, with no run yet.
-fn blank_runs(alloc: Global, count: usize) -> Result<Vec<Run>, NoMemory>
+fn blank_runs(alloc: Global, count: usize) -> Result<Vec<PendingRun>, NoMemory>
     ensures { IfOk result (λ runs. length runs.items ≡ count) }
 {
     let mut runs = Vec::with_capacity(alloc, count)?;
     for _ in 0..count {
-        let tree = Record {
-            taken: Vec::new(alloc),
-            outcome: End::Ended,
-        };
-        runs.push(Run {
-            tree,
-            entries: Vec::new(alloc),
+        runs.push(PendingRun {
+            tree: blank_record(alloc),
             net: Vec::new(alloc),
+            sums: Sums {
+                entries: Vec::new(alloc),
+                of_net: None,
+            },
         })?;
     }
     Ok(runs)
@@ -77,15 +76,15 @@ fn no_counts(alloc: Global, count: usize) -> Result<Vec<u32>, NoMemory>
 }
 
 // The records of runs.
-fn records_of(alloc: Global, runs: Vec<Run>) -> Result<Vec<Record>, NoMemory>
+fn records_of(alloc: Global, runs: Vec<PendingRun>) -> Result<Vec<Record>, NoMemory>
     ensures { IfOk result (λ records. records.items ≡ map (λ r. r.tree) runs.items) }
 {
     let mut records = Vec::with_capacity(alloc, runs.len())?;
     for made in runs {
-        let Run {
+        let PendingRun {
             tree,
-            entries: _,
             net: _,
+            sums: _,
         } = made;
         records.push(tree)?;
     }
@@ -118,26 +117,17 @@ pub fn execute<R: Threads + Sync, G: Gate>(
     let count = batch.transactions.len();
     let mut objects = batch.objects.copy()?;
     let mut runs = blank_runs(alloc, count)?;
-    let mut marks = mark_runs(alloc, &runs)?;
     let mut counts = no_counts(alloc, count)?;
     let mut stale = all_numbers(alloc, count)?;
-    let mut pending = Pending::new(alloc, &marks)?;
+    let mut pending = Pending::new(alloc, count)?;
     let mut opened: usize = 0;
     let mut passed: usize = 0;
     let mut rounds: u32 = 0;
     let crew = Crew::of(threads, alloc, batch, plan, gate);
     'opening: while opened < count {
-        renew(
-            &crew,
-            batch,
-            &objects,
-            &stale,
-            &mut runs,
-            &mut marks,
-            &mut counts,
-        )?;
+        renew(&crew, batch, &objects, &stale, &mut runs, &mut counts)?;
         // As many are expected to stand as in the round before.
-        let seen = seek_conflict(&crew, &runs[opened..], &marks[opened..], passed)?;
+        let seen = seek_conflict(&crew, &runs[opened..], passed)?;
         passed = seen.first;
         commit(&runs[opened..opened + passed], &mut objects)?;
         opened += passed;
@@ -145,8 +135,9 @@ pub fn execute<R: Threads + Sync, G: Gate>(
         stale = keep_all(
             &crew,
             &runs,
-            &marks,
             &mut pending,
+            &stale,
+            opened - passed,
             opened,
             &seen.nets,
             seen.upto,

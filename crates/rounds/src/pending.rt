@@ -1,35 +1,54 @@
 //! What tells, of the pending runs, those that a commit may touch.
-ghost use Rattle.std.specs.Prelude.{◌≡◌, ◌<◌, ◌≤◌, ℕ, length, IfOk, OnOk, slice_index_or};
+ghost use Rattle.std.specs.Prelude.{◌≡◌, ◌<◌, ◌≤◌, ℕ, length, IfOk, OnOk, slice_index_or, slice_range};
 ghost use Rattle.committed.specs.NumberSets.{Has, AreDistinct};
-ghost use Rattle.rounds.specs.Pending.{IsIn, Tells, AreTouched};
+ghost use Rattle.rounds.specs.declared.pending_run.PendingRun.{PendingRun as OnePending};
+ghost use Rattle.rounds.specs.Pending.{IsIn, WatchesAll, Tells, AreTouched};
+ghost use Rattle.rounds.specs.PendingRuns.{all_left};
 
-use intentions::{Mark, NumberSet, Watch};
-use speculate::{Entry, NoMemory};
+use crate::pending_run::PendingRun;
+use intentions::{NumberSet, Watch};
+use speculate::NoMemory;
 use std::alloc::Global;
 
-// Puts those of these runs that are from one place on in again, by their marks.
-fn put_again(
-    watch: &mut Watch,
-    marks: &[Vec<Mark>],
-    from: usize,
-    runs: &[usize],
-) -> Result<(), NoMemory>
-    requires count { watch.old.count ≡ length marks.now }
-    requires within { (k : ℕ) → k < length runs.now → slice_index_or runs.now k 0 < length marks.now }
-    ensures count { watch.new.count ≡ watch.old.count }
-    ensures put { OnOk result ((run : ℕ) → from ≤ run → Has runs.now run → IsIn watch.new marks.now run) }
-    ensures others { OnOk result ((run : ℕ) → IsIn watch.old marks.now run → IsIn watch.new marks.now run) }
+// A watch of the runs from one on.
+fn watch_from(alloc: Global, runs: &[PendingRun], from: usize) -> Result<Watch, NoMemory>
+    requires few { length runs.now ≤ 10000 }
+    requires from { from ≤ length runs.now }
+    ensures { IfOk result (λ watch. WatchesAll watch runs.now from) }
 {
-    for run in runs {
-        if *run >= from {
-            watch.put(*run, &marks[*run])?;
+    let entries = runs[from..].iter().fold(
+        0usize,
+        |sum, run| sum.saturating_add(run.sums.entries.len()),
+    );
+    let mut watch = Watch::new(alloc, runs.len(), entries)?;
+    for place in from..runs.len() {
+        watch.put(place, &runs[place].sums.entries)?;
+    }
+    Ok(watch)
+}
+
+// Puts those of these runs that are from one place on in.
+fn put_made(
+    watch: &mut Watch,
+    runs: &[PendingRun],
+    made: &[usize],
+    from: usize,
+) -> Result<(), NoMemory>
+    requires count { watch.old.count ≡ length runs.now }
+    requires within { (k : ℕ) → k < length made.now → slice_index_or made.now k 0 < length runs.now }
+    ensures count { watch.new.count ≡ watch.old.count }
+    ensures put { OnOk result ((run : ℕ) (d : OnePending) → from ≤ run → Has made.now run → IsIn watch.new runs.now run d) }
+    ensures others { OnOk result ((run : ℕ) (d : OnePending) → IsIn watch.old runs.now run d → IsIn watch.new runs.now run d) }
+{
+    for number in made {
+        if *number >= from {
+            watch.put(*number, &runs[*number].sums.entries)?;
         }
     }
     Ok(())
 }
 
-/// What tells, of the pending runs, those that a commit may touch. Those of the last round are out
-/// until they are put in again, since most of them are made anew.
+/// What tells, of the pending runs, those that a commit may touch.
 #[derive(Drop)]
 pub(crate) struct Pending {
     watch: Watch,
@@ -37,17 +56,15 @@ pub(crate) struct Pending {
 }
 
 impl Pending {
-    /// Of as many runs as there are lists of marks. All of them count as touched.
-    pub(crate) fn new(alloc: Global, marks: &[Vec<Mark>]) -> Result<Pending, NoMemory>
-        ensures tells { IfOk result (λ pending. Tells pending marks.now 0) }
-        ensures all { IfOk result (λ pending. (run : ℕ) → run < length marks.now → Has pending.touched run) }
+    /// Of so many runs, of which none was made yet.
+    pub(crate) fn new(alloc: Global, count: usize) -> Result<Pending, NoMemory>
+        requires { count ≤ 10000 }
+        ensures { IfOk result (λ pending. pending.watch.count ≡ count) }
     {
-        let watch = Watch::of(alloc, marks, marks.len())?;
-        let mut touched = NumberSet::new(alloc);
-        for run in 0..marks.len() {
-            touched.insert(run)?;
-        }
-        Ok(Pending { watch, touched })
+        Ok(Pending {
+            watch: Watch::new(alloc, count, count)?,
+            touched: NumberSet::new(alloc),
+        })
     }
 
     /// The runs that the last commit may have touched.
@@ -58,29 +75,33 @@ impl Pending {
         self.touched.members()
     }
 
-    /// Puts the touched runs in again and then takes out those that may not stand past these entries:
-    /// they are the touched ones now. Both of runs from one place on.
+    /// Heeds the runs that were made since the last commit, and seeks those from one place on that the
+    /// runs that are committed now, from `opened` on and before that place, may touch.
     ///
-    /// `NoMemory` is answered where a growth of memory was refused.
+    /// `NoMemory` is returned where a growth of memory was refused.
     pub(crate) fn touch(
         &mut self,
         alloc: Global,
-        marks: &[Vec<Mark>],
+        runs: &[PendingRun],
+        made: &[usize],
+        opened: usize,
         from: usize,
-        entries: &[Entry],
     ) -> Result<(), NoMemory>
-        requires tells { Tells self.old marks.now from }
-        requires from { from ≤ length marks.now }
-        ensures tells { OnOk result (Tells self.new marks.now from) }
-        ensures touched { OnOk result (AreTouched self.new.touched marks.now from entries.now) }
+        requires few { length runs.now ≤ 10000 }
+        requires opened { opened ≤ from }
+        requires from { from ≤ length runs.now }
+        requires within { (k : ℕ) → k < length made.now → slice_index_or made.now k 0 < length runs.now }
+        requires tells { Tells self.old runs.now opened made.now }
+        ensures watches { OnOk result (WatchesAll self.new.watch runs.now from) }
+        ensures touched { OnOk result (AreTouched self.new.touched runs.now from (all_left (slice_range runs.now opened from))) }
     {
-        put_again(&mut self.watch, marks, from, self.touched.members())?;
+        put_made(&mut self.watch, runs, made, from)?;
         if self.watch.is_stale() {
-            self.watch = Watch::of(alloc, marks, from)?;
+            self.watch = watch_from(alloc, runs, from)?;
         }
         self.touched.clear();
-        if from < marks.len() {
-            self.watch.take(from, entries, &mut self.touched)?;
+        for run in &runs[opened..from] {
+            self.watch.find(from, run.sums.net(), &mut self.touched)?;
         }
         Ok(())
     }

@@ -2,28 +2,27 @@
 ghost use Rattle.std.specs.Prelude.{◌≡◌, ◌+◌, ◌<◌, ◌≤◌, ℕ, length, IfOk, slice_index_or};
 ghost use Rattle.std.specs.List.{All};
 ghost use Rattle.meaning.specs.Entries.{kinds};
-ghost use Rattle.rounds.specs.Passes.{CanBeMade, times, AreMarked, AreRenewed};
+ghost use Rattle.rounds.specs.Passes.{CanBeMade};
+ghost use Rattle.rounds.specs.PendingRuns.{times, AreRenewed};
 
 use crate::crew::{Crew, makers};
 use crate::make::{Made, make_all};
+use crate::pending_run::PendingRun;
 use batch::Batch;
-use intentions::{Mark, mark_all};
-use speculate::{Gate, NoMemory, Objects, Run, View, run_in};
+use speculate::{Gate, NoMemory, Objects, View, run_in};
 use std::thread::Threads;
 
 // The same by one worker, in one view: each run takes its place at once, and lets the memory of the
-// one before it go. Its marks are put where the marks of the one before it were.
+// one before it go.
 fn renew_in_turn<R: Threads + Sync, G: Gate>(
     crew: &Crew<R, G>,
     batch: &Batch,
     objects: &Objects,
     stale: &[usize],
-    runs: &mut Vec<Run>,
-    marks: &mut Vec<Vec<Mark>>,
+    runs: &mut Vec<PendingRun>,
     counts: &mut Vec<u32>,
 ) -> Result<(), NoMemory>
     requires every { length runs.old.items ≡ length batch.now.transactions.items }
-    requires marked { AreMarked runs.old.items marks.old.items }
     requires counted { length counts.old.items ≡ length batch.now.transactions.items }
     requires few { (length batch.now.transactions.items ≤ 10000) × (length stale.now ≤ 10000) }
     requires numbers { (i : ℕ) → 0 < times i stale.now → i < length batch.now.transactions.items }
@@ -31,7 +30,6 @@ fn renew_in_turn<R: Threads + Sync, G: Gate>(
     requires same_kinds { kinds objects.now ≡ kinds batch.now.objects }
     requires room { (i : ℕ) → slice_index_or counts.old.items i 0 + times i stale.now ≤ 10001 }
     ensures renewed { IfOk result (λ _. AreRenewed batch.now objects.now stale.now runs.old.items runs.new.items counts.old.items counts.new.items) }
-    ensures marked { IfOk result (λ _. AreMarked runs.new.items marks.new.items) }
 {
     let Crew {
         threads,
@@ -46,7 +44,7 @@ fn renew_in_turn<R: Threads + Sync, G: Gate>(
     for number in stale {
         let place = *number;
         let transaction = place as u32 + 1;
-        runs[place] = run_in(
+        let run = run_in(
             threads,
             alloc,
             &mut view,
@@ -56,13 +54,14 @@ fn renew_in_turn<R: Threads + Sync, G: Gate>(
             width,
             gate,
         )?;
-        mark_all(&mut marks[place], &runs[place].entries)?;
+        let pending = PendingRun::of(alloc, run)?;
+        runs[place] = pending;
         counts[place] += 1;
     }
     Ok(())
 }
 
-/// Makes runs for the stale numbers, puts them and their marks in their places and counts them.
+/// Makes runs for the stale numbers, puts them in their places and counts them.
 ///
 /// `NoMemory` is answered where a growth of memory was refused.
 pub(crate) fn renew<R: Threads + Sync, G: Gate>(
@@ -70,12 +69,10 @@ pub(crate) fn renew<R: Threads + Sync, G: Gate>(
     batch: &Batch,
     objects: &Objects,
     stale: &[usize],
-    runs: &mut Vec<Run>,
-    marks: &mut Vec<Vec<Mark>>,
+    runs: &mut Vec<PendingRun>,
     counts: &mut Vec<u32>,
 ) -> Result<(), NoMemory>
     requires every { length runs.old.items ≡ length batch.now.transactions.items }
-    requires marked { AreMarked runs.old.items marks.old.items }
     requires counted { length counts.old.items ≡ length batch.now.transactions.items }
     requires few { (length batch.now.transactions.items ≤ 10000) × (length stale.now ≤ 10000) }
     requires numbers { (i : ℕ) → 0 < times i stale.now → i < length batch.now.transactions.items }
@@ -83,20 +80,14 @@ pub(crate) fn renew<R: Threads + Sync, G: Gate>(
     requires same_kinds { kinds objects.now ≡ kinds batch.now.objects }
     requires room { (i : ℕ) → slice_index_or counts.old.items i 0 + times i stale.now ≤ 10001 }
     ensures renewed { IfOk result (λ _. AreRenewed batch.now objects.now stale.now runs.old.items runs.new.items counts.old.items counts.new.items) }
-    ensures marked { IfOk result (λ _. AreMarked runs.new.items marks.new.items) }
 {
     if makers(crew, stale.len()) == 1 {
-        return renew_in_turn(crew, batch, objects, stale, runs, marks, counts);
+        return renew_in_turn(crew, batch, objects, stale, runs, counts);
     }
     let mut made = make_all(crew, batch, objects, stale)?;
     'putting: while let Some(next) = made.pop() {
-        let Made {
-            number,
-            run,
-            marks: made_marks,
-        } = next;
+        let Made { number, run } = next;
         runs[number] = run;
-        marks[number] = made_marks;
         counts[number] += 1;
     }
     Ok(())

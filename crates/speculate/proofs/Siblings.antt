@@ -26,6 +26,9 @@ use Rattle.batch.specs.declared.tree.Subaction.{Subaction}
 use Rattle.batch.proofs.CanRun.{can_try}
 use Rattle.intentions.specs.Levels.{Intentions as View, shown as state_of_view, AllEntriesLegal, AllHaveRoom, absorbed}
 use Rattle.committed.specs.Committed.{AllStand}
+use Rattle.committed.specs.Summaries.{entries_of, IsSummary}
+use Rattle.committed.specs.declared.marks.MarkedEntry.{MarkedEntry}
+use Rattle.committed.proofs.SummaryLemmas.{stands-summary}
 use Rattle.committed.proofs.StandsLemmas.{length-range}
 use Rattle.batch.specs.Shows.{ShowsTried}
 use Rattle.speculate.specs.Running.{in_view}
@@ -82,10 +85,13 @@ child_moves child held state since legal commute =
     }
 
 -- that a test was true of its entries and all that was listed
-pub stand : (run : Ahead) (since entries : List Entry) (count : ℕ) (stands : Bool) → (IsTrue stands ↔ AllStand entries (take count since)) → stands ≡ true → entries ≡ run.entries.items → count ≡ length since → AllStand run.entries.items since
-stand run since entries count stands exact so is all =
+pub stand : (run : Ahead) → IsSummary (entries_of run.summary.items) run.entries.items → (since : List Entry) (summary : List MarkedEntry) (count : ℕ) (stands : Bool)
+    → (IsTrue stands ↔ AllStand (entries_of summary) (take count since)) → stands ≡ true → summary ≡ run.summary.items → count ≡ length since
+    → AllStand run.entries.items since
+stand run sums since summary count stands exact so is all =
     let whole : take count since ≡ since = ap (λ n. take n since) all ∙ take-length since in
-    subst (AllStand run.entries.items) whole (subst (λ es. AllStand es (take count since)) is (exact.0 so))
+    let summed = subst (AllStand (entries_of run.summary.items)) whole (subst (λ es. AllStand (entries_of es) (take count since)) is (exact.0 so)) in
+    (stands-summary (entries_of run.summary.items) run.entries.items since sums).0 summed
 
 -- where its entries stand, a child that was run before is run the same here
 module _ (child : Tried) (held : List Held) (since : List Entry) (state : State) (run : Ahead) (before : IsRunBefore child held since state run) (stand : AllStand run.entries.items since) where

@@ -7,7 +7,7 @@ use Rattle.meaning.specs.Entries.{State, AreLegal, after}
 use Rattle.batch.specs.Views.{Tried, subaction_view}
 use Rattle.batch.specs.Running.{CanTryHere, acted}
 use Rattle.batch.specs.declared.tree.Subaction.{Subaction}
-use Rattle.committed.specs.Marks.{marks_of}
+use Rattle.committed.specs.Summaries.{entries_of, IsSummary}
 use Rattle.intentions.specs.Levels.{opened, absorbed}
 use Rattle.speculate.specs.declared.executor.Ahead.{Ahead}
 use Rattle.batch.specs.Shows.{ShowsTried}
@@ -17,11 +17,11 @@ use Rattle.speculate.specs.Running.{in_view}
 abbrev pub CanAllTry : List Subaction → List Held → State → Type 0
 CanAllTry children held state = All (λ child. CanTryHere (subaction_view child) held state) children
 
--- what a child did in a view of its own of this state, with all its entries, their marks, and its net
+-- what a child did in a view of its own of this state, with all its entries, a summary of them, and its net
 abbrev pub IsRunAhead : Tried → List Held → State → Ahead → Type 0
 IsRunAhead child held state run =
     ShowsTried in_view child (acted child held state) run.tried (opened state) (absorbed (opened state) run.entries.items run.net.items)
-    × (run.marks.items ≡ marks_of run.entries.items)
+    × IsSummary (entries_of run.summary.items) run.entries.items
 
 -- each of these runs is that of the child at its place
 abbrev pub AreRunAhead : List Subaction → List Held → State → List Ahead → Type 0

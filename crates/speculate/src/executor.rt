@@ -17,7 +17,7 @@ use crate::worth::is_worth;
 use batch::{
     Block, Record, Step, Subaction, Taken, Tried, add_label, handled, taker, test_holds, untaken,
 };
-use intentions::{Committed, Entry, Lists, Mark, NoMemory, Objects, View, marks_of};
+use intentions::{Committed, Entry, Lists, MarkedEntry, NoMemory, Objects, View, summary_of};
 use meaning::{End, Held};
 use std::alloc::Global;
 use std::thread::{Threads, join};
@@ -50,12 +50,12 @@ struct Fork {
 }
 
 /// The run of a child in a view of its own, with all its entries and its net (Weihl 1988: an
-/// intentions list) and the marks of the former.
+/// intentions list) and a summary of the former.
 #[derive(Drop)]
 struct Ahead {
     tried: Tried,
     entries: Vec<Entry>,
-    marks: Vec<Mark>,
+    summary: Vec<MarkedEntry>,
     net: Vec<Entry>,
 }
 
@@ -145,12 +145,13 @@ fn run_step<T: Threads + Sync, G: Gate>(
             let branch = if holds { then } else { otherwise };
             let record = run_block(making, branch, labels, view, width)?;
             let end = record.outcome;
-            Ok((Taken::If(holds, record), end))
+            Ok((Taken::If(holds, Box::new(making.alloc, record)?), end))
         }
         Step::Sub(child) => {
             let tried = run_subaction(making, child, labels, view, width)?;
             add_label(labels, child.labelled, Held::Outcome(tried.body.outcome))?;
-            Ok((Taken::Sub(tried.body, tried.handler), tried.end))
+            let end = tried.end;
+            Ok((tried.into_taken(making.alloc)?, end))
         }
         Step::Abort(reason) => Ok((Taken::Abort, End::Aborted(*reason))),
         Step::Parallel(children) => {
@@ -276,7 +277,7 @@ fn run_child<T: Threads + Sync, G: Gate>(
         making.pass(place);
         return run_subaction(making, child, labels, view, width);
     };
-    if kept.stands(&run.entries, &run.marks, kept.len()) {
+    if kept.stands(&run.summary, kept.len()) {
         view.absorb(&run.entries, &run.net)?;
         kept.append(&run.net)?;
         return Ok(run.tried);
@@ -412,11 +413,11 @@ fn run_alone<T: Threads + Sync, G: Gate>(
     let mut view = View::open(making.alloc, &fork.state)?;
     let tried = run_subaction(making, child, &mut labels, &mut view, width)?;
     let Lists { entries, net } = view.into_run();
-    let marks = marks_of(making.alloc, &entries)?;
+    let summary = summary_of(making.alloc, &entries)?;
     Ok(Ahead {
         tried,
         entries,
-        marks,
+        summary,
         net,
     })
 }

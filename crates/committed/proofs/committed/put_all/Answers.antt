@@ -1,33 +1,36 @@
 use Rattle.std.proofs.Common.{◌≡◌, ◌++◌, ◌∷◌, [], arith, get_or, length, take, refl, sym, ap, ◌∙◌, ◌+◌, ◌-◌, subst, inl, inr}
 use Rattle.std.proofs.lemmas.Bool.{cases_lt}
-use Rattle.std.proofs.lemmas.List.{append_assoc, length-append, take_more, get_or_append_left, get_or-append_right}
+use Rattle.std.proofs.lemmas.List.{append_assoc, map-append, length-append, take_more, get_or_append_left, get_or-append_right}
+use Rattle.committed.specs.declared.marks.MarkedEntry.{MarkedEntry}
 use Rattle.committed.specs.Filter.{IsMarked}
 use Rattle.committed.specs.Index.{IsIndexOf}
+use Rattle.committed.specs.Summaries.{entries_of}
 use Rattle.committed.proofs.IndexLemmas.{index_more}
 use Rattle.committed.proofs.committed.put_all.Goals as goal
 
 pub push-requires-clause-index : goal.push-requires-clause-index
 push-requires-clause-index c =
-    subst (λ es. IsIndexOf es c.loop-entry.index) (sym (c.deref.ensures.value ∙ c.push_reserved.ensures.items))
-    (index_more c.loop-entry.entries.items c.entry-item.result c.loop-entry.index c.loop-entry.invariant.index)
+    subst (λ es. IsIndexOf es c.loop-marked.index) (sym (c.deref.ensures.value ∙ c.push_reserved.ensures.items))
+    (index_more c.loop-marked.entries.items c.marked-item.result.entry c.loop-marked.index c.loop-marked.invariant.index)
 
-pub loop-entry-preserved : goal.loop-entry-preserved
-loop-entry-preserved c =
-    let e = c.entry-item.result in
-    let es = c.loop-entry.entries.items in
+pub loop-marked-preserved : goal.loop-marked-preserved
+loop-marked-preserved c =
+    let e = c.marked-item.result.entry in
+    let es = c.loop-marked.entries.items in
     let more = c.args.more.now in
-    let at = c.loop-entry.entry-index in
-    let read : get_or more at e ≡ e = sym c.entry-item.is in
-    let was = c.loop-entry.invariant in
+    let at = c.loop-marked.marked-index in
+    let m = c.marked-item.result in
+    let read : get_or more at m ≡ m = sym c.marked-item.is in
+    let was = c.loop-marked.invariant in
     let longer : length c.push_reserved.new.self.items ≡ length es + 1 = ap length c.push_reserved.ensures.items
     ∙ length-append es (e ∷ []) in
     record {
       entries = c.push_reserved.ensures.items ∙ ap (λ xs. xs ++ e ∷ []) was.entries
-          ∙ append_assoc c.args.entries.now.items (take at more) (e ∷ [])
-          ∙ ap (λ xs. c.args.entries.now.items ++ xs) (ap (λ x. take at more ++ x ∷ []) (sym read)
-          ∙ sym (take_more more at e c.loop-entry-test.true));
-      room = omega (arith, was.room, c.push_reserved.ensures.len, c.push_reserved.ensures.capacity, c.loop-entry-test.true);
-      index_room = c.push.ensures.room _ (omega (arith, was.index_room.0, c.loop-entry-test.true), was.index_room.1);
+          ∙ append_assoc c.args.entries.now.items (entries_of (take at more)) (e ∷ [])
+          ∙ ap (λ xs. c.args.entries.now.items ++ xs) (sym (map-append (λ (k : MarkedEntry). k.entry) (take at more) (m ∷ []))
+          ∙ ap entries_of (ap (λ x. take at more ++ x ∷ []) (sym read) ∙ sym (take_more more at m c.loop-marked-test.true)));
+      room = omega (arith, was.room, c.push_reserved.ensures.len, c.push_reserved.ensures.capacity, c.loop-marked-test.true);
+      index_room = c.push.ensures.room _ (omega (arith, was.index_room.0, c.loop-marked-test.true), was.index_room.1);
       filter = λ k d l. elim (cases_lt k (length es)) [
         | inl before ↦ subst (IsMarked c.mark.new.self) (sym (ap (λ xs. get_or xs k d) c.push_reserved.ensures.items
             ∙ get_or_append_left es (e ∷ []) d k before))
@@ -37,7 +40,7 @@ loop-entry-preserved c =
             subst (IsMarked c.mark.new.self) (sym (ap (λ xs. get_or xs k d) c.push_reserved.ensures.items
             ∙ ap (λ n. get_or (es ++ e ∷ []) n d) last
             ∙ get_or-append_right es (e ∷ []) (length es) (length es) d refl (omega arith) ∙ ap (λ n. get_or (e ∷ []) n d) none))
-            (c.mark.ensures.own e c.of-mark.ensures))
+            (c.mark.ensures.own e m.is_marked))
       ];
       index = subst (λ xs. IsIndexOf xs c.push.new.self) c.deref.ensures.value c.push.ensures.index;
       all = omega (arith, c.push.ensures.listed, was.all, longer);

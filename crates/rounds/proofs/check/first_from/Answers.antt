@@ -1,5 +1,5 @@
 use Rattle.std.proofs.Common.{◌≡◌, ◌+◌, ◌-◌, subst, arith, rules}
-use Rattle.rounds.specs.Passes.{StandsAt}
+use Rattle.rounds.specs.PendingRuns.{HoldsAt}
 use Rattle.rounds.proofs.check.first_from.Goals as goal
 
 pub returns : goal.returns
@@ -11,6 +11,6 @@ returns g c =
       clear = λ k low high.
           let same : c.args.from + (k - c.args.from) ≡ k = omega arith in
           let passed = told.least (k - c.args.from) (omega arith) in
-          subst (StandsAt c.args.runs.now) same (search rules);
+          subst (HoldsAt c.args.runs.now) same (search rules);
       conflict = λ lt stands. let failed = told.fails (omega arith) in search rules;
     }

@@ -1,5 +1,6 @@
 use Rattle.std.proofs.Common.{◌≡◌, ◌+◌, ◌<◌, ◌++◌, ◌∷◌, [], get_or, length, take, ap, ◌∙◌, subst, arith}
-use Rattle.rounds.specs.Passes.{nets_of, AreStarts}
+use Rattle.committed.specs.Summaries.{entries_of}
+use Rattle.rounds.specs.PendingRuns.{all_left, AreStarts}
 use Rattle.rounds.proofs.Firsts.{nets_more, front_starts, rest_within, rest_is}
 use Rattle.rounds.proofs.check.list_nets.Goals as goal
 
@@ -13,6 +14,8 @@ loop-run-preserved c =
     let so_far = c.loop-run.invariant.nets in
     let pushed : c.push.new.self.items ≡ c.loop-run.starts.items ++ length c.loop-run.nets ∷ [] = c.in_ok-push.ensures.items ∙ ap (λ n. c.loop-run.starts.items ++ n ∷ []) c.len.ensures in
     record {
-      nets = subst (λ n. c.append.new.self ≡ nets_of (take n runs)) next (nets_more runs place c.run-item.result c.loop-run.nets c.append.new.self c.deref.result.now lt is c.deref.ensures.value c.in_ok-append.ensures.ok so_far);
+      nets = subst (λ n. c.append_marked.new.self ≡ all_left (take n runs)) next
+          (nets_more runs place c.run-item.result c.loop-run.nets c.append_marked.new.self (entries_of c.net.result.now) lt is c.net.ensures
+          c.in_ok-append_marked.ensures.ok so_far);
       starts = subst (λ n. AreStarts (take n runs) c.push.new.self.items) next (front_starts runs place c.loop-run.starts.items c.push.new.self.items c.loop-run.nets lt pushed so_far c.loop-run.invariant.starts);
     }

@@ -1,5 +1,4 @@
 use Rattle.std.proofs.Common.{◌≤◌, length, arith}
-use Rattle.rounds.proofs.Marked.{marked_front}
 use Rattle.rounds.proofs.Firsts.{block_clear, block_seen}
 use Rattle.rounds.proofs.check.seek_in_blocks.Goals as goal
 
@@ -17,6 +16,3 @@ looking-preserved g c =
       starts = c.in_ok-list_nets.ensures.starts;
       clear = λ k lt. block_clear c.args.runs.now c.min-end.result c.looking.from c.in_ok-first.first c.looking.invariant.clear c.in_ok-first.ensures k lt (omega (arith, c.if-first-end.false, lt));
     }
-
-pub first_from-requires-clause-marked : goal.first_from-requires-clause-marked
-first_from-requires-clause-marked g c κs within = marked_front c.args.runs.now c.args.marks.now c.requires.marked c.min-end.result

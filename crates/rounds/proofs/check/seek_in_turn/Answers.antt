@@ -1,4 +1,6 @@
 use Rattle.std.proofs.Common.{◌∙◌, sym, ap, take, arith, rules}
+use Rattle.committed.specs.Summaries.{entries_of}
+use Rattle.rounds.specs.PendingRuns.{left_by}
 use Rattle.rounds.proofs.Firsts.{nets_more, all_taken, stands_here, clear_more, turn_seen}
 use Rattle.rounds.proofs.check.seek_in_turn.Goals as goal
 
@@ -8,13 +10,13 @@ loop-place-preserved g c =
     let place = c.loop-place.place in
     let so_far = c.loop-place.invariant.nets in
     let run_is = c.index-runs-place.is in
-    let net = c.deref.ensures.value ∙ ap (λ r. r.net.items) (sym run_is) in
+    let run = c.index-runs-place.result in
     let listed = all_taken c.loop-place.nets c.len-upto.result c.len-upto.ensures ∙ so_far in
     let here = (stands_here runs place (take c.len-upto.result c.loop-place.nets) c.stands_past.result listed c.stands_past.ensures).0
     c.if-not-stands_past.false in
     record {
-      nets = nets_more runs place c.index-runs-place.result c.loop-place.nets c.append.new.self c.deref.result.now c.loop-place-test.true
-          run_is net c.in_ok-append.ensures.ok so_far;
+      nets = nets_more runs place run c.loop-place.nets c.append_marked.new.self (entries_of c.net.result.now) c.loop-place-test.true
+          run_is (c.net.ensures ∙ ap (λ r. left_by r.sums) (sym run_is)) c.in_ok-append_marked.ensures.ok so_far;
       clear = clear_more runs place c.loop-place.invariant.clear here;
     }
 

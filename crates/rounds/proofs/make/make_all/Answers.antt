@@ -2,7 +2,7 @@ use Rattle.std.proofs.Common.{arith, rules}
 use Rattle.std.proofs.lemmas.Result.{IfOk-weaker}
 use Rattle.std.specs.Fork.{slice_chunk}
 use Rattle.workers.proofs.Gives.{given_by}
-use Rattle.rounds.specs.Passes.{AreMade}
+use Rattle.rounds.specs.PendingRuns.{AreMade}
 use Rattle.rounds.proofs.Making.{all_groups}
 use Rattle.rounds.proofs.make.make_all.Goals as goal
 

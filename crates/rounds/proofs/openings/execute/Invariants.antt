@@ -1,6 +1,4 @@
 use Rattle.std.proofs.Common.{ℕ, ◌-◌, ◌<◌, ◌≤◌, length}
-use Rattle.committed.specs.NumberSets.{Has}
-use Rattle.rounds.specs.Passes.{AreMarked, times}
 use Rattle.rounds.specs.Pending.{Tells}
 use Rattle.rounds.proofs.Reached.{AtOpening}
 use Rattle.rounds.proofs.openings.execute.Given as goal
@@ -8,10 +6,8 @@ use Rattle.rounds.proofs.openings.execute.Given as goal
 abbrev pub invariant-opening : goal.invariant-opening
 invariant-opening g l = record {
   at : AtOpening l.batch l.opened l.rounds l.objects l.runs.items l.counts.items l.stale.items;
-  marked : AreMarked l.runs.items l.marks.items;
   few : length l.stale.items ≤ 10000;
-  tells : Tells l.pending l.marks.items l.opened;
-  touched : (i : ℕ) → 0 < times i l.stale.items → Has l.pending.touched i;
+  tells : Tells l.pending l.runs.items l.opened l.stale.items;
 }
 
 abbrev pub decreases-opening : goal.decreases-opening

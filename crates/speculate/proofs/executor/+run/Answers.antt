@@ -46,26 +46,29 @@ pub run_step-returns-in_ok-add_label-in-Op-clause-shows : goal.run_step-returns-
 run_step-returns-in_ok-add_label-in-Op-clause-shows g t c =
     op-shows ground c.args.step.now _ _ _ _ _ _ _ _ c.in-Op.is c.in_ok-reply-in-Op.ensures.reply c.in_ok-reply-in-Op.ensures.ok c.in_ok-add_label-in-Op.ensures
 
-pub run_step-returns-in_ok-record-in-If-clause-shows : goal.run_step-returns-in_ok-record-in-If-clause-shows
-run_step-returns-in_ok-record-in-If-clause-shows g t c =
+pub run_step-returns-in_ok-new-in-If-clause-shows : goal.run_step-returns-in_ok-new-in-If-clause-shows
+run_step-returns-in_ok-new-in-If-clause-shows g t c =
+    let ran = c.in_ok-record-in-If in
     elim c.if-holds.branch [
-      | run_step-then-holds w ↦ if-shows_then ground c.args.step.now c.in-If.label c.in-If.test c.in-If.then c.in-If.otherwise c.args.labels.now.items _ c.args.view.now _ c.index.result.now c.test_holds-holds.result _ c.in-If.is c.requires c.index.ensures c.test_holds-holds.ensures w.if-holds.true
-          (rw w.branch'-is at c.in_ok-record-in-If.ensures.shows) c.in_ok-record-in-If.ensures.labels
-      | run_step-else-holds w ↦ if-shows_else ground c.args.step.now c.in-If.label c.in-If.test c.in-If.then c.in-If.otherwise c.args.labels.now.items _ c.args.view.now _ c.index.result.now c.test_holds-holds.result _ c.in-If.is c.requires c.index.ensures c.test_holds-holds.ensures w.if-holds.false
-          (rw w.branch'-is at c.in_ok-record-in-If.ensures.shows) c.in_ok-record-in-If.ensures.labels
+      | run_step-then-holds w ↦ if-shows_then ground c.args.step.now c.in-If.label c.in-If.test c.in-If.then c.in-If.otherwise c.args.labels.now.items _ c.args.view.now _ c.index.result.now c.test_holds-holds.result _ _ c.in-If.is c.requires c.index.ensures c.test_holds-holds.ensures w.if-holds.true
+          (rw (c.deref.ensures, w.branch'-is) at ran.ensures.shows) ran.ensures.labels c.in_ok-new-in-If.ensures.ok
+      | run_step-else-holds w ↦ if-shows_else ground c.args.step.now c.in-If.label c.in-If.test c.in-If.then c.in-If.otherwise c.args.labels.now.items _ c.args.view.now _ c.index.result.now c.test_holds-holds.result _ _ c.in-If.is c.requires c.index.ensures c.test_holds-holds.ensures w.if-holds.false
+          (rw (c.deref.ensures, w.branch'-is) at ran.ensures.shows) ran.ensures.labels c.in_ok-new-in-If.ensures.ok
     ]
 
-pub run_step-returns-in_ok-add_label-in-Sub-clause-shows : goal.run_step-returns-in_ok-add_label-in-Sub-clause-shows
-run_step-returns-in_ok-add_label-in-Sub-clause-shows g t c =
-    sub-shows ground c.args.step.now c.in-Sub.child c.args.labels.now.items _ c.args.view.now _ c.in_ok-tried-in-Sub.tried c.in-Sub.is c.in_ok-tried-in-Sub.ensures.shows
-    (rw (c.in_ok-add_label-in-Sub.ensures, c.in_ok-tried-in-Sub.ensures.labels, subaction_view-labelled c.in-Sub.child) refl)
+pub run_step-returns-in_ok-into_taken-in-Sub-clause-shows : goal.run_step-returns-in_ok-into_taken-in-Sub-clause-shows
+run_step-returns-in_ok-into_taken-in-Sub-clause-shows g t c =
+    let child = c.in-Sub.child in
+    let tried = c.in_ok-tried-in-Sub in
+    sub-shows ground c.args.step.now child c.args.labels.now.items _ c.args.view.now _ tried.tried _ c.in-Sub.is (rw c.deref-in-Sub.ensures at tried.ensures.shows)
+    (rw (c.in_ok-add_label-in-Sub.ensures, tried.ensures.labels, c.deref-in-Sub-2.ensures, subaction_view-labelled child.value) refl) c.in_ok-into_taken-in-Sub.ensures
 
 pub run_step-returns-in-Abort-clause-shows : goal.run_step-returns-in-Abort-clause-shows
 run_step-returns-in-Abort-clause-shows g t c = abort-shows ground c.args.step.now c.in-Abort.reason c.args.labels.now.items c.args.view.now c.in-Abort.is
 
 pub run_step-returns-in_ok-append-in-Parallel-clause-shows : goal.run_step-returns-in_ok-append-in-Parallel-clause-shows
 run_step-returns-in_ok-append-in-Parallel-clause-shows g t c =
-    parallel-shows ground c.args.step.now c.in-Parallel.children c.args.labels.now.items _ c.run_children.new.outcomes.items c.args.view.now _ c.in_ok-tried-in-Parallel.tried c.in_ok-tried-in-Parallel.end c.in-Parallel.is (rw c.deref.ensures.value at c.in_ok-tried-in-Parallel.ensures.shows)
+    parallel-shows ground c.args.step.now c.in-Parallel.children c.args.labels.now.items _ c.run_children.new.outcomes.items c.args.view.now _ c.in_ok-tried-in-Parallel.tried c.in_ok-tried-in-Parallel.end c.in-Parallel.is (rw c.deref-in-Parallel.ensures.value at c.in_ok-tried-in-Parallel.ensures.shows)
     (c.in_ok-append-in-Parallel.ensures.items ∙ ap (λ ls. ls ++ c.run_children.new.outcomes.items) c.in_ok-tried-in-Parallel.ensures.labels)
 
 -- ---- what takes an abort
@@ -111,29 +114,25 @@ run_part-loop-place-preserved g t c =
 
 -- ---- one child after another
 
-pub run_child-stands-requires-clause-marks : goal.run_child-stands-requires-clause-marks
-run_child-stands-requires-clause-marks g t c =
-    rw (c.deref.ensures.value, c.deref-2.ensures.value) (c.requires.ahead c.in-Some.run' c.in-Some.is).ahead.1
-
 pub run_child-absorb-requires-clause-legal : goal.run_child-absorb-requires-clause-legal
 run_child-absorb-requires-clause-legal g t c =
-    let stands = stand c.in-Some.run' c.args.kept.now c.deref.result.now c.len.result c.stands.result c.stands.ensures c.if-stands.true c.deref.ensures.value c.len.ensures in
+    let stands = stand c.in-Some.run' (c.requires.ahead c.in-Some.run' c.in-Some.is).ahead.1 c.args.kept.now c.deref.result.now c.len.result c.stands.result c.stands.ensures c.if-stands.true c.deref.ensures.value c.len.ensures in
     rw c.deref-then-stands-2.ensures.value (net_is_legal (subaction_view c.args.child.now) c.args.labels.now.items c.args.kept.now (state_of_view c.args.view.now) c.in-Some.run' (c.requires.ahead c.in-Some.run' c.in-Some.is) stands)
 
 pub run_child-absorb-requires-clause-room : goal.run_child-absorb-requires-clause-room
 run_child-absorb-requires-clause-room g t c =
-    let stands = stand c.in-Some.run' c.args.kept.now c.deref.result.now c.len.result c.stands.result c.stands.ensures c.if-stands.true c.deref.ensures.value c.len.ensures in
+    let stands = stand c.in-Some.run' (c.requires.ahead c.in-Some.run' c.in-Some.is).ahead.1 c.args.kept.now c.deref.result.now c.len.result c.stands.result c.stands.ensures c.if-stands.true c.deref.ensures.value c.len.ensures in
     rw c.deref-then-stands-2.ensures.value (net_has_room (subaction_view c.args.child.now) c.args.labels.now.items c.args.kept.now (state_of_view c.args.view.now) c.in-Some.run' (c.requires.ahead c.in-Some.run' c.in-Some.is) stands c.requires.can)
 
 pub run_child-returns-then-stands-clause-shows : goal.run_child-returns-then-stands-clause-shows
 run_child-returns-then-stands-clause-shows g t c =
-    let stands = stand c.in-Some.run' c.args.kept.now c.deref.result.now c.len.result c.stands.result c.stands.ensures c.if-stands.true c.deref.ensures.value c.len.ensures in
+    let stands = stand c.in-Some.run' (c.requires.ahead c.in-Some.run' c.in-Some.is).ahead.1 c.args.kept.now c.deref.result.now c.len.result c.stands.result c.stands.ensures c.if-stands.true c.deref.ensures.value c.len.ensures in
     taken_in (subaction_view c.args.child.now) c.args.labels.now.items c.args.kept.now (state_of_view c.args.view.now) c.in-Some.run' (c.requires.ahead c.in-Some.run' c.in-Some.is) stands
     c.args.view.now c.absorb.new.self c.deref-then-stands.result.now c.deref-then-stands-2.result.now c.deref-then-stands.ensures.value c.deref-then-stands-2.ensures.value c.in_ok-absorb.ensures.ok
 
 pub run_child-returns-then-stands-clause-kept : goal.run_child-returns-then-stands-clause-kept
 run_child-returns-then-stands-clause-kept g t c =
-    let stands = stand c.in-Some.run' c.args.kept.now c.deref.result.now c.len.result c.stands.result c.stands.ensures c.if-stands.true c.deref.ensures.value c.len.ensures in
+    let stands = stand c.in-Some.run' (c.requires.ahead c.in-Some.run' c.in-Some.is).ahead.1 c.args.kept.now c.deref.result.now c.len.result c.stands.result c.stands.ensures c.if-stands.true c.deref.ensures.value c.len.ensures in
     λ run is. net_listed (subaction_view c.args.child.now) c.args.labels.now.items c.args.kept.now (state_of_view c.args.view.now) c.in-Some.run' (c.requires.ahead c.in-Some.run' c.in-Some.is) stands
     c.deref-then-stands-3.result.now c.append.new.self c.deref-then-stands-3.ensures.value c.in_ok-append.ensures.ok
 

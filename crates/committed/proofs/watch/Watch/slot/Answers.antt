@@ -1,5 +1,5 @@
 use Rattle.std.proofs.Common.{◌≡◌, ◌*◌, ◌/◌, ◌%◌, ◌-◌, ◌^◌, arith, ap, length, bit_and}
-use Rattle.committed.specs.Watching.{slot_of}
+use Rattle.committed.specs.Chains.{slot_of}
 use Rattle.committed.proofs.watch.Watch.slot.Goals as goal
 
 pub returns-clause-is : goal.returns-clause-is

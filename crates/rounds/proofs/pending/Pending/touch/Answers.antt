@@ -1,55 +1,35 @@
-use Rattle.std.proofs.Common.{◌≡◌, ◌<◌, ◌≤◌, length, get_or, refl, subst, sym, ap, ◌∙◌, arith}
-use Rattle.committed.specs.NumberSets.{Has}
-use Rattle.committed.specs.Watching.{AreLinked, marks_at}
-use Rattle.rounds.proofs.Touched.{WatchesAll, all_put, found_only}
+use Rattle.std.proofs.Common.{◌≡◌, [], length, sym, subst, arith}
+use Rattle.std.specs.Prelude.{slice_range}
+use Rattle.committed.specs.Summaries.{entries_of}
+use Rattle.rounds.specs.Pending.{WatchesAll}
+use Rattle.rounds.proofs.Touched.{all_put, none_touched, touched_more}
 use Rattle.rounds.proofs.pending.Pending.touch.Goals as goal
 use Rattle.rounds.proofs.pending.Pending.touch.Goals.{then-is_stale+in_ok-self, else-is_stale}
 
-pub put_again-requires-clause-within : goal.put_again-requires-clause-within
-put_again-requires-clause-within c = λ k lt.
-    let all : length c.members.result.now ≡ length c.args.self.now.touched = ap length c.members.ensures.all in
-    subst (λ l. get_or l k 0 < length c.args.marks.now) (sym c.members.ensures.all)
-    (c.requires.tells.within (get_or c.args.self.now.touched k 0) (record { at = k; within = omega arith; is = refl }))
-
-pub returns-in_ok-take-clause-tells : goal.returns-in_ok-take-clause-tells
-returns-in_ok-take-clause-tells c =
-    let marks = c.args.marks.now in
+pub loop-run-init : goal.loop-run-init
+loop-run-init c =
+    let runs = c.args.runs.now in
     let from = c.args.from in
-    let put : WatchesAll c.put_again.new.watch marks from =
-    all_put c.args.self.now c.put_again.new.watch marks from c.requires.tells c.put_again.ensures.count
-    (λ run low has. c.in_ok-put_again.ensures.put run low (subst (λ l. Has l run) (sym c.members.ensures.all) has))
-    c.in_ok-put_again.ensures.others in
-    let watches : WatchesAll c.if-is_stale.self.watch marks from = elim c.if-is_stale.branch [
-      | then-is_stale+in_ok-self w ↦ rw w.self-is (record { all = w.in_ok-self.ensures.count; each = w.in_ok-self.ensures.watched })
-      | else-is_stale w ↦ rw w.self-is put
-    ] in
+    let put : WatchesAll c.put_made.new.watch runs from =
+    all_put c.args.self.now c.put_made.new.watch runs c.args.opened from c.args.made.now c.requires.opened c.requires.tells
+    c.in_ok-put_made.ensures.count c.in_ok-put_made.ensures.put c.in_ok-put_made.ensures.others in
     record {
-      all = c.in_ok-take.ensures.count ∙ watches.all;
-      within = λ run has.
-          let new = found_only c.clear.new.self c.take.new.found (λ r. (from ≤ r) × (r < c.if-is_stale.self.watch.count)) c.clear.ensures
-          c.in_ok-take.ensures.only run has in
-          subst (λ n. run < n) watches.all new.1;
-      watched = λ run low high out. c.in_ok-take.ensures.kept run (marks_at marks run) low out (watches.each run low high);
+      watches = elim c.if-is_stale.branch [
+        | then-is_stale+in_ok-self w ↦ rw w.self-is w.in_ok-self.ensures
+        | else-is_stale w ↦ rw w.self-is put
+      ];
+      touched = none_touched c.clear.new.self runs from c.clear.ensures;
     }
 
-pub returns-in_ok-take-clause-touched : goal.returns-in_ok-take-clause-touched
-returns-in_ok-take-clause-touched c =
-    let marks = c.args.marks.now in
-    let from = c.args.from in
-    let put : WatchesAll c.put_again.new.watch marks from =
-    all_put c.args.self.now c.put_again.new.watch marks from c.requires.tells c.put_again.ensures.count
-    (λ run low has. c.in_ok-put_again.ensures.put run low (subst (λ l. Has l run) (sym c.members.ensures.all) has))
-    c.in_ok-put_again.ensures.others in
-    let watches : WatchesAll c.if-is_stale.self.watch marks from = elim c.if-is_stale.branch [
-      | then-is_stale+in_ok-self w ↦ rw w.self-is (record { all = w.in_ok-self.ensures.count; each = w.in_ok-self.ensures.watched })
-      | else-is_stale w ↦ rw w.self-is put
-    ] in
+pub loop-run-preserved : goal.loop-run-preserved
+loop-run-preserved c =
+    let so_far = c.loop-run.invariant in
     record {
-      low = λ run has.
-          (found_only c.clear.new.self c.take.new.found (λ r. (from ≤ r) × (r < c.if-is_stale.self.watch.count)) c.clear.ensures
-          c.in_ok-take.ensures.only run has).0;
-      stand = λ run entries low high out is.
-          let watch = c.if-is_stale.self.watch in
-          c.in_ok-take.ensures.stand run entries low out
-          (subst (AreLinked (length watch.last.items) watch.links.items run) is (watches.each run low high));
+      watches = so_far.watches;
+      touched = touched_more c.loop-run.self.watch c.loop-run.self.touched c.find.new.found c.args.runs.now c.args.from
+          (slice_range c.args.runs.now c.args.opened c.args.from) c.loop-run.run-index c.run-item.result (entries_of c.net.result.now) c.loop-run-test.true
+          c.run-item.is c.net.ensures so_far.watches so_far.touched c.in_ok-find.ensures.more c.in_ok-find.ensures.only c.in_ok-find.ensures.stand;
     }
+
+pub returns-clause-watches : goal.returns-clause-watches
+returns-clause-watches c = c.loop-run.invariant.watches

@@ -1,0 +1,141 @@
+-- Entries that stand for many: what commutes forward with them.
+use Rattle.std.proofs.Common.{◌≡◌, ℕ, suc, zero, ◌<◌, ◌↔◌, arith, List, [], ◌∷◌, ◌++◌, length, set, get_or, sym, ap, ◌∙◌, subst}
+use Rattle.std.proofs.lemmas.List.{get_or-map, length-map, map-append, map-set}
+use Rattle.objects.specs.declared.entry.Entry.{Entry}
+use Rattle.committed.specs.declared.marks.MarkedEntry.{MarkedEntry}
+use Rattle.committed.specs.Committed.{CommutesWith, AllStand}
+use Rattle.committed.specs.Strictness.{Commute, IsAsStrict}
+use Rattle.committed.specs.Summaries.{entries_of, IsSummary}
+use Rattle.committed.proofs.StandsLemmas.{commute_turned, one_commutes}
+
+-- what commutes with all of two lists commutes with all of both
+commutes_both : (e : Entry) (xs ys : List Entry) → CommutesWith e xs → CommutesWith e ys → CommutesWith e (xs ++ ys)
+commutes_both e [] ys first second = second
+commutes_both e (x ∷ xs) ys first second = (first.0, commutes_both e xs ys first.1 second)
+
+-- with all of the first
+commutes_first : (e : Entry) (xs ys : List Entry) → CommutesWith e (xs ++ ys) → CommutesWith e xs
+commutes_first e [] ys both = tt
+commutes_first e (x ∷ xs) ys both = (both.0, commutes_first e xs ys both.1)
+
+-- with all of the second
+commutes_second : (e : Entry) (xs ys : List Entry) → CommutesWith e (xs ++ ys) → CommutesWith e ys
+commutes_second e [] ys both = both
+commutes_second e (x ∷ xs) ys both = commutes_second e xs ys both.1
+
+-- ---- stands
+
+-- every list stands past none
+all_past_none : (qs : List Entry) → AllStand qs []
+all_past_none [] = tt
+all_past_none (q ∷ qs) = (tt, all_past_none qs)
+
+-- one entry more to stand past
+past_one : (p : Entry) (ps qs : List Entry) → CommutesWith p qs → AllStand qs ps → AllStand qs (p ∷ ps)
+past_one p ps [] one all = tt
+past_one p ps (q ∷ qs) one all = ((commute_turned p q one.0, all.0), past_one p ps qs one.1 all.1)
+
+-- where each of one list stands past the other, each of the other stands past it
+turned : (ps qs : List Entry) → AllStand ps qs → AllStand qs ps
+turned [] qs all = all_past_none qs
+turned (p ∷ ps) qs all = past_one p ps qs all.0 (turned ps qs all.1)
+
+-- where what stands past one list stands past another
+past_other : (entries listed others : List Entry) → ((e : Entry) → CommutesWith e listed → CommutesWith e others) → AllStand entries listed → AllStand entries others
+past_other [] listed others passes all = tt
+past_other (e ∷ entries) listed others passes all = (passes e all.0, past_other entries listed others passes all.1)
+
+-- what stands past a summary stands past all that it sums up, and the other way round
+pub past-summary : (entries summary listed : List Entry) → IsSummary summary listed → AllStand entries summary ↔ AllStand entries listed
+past-summary entries summary listed is =
+    (past_other entries summary listed (λ e. (is.same e).0), past_other entries listed summary (λ e. (is.same e).1))
+
+-- a summary stands past a list where all that it sums up does, and the other way round
+pub stands-summary : (summary entries listed : List Entry) → IsSummary summary entries → AllStand summary listed ↔ AllStand entries listed
+stands-summary summary entries listed is = (
+  λ all. turned listed entries ((past-summary listed summary entries is).0 (turned summary listed all)),
+  λ all. turned listed summary ((past-summary listed summary entries is).1 (turned entries listed all)),
+)
+
+-- ---- summaries of lists
+
+-- each list sums itself up
+pub summary-refl : (es : List Entry) → IsSummary es es
+summary-refl es = record { same = λ other. (λ h. h, λ h. h) }
+
+-- the empty one too
+pub summary-nil : IsSummary [] []
+summary-nil = summary-refl []
+
+-- summaries of two lists, one after the other, sum up both
+pub summary-append : (s es t fs : List Entry) → IsSummary s es → IsSummary t fs → IsSummary (s ++ t) (es ++ fs)
+summary-append s es t fs first second = record {
+  same = λ other. (
+    λ h. commutes_both other es fs ((first.same other).0 (commutes_first other s t h)) ((second.same other).0 (commutes_second other s t h)),
+    λ h. commutes_both other s t ((first.same other).1 (commutes_first other es fs h)) ((second.same other).1 (commutes_second other es fs h)),
+  );
+}
+
+-- ---- one entry more
+
+-- what commutes with a list and an entry commutes with the list where it stands for another
+commutes_set : (other : Entry) (xs : List Entry) (n : ℕ) (e : Entry) → CommutesWith other xs → Commute other e → CommutesWith other (set xs n e)
+commutes_set other [] n e all own = tt
+commutes_set other (x ∷ xs) zero e all own = (own, all.1)
+commutes_set other (x ∷ xs) (suc n) e all own = (all.0, commutes_set other xs n e all.1 own)
+
+-- it commutes with that entry
+commutes_own : (other : Entry) (xs : List Entry) (n : ℕ) (e : Entry) → n < length xs → CommutesWith other (set xs n e) → Commute other e
+commutes_own other [] n e low all = absurd (omega arith)
+commutes_own other (x ∷ xs) zero e low all = all.0
+commutes_own other (x ∷ xs) (suc n) e low all = commutes_own other xs n e (omega arith) all.1
+
+-- and with the list as it was, where it commutes with what stood there
+commutes_unset : (other : Entry) (xs : List Entry) (n : ℕ) (e : Entry) → Commute other (get_or xs n other) → CommutesWith other (set xs n e) → CommutesWith other xs
+commutes_unset other [] n e old all = tt
+commutes_unset other (x ∷ xs) zero e old all = (old, all.1)
+commutes_unset other (x ∷ xs) (suc n) e old all = (all.0, commutes_unset other xs n e old all.1)
+
+-- the entry at a place of marked ones
+entry_at : (marked : List MarkedEntry) (at : ℕ) (m : MarkedEntry) (e : Entry) → at < length marked → m ≡ get_or marked at m → get_or (entries_of marked) at e ≡ m.entry
+entry_at marked at m e within is = get_or-map (λ (k : MarkedEntry). k.entry) marked at m e within ∙ sym (ap (λ (k : MarkedEntry). k.entry) is)
+
+module _ (marked : List MarkedEntry) (at : ℕ) (old : MarkedEntry) (e : Entry) (entries : List Entry) (within : at < length marked) (is : old ≡ get_or marked at old) (summary : IsSummary (entries_of marked) entries) where
+  low : at < length (entries_of marked)
+  low = omega (arith, length-map marked (λ (k : MarkedEntry). k.entry), within)
+
+  -- an entry is left out where one in the summary is as strict
+  pub summary_left : IsAsStrict old.entry e → IsSummary (entries_of marked) (entries ++ e ∷ [])
+  summary_left strict = record {
+    same = λ other. (
+      λ h. commutes_both other entries (e ∷ []) ((summary.same other).0 h)
+          (strict other (subst (Commute other) (entry_at marked at old other within is) (one_commutes other (entries_of marked) at low h)), tt),
+      λ h. (summary.same other).1 (commutes_first other entries (e ∷ []) h),
+    );
+  }
+
+  -- it takes the place of one where it is as strict
+  set_there : IsAsStrict e old.entry → IsSummary (set (entries_of marked) at e) (entries ++ e ∷ [])
+  set_there strict = record {
+    same = λ other. (
+      λ h. (
+          let own : Commute other e = commutes_own other (entries_of marked) at e low h in
+          let was : Commute other (get_or (entries_of marked) at other) = subst (Commute other) (sym (entry_at marked at old other within is)) (strict other own) in
+          commutes_both other entries (e ∷ []) ((summary.same other).0 (commutes_unset other (entries_of marked) at e was h)) (own, tt)
+          ),
+      λ h. commutes_set other (entries_of marked) at e ((summary.same other).1 (commutes_first other entries (e ∷ []) h))
+          (commutes_second other entries (e ∷ []) h).0,
+    );
+  }
+
+  -- with its mark
+  pub summary_set : (next : MarkedEntry) → next.entry ≡ e → IsAsStrict e old.entry → IsSummary (entries_of (set marked at next)) (entries ++ e ∷ [])
+  summary_set next own strict =
+      subst (λ xs. IsSummary xs (entries ++ e ∷ [])) (sym (map-set (λ (k : MarkedEntry). k.entry) marked at next ∙ ap (set (entries_of marked) at) own)) (set_there strict)
+
+-- an entry is put at the end
+pub summary_pushed : (marked : List MarkedEntry) (next : MarkedEntry) (e : Entry) (entries : List Entry) → next.entry ≡ e → IsSummary (entries_of marked) entries
+    → IsSummary (entries_of (marked ++ next ∷ [])) (entries ++ e ∷ [])
+summary_pushed marked next e entries own summary =
+    subst (λ xs. IsSummary xs (entries ++ e ∷ [])) (sym (map-append (λ (k : MarkedEntry). k.entry) marked (next ∷ []) ∙ ap (λ x. entries_of marked ++ x ∷ []) own))
+    (summary-append (entries_of marked) entries (e ∷ []) (e ∷ []) summary (summary-refl (e ∷ [])))

@@ -1,0 +1,22 @@
+use Rattle.std.proofs.Common.{◌<◌, ◌∷◌, ◌++◌, [], arith, length, sym, subst}
+use Rattle.committed.specs.Summaries.{entries_of, IsSummary}
+use Rattle.committed.proofs.SummaryLemmas.{summary_left, summary_set, summary_pushed}
+use Rattle.committed.proofs.summary.Table.add.Goals as goal
+
+pub returns-then-is_as_strict : goal.returns-then-is_as_strict
+returns-then-is_as_strict c = λ entries summary.
+    let marked = c.args.self.now.summary.items in
+    let within : c.index-place.result.now < length marked = omega (arith, c.if-place-len.true, c.len.ensures, c.args.self.now.summary.ok.0) in
+    summary_left marked c.index-place.result.now c.index.result.now c.args.entry.now entries within c.index.ensures summary (c.is_as_strict.ensures.strict c.if-is_as_strict.true)
+
+pub returns-then-is_as_strict-2 : goal.returns-then-is_as_strict-2
+returns-then-is_as_strict-2 c = λ entries summary.
+    let marked = c.args.self.now.summary.items in
+    let within : c.index-place.result.now < length marked = omega (arith, c.if-place-len.true, c.len.ensures, c.args.self.now.summary.ok.0) in
+    summary_set marked c.index-place.result.now c.index.result.now c.args.entry.now entries within c.index.ensures summary c.of-next.result c.of-next.ensures
+    (c.is_as_strict-then-place-len.ensures.strict c.if-is_as_strict-2.true)
+
+pub returns : goal.returns
+returns c = λ entries summary.
+    subst (λ items. IsSummary (entries_of items) (entries ++ c.args.entry.now ∷ [])) (sym c.in_ok-push.ensures.items)
+    (summary_pushed c.args.self.now.summary.items c.of-next.result c.args.entry.now entries c.of-next.ensures summary)

@@ -1,0 +1,59 @@
+//! Which runs have an entry that may conflict with one of some others.
+ghost use Rattle.std.specs.Prelude.{◌≡◌, ◌<◌, ◌≤◌, ◌⊎◌, ℕ, List, OnOk};
+ghost use Rattle.objects.specs.declared.entry.Entry.{Entry as OneEntry};
+ghost use Rattle.committed.specs.Committed.{AllStand};
+ghost use Rattle.committed.specs.NumberSets.{Has};
+ghost use Rattle.committed.specs.Summaries.{entries_of};
+ghost use Rattle.committed.specs.Watching.{Watches};
+
+use crate::classes::Class;
+use crate::index::{key_against, key_of};
+use crate::marks::MarkedEntry;
+use crate::number_set::NumberSet;
+use crate::watch::Watch;
+use objects::NoMemory;
+
+impl Watch {
+    /// Puts a run in, by its entries. On `NoMemory` it may be in by some of them.
+    pub fn put(&mut self, run: usize, entries: &[MarkedEntry]) -> Result<(), NoMemory>
+        requires { run < self.old.count }
+        ensures count { self.new.count ≡ self.old.count }
+        ensures put { OnOk result (Watches self.new run (entries_of entries.now)) }
+        ensures others { OnOk result ((other : ℕ) (kept : List OneEntry) → Watches self.old other kept → Watches self.new other kept) }
+    {
+        for marked in entries {
+            let mark = &marked.mark;
+            let by_object = self.slot(key_of(mark.of_object, mark.class));
+            self.link(by_object, run)?;
+            let by_item = self.slot(key_of(mark.of_item, mark.class));
+            if by_item != by_object {
+                self.link(by_item, run)?;
+            }
+        }
+        Ok(())
+    }
+
+    /// Adds to those that were found all runs from one on that have, or had when they were put in
+    /// earlier, an entry that may not commute forward with each of these. All entries of the others
+    /// commute forward with these.
+    pub fn find(
+        &self,
+        from: usize,
+        entries: &[MarkedEntry],
+        found: &mut NumberSet,
+    ) -> Result<(), NoMemory>
+        ensures more { OnOk result ((run : ℕ) → Has found.old run → Has found.new run) }
+        ensures only { OnOk result ((run : ℕ) → Has found.new run → Has found.old run ⊎ ((from ≤ run) × (run < self.now.count))) }
+        ensures stand { OnOk result ((run : ℕ) (others : List OneEntry) → from ≤ run → ¬ Has found.new run → Watches self.now run others → AllStand others (entries_of entries.now)) }
+    {
+        for marked in entries {
+            for class in &Class::ALL {
+                if marked.mark.conflicts & class.bit() != 0 {
+                    let slot = self.slot(key_against(&marked.mark, *class));
+                    self.find_in(slot, from, found)?;
+                }
+            }
+        }
+        Ok(())
+    }
+}

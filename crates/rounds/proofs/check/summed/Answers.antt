@@ -1,0 +1,13 @@
+use Rattle.std.proofs.Common.{◌≡◌, sym, ap, ◌∙◌, subst}
+use Rattle.rounds.specs.PendingRuns.{AreSumsOf}
+use Rattle.rounds.proofs.Summed.{summed_more}
+use Rattle.rounds.proofs.check.summed.Goals as goal
+
+pub loop-run-preserved : goal.loop-run-preserved
+loop-run-preserved c =
+    let sums = c.in_ok-of.field-0 in
+    let run = c.run-item.result in
+    summed_more c.args.runs.now c.loop-run.pending.items c.push.new.self.items c.loop-run.run-index
+    (record { tree = c.blank_record.result; net = c.new.result; sums = sums }) run c.loop-run-test.true c.in_ok-push.ensures.items c.run-item.is
+    (subst (λ es. AreSumsOf sums es run.net.items) c.deref.ensures.value
+    (subst (AreSumsOf sums c.deref.result.now) c.deref-in-loop-run.ensures.value c.in_ok-of.ensures)) c.loop-run.invariant

@@ -1,0 +1,132 @@
+-- Pending runs, and what the passes over them return: which is the first that doesn't hold, which are to be made again, those that were made.
+use Rattle.std.specs.Prelude.{◌≡◌, ◌≢◌, ℕ, ◌+◌, ◌<◌, ◌≤◌, ◌⊎◌, ◌==◌, Bool, cond, Option, Some, None, List, [], ◌∷◌, ◌++◌, length, map, take, slice_index_or}
+use Rattle.std.specs.List.{All}
+use Rattle.std.specs.declared.vec.Vec.{Vec}
+use Rattle.std.specs.declared.alloc.Global.{Global}
+use Rattle.meaning.specs.Entries.{State}
+use Rattle.meaning.specs.Records.{Taken, entries}
+use Rattle.meaning.specs.OneThread.{Run as OneRun, record_of}
+use Rattle.meaning.specs.Batch.{net_of, shown_of}
+use Rattle.committed.specs.Committed.{AllStand}
+use Rattle.committed.specs.NumberSets.{Has}
+use Rattle.committed.specs.Summaries.{entries_of, IsSummary}
+use Rattle.committed.specs.declared.marks.MarkedEntry.{MarkedEntry}
+use Rattle.objects.specs.declared.entry.Entry.{Entry}
+use Rattle.rounds.specs.Views.{meaning}
+use Rattle.rounds.specs.declared.pending_run.PendingRun.{PendingRun}
+use Rattle.rounds.specs.declared.pending_run.Sums.{Sums}
+use Rattle.rounds.specs.declared.make.Made.{Made}
+use Rattle.speculate.specs.declared.speculated.Run.{Run}
+use Rattle.batch.specs.Views.{record_view}
+use Rattle.batch.specs.declared.batch.Batch.{Batch}
+
+-- the summary of a net, which is that of the entries where there is no other
+abbrev pub left_or : List Entry → Option (Vec MarkedEntry Global) → List Entry
+left_or entries None = entries
+left_or entries (Some net) = entries_of net.items
+
+abbrev pub left_by : Sums → List Entry
+left_by sums = left_or (entries_of sums.entries.items) sums.of_net
+
+-- summaries of these entries and of this net
+pub record AreSumsOf (sums : Sums) (entries net : List Entry) : Type 0 where
+  pub entries_are : IsSummary (entries_of sums.entries.items) entries
+  pub net_is : IsSummary (left_by sums) net
+
+-- a pending run of a meaning: its record and its net, with summaries of its entries and its net
+pub record IsPendingOf (meant : OneRun Taken) (run : PendingRun) : Type 0 where
+  pub tree : record_view run.tree ≡ shown_of meant
+  pub net : run.net.items ≡ net_of meant
+  pub sums : AreSumsOf run.sums (entries (record_of meant)) (net_of meant)
+
+-- a pending run of a run
+pub record IsPendingFor (run : Run) (pending : PendingRun) : Type 0 where
+  pub tree : pending.tree ≡ run.tree
+  pub net : pending.net ≡ run.net
+  pub sums : AreSumsOf pending.sums run.entries.items run.net.items
+
+-- what runs leave, one after the other
+abbrev pub own_nets : List PendingRun → List Entry
+own_nets [] = []
+own_nets (run ∷ runs) = run.net.items ++ own_nets runs
+
+-- its summaries
+abbrev pub all_left : List PendingRun → List Entry
+all_left [] = []
+all_left (run ∷ runs) = left_by run.sums ++ all_left runs
+
+-- each entry of the run's summary commutes forward with each of the list
+abbrev pub HoldsPast : List Entry → PendingRun → Type 0
+HoldsPast since run = AllStand (entries_of run.sums.entries.items) since
+
+-- run i holds past what those before it leave
+abbrev pub HoldsAt : List PendingRun → ℕ → Type 0
+HoldsAt runs i = (d : PendingRun) → HoldsPast (all_left (take i runs)) (slice_index_or runs i d)
+
+-- the pending runs have the sums of these
+pub record AreSummed (runs : List Run) (pending : List PendingRun) : Type 0 where
+  pub all : length pending ≡ length runs
+  pub each : (i : ℕ) (d : PendingRun) (r : Run) → i < length runs
+      → AreSumsOf (slice_index_or pending i d).sums (slice_index_or runs i r).entries.items (slice_index_or runs i r).net.items
+
+-- the first run from one place on that doesn't stand, or their number
+pub record IsFirstFrom (runs : List PendingRun) (from first : ℕ) : Type 0 where
+  pub beyond : from ≤ first
+  pub within : first ≤ length runs
+  pub clear : (i : ℕ) → from ≤ i → i < first → HoldsAt runs i
+  pub conflict : first < length runs → ¬ HoldsAt runs first
+
+-- for each run, how many entries the runs before it leave
+pub record AreStarts (runs : List PendingRun) (starts : List ℕ) : Type 0 where
+  pub all : length starts ≡ length runs
+  pub each : (i : ℕ) → i < length runs → slice_index_or starts i 0 ≡ length (all_left (take i runs))
+
+abbrev pub bit : Bool → ℕ
+bit b = cond b 1 0
+
+-- how often x stands in the list
+abbrev pub times : ℕ → List ℕ → ℕ
+times x [] = 0
+times x (y ∷ ys) = bit (y == x) + times x ys
+
+-- a run stands and isn't among the numbers, or doesn't and is there once
+abbrev pub Kept : List Entry → ℕ → PendingRun → Type 0
+Kept since told run = (HoldsPast since run × (told ≡ 0)) ⊎ ((¬ HoldsPast since run) × (told ≡ 1))
+
+-- what is told of one place: its number where its run doesn't stand past these entries, and no other number
+pub record IsDecided (runs : List PendingRun) (since : List Entry) (place : ℕ) (told : List ℕ) : Type 0 where
+  pub here : (d : PendingRun) → Kept since (times place told) (slice_index_or runs place d)
+  pub elsewhere : (i : ℕ) → i ≢ place → times i told ≡ 0
+  pub few : length told ≤ 1
+
+-- the numbers, each once, of the runs from one place on and before another that don't stand past these entries
+pub record AreRefuted (runs : List PendingRun) (since : List Entry) (from upto : ℕ) (numbers : List ℕ) : Type 0 where
+  pub before : (i : ℕ) → i < from → times i numbers ≡ 0
+  pub beyond : (i : ℕ) → upto ≤ i → times i numbers ≡ 0
+  pub each : (i : ℕ) (d : PendingRun) → from ≤ i → i < upto → Kept since (times i numbers) (slice_index_or runs i d)
+
+-- those of these places whose runs don't stand past these entries, each once
+pub record AreRefutedAmong (runs : List PendingRun) (since : List Entry) (places numbers : List ℕ) : Type 0 where
+  pub elsewhere : (i : ℕ) → ¬ Has places i → times i numbers ≡ 0
+  pub each : (k : ℕ) (d : PendingRun) → k < length places → Kept since (times (slice_index_or places k 0) numbers) (slice_index_or runs (slice_index_or places k 0) d)
+  pub few : length numbers ≤ length places
+
+abbrev pub numbers_of : List Made → List ℕ
+numbers_of = map (λ m. m.number)
+
+-- a run of its number on this state
+abbrev pub IsMade : Batch → State → Made → Type 0
+IsMade batch state made = IsPendingOf (meaning batch made.number state) made.run
+
+-- a run for each of the numbers, in any order, made on this state
+pub record AreMade (batch : Batch) (state : State) (numbers : List ℕ) (made : List Made) : Type 0 where
+  pub each : All (IsMade batch state) made
+  pub dealt : (i : ℕ) → times i (numbers_of made) ≡ times i numbers
+
+-- the numbered runs were made on this state and put in their places, and counted. The others stay
+pub record AreRenewed (batch : Batch) (state : State) (numbers : List ℕ) (old new : List PendingRun) (was counts : List ℕ) : Type 0 where
+  pub runs : length new ≡ length old
+  pub counted : length counts ≡ length was
+  pub same : (i : ℕ) (d : PendingRun) → times i numbers ≡ 0 → slice_index_or new i d ≡ slice_index_or old i d
+  pub made : (i : ℕ) (d : PendingRun) → 0 < times i numbers → IsPendingOf (meaning batch i state) (slice_index_or new i d)
+  pub told : (i : ℕ) → i < length was → slice_index_or counts i 0 ≡ slice_index_or was i 0 + times i numbers
