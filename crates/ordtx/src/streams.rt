@@ -47,7 +47,7 @@ pub fn run_stream<T: Threads + Sync, R: Source, W: Sink, G: Gate>(
         → WritesBeginning IsReportOf (R.remaining source.old) (W.taken sink.old) (W.taken sink.new) }
 {
     let document = read_input(alloc, source)?;
-    let text = report_of(threads, alloc, document.as_slice(), plan, gate)?;
+    let text = report_of(threads, alloc, document, plan, gate)?;
     write_text(sink, text.as_bytes())
 }
 
@@ -80,7 +80,7 @@ pub fn audit_stream<T: Threads + Sync, R: Source, W: Sink, G: Gate>(
         → WritesBeginning IsAuditOf (R.remaining source.old) (W.taken sink.old) (W.taken sink.new) }
 {
     let document = read_input(alloc, source)?;
-    let text = audit_of(threads, alloc, document.as_slice(), plan, gate)?;
+    let text = audit_of(threads, alloc, document, plan, gate)?;
     write_text(sink, text.as_bytes())
 }
 
@@ -111,7 +111,7 @@ pub fn serial_stream<R: Source, W: Sink>(
         → WritesBeginning IsPlainReportOf (R.remaining source.old) (W.taken sink.old) (W.taken sink.new) }
 {
     let document = read_input(alloc, source)?;
-    let text = plain_report_of(alloc, document.as_slice())?;
+    let text = plain_report_of(alloc, document)?;
     write_text(sink, text.as_bytes())
 }
 

@@ -1,8 +1,10 @@
-//! The texts that answer a document.
-ghost use Rattle.std.specs.Prelude.{◌≢◌, ◌≤◌, IfErr, IfOk, string_bytes};
+//! The texts that a document gives.
+ghost use Rattle.std.specs.Prelude.{◌≡◌, ◌≢◌, ◌≤◌, IfErr, IfOk, Ok, string_bytes};
 ghost use Rattle.lang.specs.Faults.{memory_fault, number_of};
+ghost use Rattle.lang.specs.Reading.{document_of, reading};
 ghost use Rattle.ordtx.specs.Answers.{IsAuditOf, IsCheckOf, IsFaultOf, IsPlainReportOf, IsReportOf};
 
+use batch::Batch;
 use lang::{Fault, read};
 use report::{render, render_audit, render_check, render_plain};
 use rounds::{Plan, execute};
@@ -10,19 +12,28 @@ use speculate::{Gate, plain};
 use std::alloc::Global;
 use std::thread::Threads;
 
+// The batch of a document, whose bytes are freed: what comes next takes memory.
+fn batch_of(alloc: Global, document: Vec<u8>) -> Result<Batch, Fault>
+    ensures batch { IfOk result (λ batch. reading document.items ≡ Ok (document_of batch)) }
+    ensures fault { IfErr result (λ fault. fault ≢ memory_fault → IsFaultOf document.items fault) }
+    ensures code { IfErr result (λ fault. number_of fault.code ≤ 20) }
+{
+    read(alloc, document.as_slice())
+}
+
 // The report of a document.
 pub(crate) fn report_of<T: Threads + Sync, G: Gate>(
     threads: &T,
     alloc: Global,
-    document: &[u8],
+    document: Vec<u8>,
     plan: Plan,
     gate: &G,
 ) -> Result<String, Fault>
-    ensures text { IfOk result (λ text. IsReportOf document.now (string_bytes text)) }
-    ensures fault { IfErr result (λ fault. fault ≢ memory_fault → IsFaultOf document.now fault) }
+    ensures text { IfOk result (λ text. IsReportOf document.items (string_bytes text)) }
+    ensures fault { IfErr result (λ fault. fault ≢ memory_fault → IsFaultOf document.items fault) }
     ensures code { IfErr result (λ fault. number_of fault.code ≤ 20) }
 {
-    let batch = read(alloc, document)?;
+    let batch = batch_of(alloc, document)?;
     let outcome = execute(threads, alloc, &batch, plan, gate)?;
     let text = render(alloc, &batch, &outcome)?;
     Ok(text)
@@ -32,27 +43,27 @@ pub(crate) fn report_of<T: Threads + Sync, G: Gate>(
 pub(crate) fn audit_of<T: Threads + Sync, G: Gate>(
     threads: &T,
     alloc: Global,
-    document: &[u8],
+    document: Vec<u8>,
     plan: Plan,
     gate: &G,
 ) -> Result<String, Fault>
-    ensures text { IfOk result (λ text. IsAuditOf document.now (string_bytes text)) }
-    ensures fault { IfErr result (λ fault. fault ≢ memory_fault → IsFaultOf document.now fault) }
+    ensures text { IfOk result (λ text. IsAuditOf document.items (string_bytes text)) }
+    ensures fault { IfErr result (λ fault. fault ≢ memory_fault → IsFaultOf document.items fault) }
     ensures code { IfErr result (λ fault. number_of fault.code ≤ 20) }
 {
-    let batch = read(alloc, document)?;
+    let batch = batch_of(alloc, document)?;
     let outcome = execute(threads, alloc, &batch, plan, gate)?;
     let text = render_audit(alloc, &batch, &outcome)?;
     Ok(text)
 }
 
 // The report of one thread.
-pub(crate) fn plain_report_of(alloc: Global, document: &[u8]) -> Result<String, Fault>
-    ensures text { IfOk result (λ text. IsPlainReportOf document.now (string_bytes text)) }
-    ensures fault { IfErr result (λ fault. fault ≢ memory_fault → IsFaultOf document.now fault) }
+pub(crate) fn plain_report_of(alloc: Global, document: Vec<u8>) -> Result<String, Fault>
+    ensures text { IfOk result (λ text. IsPlainReportOf document.items (string_bytes text)) }
+    ensures fault { IfErr result (λ fault. fault ≢ memory_fault → IsFaultOf document.items fault) }
     ensures code { IfErr result (λ fault. number_of fault.code ≤ 20) }
 {
-    let batch = read(alloc, document)?;
+    let batch = batch_of(alloc, document)?;
     let answer = plain(alloc, &batch)?;
     let text = render_plain(alloc, &batch, &answer)?;
     Ok(text)

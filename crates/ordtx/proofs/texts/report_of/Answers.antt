@@ -7,7 +7,7 @@ use Rattle.ordtx.proofs.texts.report_of.Goals as goal
 
 pub returns-in_err-text-clause-fault : goal.returns-in_err-text-clause-fault
 returns-in_err-text-clause-fault g c =
-    passed_on c.from_residual-in_err-text.result (λ fault. fault ≢ memory_fault → IsFaultOf c.args.document.now fault) memory_fault
+    passed_on c.from_residual-in_err-text.result (λ fault. fault ≢ memory_fault → IsFaultOf c.args.document.items fault) memory_fault
     c.from_residual-in_err-text.ensures.1 (λ other. absurd (other refl))
 
 pub returns-in_err-text-clause-code : goal.returns-in_err-text-clause-code
