@@ -128,8 +128,8 @@ class Sources:
     def has_path(self, path):
         path = path.strip("/")
         return any(
-            any(True for _ in (self.tree / place).glob(path + end))
-            for place in ("", "crates", "crates/*/*", "docs", "tests", "tests/cases", "examples")
+            any(True for _ in self.tree.glob(place + path + end))
+            for place in ("", "crates/", "crates/*/*/", "docs/", "tests/", "tests/cases/", "examples/")
             for end in ("", ".antt", ".rt", ".py"))
 
     def has_together(self, parts):
