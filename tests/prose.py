@@ -32,8 +32,8 @@ EXCEPTIONS = (
     "stands alone", "stand alone",
 )
 
-# Names of the language and of its kit.
-OUTSIDE = {"Wait"}
+# Names of the language and of other programs.
+OUTSIDE = {"Wait", "jq"}
 
 FENCE = re.compile(r"^\s*```")
 ITEM = re.compile(r"^\s*(?:[-*]|\d+\.)\s+")
