@@ -4,6 +4,7 @@
 Alone, `tests/prose.py [TREE]` prints what it finds; the names are looked up in TREE, which is this tree if left out.
 """
 
+import os
 import pathlib
 import re
 import sys
@@ -32,8 +33,11 @@ EXCEPTIONS = (
     "stands alone", "stand alone",
 )
 
-# Names of the language and of other programs.
-OUTSIDE = {"Wait", "jq"}
+# Names of the language, of its guides and of other programs.
+OUTSIDE = {"Wait", "SHORTER_PROOFS.md", "TERMS.md", "jq"}
+
+# What a path has in the place of a name.
+ANY = re.compile(r"\b(?:NAME|CRATE|MODULE|FUNCTION)\b")
 
 FENCE = re.compile(r"^\s*```")
 ITEM = re.compile(r"^\s*(?:[-*]|\d+\.)\s+")
@@ -112,9 +116,7 @@ class Sources:
               "crates.txt", "Makefile", "docs/*.json", "docs/ordtx.*", "bench/*", "tests/*", "tests/cases/*", "examples/*")
 
     def __init__(self, tree):
-        self.tree = tree
         self.files = []
-        self.all = set()
         for place in self.PLACES:
             for file in tree.glob(place):
                 if file.is_dir() or file.name in ("prose.py", "README.md"):
@@ -123,17 +125,26 @@ class Sources:
                 if file.suffix in (".rt", ".antt", ".py", ".c", ".txt", "") or "schema" in file.name:
                     words.update(WORD.findall(file.read_text(errors="replace")))
                 self.files.append(words)
-                self.all |= words
+        self.all = set().union(*self.files)
+        self.ends = "\n".join(self.paths(tree)) + "\n"
+
+    @staticmethod
+    def paths(tree):
+        """Each file and folder, with a slash before it."""
+        for folder, below, files in os.walk(tree):
+            below[:] = [name for name in below if name not in ("out", ".git", "bin")]
+            for name in below + files:
+                yield "/" + os.path.relpath(os.path.join(folder, name), tree)
 
     def has_path(self, path):
-        path = path.strip("/")
-        return any(
-            any(True for _ in self.tree.glob(place + path + end))
-            for place in ("", "crates/", "crates/*/*/", "docs/", "tests/", "tests/cases/", "examples/")
-            for end in ("", ".antt", ".rt", ".py"))
+        """Whether some path ends so, a suffix left out or not."""
+        end = re.escape(ANY.sub("*", path.strip("/"))).replace(r"\*", "[^/\n]*")
+        return re.search(r"/%s(?:\.antt|\.rt|\.py)?\n" % end, self.ends) is not None
 
     def has_together(self, parts):
-        return any(all(part in words for part in parts) for words in self.files)
+        if not all(part in self.all for part in parts):
+            return False
+        return len(parts) == 1 or any(words.issuperset(parts) for words in self.files)
 
     def has(self, name):
         if name in OUTSIDE:
