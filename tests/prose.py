@@ -33,8 +33,8 @@ EXCEPTIONS = (
     "stands alone", "stand alone",
 )
 
-# Names of the language, of its guides and of other programs.
-OUTSIDE = {"Wait", "SHORTER_PROOFS.md", "TERMS.md", "jq"}
+# Names of the language, of its guides, of other programs, and of what a check leaves.
+OUTSIDE = {"Wait", "SHORTER_PROOFS.md", "TERMS.md", "crates/*/out", "jq"}
 
 # What a path has in the place of a name.
 ANY = re.compile(r"\b(?:NAME|CRATE|MODULE|FUNCTION)\b")
@@ -150,7 +150,7 @@ class Sources:
         if name in OUTSIDE:
             return True
         if "/" in name:
-            return self.has_path(name) or self.has_together(WORD.findall(name))
+            return self.has_path(name)
         if name.startswith("..."):
             return any(word.endswith(name.strip(".")) for word in self.all)
         parts = name.split("::")
