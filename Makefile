@@ -3,7 +3,7 @@
 # make test     the gate: every proof from nothing, the must-fail edits, the tests, the programs; then `make try`
 # make try      tries the built program: documents, command lines, failing devices, refused memory
 # make bench    prints the figures of bench/
-# make install  puts the program and its page into PREFIX/bin and PREFIX/share/man/man1
+# make install  puts the program, its pages, the documents and the examples into PREFIX/bin, PREFIX/share/man and PREFIX/share/doc/ordtx
 RT ?= rt
 PREFIX ?= /usr/local
 PROGRAM := crates/ordtx_cli
@@ -51,8 +51,12 @@ bench: bin/ordtx
 install: bin/ordtx
 	install -d $(DESTDIR)$(PREFIX)/bin
 	install -m 755 bin/ordtx $(DESTDIR)$(PREFIX)/bin/ordtx
-	install -d $(DESTDIR)$(PREFIX)/share/man/man1
+	install -d $(DESTDIR)$(PREFIX)/share/man/man1 $(DESTDIR)$(PREFIX)/share/man/man5
 	install -m 644 docs/ordtx.1 $(DESTDIR)$(PREFIX)/share/man/man1/ordtx.1
+	install -m 644 docs/ordtx.5 $(DESTDIR)$(PREFIX)/share/man/man5/ordtx.5
+	install -d $(DESTDIR)$(PREFIX)/share/doc/ordtx/examples
+	install -m 644 docs/*.md docs/document.schema.json $(DESTDIR)$(PREFIX)/share/doc/ordtx
+	install -m 644 examples/* $(DESTDIR)$(PREFIX)/share/doc/ordtx/examples
 
 clean:
 	rm -rf bin crates/*/out
