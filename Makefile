@@ -1,4 +1,4 @@
-# make          builds bin/ordtx (the first time it proves every crate that the program stands on)
+# make          builds bin/ordtx (the first time it proves every crate that the program needs)
 # make run      runs the example of a day's ledger
 # make test     the gate: every proof from nothing, the must-fail edits, the tests, the programs; then `make try`
 # make try      tries the built program: documents, command lines, failing devices, refused memory

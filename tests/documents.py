@@ -1,4 +1,4 @@
-"""Documents that are too long to keep, and what is answered to them."""
+"""Documents that are too long to keep, and what is printed for them."""
 
 ACCOUNT = '{"name":"a","kind":"account","start":0}'
 
@@ -222,9 +222,9 @@ def try_refusals(program):
     below = '[{"op":["a","deposit",-1]}]'
     rows = (
         ("a later fault", account, "[],%s,[7]" % below, 7, 2),
-        ("a fault behind a turned step", account,
+        ("a fault after a turned step", account,
          '[{"as":"n","op":["a","balance"]}],[7]', 2, 2),
-        ("a fault of JSON behind another", account, "[7],[01]", 1, 0),
+        ("a fault of JSON after another", account, "[7],[01]", 1, 0),
         ("a fault of an object", broken, "[7]", 13, 0),
         ("an object that is none", "7", "[7]", 2, 0),
     )
@@ -249,7 +249,7 @@ def try_refusals(program):
 
 
 def try_steps(program):
-    """Steps whose members stand in other orders, each with the same report."""
+    """Steps whose members come in other orders, each with the same report."""
     queued = '{"op":["q","enq","%s"]}'
     body = '"sub":[%s,{"abort":"x"}]' % (queued % "b")
     handlers = ('"handlers":{"y":[{"abort":true}],"x":[%s]}' % (queued % "h"))
@@ -301,7 +301,7 @@ def try_steps(program):
              '{"sub":[{"sub":[],"as":"n"}],"as":"n"}', 4, None),
             ("a label that is not seen in its own body",
              '{"sub":[{"if":"n","is":"aborted","then":[]}],"as":"n"}', 4, 8),
-            ("a label of an elder child", '{"parallel":[{"sub":[],"as":"n"},'
+            ("a label of an earlier child", '{"parallel":[{"sub":[],"as":"n"},'
              '{"sub":[],"as":"n"}]}', 4, 9),
             ("a label that is no name", '{"sub":[],"as":""}', 4, 3),
             ("a handler that is no block", '{"sub":[],"handler":{}}', 4, 2)):

@@ -56,7 +56,7 @@ def labels(count):
 
 
 def nested(depth):
-    """Parallel steps in one another, whose younger child reads what the elder changes."""
+    """Parallel steps in one another, whose later child reads what the earlier one changes."""
     inner = block(*[op("a", "balance")] * 20)
     for _ in range(depth):
         inner = block('{"parallel":[{"sub":[%s]},{"sub":[%s,%s]}]}' % (
@@ -79,10 +79,10 @@ def try_shape(program, library, plan, shape, size, times):
         program.compare("%s of %d" % (shape.__name__, count), words, got,
                         (None, 0, b""))
     (made, started), (more, later) = counts
-    told = "requests %d, then %d; threads %d, then %d" % (
+    grown = "requests %d, then %d; threads %d, then %d" % (
         made, more, started, later)
     grows = more <= times * made and later <= 2.2 * started + A_PASS
-    program.compare("growth of %s: %s" % (shape.__name__, told), words,
+    program.compare("growth of %s: %s" % (shape.__name__, grown), words,
                     (grows, None, None), (True, None, None))
 
 

@@ -8,7 +8,7 @@ FAULT = (b"", 1, b"fault 20 transaction 0\n")
 
 
 def refuse(library, number, words, path, document):
-    """What a run answers whose Nth request is refused, and how many it made."""
+    """What a run returns whose Nth request is refused, and how many it made."""
     got, made, _started = preloaded.run(library, number, words, path, document)
     return got, made
 

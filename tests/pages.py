@@ -20,7 +20,7 @@ def try_faults(program):
     for section in text.split("\n## ")[1:]:
         document = None
         for line in section.splitlines():
-            told = FAULT.match(line)
+            fault = FAULT.match(line)
             if line.startswith("    {") and document is None:
                 document = line.strip().encode()
             elif line.startswith("    {"):
@@ -28,9 +28,9 @@ def try_faults(program):
                 out, status, err = program.run(words, line.strip().encode())
                 program.compare("mended: " + section.split("\n")[0], words,
                                 (status, err), (0, b""))
-            elif told and document is not None:
+            elif fault and document is not None:
                 program.expect_fault_everywhere(
-                    section.split("\n")[0], document, int(told[1]), int(told[2]))
+                    section.split("\n")[0], document, int(fault[1]), int(fault[2]))
                 shown += 1
     program.compare("faults that are shown", [], (shown,), (12,))
 

@@ -18,7 +18,7 @@ def build(folder):
 
 
 def run(library, refused, words, path, document):
-    """What the run answers whose Nth request for memory is refused (0: none), how many requests it
+    """What the run returns whose Nth request for memory is refused (0: none), how many requests it
     made, and how many threads it started."""
     with tempfile.TemporaryFile() as kept:
         kept.write(bytes(16))

@@ -30,12 +30,12 @@ class Program:
                      (stdout, status, stderr))
 
     def compare(self, name, words, got, wanted):
-        for part, told, want in zip(("stdout", "status", "stderr"), got, wanted):
-            if want is not None and told != want:
+        for part, seen, want in zip(("stdout", "status", "stderr"), got, wanted):
+            if want is not None and seen != want:
                 self.failed += 1
                 print("FAILED %s: %s, %s" % (name, " ".join(words), part))
                 print("  wanted %.300r" % (want,))
-                print("  got    %.300r" % (told,))
+                print("  got    %.300r" % (seen,))
                 return
         self.passed += 1
 

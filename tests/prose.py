@@ -48,8 +48,8 @@ WORD = re.compile(r"[A-Za-z_][A-Za-z0-9_]*")
 
 
 def pages(tree):
-    found = [tree / "README.md", tree / "CONTRIBUTING.md"]
-    return [page for page in found if page.exists()] + sorted((tree / "docs").glob("*.md"))
+    names = ("README.md", "CONTRIBUTING.md", "examples/README.md", "tests/README.md")
+    return [tree / name for name in names] + sorted((tree / "docs").glob("*.md"))
 
 
 def blocks(page):
@@ -205,7 +205,8 @@ def findings(tree=ROOT):
     sources = Sources(tree)
     for page in pages(ROOT):
         found = [*long_sentences(page), *avoided_words(page), *missing_names(page, sources), *broken_links(page)]
-        yield page.relative_to(ROOT), ["%s:%d: %s" % (page.name, number, what) for number, what in sorted(found)]
+        name = page.relative_to(ROOT)
+        yield name, ["%s:%d: %s" % (name, number, what) for number, what in sorted(found)]
 
 
 def try_all(program):

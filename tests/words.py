@@ -28,10 +28,10 @@ def try_all(program, case):
     for words in REFUSED:
         got = program.run(words, document)
         program.compare("a refused line", words, got[:2], (b"", 2))
-        program.compare("a refused line tells why", words,
+        program.compare("a refused line says why", words,
                         (got[2] != b"",), (True,))
     program.expect("a file", ["run", file], b"", report)
-    program.expect("a file, options behind it",
+    program.expect("a file, options after it",
                    ["run", file, "--workers", "64", "--cut", "1000"], b"", report)
     program.expect("options before a file",
                    ["run", "--workers=2", "--cut=1", file], b"", report)
