@@ -1,5 +1,6 @@
 """What the pages show: the examples with their reports, and the faults with their documents."""
 
+import json
 import pathlib
 import re
 
@@ -35,6 +36,31 @@ def try_faults(program):
     program.compare("faults that are shown", [], (shown,), (12,))
 
 
+def shown_in(page):
+    """The indented blocks of a page, or those of a manual page between `.RS` and `.RE`."""
+    text = page.read_text()
+    if page.suffix == ".md":
+        found = re.findall(r"(?:^    .*\n)+", text, re.M)
+        return [re.sub(r"^    ", "", block, flags=re.M) for block in found]
+    return [block.replace("\\-", "-") for block in re.findall(r"^\.RS 4\n(.*?)^\.RE$", text, re.M | re.S)]
+
+
+def try_shown(program):
+    """A document that a page shows, and the report that it shows after it."""
+    for name in ("README.md", "docs/ordtx.1", "docs/ordtx.5"):
+        document = None
+        reports = 0
+        for block in shown_in(ROOT / name):
+            for part in re.split(r"^\$ .*\n", block, flags=re.M):
+                if part.startswith("{") and ".." not in part:
+                    document = json.dumps(json.loads(part)).encode()
+                elif part.startswith("T "):
+                    program.expect(name, ["run"], document, part.encode())
+                    reports += 1
+        program.compare("reports that %s shows" % name, [], (reports,), (1,))
+
+
 def try_all(program):
     try_examples(program)
     try_faults(program)
+    try_shown(program)

@@ -1,0 +1,96 @@
+"""The tables of `docs/DOCUMENT.md` on which operations commute: two transactions share a round where they say so."""
+
+import json
+import pathlib
+import re
+
+PAGE = pathlib.Path(__file__).resolve().parent.parent / "docs" / "DOCUMENT.md"
+SPAN = re.compile(r"`([a-z]+)`")
+
+# For each table the kind, values to start with, and operations.
+TABLES = (
+    ("Account", "account", (0, 5),
+     (("deposit", 3), ("deposit", 5), ("withdraw", 3), ("withdraw", 5), ("withdraw", 6), ("balance",))),
+    ("Counter", "counter", (0, -2), (("add", 1), ("sub", 1), ("read",))),
+    ("Set", "set", ([], ["a"], ["a", "b"]),
+     tuple((verb, item) for verb in ("insert", "remove", "has") for item in "ab") + (("size",),)),
+    ("Queue", "queue", ([], ["a"], ["b", "a"], ["a", "a"]), (("enq", "a"), ("enq", "b"), ("deq",), ("length",))),
+    ("Directory", "directory", ([], [["k", "v"]], [["k", "w"], ["l", "v"]]),
+     tuple((verb, key, item) for verb in ("bind", "put") for key in "kl" for item in "vw")
+     + tuple((verb, key) for verb in ("unbind", "lookup") for key in "kl")),
+    ("Maximum register", "max", (0, 5), (("raise", 3), ("raise", 5), ("raise", 9), ("top",))),
+)
+
+
+def cells(line):
+    return [cell.strip() for cell in line.strip().strip("|").split("|")]
+
+
+def table_of(title):
+    """The rows of a type's table, each by its heading."""
+    section = PAGE.read_text().split("### %s: who commutes\n" % title)[1].split("\n## ")[0].split("\n### ")[0]
+    lines = [cells(line) for line in section.splitlines() if line.startswith("|")]
+    columns = lines[0][1:]
+    return {row[0]: dict(zip(columns, row[1:])) for row in lines[2:]}
+
+
+def is_under(heading, operation, reply):
+    """Whether a heading, as "`unbind`, `lookup` = `missing`", speaks of the operation with this reply."""
+    wanted = None
+    for part in reversed(heading.split(", ")):
+        words = SPAN.findall(part)
+        if "=" in part:
+            wanted = words[1] if len(words) > 1 else None
+        if words[0] == operation[0]:
+            return wanted in (None, reply.split()[0])
+    return False
+
+
+def commute(cell, operations, replies):
+    """What a cell says of two operations; None where it says that no value allows both."""
+    if cell.startswith(("yes", "no")):
+        return cell.startswith("yes")
+    if cell == "only of the same item":
+        return operations[0][-1] == operations[1][-1]
+    if cell == "only of the item that was found":
+        return any(one[-1] == reply.split()[-1] for one, reply in zip(operations, reversed(replies)))
+    if cell == "only where A is at most N":
+        numbers = dict(zip((one[0] for one in operations), zip(operations, replies)))
+        return numbers["raise"][0][1] <= int(numbers["top"][1])
+    return None
+
+
+def of_one_item(kind, operations):
+    """Whether the table speaks of them: operations on different items or keys commute."""
+    items = {one[1] for one in operations if len(one) > 1}
+    return kind not in ("set", "directory") or len(items) < 2
+
+
+def report_of(program, kind, start, *transactions):
+    document = {"ordtx": 4, "objects": [{"name": "x", "kind": kind, "start": start}],
+                "transactions": [[{"op": ["x", *operation]}] for operation in transactions]}
+    out, _, _ = program.run(["run"], json.dumps(document).encode())
+    return out.decode().splitlines()
+
+
+def try_table(program, title, kind, starts, operations):
+    table = table_of(title)
+    for start in starts:
+        replies = [report_of(program, kind, start, one)[1].split(" = ")[1] for one in operations]
+        known = list(zip(operations, replies))
+        for first, reply in known:
+            for second, other in known:
+                said = True
+                if of_one_item(kind, (first, second)):
+                    row = [table[heading] for heading in table if is_under(heading, first, reply)]
+                    cell = [row[0][heading] for heading in row[0] if is_under(heading, second, other)]
+                    said = commute(cell[0], (first, second), (reply, other))
+                program.compare(
+                    "%s at %s, %s and %s" % (title, start, first, second), [],
+                    (report_of(program, kind, start, first, second)[-1],),
+                    ("rounds %s" % {True: 1, False: 2}.get(said),))
+
+
+def try_all(program):
+    for table in TABLES:
+        try_table(program, *table)
