@@ -1,7 +1,7 @@
 -- A document that was read part by part.
 use Rattle.std.proofs.Common.{◌≡◌, ℕ, List, Some, None, Ok, Err, refl, sym, ap, ◌∙◌}
 use Rattle.serde_json.specs.Data.{Data, Items}
-use Rattle.meaning.specs.Entries.{State}
+use Rattle.objects.specs.Entries.{State}
 use Rattle.meaning.specs.Trees as tree
 use Rattle.lang.specs.Asked.{declared_by, names_of, objects_in, setting_in, transactions_in, version_in}
 use Rattle.lang.specs.declared.counts.Counts.{Counts}

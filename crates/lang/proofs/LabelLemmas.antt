@@ -1,19 +1,26 @@
 -- Labels, as the entries of a map.
-use Rattle.std.proofs.Common.{◌≡◌, ◌+◌, ◌<◌, ℕ, Bool, true, false, cond, List, [], ◌∷◌, ◌++◌, take, drop, length, get_or, Option, Some, None, String, Global, string_bytes, is_some, add-one, append_assoc, refl, sym, ap, ap₂, ◌∙◌}
+use Rattle.std.proofs.Common.{◌≡◌, ◌+◌, ◌<◌, ℕ, Bool, true, false, not, cond, ◌||◌, Ok, List, [], ◌∷◌, ◌++◌, take, drop, length, get_or, Option, Some, None, String, Global, string_bytes, is_some, add-one, append_assoc, refl, sym, ap, ap₂, ◌∙◌}
 use Rattle.std.specs.Prelude.{slice_get}
 use Rattle.std.proofs.Math.Seq.{drop-cons}
 use Rattle.std.proofs.lemmas.List.{append-nil}
 use Rattle.std.proofs.lemmas.Option.{slice_get-get_or, slice_get_within}
-use Rattle.serde_json.specs.Data.{Data}
+use Rattle.std.proofs.lemmas.Slice.Eq.{bytes_eq-Decides}
+use Rattle.serde_json.specs.Data.{Data, Items, no_items, item}
 use Rattle.lang.specs.declared.steps.Sort.{Sort}
 use Rattle.lang.specs.declared.steps.Sort.TheVariants.{Operation, If, Sub, Abort, Parallel}
-use Rattle.lang.specs.Asked.{children_in, labels_of, scope_after, scope_after_by, sort_of}
-use Rattle.lang.specs.Scope.{Extends, Scope, Setting, is_named, named, label_number, scope_of, with_label, with_labels, fit}
+use Rattle.lang.specs.Answer.{IsMet}
+use Rattle.lang.specs.Asked.{children_in, label_asked, label_in, labels_of, scope_after, scope_after_by, sort_of}
+use Rattle.lang.specs.Demand.{check, holds}
+use Rattle.lang.specs.Words.{is_name}
+use Rattle.lang.specs.declared.counts.Counts.{Counts}
+use Rattle.lang.specs.declared.fault.Code.TheVariants.{DuplicateLabel, Name}
+use Rattle.lang.specs.declared.words.Subject.TheVariants.{Outcome}
+use Rattle.lang.specs.Scope.{AreUnseen, Extends, Scope, Setting, is_named, named, label_number, scope_of, with_label, with_labels, fit}
 use Rattle.std.specs.List.{position_or_len}
 use Rattle.std.specs.Map.{lookup, keys_of}
 use Rattle.std.specs.Str.{bytes_eq}
 use Rattle.std.specs.String.{string_eq}
-use Rattle.indexmap.specs.IndexMap.{IndexMap, insert_entry}
+use Rattle.indexmap.specs.IndexMap.{IndexMap, get, insert_entry}
 use Rattle.indexmap.proofs.CallerLemmas.{insert_entry-new}
 use Rattle.lang.specs.declared.words.Subject.{Subject}
 
@@ -51,6 +58,19 @@ pub scope_of-insert : {S : Type 0} (m : IndexMap (String Global) Subject S) (k :
 scope_of-insert m k a name is new =
     scope_of-insert_new m k a (ap (λ n. is_named n (scope_of m.entries)) is ∙ new) ∙ ap (λ n. scope_of m.entries ++ (n, a) ∷ []) is
     ∙ ap (λ b. cond b (scope_of m.entries) (scope_of m.entries ++ (name, a) ∷ [])) (sym new)
+
+-- whether a label is seen, by a look into the map with a key of the same bytes
+pub is_named-get : {S : Type 0} (m : IndexMap (String Global) Subject S) (k : String Global) (name : List ℕ) → string_bytes k ≡ name
+    → is_named name (scope_of m.entries) ≡ is_some (get string_eq m k)
+is_named-get m k name is = ap (λ n. is_named n (scope_of m.entries)) (sym is) ∙ ap is_some (named_view (string_bytes k) m.entries)
+
+-- with a label that was seen the map shows what it showed
+pub scope_of-same : {S : Type 0} (m : IndexMap (String Global) Subject S) (k : String Global) (a : Subject) (name : List ℕ)
+    → string_bytes k ≡ name → is_some (get string_eq m k) ≡ true → (es : List (String Global × Subject)) → es ≡ m.entries
+    → scope_of es ≡ with_label (Some name) a (scope_of m.entries)
+scope_of-same m k a name is there es same =
+    ap scope_of same
+    ∙ ap (λ b. cond b (scope_of m.entries) (scope_of m.entries ++ (name, a) ∷ [])) (sym (is_named-get m k name is ∙ there))
 
 -- cut back to its first entries, a map shows what it showed
 pub cut_back : (old new : List (String Global × Subject)) (more : Scope) → scope_of new ≡ scope_of old ++ more → scope_of (take (length old) new) ≡ scope_of old
@@ -101,6 +121,80 @@ by_sort (Some Parallel) setting scope d = with_labels_extends (labels_of [] (chi
 pub scope_after_extends : (setting : Setting) (scope : Scope) (d : Data) → Extends scope (scope_after setting scope d)
 unfolding scope_after
 scope_after_extends setting scope d = by_sort (sort_of d) setting scope d
+
+-- ---- labels of which none is seen
+
+-- what is seen among two lists of labels is seen among either
+pub is_named-append : (name : List ℕ) (first second : Scope)
+    → is_named name (first ++ second) ≡ (is_named name first || is_named name second)
+is_named-append name [] second = refl
+is_named-append name (label ∷ first) second = by (bytes_eq name label.0) (is_named-append name first second)
+  where
+    by : (b : Bool) → is_named name (first ++ second) ≡ (is_named name first || is_named name second)
+        → is_some (cond b (Some label.1) (named name (first ++ second)))
+        ≡ (is_some (cond b (Some label.1) (named name first)) || is_named name second)
+    by true later = refl
+    by false later = later
+
+-- what isn't seen with more labels isn't seen without them
+pub unseen_before : (name : List ℕ) (old new : Scope) → Extends old new → is_named name new ≡ false → is_named name old ≡ false
+unseen_before name old new more unseen =
+    by (is_named name old) (sym (is_named-append name old more.0) ∙ ap (is_named name) (sym more.1) ∙ unseen)
+  where
+    by : (b : Bool) → (b || is_named name more.0) ≡ false → b ≡ false
+    by true e = e
+    by false e = refl
+
+-- what is seen is seen with more labels
+seen_after : (name : List ℕ) (old new : Scope) → Extends old new → is_named name old ≡ true → is_named name new ≡ true
+seen_after name old new more seen =
+    ap (is_named name) more.1 ∙ is_named-append name old more.0 ∙ ap (λ b. b || is_named name more.0) seen
+
+-- one label more that isn't seen
+pub unseen_one : (label : List ℕ) (a : Subject) (rest scope : Scope) → is_named label scope ≡ false
+    → AreUnseen rest scope → AreUnseen ((label, a) ∷ rest) scope
+unseen_one label a rest scope new later name there = by (bytes_eq name label) refl there
+  where
+    by : (b : Bool) → bytes_eq name label ≡ b → is_some (cond b (Some a) (named name rest)) ≡ true → is_named name scope ≡ false
+    by true e h = ap (λ n. is_named n scope) ((bytes_eq-Decides name label).0 e) ∙ new
+    by false e h = later name h
+
+-- the labels of children stand behind those of their elder siblings
+labels_of-extends : (elder : Scope) (ds : Items) → Extends elder (labels_of elder ds)
+labels_of-extends elder no_items = scope_after_append elder
+labels_of-extends elder (item d ds) =
+    let one = with_label (label_in d) Outcome elder in
+    extends_twice elder one (labels_of one ds) (with_label_extends (label_in d) Outcome elder) (labels_of-extends one ds)
+
+-- a label that was added is seen
+seen_once_added : (name : List ℕ) (a : Subject) (scope : Scope) → is_named name (with_label (Some name) a scope) ≡ true
+seen_once_added name a scope = by (is_named name scope) refl
+  where
+    itself : is_named name ((name, a) ∷ []) ≡ true
+    itself = ap (λ b. is_some (cond b (Some a) None)) ((bytes_eq-Decides name name).1 refl)
+
+    by : (b : Bool) → is_named name scope ≡ b → is_named name (cond b scope (scope ++ (name, a) ∷ [])) ≡ true
+    by true e = e
+    by false e = is_named-append name scope ((name, a) ∷ []) ∙ rw (e, itself) refl
+
+-- a child's label that is no elder sibling's may be set where none of the children's labels is seen
+pub child_label_met : (scope elder : Scope) (label : Option (List ℕ)) (ds : Items) (counts : Counts)
+    → AreUnseen (labels_of (with_label label Outcome elder) ds) scope
+    → IsMet counts (label_asked elder [] label) counts → IsMet counts (label_asked scope elder label) counts
+unfolding label_asked
+child_label_met scope elder None ds counts unseen met = refl
+child_label_met scope elder (Some name) ds counts unseen met =
+    let added = with_label (Some name) Outcome elder in
+    let new : is_named name scope ≡ false = unseen name (seen_after name added (labels_of added ds) (labels_of-extends added ds)
+    (seen_once_added name Outcome elder)) in
+    by (is_name name) (is_named name elder) (is_named name scope) new met
+  where
+    by : (a b s : Bool) → s ≡ false → check counts (holds a Name ∷ holds (not (b || false)) DuplicateLabel ∷ []) ≡ Ok counts
+        → check counts (holds a Name ∷ holds (not (s || b)) DuplicateLabel ∷ []) ≡ Ok counts
+    by true false false n e = refl
+    by true true s n e = cc
+    by true false true n e = cc
+    by false b s n e = cc
 
 -- for attributes to cite
 pub ruleset named_labels = named_view

@@ -9,7 +9,7 @@ use Rattle.serde_json.specs.declared.value.Value.{Value}
 use Rattle.objects.specs.declared.kind.Kind.{Kind}
 use Rattle.objects.specs.declared.kind.Kind.TheVariants as kind
 use Rattle.objects.specs.Objects.{kind_of_value}
-use Rattle.meaning.specs.Entries.{kinds}
+use Rattle.objects.specs.Entries.{kinds}
 use Rattle.lang.specs.Asked.{declared_by, kind_in, kinds_of, names_of, part}
 use Rattle.lang.specs.Scope.{Numbers, Setting, Table}
 use Rattle.lang.specs.Spelled.{start_of, starts_of}

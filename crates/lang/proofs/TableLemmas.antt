@@ -1,14 +1,14 @@
 -- Texts by number, as the keys of a set.
-use Rattle.std.proofs.Common.{◌≡◌, ◌<◌, ◌+◌, ◌||◌, ℕ, suc, Bool, true, false, not, cond, List, [], ◌∷◌, ◌++◌, Some, None, String, Global, string_bytes, refl, ap, sym, ◌∙◌, arith}
+use Rattle.std.proofs.Common.{◌≡◌, ◌<◌, ◌+◌, ◌||◌, ℕ, suc, Bool, true, false, not, cond, List, [], ◌∷◌, ◌++◌, Some, None, String, Global, string_bytes, refl, ap, ap₂, sym, ◌∙◌, arith}
 use Rattle.std.proofs.lemmas.Bool.{ltb-true}
 use Rattle.std.specs.Prelude.{nat_lt, position, length, slice_get, option_map}
 use Rattle.std.specs.List.{list_any, position_or_len}
 use Rattle.std.specs.Str.{bytes_eq}
 use Rattle.std.proofs.lemmas.Option.{slice_get-map}
 use Rattle.objects.specs.Objects.{kind_of_value}
-use Rattle.meaning.specs.Entries.{State, kinds}
+use Rattle.objects.specs.Entries.{State, kinds}
 use Rattle.batch.specs.Names.{texts_of}
-use Rattle.lang.specs.Scope.{Table, place_of, is_listed}
+use Rattle.lang.specs.Scope.{Table, place_of, is_listed, with_text}
 
 first_of_keys : (text : List ℕ) (keys : List (String Global)) → position_or_len (bytes_eq text) (texts_of keys) ≡ position_or_len (λ k. bytes_eq text (string_bytes k)) keys
 first_of_keys text [] = refl
@@ -40,6 +40,25 @@ pub new_text : (text : List ℕ) (keys : List (String Global)) (k : String Globa
     → texts_of (cond (list_any (λ l. bytes_eq (string_bytes k) (string_bytes l)) keys) keys (keys ++ k ∷ [])) ≡ texts_of keys ++ text ∷ []
 new_text text keys k is new =
     goes_last _ keys k (sym (is_listed-keys (string_bytes k) keys) ∙ ap (λ t. is_listed t (texts_of keys)) is ∙ new) ∙ ap (λ t. texts_of keys ++ t ∷ []) is
+
+-- the texts of a list that has one key more, or not
+shown : (b : Bool) (keys : List (String Global)) (k : String Global)
+    → texts_of (cond b keys (keys ++ k ∷ [])) ≡ cond b (texts_of keys) (texts_of keys ++ string_bytes k ∷ [])
+shown true keys k = refl
+shown false keys k = texts_of-append keys k
+
+-- whether a text is among the keys of a set, by a look into it with a key of the same bytes
+pub is_listed-contains : (text : List ℕ) (keys : List (String Global)) (k : String Global) → string_bytes k ≡ text
+    → list_any (λ l. bytes_eq (string_bytes k) (string_bytes l)) keys ≡ is_listed text (texts_of keys)
+is_listed-contains text keys k is = sym (is_listed-keys (string_bytes k) keys) ∙ ap (λ t. is_listed t (texts_of keys)) is
+
+-- a text goes last if it is new, and else adds nothing
+pub texts_of-insert : (text : List ℕ) (keys : List (String Global)) (k : String Global) → string_bytes k ≡ text
+    → texts_of (cond (list_any (λ l. bytes_eq (string_bytes k) (string_bytes l)) keys) keys (keys ++ k ∷ []))
+    ≡ with_text text (texts_of keys)
+texts_of-insert text keys k is =
+    shown (list_any (λ l. bytes_eq (string_bytes k) (string_bytes l)) keys) keys k
+    ∙ ap₂ (λ b t. cond b (texts_of keys) (texts_of keys ++ t ∷ [])) (is_listed-contains text keys k is) is
 
 listed_there : (text : List ℕ) (table : Table) → position_or_len (bytes_eq text) table < length table → is_listed text table ≡ true
 listed_there text [] h = absurd (omega arith)

@@ -1,11 +1,11 @@
 -- What is seen at a place of a document: the objects, the labels, and the texts that are numbered so far.
-use Rattle.std.specs.Prelude.{◌≡◌, ℕ, ◌++◌, Bool, List, [], ◌∷◌, map, Option, Some, None, position, is_some, option_and_then, slice_get, nat_lt, if◌then◌else◌, String, string_bytes}
+use Rattle.std.specs.Prelude.{◌≡◌, ℕ, ◌++◌, Bool, true, false, List, [], ◌∷◌, map, Option, Some, None, position, is_some, option_and_then, slice_get, nat_lt, if◌then◌else◌, String, string_bytes}
 use Rattle.std.specs.List.{list_any, position_or_len}
 use Rattle.std.specs.Map.{lookup, keys_of}
 use Rattle.std.specs.Str.{bytes_eq}
 use Rattle.std.specs.declared.alloc.Global.{Global}
 use Rattle.objects.specs.declared.kind.Kind.{Kind}
-use Rattle.meaning.specs.Entries.{kinds}
+use Rattle.objects.specs.Entries.{kinds}
 use Rattle.batch.specs.Names.{texts_of}
 use Rattle.lang.specs.declared.words.Subject.{Subject}
 use Rattle.lang.specs.declared.declared.Declared.{Declared}
@@ -99,3 +99,7 @@ scope_of labels = map (λ label. (string_bytes label.0, label.1)) labels
 -- the same labels, and perhaps more behind them
 abbrev pub Extends : Scope → Scope → Type 0
 Extends old new = (more : Scope) × (new ≡ old ++ more)
+
+-- none of the labels is seen
+abbrev pub AreUnseen : Scope → Scope → Type 0
+AreUnseen labels scope = (name : List ℕ) → is_named name labels ≡ true → is_named name scope ≡ false

@@ -14,7 +14,7 @@ use Rattle.objects.specs.declared.call.Call.{Call}
 use Rattle.meaning.specs.declared.test.Test.{Test}
 use Rattle.meaning.specs.declared.test.Test.TheVariants.{Is, AtLeast, IsItem}
 use Rattle.meaning.specs.declared.test.Word.TheVariants.{Aborted}
-use Rattle.meaning.specs.Entries.{State}
+use Rattle.objects.specs.Entries.{State}
 use Rattle.meaning.specs.Trees.{Block, NoStep, Step, Operation, If, Subaction, Abort, Parallel, handlers_of}
 use Rattle.batch.specs.Names.{Texts}
 use Rattle.batch.specs.Views.{Tried, steps_of, children_of}

@@ -16,12 +16,12 @@ ghost use Rattle.lang.specs.Asked.{Asks, block_asked, block_asked_if, children_a
 ghost use Rattle.lang.specs.Answer.{IsMet};
 ghost use Rattle.lang.specs.declared.counts.Counts.{Counts};
 ghost use Rattle.lang.specs.Pulled.{ReadsItems, ReadsMembers, ReadsValue, SubTail, TestKey, abort_step, if_step, test_key, with_else};
-ghost use Rattle.lang.specs.Scope.{Extends, Scope, numbers_of, scope_of, setting_of};
+ghost use Rattle.lang.specs.Scope.{AreUnseen, Extends, Scope, numbers_of, scope_of, setting_of};
 ghost use Rattle.lang.specs.Spelled.{Spelling, block_of, block_of_if, children_spelled, members_of, or_no_step, spelled_map, step_of, steps_spelled, sub_of, test_of};
 
 use crate::declared::Declared;
 use crate::hashing::Labels;
-use crate::labels::{add_label, add_labels, add_new_label, check_label, seen_label};
+use crate::labels::{add_labels, add_new_label, seen_label};
 use crate::operations::item_of;
 use crate::pull::{
     pull_begin_array, pull_begin_object, pull_end_object, pull_key, pull_members, pull_name,
@@ -184,7 +184,8 @@ fn pull_sub_step(
 
 // ---- children
 
-/// The children up to the end of their array, with their labels, which none of them sees.
+/// The children up to the end of their array, with their labels, which none of them sees. That none of
+/// these labels is seen before the children is not yet looked at.
 #[cycle(blocks)]
 fn pull_children(
     alloc: Global,
@@ -196,8 +197,9 @@ fn pull_children(
 ) -> Option<Vec<Subaction>>
     requires few { levels ≤ 24 }
     ensures { IfSome result (λ children. (ds : Items) × ReadsItems (5 * levels + 2) reader.old ds reader.new
-        × IsMet state.old.counts (children_asked declared.now.version (block_asked (setting_of declared.now) levels)
-        (scope_of state.old.labels.entries) (scope_of elder.old.entries) ds) state.new.counts
+        × (AreUnseen (scope_of elder.new.entries) (scope_of state.old.labels.entries)
+        → IsMet state.old.counts (children_asked declared.now.version (block_asked (setting_of declared.now) levels)
+        (scope_of state.old.labels.entries) (scope_of elder.old.entries) ds) state.new.counts)
         × ((map subaction_view children.items, numbers_of state.new.numbering)
         ≡ children_spelled (block_of (setting_of declared.now) levels) (scope_of state.old.labels.entries)
         (numbers_of state.old.numbering) ds)
@@ -209,8 +211,7 @@ fn pull_children(
         pull_begin_object(reader)?;
         pull_key(reader, "sub")?;
         let (child, label) = pull_sub(alloc, reader, levels, declared, state)?;
-        check_label(label, &state.labels, Some(elder), &state.counts).ok()?;
-        add_label(alloc, label, Subject::Outcome, elder).ok()?;
+        add_new_label(alloc, label, Subject::Outcome, elder, &state.counts).ok()?;
         children.push(child).ok()?;
     }
     children.shrink_to_fit();
@@ -241,7 +242,10 @@ fn pull_parallel(
     let mut elder = IndexMap::with_hasher(alloc, *state.labels.hasher());
     let children = pull_children(alloc, reader, levels, declared, &mut elder, state)?;
     pull_end_object(reader)?;
-    add_labels(alloc, &elder, &mut state.labels).ok()?;
+    let all_new = add_labels(alloc, &elder, &mut state.labels).ok()?;
+    if !all_new {
+        return None;
+    }
     Some(Step::Parallel(children))
 }
 

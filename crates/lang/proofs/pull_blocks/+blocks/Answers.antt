@@ -1,4 +1,4 @@
-use Rattle.std.proofs.Common.{◌≡◌, List, [], ◌∷◌, ◌++◌, Some, None, map, length, refl, sym, subst, ap, ap₂, ◌∙◌, ◌+◌, ◌*◌, append-nil, arith, rules, ◌-◌, suc, option_map, le-leb, Vec, Global}
+use Rattle.std.proofs.Common.{◌≡◌, true, Ok, List, [], ◌∷◌, ◌++◌, Some, None, map, length, refl, sym, subst, ap, ap₂, ◌∙◌, ◌+◌, ◌*◌, append-nil, arith, rules, ◌-◌, suc, option_map, le-leb, Vec, Global}
 use Rattle.std.proofs.lemmas.List.{map-append}
 use Rattle.json.specs.Json.{after_end_array, read_key}
 use Rattle.serde_json.specs.Data.{Items, no_items, item, array, no_members, object, member, put, string}
@@ -6,18 +6,18 @@ use Rattle.meaning.specs.Trees as tree
 use Rattle.batch.specs.Views.{block_view, step_view, steps_of, Tried, handler_view, otherwise_view, subaction_view, children_of}
 use Rattle.lang.specs.Asked.{label_asked, block_asked, scope_after, step_asked, steps_asked, label_in, members_asked, children_asked, labels_of, sub_asked, block_asked_if, seen_asked, subject_of, test_asked}
 use Rattle.lang.specs.Demand.{check, one_more_node}
-use Rattle.lang.specs.Scope.{Extends, Numbers, Scope, numbers_of, scope_of, setting_of, with_label, with_labels, label_number}
+use Rattle.lang.specs.Scope.{AreUnseen, Extends, Numbers, Scope, numbers_of, scope_of, setting_of, with_label, with_labels, label_number}
 use Rattle.lang.specs.Spelled.{block_of, steps_spelled, spelled_map, members_of, sub_step, tried, children_spelled, sub_of, block_of_if, or_no_step, test_of}
 use Rattle.lang.specs.Pulled.{ReadsValue, SubTail, sub_members, ReadsMembers, if_step, test_key, with_else}
 use Rattle.lang.proofs.Checks.{check_met}
 use Rattle.lang.proofs.ListLemmas.{in_front, in_front_none, in_front_push}
-use Rattle.lang.proofs.LabelLemmas.{extends_twice, scope_after_extends, cut_back}
+use Rattle.lang.proofs.LabelLemmas.{child_label_met, extends_twice, scope_after_extends, cut_back}
 use Rattle.lang.proofs.PulledLemmas.{reads_item, reads_no_items, reads_shorter, reads_array, reads_deeper, reads_member, reads_no_members, reads_object, reads_string}
 use Rattle.json.specs.Token.{Token}
 use Rattle.batch.specs.declared.tree.Block.{roll-Block}
 use Rattle.batch.proofs.ViewLemmas.{block_view-is, step_view-If, step_view-Sub, step_view-Parallel}
 use Rattle.lang.proofs.BlockLemmas.{block_asks, block_spells}
-use Rattle.std.specs.Prelude.{codes, is_some}
+use Rattle.std.specs.Prelude.{codes, is_some, IfOk}
 use Rattle.json.proofs.Grammar.{read_key-shorter}
 use Rattle.batch.specs.declared.tree.Handler.{Handler}
 use Rattle.batch.specs.declared.tree.Subaction.{roll-Subaction, the_lemmas}
@@ -295,7 +295,7 @@ pull_children-loop-alloc-init t c =
     let none : c.new-children.result.items ≡ [] = c.new-children.ensures.items in (
       λ ds. ds,
       λ ds new reads. reads,
-      λ ds. refl,
+      λ ds unseen. refl,
       λ ds. ap (λ (vs : List _). in_front (map subaction_view vs)
           (children_spelled (block_of (setting_of c.args.declared.now) c.args.levels) (scope_of c.args.state.now.labels.entries)
           (numbers_of c.args.state.now.numbering) ds)) (sym none),
@@ -330,24 +330,28 @@ pull_children-loop-alloc-preserved t c =
     let mid = c.pull_sub.new.reader in
     let counts = c.pull_sub.new.state.counts in
     let after = numbers_of c.pull_sub.new.state.numbering in
-    let next = scope_of c.add_label.new.labels.entries in
+    let next = scope_of c.add_new_label.new.labels.entries in
     let label = option_map (λ text. text.now) c.in_ok-child.label in
     let read = map subaction_view l.children.items in
     let x = c.in_ok-child.child in
     let pushed : c.push.new.self.items ≡ l.children.items ++ x ∷ [] = grind (arith, rules) in
-    let named : IsMet counts (label_asked (scope_of c.pull_sub.new.state.labels.entries) elder label) counts = grind (arith, rules) in
-    let allowed = subst (λ s. IsMet counts (label_asked s elder (label_in d)) counts) done.6
-    (subst (λ o. IsMet counts (label_asked (scope_of c.pull_sub.new.state.labels.entries) elder o) counts) done.4 named) in
-    let met = subst (λ s. IsMet l.state.counts (sub_asked version asks s elder d) counts) l.invariant.5 (done.2 elder allowed) in
+    let named : IsMet counts (label_asked elder [] label) counts = grind (arith, rules) in
+    let met : (ds : Items) → AreUnseen (labels_of (with_label (label_in d) Outcome elder) ds) scope
+    → IsMet l.state.counts (sub_asked version asks scope elder d) counts = λ ds unseen.
+    let allowed = child_label_met scope elder (label_in d) ds counts unseen
+    (subst (λ o. IsMet counts (label_asked elder [] o) counts) done.4 named) in
+    subst (λ s. IsMet l.state.counts (sub_asked version asks s elder d) counts) l.invariant.5
+    (done.2 elder (subst (λ s. IsMet counts (label_asked s elder (label_in d)) counts) (sym l.invariant.5) allowed)) in
     let value = subst (λ s. (subaction_view x, after) ≡ sub_of block s (numbers_of l.state.numbering) d) l.invariant.5 done.3 in
     let added : next ≡ with_label label Outcome elder = grind (arith, rules) in
     let follow = added ∙ ap (λ o. with_label o Outcome elder) done.4 in (
       λ ds. l.invariant.0 (item d ds),
       λ ds new reads. l.invariant.1 (item d ds) new
           (reads_item k l.reader mid new d ds going.0 (subst (λ ts. ReadsValue k ts d mid) (sym begun ∙ going.1) done.1) reads),
-      λ ds. l.invariant.2 (item d ds)
+      λ ds unseen. let before = subst (λ (s : Scope). AreUnseen (labels_of s ds) scope) follow unseen in
+          l.invariant.2 (item d ds) before
           ∙ check_met l.state.counts counts (sub_asked version asks scope elder d)
-          (children_asked version asks scope (with_label (label_in d) Outcome elder) ds) met
+          (children_asked version asks scope (with_label (label_in d) Outcome elder) ds) (met ds before)
           ∙ ap (λ (s : Scope). check counts (children_asked version asks scope s ds)) (sym follow),
       λ ds. l.invariant.3 (item d ds)
           ∙ ap (λ (p : Tried × Numbers). in_front read (
@@ -368,7 +372,7 @@ pull_children-returns t c =
     let closed : after_end_array l.reader ≡ Some c.take_end_array.new.self = grind arith in (
       l.invariant.0 no_items,
       l.invariant.1 no_items _ (reads_no_items k l.reader _ closed),
-      l.invariant.2 no_items,
+      λ unseen. l.invariant.2 no_items unseen,
       ap (λ (vs : List _). (map subaction_view vs, numbers_of l.state.numbering)) c.shrink_to_fit.ensures.items
           ∙ sym (l.invariant.3 no_items ∙ in_front_none (map subaction_view l.children.items) (numbers_of l.state.numbering)),
       sym (l.invariant.4 no_items),
@@ -398,7 +402,13 @@ pull_parallel-returns t c =
     let ended : behind ≡ Token.end_object ∷ new = grind (arith, rules) in
     let one : IsMet start (one_more_node ∷ []) counted = grind (arith, rules) in
     let empty : scope_of c.with_hasher-elder.result.entries ≡ [] = grind (arith, rules) in
-    let met = subst (λ e. IsMet counted (children_asked version asks scope e ds) next) empty done.2 in
+    let all_new : c.in_ok-all_new.all_new ≡ true = grind (arith, rules) in
+    let found = scope_of c.pull_children.new.elder.entries in
+    let told : c.add_labels.result ≡ Ok c.in_ok-all_new.all_new = grind (arith, rules) in
+    let unseen : AreUnseen found scope = subst (λ (s : Scope). AreUnseen found s) done.5
+    (subst (λ r. IfOk r (λ all. all ≡ true → AreUnseen found (scope_of c.pull_children.new.state.labels.entries))) told
+    c.add_labels.ensures.new all_new) in
+    let met = subst (λ e. IsMet counted (children_asked version asks scope e ds) next) empty (done.2 unseen) in
     let labels = done.4 ∙ ap (λ (e : Scope). labels_of e ds) empty in
     let added : scope_of c.add_labels.new.labels.entries ≡ with_labels (scope_of c.pull_children.new.elder.entries)
     (scope_of c.pull_children.new.state.labels.entries) = grind (arith, rules) in

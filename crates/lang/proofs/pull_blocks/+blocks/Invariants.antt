@@ -5,7 +5,7 @@ use Rattle.batch.specs.Views.{block_view, handler_view, step_view, subaction_vie
 use Rattle.lang.specs.Asked.{block_asked, children_asked, labels_of, steps_asked}
 use Rattle.lang.specs.Demand.{check}
 use Rattle.lang.specs.Pulled.{ReadsItems, SubTail}
-use Rattle.lang.specs.Scope.{Extends, numbers_of, scope_of, setting_of}
+use Rattle.lang.specs.Scope.{AreUnseen, Extends, numbers_of, scope_of, setting_of}
 use Rattle.lang.specs.Spelled.{block_of, children_spelled, steps_spelled}
 use Rattle.lang.proofs.ListLemmas.{in_front}
 use Rattle.lang.proofs.pull_blocks.+blocks.Given as goal
@@ -69,13 +69,14 @@ decreases-pull_parallel l = 10 * l.levels + 4
 abbrev pub decreases-pull_children : goal.decreases-pull_children
 decreases-pull_children l = 10 * l.levels + 3
 
--- what was read stands in front of any children that follow
+-- what was read stands in front of any children that follow, where none of all their labels is seen before them
 abbrev pub invariant-pull_children-loop-alloc : goal.invariant-pull_children-loop-alloc
 invariant-pull_children-loop-alloc l =
     (before : Items → Items)
     × ((ds : Items) (new : List Token) → ReadsItems (5 * l.levels + 2) l.reader ds new
     → ReadsItems (5 * l.levels + 2) l.initial.reader (before ds) new)
-    × ((ds : Items) → check l.initial.state.counts
+    × ((ds : Items) → AreUnseen (labels_of (scope_of l.elder.entries) ds) (scope_of l.initial.state.labels.entries)
+    → check l.initial.state.counts
     (children_asked l.declared.version (block_asked (setting_of l.declared) l.levels) (scope_of l.initial.state.labels.entries)
     (scope_of l.initial.elder.entries) (before ds))
     ≡ check l.state.counts (children_asked l.declared.version (block_asked (setting_of l.declared) l.levels)

@@ -2,7 +2,7 @@ use Rattle.std.proofs.Common.{◌≡◌, ◌≤◌, ℕ, ◌+◌, List, [], ◌�
 use Rattle.std.proofs.lemmas.List.{append-nil, drop_all}
 use Rattle.serde_json.specs.View.{items_view, view}
 use Rattle.serde_json.specs.declared.value.Value.{Value}
-use Rattle.meaning.specs.Entries.{State, kinds}
+use Rattle.objects.specs.Entries.{State, kinds}
 use Rattle.batch.specs.Names.{texts_of}
 use Rattle.lang.specs.Answer.{IsFirst}
 use Rattle.lang.specs.Asked.{declared_by, names_of, object_asked, object_name, objects_asked}
