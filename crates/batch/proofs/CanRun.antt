@@ -7,7 +7,7 @@ use Rattle.objects.specs.declared.kind.Kind.{Kind}
 use Rattle.meaning.specs.declared.end.End.TheVariants.{Ended}
 use Rattle.meaning.specs.declared.held.Held.{Held}
 use Rattle.meaning.specs.declared.test.Test.{Test}
-use Rattle.meaning.specs.Entries.{State, kinds}
+use Rattle.objects.specs.Entries.{State, kinds}
 use Rattle.meaning.specs.Labels.{holds, holds_of, if_there}
 use Rattle.meaning.specs.Trees as meant
 use Rattle.meaning.specs.Trees.{Children, NoStep, Child}

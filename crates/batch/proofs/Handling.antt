@@ -6,7 +6,7 @@ use Rattle.std.specs.Option.{option_or}
 use Rattle.std.specs.List.{find}
 use Rattle.meaning.specs.declared.end.End.{End}
 use Rattle.meaning.specs.declared.held.Held.{Held}
-use Rattle.meaning.specs.Entries.{State}
+use Rattle.objects.specs.Entries.{State}
 use Rattle.meaning.specs.Trees as meant
 use Rattle.meaning.specs.Trees.{Handlers, ForReason, GoOn, Pass, for_reasons}
 use Rattle.meaning.specs.Records.{TakenHandler}

@@ -8,7 +8,7 @@ use Rattle.meaning.specs.declared.end.End.{End}
 use Rattle.meaning.specs.declared.end.End.TheVariants.{Ended, Aborted}
 use Rattle.meaning.specs.declared.held.Held.{Held}
 use Rattle.meaning.specs.declared.held.Held.TheVariants.{Outcome}
-use Rattle.meaning.specs.Entries.{State}
+use Rattle.objects.specs.Entries.{State}
 use Rattle.meaning.specs.Records.{Taken, TakenChild, TakenChildren, entries_of_child, entries_of_children, kept_of_child, kept_of_children, entries_of_handler, kept_of_handler, entries}
 use Rattle.meaning.specs.Shown.{shown, shown_child, shown_children, ShownChild, ShownChildren}
 use Rattle.meaning.specs.OneThread.{Run, Ran, record_of, outcome_of, labels_of, state_of, label_if, one, one_handler, one_children}

@@ -1,7 +1,7 @@
 -- No run meets what it can't do.
 use Rattle.std.proofs.Common.{List, [], ◌++◌, arith}
 use Rattle.meaning.specs.declared.held.Held.{Held}
-use Rattle.meaning.specs.Entries.{State}
+use Rattle.objects.specs.Entries.{State}
 use Rattle.meaning.specs.Trees.{Block, NoStep, Steps, Step, Operation, If, Subaction, Abort, Parallel, Handlers, ForReason, Otherwise, GoOn, Pass, Children, NoChild, Child}
 use Rattle.meaning.specs.OneThread.{labels_of, state_of, one_step}
 use Rattle.meaning.specs.Batch.{block_at, state_at}

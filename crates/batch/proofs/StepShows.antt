@@ -9,7 +9,7 @@ use Rattle.meaning.specs.declared.end.End.TheVariants.{Ended, Aborted}
 use Rattle.meaning.specs.declared.held.Held.{Held}
 use Rattle.meaning.specs.declared.held.Held.TheVariants.{Replied, Outcome}
 use Rattle.meaning.specs.declared.test.Test.{Test}
-use Rattle.meaning.specs.Entries.{reply_at}
+use Rattle.objects.specs.Entries.{reply_at}
 use Rattle.meaning.specs.Labels.{holds_of}
 use Rattle.meaning.specs.Shown.{ShownStep}
 use Rattle.meaning.specs.OneThread.{Run, label_if, as_branch, one, one_step, one_children}

@@ -6,7 +6,7 @@ use Rattle.meaning.specs.declared.end.End.TheVariants.{Ended, Aborted}
 use Rattle.meaning.specs.declared.held.Held.{Held}
 use Rattle.meaning.specs.declared.held.Held.TheVariants.{Replied}
 use Rattle.meaning.specs.declared.test.Test.{Test}
-use Rattle.meaning.specs.Entries.{State, reply_at, after_call}
+use Rattle.objects.specs.Entries.{State, reply_at, after_call}
 use Rattle.meaning.specs.Labels.{holds, holds_of}
 use Rattle.meaning.specs.Trees as meant
 use Rattle.meaning.specs.Records.{Performed, Acted, InParallel, TakenStep}

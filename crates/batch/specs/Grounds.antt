@@ -1,7 +1,7 @@
 -- What a block is run on.
 use Rattle.std.specs.Prelude.{◌≡◌, List, [], ◌++◌}
 use Rattle.objects.specs.declared.entry.Entry.{Entry}
-use Rattle.meaning.specs.Entries.{State, after}
+use Rattle.objects.specs.Entries.{State, after}
 
 -- the state that it shows, and what it took in from one value to another: all entries, and those that are kept
 pub record Ground (V : Type 0) : Type 1 where

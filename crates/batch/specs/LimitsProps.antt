@@ -2,7 +2,7 @@
 use Rattle.std.specs.Prelude.{List, [], ◌∷◌}
 use Rattle.std.proofs.Props.{props}
 use Rattle.objects.specs.declared.kind.Kind.{Kind}
-use Rattle.meaning.specs.Entries.{State, kinds}
+use Rattle.objects.specs.Entries.{State, kinds}
 use Rattle.meaning.specs.Trees.{Block}
 use Rattle.meaning.specs.WellFormedProps.{IsWellFormed-prop}
 use Rattle.batch.specs.Names.{Texts}

@@ -1,6 +1,6 @@
 -- The parts of a batch, as the meaning sees them.
 use Rattle.std.specs.Prelude.{List, map}
-use Rattle.meaning.specs.Entries.{State}
+use Rattle.objects.specs.Entries.{State}
 use Rattle.meaning.specs.Trees.{Block}
 use Rattle.batch.specs.Views.{block_view}
 use Rattle.batch.specs.declared.batch.Batch.{Batch}

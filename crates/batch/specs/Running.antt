@@ -1,7 +1,7 @@
 -- Where the parts of a tree can be run.
 use Rattle.std.specs.Prelude.{◌≡◌, List, ◌++◌, Option, Some, None}
 use Rattle.meaning.specs.declared.held.Held.{Held}
-use Rattle.meaning.specs.Entries.{State, kinds}
+use Rattle.objects.specs.Entries.{State, kinds}
 use Rattle.meaning.specs.Trees.{Block, Step, Handlers, Children}
 use Rattle.meaning.specs.Records.{TakenChild, TakenHandler, NoHandler, Handled}
 use Rattle.meaning.specs.Shown.{Shown, shown}

@@ -3,7 +3,7 @@ use Rattle.std.specs.Prelude.{ℕ, Bool, true, false, List, [], Option, Some, No
 use Rattle.meaning.specs.declared.end.End.{End}
 use Rattle.meaning.specs.declared.end.End.TheVariants.{Ended, Aborted}
 use Rattle.meaning.specs.declared.held.Held.{Held}
-use Rattle.meaning.specs.Entries.{State}
+use Rattle.objects.specs.Entries.{State}
 use Rattle.meaning.specs.Trees.{Block, Handlers, ForReason, Otherwise, GoOn, Pass}
 use Rattle.meaning.specs.Records.{TakenHandler, NoHandler}
 use Rattle.meaning.specs.OneThread.{Run, Ran, as_handler, is_for, one}

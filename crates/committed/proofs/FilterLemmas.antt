@@ -15,7 +15,7 @@ use Rattle.committed.specs.Classes.{class_of, number_of, classes, conflicts_of, 
 use Rattle.committed.specs.Items.{item_of, has_item, is_compared}
 use Rattle.committed.specs.Marks.{hash_of, mark_of}
 use Rattle.committed.specs.Filter.{slot_of, HasAllIn, set_at, IsMarked, Meets}
-use Rattle.committed.specs.Strictness.{Commute}
+use Rattle.objects.specs.Entries.{CommuteForward}
 use Rattle.committed.proofs.ClassesLemmas.{always_commutes, elsewhere}
 use Rattle.committed.proofs.ListsLemmas.{class_at, number-bound}
 
@@ -129,7 +129,7 @@ record IsMet (filter : Filter) (p q : Entry) : Type 0 where
   item : bit_at (bit_or (set_at filter (mark_of p).of_item) 58687) (number_of (class_of q.call q.reply)) ≡ 1
 
 -- two entries commute, or one is of the classes that the other meets
-meets : (filter : Filter) (p q : Entry) → IsMarked filter q → Commute p q ⊎ IsMet filter p q
+meets : (filter : Filter) (p q : Entry) → IsMarked filter q → CommuteForward p q ⊎ IsMet filter p q
 meets filter p q marked = by_class (always_commute own class) refl (is_compared p q) refl
   where
     own : Class
@@ -156,7 +156,7 @@ meets filter p q marked = by_class (always_commute own class) refl (is_compared 
         let found : bit_at 58687 number ≡ 1 = object_bit class ∙ ap (λ b. if b then 0 else 1) by_object in
         omega (arith, found, bit_at-lt (set_at filter (mark_of p).of_item) number)
 
-    by_class : (b : Bool) → always_commute own class ≡ b → (u : Bool) → is_compared p q ≡ u → Commute p q ⊎ IsMet filter p q
+    by_class : (b : Bool) → always_commute own class ≡ b → (u : Bool) → is_compared p q ≡ u → CommuteForward p q ⊎ IsMet filter p q
     by_class true always u compared = inl (always_commutes p q always)
     by_class false may false compared = inl (elsewhere p q compared)
     by_class false may true compared =

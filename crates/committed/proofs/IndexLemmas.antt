@@ -3,10 +3,11 @@ use Rattle.std.proofs.Common.{◌≡◌, ◌≢◌, ℕ, Vec, Global, ◌+◌, �
 use Rattle.std.proofs.lemmas.Bool.{cases_eq, cases_lt}
 use Rattle.std.proofs.lemmas.List.{length-append, length-set, get_or-set_same, get_or-set_other, get_or_append_left, get_or-append_right}
 use Rattle.objects.specs.declared.entry.Entry.{Entry}
+use Rattle.objects.specs.Entries.{CommuteForward}
 use Rattle.committed.specs.declared.index.Index.{Index}
 use Rattle.committed.specs.declared.index.Link.{Link}
 use Rattle.committed.specs.Index.{slot_of, slot_in, no_link, link_at, key_at, place_at, IsEnd, IsLink, IsSpan, AreChained, AreSpanned, IsListed, IsIndexOf}
-use Rattle.committed.specs.Strictness.{Commute, IsAsStrict}
+use Rattle.committed.specs.Strictness.{IsAsStrict}
 
 -- ---- one more link
 
@@ -140,12 +141,12 @@ span_joined es slot links last x some within same after was span_is place strict
   place = place;
   strictest = strictest;
   own = own;
-  others = λ m from l one d e commutes. (let found : Commute e (get_or es (link_at links (last - 1)).strictest d) = stricter d e commutes in
+  others = λ m from l one d e commutes. (let found : CommuteForward e (get_or es (link_at links (last - 1)).strictest d) = stricter d e commutes in
       elim (cases_lt m (last - 1)) [
         | inl before ↦ was.others m (subst (λ n. n ≤ m) span_is from) before (one ∙ sym same) d e found
         | inr late ↦ (elim (cases_lt m last) [
           | inl here ↦ (let at : last - 1 ≡ m = omega arith in
-              subst (λ n. Commute e (get_or es (place_at links n) d)) at (was.own d e found))
+              subst (λ n. CommuteForward e (get_or es (place_at links n) d)) at (was.own d e found))
           | inr past ↦ absurd (after m past l one)
         ])
       ]);
@@ -156,16 +157,16 @@ span_joined es slot links last x some within same after was span_is place strict
 -- a link looked at whose strictest entry commutes passes its span
 pub passes : (es : List Entry) (slot : ℕ → ℕ) (links : List Link) (at own upto : ℕ) (e : Entry) → 0 < at → at ≤ length links
     → slot (key_at links (at - 1)) ≡ own → IsSpan es slot links (at - 1) (link_at links (at - 1))
-    → Commute e (get_or es (link_at links (at - 1)).strictest e)
+    → CommuteForward e (get_or es (link_at links (at - 1)).strictest e)
     → ((m : ℕ) → at ≤ m → m < length links → slot (key_at links m) ≡ own → place_at links m < upto
-    → Commute e (get_or es (place_at links m) e))
+    → CommuteForward e (get_or es (place_at links m) e))
     → (m : ℕ) → (link_at links (at - 1)).span ≤ m → m < length links → slot (key_at links m) ≡ own → place_at links m < upto
-    → Commute e (get_or es (place_at links m) e)
+    → CommuteForward e (get_or es (place_at links m) e)
 passes es slot links at own upto e some within same span commutes passed m from l one before = elim (cases_lt m (at - 1)) [
   | inl earlier ↦ span.others m from earlier (one ∙ sym same) e e commutes
   | inr late ↦ (elim (cases_lt m at) [
     | inl here ↦ (let is : at - 1 ≡ m = omega arith in
-        subst (λ n. Commute e (get_or es (place_at links n) e)) is (span.own e e commutes))
+        subst (λ n. CommuteForward e (get_or es (place_at links n) e)) is (span.own e e commutes))
     | inr past ↦ passed m past l one before
   ])
 ]

@@ -5,8 +5,7 @@ use Rattle.std.specs.Prelude.{slice_range, if◌then◌else◌}
 use Rattle.std.specs.Int.{bit_at}
 use Rattle.std.proofs.lemmas.Nat.Bits.{bit_at_and, bit_at-pow_same, bit_at-zero}
 use Rattle.objects.specs.declared.entry.Entry.{Entry}
-use Rattle.committed.specs.Committed.{CommutesWith}
-use Rattle.committed.specs.Strictness.{Commute}
+use Rattle.objects.specs.Entries.{CommutesWith, CommuteForward}
 use Rattle.committed.specs.declared.classes.Class.{Class}
 use Rattle.committed.specs.declared.index.Link.{Link}
 use Rattle.committed.specs.Classes.{class_of, number_of, is_by_item}
@@ -16,16 +15,16 @@ use Rattle.committed.specs.Index.{key_of, key_against, IsLinked, IsListed}
 use Rattle.committed.proofs.FilterLemmas.{same_hash, same_object}
 
 -- of two entries that commute one after the other, each does
-pub commute_turned : (p q : Entry) → Commute p q → Commute q p
+pub commute_turned : (p q : Entry) → CommuteForward p q → CommuteForward q p
 commute_turned p q h v legal_q legal_p = let both = h v legal_p legal_q in record { first = both.second; second = both.first; same = sym both.same }
 
 -- an entry that commutes with each one of a list
-pub all_commute : (e : Entry) (xs : List Entry) → ((n : ℕ) → n < length xs → Commute e (get_or xs n e)) → CommutesWith e xs
+pub all_commute : (e : Entry) (xs : List Entry) → ((n : ℕ) → n < length xs → CommuteForward e (get_or xs n e)) → CommutesWith e xs
 all_commute e [] h = tt
 all_commute e (x ∷ xs) h = (h 0 (omega arith), all_commute e xs (λ n l. h (suc n) (omega arith)))
 
 -- commutes with each
-pub one_commutes : (e : Entry) (xs : List Entry) (n : ℕ) → n < length xs → CommutesWith e xs → Commute e (get_or xs n e)
+pub one_commutes : (e : Entry) (xs : List Entry) (n : ℕ) → n < length xs → CommutesWith e xs → CommuteForward e (get_or xs n e)
 one_commutes e [] n l h = absurd (omega arith)
 one_commutes e (x ∷ xs) zero l h = h.0
 one_commutes e (x ∷ xs) (suc n) l h = one_commutes e xs n (omega arith) h.1
@@ -35,17 +34,17 @@ pub length-range : {A : Type 0} (xs : List A) (a b : ℕ) → b ≤ length xs �
 length-range xs a b h = omega (arith, length-take (b - a) (drop a xs), length-drop a xs)
 
 -- an entry that commutes with each of the first ones stands past them
-pub all_first : (e : Entry) (es : List Entry) (upto : ℕ) → upto ≤ length es → ((k : ℕ) → k < upto → Commute e (get_or es k e))
+pub all_first : (e : Entry) (es : List Entry) (upto : ℕ) → upto ≤ length es → ((k : ℕ) → k < upto → CommuteForward e (get_or es k e))
     → CommutesWith e (take upto es)
 all_first e es upto within h = all_commute e (take upto es) (λ n l.
     let before : n < upto = omega (arith, length-take upto es) in
-    subst (Commute e) (sym (get_or-take upto es n e before)) (h n before))
+    subst (CommuteForward e) (sym (get_or-take upto es n e before)) (h n before))
 
 -- one that stands commutes with each of them
 pub each_first : (e : Entry) (es : List Entry) (upto : ℕ) → upto ≤ length es → CommutesWith e (take upto es) → (k : ℕ) → k < upto
-    → Commute e (get_or es k e)
+    → CommuteForward e (get_or es k e)
 each_first e es upto within h k before =
-    subst (Commute e) (get_or-take upto es k e before) (one_commutes e (take upto es) k (omega (arith, length-take upto es)) h)
+    subst (CommuteForward e) (get_or-take upto es k e before) (one_commutes e (take upto es) k (omega (arith, length-take upto es)) h)
 
 -- the key under which an entry looks for another's class is one of the other's two, where they are compared
 pub key_is : (P : ℕ → Type 0) (p q : Entry) → is_compared p q ≡ true → P (key_of (mark_of q).of_object (mark_of q).class)

@@ -3,8 +3,8 @@ use Rattle.std.proofs.Common.{◌≡◌, ℕ, suc, zero, ◌<◌, ◌↔◌, ari
 use Rattle.std.proofs.lemmas.List.{get_or-map, length-map, map-append, map-set}
 use Rattle.objects.specs.declared.entry.Entry.{Entry}
 use Rattle.committed.specs.declared.marks.MarkedEntry.{MarkedEntry}
-use Rattle.committed.specs.Committed.{CommutesWith, AllStand}
-use Rattle.committed.specs.Strictness.{Commute, IsAsStrict}
+use Rattle.objects.specs.Entries.{CommutesWith, AllCommute, CommuteForward}
+use Rattle.committed.specs.Strictness.{IsAsStrict}
 use Rattle.committed.specs.Summaries.{entries_of, IsSummary}
 use Rattle.committed.proofs.StandsLemmas.{commute_turned, one_commutes}
 
@@ -26,32 +26,32 @@ commutes_second e (x ∷ xs) ys both = commutes_second e xs ys both.1
 -- ---- stands
 
 -- every list stands past none
-all_past_none : (qs : List Entry) → AllStand qs []
+all_past_none : (qs : List Entry) → AllCommute qs []
 all_past_none [] = tt
 all_past_none (q ∷ qs) = (tt, all_past_none qs)
 
 -- one entry more to stand past
-past_one : (p : Entry) (ps qs : List Entry) → CommutesWith p qs → AllStand qs ps → AllStand qs (p ∷ ps)
+past_one : (p : Entry) (ps qs : List Entry) → CommutesWith p qs → AllCommute qs ps → AllCommute qs (p ∷ ps)
 past_one p ps [] one all = tt
 past_one p ps (q ∷ qs) one all = ((commute_turned p q one.0, all.0), past_one p ps qs one.1 all.1)
 
 -- where each of one list stands past the other, each of the other stands past it
-turned : (ps qs : List Entry) → AllStand ps qs → AllStand qs ps
+turned : (ps qs : List Entry) → AllCommute ps qs → AllCommute qs ps
 turned [] qs all = all_past_none qs
 turned (p ∷ ps) qs all = past_one p ps qs all.0 (turned ps qs all.1)
 
 -- where what stands past one list stands past another
-past_other : (entries listed others : List Entry) → ((e : Entry) → CommutesWith e listed → CommutesWith e others) → AllStand entries listed → AllStand entries others
+past_other : (entries listed others : List Entry) → ((e : Entry) → CommutesWith e listed → CommutesWith e others) → AllCommute entries listed → AllCommute entries others
 past_other [] listed others passes all = tt
 past_other (e ∷ entries) listed others passes all = (passes e all.0, past_other entries listed others passes all.1)
 
 -- what stands past a summary stands past all that it sums up, and the other way round
-pub past-summary : (entries summary listed : List Entry) → IsSummary summary listed → AllStand entries summary ↔ AllStand entries listed
+pub past-summary : (entries summary listed : List Entry) → IsSummary summary listed → AllCommute entries summary ↔ AllCommute entries listed
 past-summary entries summary listed is =
     (past_other entries summary listed (λ e. (is.same e).0), past_other entries listed summary (λ e. (is.same e).1))
 
 -- a summary stands past a list where all that it sums up does, and the other way round
-pub stands-summary : (summary entries listed : List Entry) → IsSummary summary entries → AllStand summary listed ↔ AllStand entries listed
+pub stands-summary : (summary entries listed : List Entry) → IsSummary summary entries → AllCommute summary listed ↔ AllCommute entries listed
 stands-summary summary entries listed is = (
   λ all. turned listed entries ((past-summary listed summary entries is).0 (turned summary listed all)),
   λ all. turned listed summary ((past-summary listed summary entries is).1 (turned entries listed all)),
@@ -79,19 +79,19 @@ summary-append s es t fs first second = record {
 -- ---- one entry more
 
 -- what commutes with a list and an entry commutes with the list where it stands for another
-commutes_set : (other : Entry) (xs : List Entry) (n : ℕ) (e : Entry) → CommutesWith other xs → Commute other e → CommutesWith other (set xs n e)
+commutes_set : (other : Entry) (xs : List Entry) (n : ℕ) (e : Entry) → CommutesWith other xs → CommuteForward other e → CommutesWith other (set xs n e)
 commutes_set other [] n e all own = tt
 commutes_set other (x ∷ xs) zero e all own = (own, all.1)
 commutes_set other (x ∷ xs) (suc n) e all own = (all.0, commutes_set other xs n e all.1 own)
 
 -- it commutes with that entry
-commutes_own : (other : Entry) (xs : List Entry) (n : ℕ) (e : Entry) → n < length xs → CommutesWith other (set xs n e) → Commute other e
+commutes_own : (other : Entry) (xs : List Entry) (n : ℕ) (e : Entry) → n < length xs → CommutesWith other (set xs n e) → CommuteForward other e
 commutes_own other [] n e low all = absurd (omega arith)
 commutes_own other (x ∷ xs) zero e low all = all.0
 commutes_own other (x ∷ xs) (suc n) e low all = commutes_own other xs n e (omega arith) all.1
 
 -- and with the list as it was, where it commutes with what stood there
-commutes_unset : (other : Entry) (xs : List Entry) (n : ℕ) (e : Entry) → Commute other (get_or xs n other) → CommutesWith other (set xs n e) → CommutesWith other xs
+commutes_unset : (other : Entry) (xs : List Entry) (n : ℕ) (e : Entry) → CommuteForward other (get_or xs n other) → CommutesWith other (set xs n e) → CommutesWith other xs
 commutes_unset other [] n e old all = tt
 commutes_unset other (x ∷ xs) zero e old all = (old, all.1)
 commutes_unset other (x ∷ xs) (suc n) e old all = (all.0, commutes_unset other xs n e old all.1)
@@ -109,7 +109,7 @@ module _ (marked : List MarkedEntry) (at : ℕ) (old : MarkedEntry) (e : Entry) 
   summary_left strict = record {
     same = λ other. (
       λ h. commutes_both other entries (e ∷ []) ((summary.same other).0 h)
-          (strict other (subst (Commute other) (entry_at marked at old other within is) (one_commutes other (entries_of marked) at low h)), tt),
+          (strict other (subst (CommuteForward other) (entry_at marked at old other within is) (one_commutes other (entries_of marked) at low h)), tt),
       λ h. (summary.same other).1 (commutes_first other entries (e ∷ []) h),
     );
   }
@@ -119,8 +119,8 @@ module _ (marked : List MarkedEntry) (at : ℕ) (old : MarkedEntry) (e : Entry) 
   set_there strict = record {
     same = λ other. (
       λ h. (
-          let own : Commute other e = commutes_own other (entries_of marked) at e low h in
-          let was : Commute other (get_or (entries_of marked) at other) = subst (Commute other) (sym (entry_at marked at old other within is)) (strict other own) in
+          let own : CommuteForward other e = commutes_own other (entries_of marked) at e low h in
+          let was : CommuteForward other (get_or (entries_of marked) at other) = subst (CommuteForward other) (sym (entry_at marked at old other within is)) (strict other own) in
           commutes_both other entries (e ∷ []) ((summary.same other).0 (commutes_unset other (entries_of marked) at e was h)) (own, tt)
           ),
       λ h. commutes_set other (entries_of marked) at e ((summary.same other).1 (commutes_first other entries (e ∷ []) h))

@@ -11,11 +11,10 @@ use Rattle.std.specs.Int.{bit_at}
 use Rattle.objects.specs.declared.entry.Entry.{Entry}
 use Rattle.committed.specs.declared.classes.Class.{Class}
 use Rattle.committed.specs.Classes.{class_of, number_of, always_commute}
-use Rattle.committed.specs.Committed.{AllStand}
+use Rattle.objects.specs.Entries.{AllCommute, CommuteForward}
 use Rattle.committed.specs.Index.{key_of, key_against}
 use Rattle.committed.specs.Items.{is_compared}
 use Rattle.committed.specs.Marks.{mark_of}
-use Rattle.committed.specs.Strictness.{Commute}
 use Rattle.committed.specs.Summaries.{entries_of}
 use Rattle.committed.proofs.ClassesLemmas.{always_commutes, elsewhere}
 use Rattle.committed.proofs.FilterLemmas.{conflict_bit}
@@ -264,13 +263,13 @@ still_sought links slots from found more mark class kept sought = record { all =
 
 -- a run that is watched by the marks of its entries and isn't found has no entry that conflicts with those that were sought
 pub not_found_commutes : (links : List Link) (size from : ℕ) (found : List ℕ) (run : ℕ) (p q : Entry) → from ≤ run → ¬ Has found run → HasMark size links run (mark_of q)
-    → ((class : Class) → IsSought links size from found (mark_of p) class) → Commute q p
+    → ((class : Class) → IsSought links size from found (mark_of p) class) → CommuteForward q p
 not_found_commutes links size from found run p q late none has sought = commute_turned p q (by_class (always_commute (class_of p.call p.reply) class) refl (is_compared p q) refl)
   where
     class : Class
     class = class_of q.call q.reply
 
-    by_class : (b : Bool) → always_commute (class_of p.call p.reply) class ≡ b → (u : Bool) → is_compared p q ≡ u → Commute p q
+    by_class : (b : Bool) → always_commute (class_of p.call p.reply) class ≡ b → (u : Bool) → is_compared p q ≡ u → CommuteForward p q
     by_class true always u compared = always_commutes p q always
     by_class false may false compared = elsewhere p q compared
     by_class false may true compared =
@@ -278,6 +277,6 @@ not_found_commutes links size from found run p q late none has sought = commute_
         (key_is (λ key. HasLink links run (slot_of size key)) p q compared has.by_object has.by_item)))
 
 -- lists commute where each two of their entries do
-pub all_stand : (ps qs : List Entry) → ((i j : ℕ) (d e : Entry) → i < length ps → j < length qs → Commute (get_or ps i d) (get_or qs j e)) → AllStand ps qs
+pub all_stand : (ps qs : List Entry) → ((i j : ℕ) (d e : Entry) → i < length ps → j < length qs → CommuteForward (get_or ps i d) (get_or qs j e)) → AllCommute ps qs
 all_stand [] qs h = tt
 all_stand (p ∷ ps) qs h = (all_commute p qs (λ j l. h 0 j p p (omega arith) l), all_stand ps qs (λ i j d e low high. h (suc i) j d e (omega arith) high))

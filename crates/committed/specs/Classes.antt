@@ -1,29 +1,23 @@
 -- Classes of operations that always commute forward.
 use Rattle.std.specs.Prelude.{ℕ, ◌+◌, ◌^◌, Bool, true, false, not, cond, List, [], ◌∷◌}
-use Rattle.atoms.specs.declared.account.AccountCall.{AccountCall}
-use Rattle.atoms.specs.declared.account.AccountReply.{AccountReply}
-use Rattle.atoms.specs.declared.account.AccountCall.TheVariants as account_call
-use Rattle.atoms.specs.declared.account.AccountReply.TheVariants as account_reply
-use Rattle.atoms.specs.declared.counter.CounterCall.{CounterCall}
-use Rattle.atoms.specs.declared.counter.CounterReply.{CounterReply}
-use Rattle.atoms.specs.declared.counter.CounterCall.TheVariants as counter_call
-use Rattle.atoms.specs.declared.counter.CounterReply.TheVariants as counter_reply
-use Rattle.atoms.specs.declared.item_set.SetCall.{SetCall}
-use Rattle.atoms.specs.declared.item_set.SetReply.{SetReply}
-use Rattle.atoms.specs.declared.item_set.SetCall.TheVariants as set_call
-use Rattle.atoms.specs.declared.item_set.SetReply.TheVariants as set_reply
-use Rattle.atoms.specs.declared.queue.QueueCall.{QueueCall}
-use Rattle.atoms.specs.declared.queue.QueueReply.{QueueReply}
-use Rattle.atoms.specs.declared.queue.QueueCall.TheVariants as queue_call
-use Rattle.atoms.specs.declared.queue.QueueReply.TheVariants as queue_reply
-use Rattle.atoms.specs.declared.directory.DirectoryCall.{DirectoryCall}
-use Rattle.atoms.specs.declared.directory.DirectoryReply.{DirectoryReply}
-use Rattle.atoms.specs.declared.directory.DirectoryCall.TheVariants as directory_call
-use Rattle.atoms.specs.declared.directory.DirectoryReply.TheVariants as directory_reply
-use Rattle.atoms.specs.declared.max_register.MaxCall.{MaxCall}
-use Rattle.atoms.specs.declared.max_register.MaxReply.{MaxReply}
-use Rattle.atoms.specs.declared.max_register.MaxCall.TheVariants as max_call
-use Rattle.atoms.specs.declared.max_register.MaxReply.TheVariants as max_reply
+use Rattle.atoms.specs.Account.{account_effect}
+use Rattle.atoms.specs.Counter.{counter_effect}
+use Rattle.atoms.specs.ItemSet.{set_effect}
+use Rattle.atoms.specs.Queue.{queue_effect}
+use Rattle.atoms.specs.Directory.{key_effect}
+use Rattle.atoms.specs.MaxRegister.{max_effect}
+use Rattle.atoms.specs.declared.account.AccountEffect.{AccountEffect}
+use Rattle.atoms.specs.declared.account.AccountEffect.TheVariants as account
+use Rattle.atoms.specs.declared.counter.CounterEffect.{CounterEffect}
+use Rattle.atoms.specs.declared.counter.CounterEffect.TheVariants as counter
+use Rattle.atoms.specs.declared.item_set.SetEffect.{SetEffect}
+use Rattle.atoms.specs.declared.item_set.SetEffect.TheVariants as set
+use Rattle.atoms.specs.declared.queue.QueueEffect.{QueueEffect}
+use Rattle.atoms.specs.declared.queue.QueueEffect.TheVariants as queue
+use Rattle.atoms.specs.declared.directory.KeyEffect.{KeyEffect}
+use Rattle.atoms.specs.declared.directory.KeyEffect.TheVariants as key
+use Rattle.atoms.specs.declared.max_register.MaxEffect.{MaxEffect}
+use Rattle.atoms.specs.declared.max_register.MaxEffect.TheVariants as max
 use Rattle.objects.specs.declared.call.Call.{Call}
 use Rattle.objects.specs.declared.call.Call.TheVariants as call
 use Rattle.objects.specs.declared.call.Reply.{Reply}
@@ -31,50 +25,50 @@ use Rattle.objects.specs.declared.call.Reply.TheVariants as reply
 use Rattle.committed.specs.declared.classes.Class.{Class}
 use Rattle.committed.specs.declared.classes.Class.TheVariants.{Deposit, Withdrawal, Refusal, Balance, Count, Raise, Change, Put, Enqueue, Dequeue, Size, Look, Taken}
 
-abbrev pub account_class : AccountCall → AccountReply → Class
-account_class (account_call.Deposit a) account_reply.Ok = Deposit
-account_class (account_call.Withdraw a) account_reply.Ok = Withdrawal
-account_class (account_call.Withdraw a) account_reply.No = Refusal
-account_class account_call.Balance (account_reply.Number n) = Balance
-account_class c r = Look
+abbrev pub account_class : AccountEffect → Class
+account_class (account.Deposited a) = Deposit
+account_class (account.Withdrew a) = Withdrawal
+account_class (account.Refused a) = Refusal
+account_class (account.Counted n) = Balance
+account_class account.Impossible = Look
 
-abbrev pub counter_class : CounterCall → CounterReply → Class
-counter_class (counter_call.Add k) counter_reply.Ok = Count
-counter_class (counter_call.Sub k) counter_reply.Ok = Count
-counter_class c r = Look
+abbrev pub counter_class : CounterEffect → Class
+counter_class (counter.Added k) = Count
+counter_class (counter.Subtracted k) = Count
+counter_class e = Look
 
-abbrev pub set_class : SetCall → SetReply → Class
-set_class (set_call.Insert x) set_reply.Added = Change
-set_class (set_call.Remove x) set_reply.Removed = Change
-set_class set_call.Size (set_reply.Number n) = Size
-set_class c r = Look
+abbrev pub set_class : SetEffect → Class
+set_class (set.WasAdded x) = Change
+set_class (set.WasRemoved x) = Change
+set_class (set.WasCounted n) = Size
+set_class e = Look
 
-abbrev pub queue_class : QueueCall → QueueReply → Class
-queue_class (queue_call.Enq x) queue_reply.Ok = Enqueue
-queue_class queue_call.Deq (queue_reply.Got x) = Dequeue
-queue_class queue_call.Deq queue_reply.Empty = Size
-queue_class queue_call.Length (queue_reply.Number n) = Size
-queue_class c r = Look
+abbrev pub queue_class : QueueEffect → Class
+queue_class (queue.Enqueued x) = Enqueue
+queue_class (queue.Dequeued x) = Dequeue
+queue_class queue.FoundEmpty = Size
+queue_class (queue.Counted n) = Size
+queue_class queue.Impossible = Look
 
-abbrev pub directory_class : DirectoryCall → DirectoryReply → Class
-directory_class (directory_call.Bind k v) directory_reply.Bound = Change
-directory_class (directory_call.Put k v) directory_reply.Ok = Put
-directory_class (directory_call.Bind k v) directory_reply.Taken = Taken
-directory_class (directory_call.Unbind k) directory_reply.Gone = Change
-directory_class c r = Look
+abbrev pub key_class : KeyEffect → Class
+key_class (key.WasBound v) = Change
+key_class (key.WasPut v) = Put
+key_class key.WasTaken = Taken
+key_class key.WasUnbound = Change
+key_class e = Look
 
-abbrev pub max_class : MaxCall → MaxReply → Class
-max_class (max_call.Raise k) max_reply.Ok = Raise
-max_class c r = Look
+abbrev pub max_class : MaxEffect → Class
+max_class (max.Raised k) = Raise
+max_class e = Look
 
 -- an operation that is legal at no value is taken for a look
 abbrev pub class_of : Call → Reply → Class
-class_of (call.Account c) (reply.Account r) = account_class c r
-class_of (call.Counter c) (reply.Counter r) = counter_class c r
-class_of (call.Set c) (reply.Set r) = set_class c r
-class_of (call.Queue c) (reply.Queue r) = queue_class c r
-class_of (call.Directory c) (reply.Directory r) = directory_class c r
-class_of (call.Max c) (reply.Max r) = max_class c r
+class_of (call.Account c) (reply.Account r) = account_class (account_effect (c, r))
+class_of (call.Counter c) (reply.Counter r) = counter_class (counter_effect (c, r))
+class_of (call.Set c) (reply.Set r) = set_class (set_effect (c, r))
+class_of (call.Queue c) (reply.Queue r) = queue_class (queue_effect (c, r))
+class_of (call.Directory c) (reply.Directory r) = key_class (key_effect (c, r))
+class_of (call.Max c) (reply.Max r) = max_class (max_effect (c, r))
 class_of c r = Look
 
 abbrev pub number_of : Class → ℕ

@@ -1,12 +1,13 @@
 -- The items that operations are about.
 use Rattle.std.specs.Prelude.{◌==◌, ◌&&◌, Bool, true, false, Option, Some, None, if◌then◌else◌}
 use Rattle.atoms.specs.declared.item.Item.{Item}
-use Rattle.atoms.specs.declared.item_set.SetCall.{SetCall}
-use Rattle.atoms.specs.declared.item_set.SetCall.TheVariants.{Insert, Remove, Has, Size}
-use Rattle.atoms.specs.declared.queue.QueueCall.TheVariants.{Deq}
-use Rattle.atoms.specs.declared.queue.QueueReply.{QueueReply}
-use Rattle.atoms.specs.declared.queue.QueueReply.TheVariants.{Got}
+use Rattle.atoms.specs.ItemSet.{set_effect}
+use Rattle.atoms.specs.Queue.{queue_effect}
 use Rattle.atoms.specs.Directory.{key_of}
+use Rattle.atoms.specs.declared.item_set.SetEffect.{SetEffect}
+use Rattle.atoms.specs.declared.item_set.SetEffect.TheVariants.{WasAdded, WasRemoved, WasInside, WasOutside}
+use Rattle.atoms.specs.declared.queue.QueueEffect.{QueueEffect}
+use Rattle.atoms.specs.declared.queue.QueueEffect.TheVariants.{Dequeued}
 use Rattle.objects.specs.declared.call.Call.{Call}
 use Rattle.objects.specs.declared.call.Call.TheVariants.{Set, Queue, Directory}
 use Rattle.objects.specs.declared.call.Reply.{Reply}
@@ -14,21 +15,22 @@ use Rattle.objects.specs.declared.call.Reply.TheVariants as reply
 use Rattle.objects.specs.declared.entry.Entry.{Entry}
 use Rattle.committed.specs.Classes.{class_of, is_by_item}
 
-abbrev pub set_item : SetCall → Option Item
-set_item (Insert x) = Some x
-set_item (Remove x) = Some x
-set_item (Has x) = Some x
-set_item Size = None
+abbrev pub set_item : SetEffect → Option Item
+set_item (WasAdded x) = Some x
+set_item (WasRemoved x) = Some x
+set_item (WasInside x) = Some x
+set_item (WasOutside x) = Some x
+set_item e = None
 
-abbrev pub taken_item : QueueReply → Option Item
-taken_item (Got x) = Some x
-taken_item r = None
+abbrev pub taken_item : QueueEffect → Option Item
+taken_item (Dequeued x) = Some x
+taken_item e = None
 
 -- the item that an operation is about, where it is about no other part of its object
 abbrev pub item_of : Call → Reply → Option Item
-item_of (Set c) r = set_item c
-item_of (Directory c) r = Some (key_of c)
-item_of (Queue Deq) (reply.Queue r) = taken_item r
+item_of (Set c) (reply.Set r) = set_item (set_effect (c, r))
+item_of (Directory c) (reply.Directory r) = Some (key_of c)
+item_of (Queue c) (reply.Queue r) = taken_item (queue_effect (c, r))
 item_of c r = None
 
 -- the item, where one is asked for

@@ -1,4 +1,3 @@
-pub mod Committed
 pub mod Classes
 pub mod Items
 pub mod Strictness

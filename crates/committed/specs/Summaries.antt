@@ -1,7 +1,7 @@
 -- Entries that stand for many.
 use Rattle.std.specs.Prelude.{List, map, ◌↔◌}
 use Rattle.objects.specs.declared.entry.Entry.{Entry}
-use Rattle.committed.specs.Committed.{CommutesWith}
+use Rattle.objects.specs.Entries.{CommutesWith}
 use Rattle.committed.specs.declared.marks.MarkedEntry.{MarkedEntry}
 
 -- the entries, without their marks

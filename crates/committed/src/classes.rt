@@ -1,13 +1,14 @@
 //! Classes of operations that always commute forward, whatever their arguments and replies are.
 ghost use Rattle.std.specs.Prelude.{◌≡◌, ◌^◌};
-ghost use Rattle.committed.specs.Classes.{account_class, counter_class, set_class, queue_class, directory_class, max_class, class_of, number_of, conflicts_of, is_by_item};
+ghost use Rattle.committed.specs.Classes.{account_class, counter_class, set_class, queue_class, key_class, max_class, class_of, number_of, conflicts_of, is_by_item};
 
 use objects::{
-    AccountCall, AccountReply, Call, CounterCall, CounterReply, DirectoryCall, DirectoryReply,
-    Entry, MaxCall, MaxReply, QueueCall, QueueReply, Reply, SetCall, SetReply,
+    Account, AccountEffect, Call, Counter, CounterEffect, Directory, Entry, ItemSet, KeyEffect,
+    MaxEffect, MaxRegister, Queue, QueueEffect, Reply, SetEffect,
 };
 
-/// What an operation did, as far as it decides with which others it always commutes forward.
+/// What an operation did, as far as it decides with which others it always commutes forward. It goes by
+/// the operation's effect.
 #[derive(Clone, Copy)]
 pub enum Class {
     Deposit,
@@ -61,12 +62,18 @@ impl Class {
         ensures { result ≡ class_of entry.now.call entry.now.reply }
     {
         match (&entry.call, &entry.reply) {
-            (Call::Account(call), Reply::Account(reply)) => account_class(call, reply),
-            (Call::Counter(call), Reply::Counter(reply)) => counter_class(call, reply),
-            (Call::Set(call), Reply::Set(reply)) => set_class(call, reply),
-            (Call::Queue(call), Reply::Queue(reply)) => queue_class(call, reply),
-            (Call::Directory(call), Reply::Directory(reply)) => directory_class(call, reply),
-            (Call::Max(call), Reply::Max(reply)) => max_class(call, reply),
+            (Call::Account(call), Reply::Account(reply)) => {
+                account_class(Account::effect(call, reply))
+            }
+            (Call::Counter(call), Reply::Counter(reply)) => {
+                counter_class(Counter::effect(call, reply))
+            }
+            (Call::Set(call), Reply::Set(reply)) => set_class(ItemSet::effect(call, reply)),
+            (Call::Queue(call), Reply::Queue(reply)) => queue_class(Queue::effect(call, reply)),
+            (Call::Directory(call), Reply::Directory(reply)) => {
+                key_class(Directory::effect(call, reply).change)
+            }
+            (Call::Max(call), Reply::Max(reply)) => max_class(MaxRegister::effect(call, reply)),
             _ => Class::Look,
         }
     }
@@ -141,69 +148,64 @@ impl Class {
     }
 }
 
-fn account_class(call: &AccountCall, reply: &AccountReply) -> Class
-    ensures { result ≡ account_class call.now reply.now }
+fn account_class(effect: AccountEffect) -> Class
+    ensures { result ≡ account_class effect }
 {
-    match (*call, *reply) {
-        (AccountCall::Deposit(_), AccountReply::Ok) => Class::Deposit,
-        (AccountCall::Withdraw(_), AccountReply::Ok) => Class::Withdrawal,
-        (AccountCall::Withdraw(_), AccountReply::No) => Class::Refusal,
-        (AccountCall::Balance, AccountReply::Number(_)) => Class::Balance,
-        _ => Class::Look,
+    match effect {
+        AccountEffect::Deposited(_) => Class::Deposit,
+        AccountEffect::Withdrew(_) => Class::Withdrawal,
+        AccountEffect::Refused(_) => Class::Refusal,
+        AccountEffect::Counted(_) => Class::Balance,
+        AccountEffect::Impossible => Class::Look,
     }
 }
 
-fn counter_class(call: &CounterCall, reply: &CounterReply) -> Class
-    ensures { result ≡ counter_class call.now reply.now }
+fn counter_class(effect: CounterEffect) -> Class
+    ensures { result ≡ counter_class effect }
 {
-    match (*call, *reply) {
-        (CounterCall::Add(_) | CounterCall::Sub(_), CounterReply::Ok) => Class::Count,
-        _ => Class::Look,
+    match effect {
+        CounterEffect::Added(_) | CounterEffect::Subtracted(_) => Class::Count,
+        CounterEffect::Counted(_) | CounterEffect::Impossible => Class::Look,
     }
 }
 
-fn set_class(call: &SetCall, reply: &SetReply) -> Class
-    ensures { result ≡ set_class call.now reply.now }
+fn set_class(effect: SetEffect) -> Class
+    ensures { result ≡ set_class effect }
 {
-    match (*call, *reply) {
-        (SetCall::Insert(_), SetReply::Added) | (SetCall::Remove(_), SetReply::Removed) => {
-            Class::Change
-        }
-        (SetCall::Size, SetReply::Number(_)) => Class::Size,
-        _ => Class::Look,
+    match effect {
+        SetEffect::WasAdded(_) | SetEffect::WasRemoved(_) => Class::Change,
+        SetEffect::WasCounted(_) => Class::Size,
+        SetEffect::WasInside(_) | SetEffect::WasOutside(_) | SetEffect::Impossible => Class::Look,
     }
 }
 
-fn queue_class(call: &QueueCall, reply: &QueueReply) -> Class
-    ensures { result ≡ queue_class call.now reply.now }
+fn queue_class(effect: QueueEffect) -> Class
+    ensures { result ≡ queue_class effect }
 {
-    match (*call, *reply) {
-        (QueueCall::Enq(_), QueueReply::Ok) => Class::Enqueue,
-        (QueueCall::Deq, QueueReply::Got(_)) => Class::Dequeue,
-        (QueueCall::Deq, QueueReply::Empty) | (QueueCall::Length, QueueReply::Number(_)) => {
-            Class::Size
-        }
-        _ => Class::Look,
+    match effect {
+        QueueEffect::Enqueued(_) => Class::Enqueue,
+        QueueEffect::Dequeued(_) => Class::Dequeue,
+        QueueEffect::FoundEmpty | QueueEffect::Counted(_) => Class::Size,
+        QueueEffect::Impossible => Class::Look,
     }
 }
 
-fn directory_class(call: &DirectoryCall, reply: &DirectoryReply) -> Class
-    ensures { result ≡ directory_class call.now reply.now }
+fn key_class(effect: KeyEffect) -> Class
+    ensures { result ≡ key_class effect }
 {
-    match (*call, *reply) {
-        (DirectoryCall::Bind(_, _), DirectoryReply::Bound)
-        | (DirectoryCall::Unbind(_), DirectoryReply::Gone) => Class::Change,
-        (DirectoryCall::Put(_, _), DirectoryReply::Ok) => Class::Put,
-        (DirectoryCall::Bind(_, _), DirectoryReply::Taken) => Class::Taken,
-        _ => Class::Look,
+    match effect {
+        KeyEffect::WasBound(_) | KeyEffect::WasUnbound => Class::Change,
+        KeyEffect::WasPut(_) => Class::Put,
+        KeyEffect::WasTaken => Class::Taken,
+        KeyEffect::WasMissing | KeyEffect::WasFound(_) | KeyEffect::Impossible => Class::Look,
     }
 }
 
-fn max_class(call: &MaxCall, reply: &MaxReply) -> Class
-    ensures { result ≡ max_class call.now reply.now }
+fn max_class(effect: MaxEffect) -> Class
+    ensures { result ≡ max_class effect }
 {
-    match (*call, *reply) {
-        (MaxCall::Raise(_), MaxReply::Ok) => Class::Raise,
-        _ => Class::Look,
+    match effect {
+        MaxEffect::Raised(_) => Class::Raise,
+        MaxEffect::Counted(_) | MaxEffect::Impossible => Class::Look,
     }
 }

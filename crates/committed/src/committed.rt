@@ -1,11 +1,10 @@
 //! A list of entries, against which others are checked.
 ghost use Rattle.std.specs.Prelude.{◌≡◌, ◌↔◌, ◌+◌, ◌<◌, ◌≤◌, ℕ, [], ◌++◌, length, take, slice_index_or, vec_len, vec_capacity, IsTrue, OnOk, OnErr};
-ghost use Rattle.committed.specs.Committed.{CommutesWith, AllStand};
+ghost use Rattle.objects.specs.Entries.{CommutesWith, AllCommute, CommuteForward};
 ghost use Rattle.committed.specs.Marks.{mark_of};
 ghost use Rattle.committed.specs.Summaries.{entries_of};
 ghost use Rattle.committed.specs.Filter.{IsFilterOf, Meets};
 ghost use Rattle.committed.specs.Index.{IsIndexOf, IsAllListed, HasRoom};
-ghost use Rattle.committed.specs.Strictness.{Commute};
 
 use crate::classes::Class;
 use crate::filter::Filter;
@@ -104,7 +103,7 @@ impl Committed {
     /// Takes no memory.
     pub fn stands(&self, entries: &[MarkedEntry], upto: usize) -> bool
         requires within { upto ≤ length self.now }
-        ensures { IsTrue result ↔ AllStand (entries_of entries.now) (take upto self.now) }
+        ensures { IsTrue result ↔ AllCommute (entries_of entries.now) (take upto self.now) }
     {
         for marked in entries {
             if !self.commutes_with(&marked.entry, &marked.mark, upto) {
@@ -166,7 +165,7 @@ fn put_all(entries: &mut Vec<Entry>, filter: &mut Filter, index: &mut Index, mor
 /// Whether the entry commutes forward with each of the first `upto` from a place on.
 fn commutes_past(entry: &Entry, entries: &[Entry], since: usize, upto: usize) -> bool
     requires { upto ≤ length entries.now }
-    ensures { IsTrue result ↔ ((k : ℕ) → since ≤ k → k < upto → Commute entry.now (slice_index_or entries.now k entry.now)) }
+    ensures { IsTrue result ↔ ((k : ℕ) → since ≤ k → k < upto → CommuteForward entry.now (slice_index_or entries.now k entry.now)) }
 {
     let mut place = since;
     while place < upto {

@@ -6,7 +6,7 @@
 ghost use Rattle.std.specs.Prelude.{◌≡◌, ◌≢◌, ◌<◌, ◌≤◌, ◌+◌, ◌-◌, ◌*◌, ◌^◌, ℕ, [], min, length, slice_index_or, vec_len, vec_capacity, IsTrue, IfOk, OnOk, OnErr};
 ghost use Rattle.objects.specs.declared.entry.Entry.{Entry as OneEntry};
 ghost use Rattle.committed.specs.Marks.{mark_of};
-ghost use Rattle.committed.specs.Strictness.{Commute};
+ghost use Rattle.objects.specs.Entries.{CommuteForward};
 ghost use Rattle.committed.specs.Index.{key_of, key_against, slot_of, slot_in, link_at, key_at, place_at, IsEnd, IsLink, IsSpan, AreChains, AreSpans, IsLinked, IsIndexOf, HasRoom, IsLastBelow};
 
 use crate::classes::Class;
@@ -295,8 +295,8 @@ impl Index {
     pub fn commutes(&self, entry: &Entry, entries: &[Entry], key: u32, upto: usize) -> bool
         requires chains { AreChains self.now }
         requires spans { AreSpans entries.now self.now }
-        ensures found { IsTrue result → (k : ℕ) → k < upto → IsLinked self.now.links.items k key → Commute entry.now (slice_index_or entries.now k entry.now) }
-        ensures all { ((k : ℕ) → k < upto → Commute entry.now (slice_index_or entries.now k entry.now)) → IsTrue result }
+        ensures found { IsTrue result → (k : ℕ) → k < upto → IsLinked self.now.links.items k key → CommuteForward entry.now (slice_index_or entries.now k entry.now) }
+        ensures all { ((k : ℕ) → k < upto → CommuteForward entry.now (slice_index_or entries.now k entry.now)) → IsTrue result }
     {
         let mut at = self.last_below(key, upto);
         while at != 0 {

@@ -2,7 +2,7 @@
 ghost use Rattle.std.specs.Prelude.{◌≡◌};
 ghost use Rattle.committed.specs.Items.{item_of, set_item, taken_item};
 
-use objects::{Call, DirectoryCall, Item, QueueCall, QueueReply, Reply, SetCall};
+use objects::{Call, Directory, Item, ItemSet, Queue, QueueEffect, Reply, SetEffect};
 
 /// The item that an operation is about, where it is about no other part of its object. A dequeue is
 /// about the item that it took.
@@ -10,35 +10,32 @@ pub fn item_of(call: &Call, reply: &Reply) -> Option<Item>
     ensures { result ≡ item_of call.now reply.now }
 {
     match (call, reply) {
-        (Call::Set(call), _) => set_item(call),
-        (
-            Call::Directory(
-                DirectoryCall::Bind(key, _)
-                | DirectoryCall::Put(key, _)
-                | DirectoryCall::Unbind(key)
-                | DirectoryCall::Lookup(key),
-            ),
-            _,
-        ) => Some(*key),
-        (Call::Queue(QueueCall::Deq), Reply::Queue(reply)) => taken_item(reply),
+        (Call::Set(call), Reply::Set(reply)) => set_item(ItemSet::effect(call, reply)),
+        (Call::Directory(call), Reply::Directory(reply)) => Some(
+            Directory::effect(call, reply).key,
+        ),
+        (Call::Queue(call), Reply::Queue(reply)) => taken_item(Queue::effect(call, reply)),
         _ => None,
     }
 }
 
-fn taken_item(reply: &QueueReply) -> Option<Item>
-    ensures { result ≡ taken_item reply.now }
+fn taken_item(effect: QueueEffect) -> Option<Item>
+    ensures { result ≡ taken_item effect }
 {
-    match reply {
-        QueueReply::Got(item) => Some(*item),
+    match effect {
+        QueueEffect::Dequeued(item) => Some(item),
         _ => None,
     }
 }
 
-fn set_item(call: &SetCall) -> Option<Item>
-    ensures { result ≡ set_item call.now }
+fn set_item(effect: SetEffect) -> Option<Item>
+    ensures { result ≡ set_item effect }
 {
-    match call {
-        SetCall::Insert(item) | SetCall::Remove(item) | SetCall::Has(item) => Some(*item),
-        SetCall::Size => None,
+    match effect {
+        SetEffect::WasAdded(item)
+        | SetEffect::WasRemoved(item)
+        | SetEffect::WasInside(item)
+        | SetEffect::WasOutside(item) => Some(item),
+        SetEffect::WasCounted(_) | SetEffect::Impossible => None,
     }
 }

@@ -3,7 +3,7 @@ ghost use Rattle.std.specs.Prelude.{◌≡◌, IsTrue};
 ghost use Rattle.committed.specs.Strictness.{IsAsStrict, is_strict_by_number, account_is_as_strict, counter_is_as_strict, max_is_as_strict};
 
 use objects::{
-    AccountCall, AccountReply, Call, CounterCall, CounterReply, Entry, MaxCall, MaxReply, Reply,
+    Account, AccountEffect, Call, Counter, CounterEffect, Entry, MaxEffect, MaxRegister, Reply,
 };
 
 /// Whether the first entry is sure to commute forward with no more than the second does. It does where
@@ -25,81 +25,53 @@ fn is_strict_by_number(first: &Entry, second: &Entry) -> bool
 {
     match (&first.call, &first.reply, &second.call, &second.reply) {
         (Call::Account(p), Reply::Account(r), Call::Account(q), Reply::Account(s)) => {
-            account_is_as_strict(p, r, q, s)
+            account_is_as_strict(Account::effect(p, r), Account::effect(q, s))
         }
         (Call::Counter(p), Reply::Counter(r), Call::Counter(q), Reply::Counter(s)) => {
-            counter_is_as_strict(p, r, q, s)
+            counter_is_as_strict(Counter::effect(p, r), Counter::effect(q, s))
         }
         (Call::Max(p), Reply::Max(r), Call::Max(q), Reply::Max(s)) => {
-            max_is_as_strict(p, r, q, s)
+            max_is_as_strict(MaxRegister::effect(p, r), MaxRegister::effect(q, s))
         }
         _ => false,
     }
 }
 
-/// Whether the operation of the first call and reply is as strict as that of the second.
-fn account_is_as_strict(
-    first: &AccountCall,
-    reply: &AccountReply,
-    second: &AccountCall,
-    answer: &AccountReply,
-) -> bool
-    ensures { result ≡ account_is_as_strict first.now reply.now second.now answer.now }
+/// Whether an operation of the first effect is as strict as one of the second.
+fn account_is_as_strict(first: AccountEffect, second: AccountEffect) -> bool
+    ensures { result ≡ account_is_as_strict first second }
 {
-    match (*first, *reply, *second, *answer) {
-        (AccountCall::Deposit(_), AccountReply::Ok, AccountCall::Deposit(_), AccountReply::Ok) =>
-            true,
-        (
-            AccountCall::Withdraw(amount),
-            AccountReply::Ok,
-            AccountCall::Withdraw(other),
-            AccountReply::Ok,
-        ) => amount.get() <= other.get(),
-        (AccountCall::Withdraw(_), AccountReply::No, AccountCall::Withdraw(_), AccountReply::No) =>
-            true,
-        (
-            AccountCall::Balance,
-            AccountReply::Number(number),
-            AccountCall::Balance,
-            AccountReply::Number(other),
-        ) => other <= number,
+    match (first, second) {
+        (AccountEffect::Deposited(_), AccountEffect::Deposited(_))
+        | (AccountEffect::Refused(_), AccountEffect::Refused(_)) => true,
+        (AccountEffect::Withdrew(amount), AccountEffect::Withdrew(other)) => {
+            amount.get() <= other.get()
+        }
+        (AccountEffect::Counted(number), AccountEffect::Counted(other)) => other <= number,
         _ => false,
     }
 }
 
-/// Whether the operation of the first call and reply is as strict as that of the second.
-fn counter_is_as_strict(
-    first: &CounterCall,
-    reply: &CounterReply,
-    second: &CounterCall,
-    answer: &CounterReply,
-) -> bool
-    ensures { result ≡ counter_is_as_strict first.now reply.now second.now answer.now }
+/// Whether an operation of the first effect is as strict as one of the second.
+fn counter_is_as_strict(first: CounterEffect, second: CounterEffect) -> bool
+    ensures { result ≡ counter_is_as_strict first second }
 {
-    match (*first, *reply, *second, *answer) {
+    matches!(
+        (first, second),
         (
-            CounterCall::Add(_) | CounterCall::Sub(_),
-            CounterReply::Ok,
-            CounterCall::Add(_) | CounterCall::Sub(_),
-            CounterReply::Ok,
-        ) => true,
-        (CounterCall::Read, CounterReply::Number(_), CounterCall::Read, CounterReply::Number(_)) =>
-            true,
-        _ => false,
-    }
+            CounterEffect::Added(_) | CounterEffect::Subtracted(_),
+            CounterEffect::Added(_) | CounterEffect::Subtracted(_),
+        ) | (CounterEffect::Counted(_), CounterEffect::Counted(_))
+    )
 }
 
-/// Whether the operation of the first call and reply is as strict as that of the second.
-fn max_is_as_strict(first: &MaxCall, reply: &MaxReply, second: &MaxCall, answer: &MaxReply) -> bool
-    ensures { result ≡ max_is_as_strict first.now reply.now second.now answer.now }
+/// Whether an operation of the first effect is as strict as one of the second.
+fn max_is_as_strict(first: MaxEffect, second: MaxEffect) -> bool
+    ensures { result ≡ max_is_as_strict first second }
 {
-    match (*first, *reply, *second, *answer) {
-        (MaxCall::Raise(amount), MaxReply::Ok, MaxCall::Raise(other), MaxReply::Ok) => {
-            other.get() <= amount.get()
-        }
-        (MaxCall::Top, MaxReply::Number(number), MaxCall::Top, MaxReply::Number(other)) => {
-            number <= other
-        }
+    match (first, second) {
+        (MaxEffect::Raised(amount), MaxEffect::Raised(other)) => other.get() <= amount.get(),
+        (MaxEffect::Counted(number), MaxEffect::Counted(other)) => number <= other,
         _ => false,
     }
 }

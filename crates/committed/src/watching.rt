@@ -1,7 +1,7 @@
 //! Which runs have an entry that may conflict with one of some others.
 ghost use Rattle.std.specs.Prelude.{◌≡◌, ◌<◌, ◌≤◌, ◌⊎◌, ℕ, List, OnOk};
 ghost use Rattle.objects.specs.declared.entry.Entry.{Entry as OneEntry};
-ghost use Rattle.committed.specs.Committed.{AllStand};
+ghost use Rattle.objects.specs.Entries.{AllCommute};
 ghost use Rattle.committed.specs.NumberSets.{Has};
 ghost use Rattle.committed.specs.Summaries.{entries_of};
 ghost use Rattle.committed.specs.Watching.{Watches};
@@ -44,7 +44,7 @@ impl Watch {
     ) -> Result<(), NoMemory>
         ensures more { OnOk result ((run : ℕ) → Has found.old run → Has found.new run) }
         ensures only { OnOk result ((run : ℕ) → Has found.new run → Has found.old run ⊎ ((from ≤ run) × (run < self.now.count))) }
-        ensures stand { OnOk result ((run : ℕ) (others : List OneEntry) → from ≤ run → ¬ Has found.new run → Watches self.now run others → AllStand others (entries_of entries.now)) }
+        ensures stand { OnOk result ((run : ℕ) (others : List OneEntry) → from ≤ run → ¬ Has found.new run → Watches self.now run others → AllCommute others (entries_of entries.now)) }
     {
         for marked in entries {
             for class in &Class::ALL {

@@ -10,21 +10,22 @@ use Rattle.objects.specs.declared.call.Call.{Call}
 use Rattle.objects.specs.declared.call.Call.TheVariants.{Account as account_call, Counter as counter_call, Set as set_call, Queue as queue_call, Directory as directory_call, Max as max_call}
 use Rattle.objects.specs.declared.call.Reply.{Reply}
 use Rattle.objects.specs.declared.entry.Entry.{Entry}
-use Rattle.intentions.specs.Levels.{after_entries, AllEntriesLegal, AllHaveRoom}
+use Rattle.objects.specs.Entries.{after, AreLegal}
+use Rattle.intentions.specs.Levels.{AllHaveRoom}
 
-pub after_entries-append : (values : List Value) (xs ys : List Entry) → after_entries values (xs ++ ys) ≡ after_entries (after_entries values xs) ys
-after_entries-append values [] ys = refl
-after_entries-append values (x ∷ xs) ys = after_entries-append (objects.after values (x.object, x.call)) xs ys
+pub after-append : (values : List Value) (xs ys : List Entry) → after values (xs ++ ys) ≡ after (after values xs) ys
+after-append values [] ys = refl
+after-append values (x ∷ xs) ys = after-append (objects.after values (x.object, x.call)) xs ys
 
-pub legal-append : (values : List Value) (xs ys : List Entry) → AllEntriesLegal values xs → AllEntriesLegal (after_entries values xs) ys → AllEntriesLegal values (xs ++ ys)
+pub legal-append : (values : List Value) (xs ys : List Entry) → AreLegal values xs → AreLegal (after values xs) ys → AreLegal values (xs ++ ys)
 legal-append values [] ys h k = k
 legal-append values (x ∷ xs) ys h k = (h.0, legal-append (objects.after values (x.object, x.call)) xs ys h.1 k)
 
-pub room-append : (values : List Value) (xs ys : List Entry) → AllHaveRoom values xs → AllHaveRoom (after_entries values xs) ys → AllHaveRoom values (xs ++ ys)
+pub room-append : (values : List Value) (xs ys : List Entry) → AllHaveRoom values xs → AllHaveRoom (after values xs) ys → AllHaveRoom values (xs ++ ys)
 room-append values [] ys h k = k
 room-append values (x ∷ xs) ys h k = (h.0, room-append (objects.after values (x.object, x.call)) xs ys h.1 k)
 
-pub legal-take : (values : List Value) (n : ℕ) (xs : List Entry) → AllEntriesLegal values xs → AllEntriesLegal values (take n xs)
+pub legal-take : (values : List Value) (n : ℕ) (xs : List Entry) → AreLegal values xs → AreLegal values (take n xs)
 legal-take values zero xs h = tt
 legal-take values (suc n) [] h = tt
 legal-take values (suc n) (x ∷ xs) h = (h.0, legal-take (objects.after values (x.object, x.call)) n xs h.1)
@@ -54,10 +55,10 @@ length-after_found values object c None = refl
 length-after_found values object c (Some v) = length-set values object (one_value.after v c)
 
 -- entries change no number of objects
-pub length-after_entries : (values : List Value) (entries : List Entry) → length (after_entries values entries) ≡ length values
-length-after_entries values [] = refl
-length-after_entries values (e ∷ entries) =
-    length-after_entries (objects.after values (e.object, e.call)) entries ∙ length-after_found values e.object e.call (slice_get values e.object)
+pub length-after : (values : List Value) (entries : List Entry) → length (after values entries) ≡ length values
+length-after values [] = refl
+length-after values (e ∷ entries) =
+    length-after (objects.after values (e.object, e.call)) entries ∙ length-after_found values e.object e.call (slice_get values e.object)
 
 pub get-past : {A : Type 0} (xs : List A) (i : ℕ) → i < length xs → slice_get xs i ≡ None → ⊥
 get-past [] i h e = absurd (omega arith)
@@ -73,14 +74,14 @@ get_or-found (y ∷ xs) (suc i) x e = get_or-found xs i x e
 pub record NextEntry (values : List Value) (rest : List Entry) (e : Entry) (more : List Entry) : Type 0 where
   pub legal : objects.reply values (e.object, e.call) ≡ Some e.reply
   pub room : ObjectHasRoom values e.object e.call
-  pub rest_legal : AllEntriesLegal (objects.after values (e.object, e.call)) more
+  pub rest_legal : AreLegal (objects.after values (e.object, e.call)) more
   pub rest_room : AllHaveRoom (objects.after values (e.object, e.call)) more
-  pub leads : after_entries values rest ≡ after_entries (objects.after values (e.object, e.call)) more
+  pub leads : after values rest ≡ after (objects.after values (e.object, e.call)) more
 
 pub next_entry : (values : List Value) (entries : List Entry) (i : ℕ) (e : Entry) → i < length entries → e ≡ get_or entries i e
-    → AllEntriesLegal values (drop i entries) → AllHaveRoom values (drop i entries) → NextEntry values (drop i entries) e (drop (i + 1) entries)
+    → AreLegal values (drop i entries) → AllHaveRoom values (drop i entries) → NextEntry values (drop i entries) e (drop (i + 1) entries)
 next_entry values entries i e h at legal room =
     let is : drop i entries ≡ e ∷ drop (i + 1) entries = drop_more entries i e h ∙ ap (λ x. x ∷ drop (i + 1) entries) (sym at) in
-    let all_legal : AllEntriesLegal values (e ∷ drop (i + 1) entries) = subst (AllEntriesLegal values) is legal in
+    let all_legal : AreLegal values (e ∷ drop (i + 1) entries) = subst (AreLegal values) is legal in
     let all_room : AllHaveRoom values (e ∷ drop (i + 1) entries) = subst (AllHaveRoom values) is room in
-    record { legal = all_legal.0; room = all_room.0; rest_legal = all_legal.1; rest_room = all_room.1; leads = ap (after_entries values) is }
+    record { legal = all_legal.0; room = all_room.0; rest_legal = all_legal.1; rest_room = all_room.1; leads = ap (after values) is }

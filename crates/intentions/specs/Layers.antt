@@ -2,9 +2,10 @@
 use Rattle.std.specs.Prelude.{◌≡◌, ℕ, zero, suc, List, [], ◌∷◌, length, map, take, drop, reverse, unwrap_or}
 use Rattle.objects.specs.declared.value.Value.{Value}
 use Rattle.objects.specs.declared.entry.Entry.{Entry}
+use Rattle.objects.specs.Entries.{after, AreLegal}
 use Rattle.drafts.specs.History.{History, unchanged, undone}
 use Rattle.intentions.specs.DraftTables.{Drafts}
-use Rattle.intentions.specs.Levels.{after_entries, AllEntriesLegal, AllHaveRoom}
+use Rattle.intentions.specs.Levels.{AllHaveRoom}
 use Rattle.intentions.specs.Starts.{IsNested, at_starts}
 
 -- what layers show, and what they showed at the begin of each open level, from the innermost
@@ -45,11 +46,11 @@ layered hs starts journal = record { shown = values_now hs; begun = values_at hs
 
 -- what layers show where these entries were performed on a snapshot, with levels that start there
 abbrev pub states_after : List Value → List Entry → List ℕ → States
-states_after snapshot net starts = record { shown = after_entries snapshot net; begun = at_starts (after_entries snapshot) starts net }
+states_after snapshot net starts = record { shown = after snapshot net; begun = at_starts (after snapshot) starts net }
 
 -- what a view keeps: its layers show its net, each entry of which was legal and had room
 pub record IsKept (snapshot : List Value) (net : List Entry) (starts : List ℕ) (layers : States) : Type 0 where
   pub shows : layers ≡ states_after snapshot net starts
   pub nested : IsNested starts (length net)
-  pub legal : AllEntriesLegal snapshot net
+  pub legal : AreLegal snapshot net
   pub room : AllHaveRoom snapshot net

@@ -1,7 +1,7 @@
 -- Intentions: what a view shows, by the lists of the levels that are open.
-use Rattle.std.specs.Prelude.{List, [], ◌∷◌, ◌++◌, map}
-use Rattle.serial.specs.Serial.{after_all, AllLegal}
-use Rattle.objects.specs.Objects.{objects, operation_of, ObjectHasRoom}
+use Rattle.std.specs.Prelude.{List, [], ◌∷◌, ◌++◌}
+use Rattle.objects.specs.Objects.{objects, ObjectHasRoom}
+use Rattle.objects.specs.Entries.{after}
 use Rattle.objects.specs.declared.value.Value.{Value}
 use Rattle.objects.specs.declared.entry.Entry.{Entry}
 
@@ -14,10 +14,6 @@ pub record Intentions : Type 0 where
   -- the nets of the levels around it, from the inside
   pub outer : List (List Entry)
 
--- the values that a list of entries leaves
-abbrev pub after_entries : List Value → List Entry → List Value
-after_entries values entries = after_all objects values (map operation_of entries)
-
 -- the nets of the levels around, the outermost first, one after the other
 abbrev pub joined : List (List Entry) → List Entry
 joined [] = []
@@ -25,7 +21,7 @@ joined (net ∷ outer) = joined outer ++ net
 
 -- the state that a view shows
 abbrev pub shown : Intentions → List Value
-shown v = after_entries v.snapshot (joined v.outer ++ v.net)
+shown v = after v.snapshot (joined v.outer ++ v.net)
 
 -- a view of these values with no entries
 abbrev pub opened : List Value → Intentions
@@ -63,7 +59,3 @@ absorbed v entries net = record v { entries = v.entries ++ entries; net = v.net 
 abbrev pub AllHaveRoom : List Value → List Entry → Type 0
 AllHaveRoom values [] = Unit {0}
 AllHaveRoom values (entry ∷ entries) = ObjectHasRoom values entry.object entry.call × AllHaveRoom (objects.after values (entry.object, entry.call)) entries
-
--- each entry has the reply of its call at the values that those before it leave
-abbrev pub AllEntriesLegal : List Value → List Entry → Type 0
-AllEntriesLegal values entries = AllLegal objects values (map operation_of entries)

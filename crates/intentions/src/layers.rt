@@ -3,7 +3,8 @@ ghost use Rattle.std.specs.Prelude.{◌≡◌, ◌<◌, ◌≤◌, List, [], ◌
 ghost use Rattle.drafts.specs.Shown.{shown_value};
 ghost use Rattle.objects.specs.Objects.{objects, Fits, ObjectHasRoom};
 ghost use Rattle.objects.specs.Changes.{objects_undoing};
-ghost use Rattle.intentions.specs.Levels.{after_entries, AllEntriesLegal, AllHaveRoom};
+ghost use Rattle.intentions.specs.Levels.{AllHaveRoom};
+ghost use Rattle.objects.specs.Entries.{after, AreLegal};
 ghost use Rattle.objects.specs.declared.value.Value.{Value};
 ghost use Rattle.intentions.specs.DraftTables.{drafts_of};
 ghost use Rattle.intentions.specs.Layers.{States, histories, rewound};
@@ -114,9 +115,9 @@ impl<'s> Layers<'s> {
     /// Performs the calls of entries, one after the other. On NoMemory some may have been
     /// performed.
     fn perform_all(&mut self, entries: &[Entry]) -> Result<(), NoMemory>
-        requires legal { AllEntriesLegal self.old.shown entries.now }
+        requires legal { AreLegal self.old.shown entries.now }
         requires room { AllHaveRoom self.old.shown entries.now }
-        ensures ok { OnOk result (self.new.shown ≡ after_entries self.old.shown entries.now) }
+        ensures ok { OnOk result (self.new.shown ≡ after self.old.shown entries.now) }
         ensures levels { self.new.begun ≡ self.old.begun }
     {
         for entry in entries {
@@ -127,9 +128,9 @@ impl<'s> Layers<'s> {
 
     /// Performs the calls of entries, all or, on NoMemory, none.
     pub fn perform_whole(&mut self, entries: &[Entry]) -> Result<(), NoMemory>
-        requires legal { AllEntriesLegal self.old.shown entries.now }
+        requires legal { AreLegal self.old.shown entries.now }
         requires room { AllHaveRoom self.old.shown entries.now }
-        ensures ok { OnOk result (self.new ≡ record self.old { shown = after_entries self.old.shown entries.now }) }
+        ensures ok { OnOk result (self.new ≡ record self.old { shown = after self.old.shown entries.now }) }
         ensures err { OnErr result (self.new ≡ self.old) }
     {
         self.begin()?;

@@ -1,7 +1,8 @@
 //! Views: what a transaction sees while its intentions are recorded.
 ghost use Rattle.std.specs.Prelude.{◌≡◌, ◌↔◌, ◌+◌, ◌<◌, ◌≤◌, ◌++◌, length, vec_len, vec_capacity, IsTrue, Some, IsOk, IfOk, OnOk, OnErr};
 ghost use Rattle.objects.specs.Objects.{objects, Fits, ObjectHasRoom};
-ghost use Rattle.intentions.specs.Levels.{shown, opened, performed, begun, committed, aborted, absorbed, after_entries, AllEntriesLegal, AllHaveRoom};
+ghost use Rattle.intentions.specs.Levels.{shown, opened, performed, begun, committed, aborted, absorbed, AllHaveRoom};
+ghost use Rattle.objects.specs.Entries.{after, AreLegal};
 
 use crate::layers::Layers;
 use objects::{Call, Entry, NoMemory, Objects, Reply};
@@ -189,7 +190,7 @@ impl<'s> View<'s> {
     /// Takes in what a child recorded on a copy of what is shown: its entries, and its net into the
     /// net of the innermost level. On `NoMemory` the view is unchanged.
     pub fn absorb(&mut self, entries: &[Entry], net: &[Entry]) -> Result<(), NoMemory>
-        requires legal { AllEntriesLegal (shown self.old) net.now }
+        requires legal { AreLegal (shown self.old) net.now }
         requires room { AllHaveRoom (shown self.old) net.now }
         ensures ok { OnOk result (self.new ≡ absorbed self.old entries.now net.now) }
         ensures err { OnErr result (self.new ≡ self.old) }
@@ -251,9 +252,9 @@ impl<'s> View<'s> {
 
 /// Performs the calls of entries, one after the other. On `NoMemory` some may have been performed.
 pub fn perform_each(state: &mut Objects, entries: &[Entry]) -> Result<(), NoMemory>
-    requires legal { AllEntriesLegal state.old entries.now }
+    requires legal { AreLegal state.old entries.now }
     requires room { AllHaveRoom state.old entries.now }
-    ensures { OnOk result (state.new ≡ after_entries state.old entries.now) }
+    ensures { OnOk result (state.new ≡ after state.old entries.now) }
 {
     for entry in entries {
         let _reply = state.perform(entry.object, &entry.call)?;

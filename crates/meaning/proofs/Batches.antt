@@ -1,7 +1,7 @@
 -- Batches: what the transactions leave, the runs that are kept, and the rounds.
 use Rattle.std.proofs.Common.{◌≡◌, ℕ, zero, suc, ◌+◌, ◌-◌, ◌<◌, ◌≤◌, List, [], ◌++◌, refl, sym, ap, ap₂, ◌∙◌, subst, arith}
 use Rattle.meaning.specs.declared.end.End.TheVariants.{Ended, Aborted}
-use Rattle.meaning.specs.Entries.{State, after}
+use Rattle.objects.specs.Entries.{State, after}
 use Rattle.meaning.specs.Trees.{Block}
 use Rattle.meaning.specs.Records.{Taken, kept, net}
 use Rattle.meaning.specs.OneThread.{Run, Ran, record_of, outcome_of, state_of, one}

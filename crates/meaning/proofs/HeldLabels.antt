@@ -5,7 +5,7 @@ use Rattle.objects.specs.declared.value.Value.{Value}
 use Rattle.objects.specs.declared.call.Call.{Call}
 use Rattle.objects.specs.declared.call.Reply.{Reply}
 use Rattle.meaning.specs.declared.end.End.TheVariants.{Ended, Aborted}
-use Rattle.meaning.specs.Entries.{State, reply_at}
+use Rattle.objects.specs.Entries.{State, reply_at}
 use Rattle.meaning.specs.Trees.{Operation, If, Subaction, Abort, Parallel, NoChild, Child}
 use Rattle.meaning.specs.Labels.{holds}
 use Rattle.meaning.specs.declared.held.Held.{Held}

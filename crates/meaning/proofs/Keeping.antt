@@ -16,7 +16,7 @@ use Rattle.objects.specs.declared.call.Call.{Call}
 use Rattle.objects.specs.declared.call.Call.TheVariants as to
 use Rattle.objects.specs.declared.call.Reply.{Reply}
 use Rattle.meaning.specs.declared.end.End.TheVariants.{Ended, Aborted}
-use Rattle.meaning.specs.Entries.{State, kinds, reply_at, after_call}
+use Rattle.objects.specs.Entries.{State, kinds, reply_at, after_call}
 use Rattle.meaning.specs.Trees.{Block, NoStep, Steps, Operation, If, Subaction, Abort, Parallel, ForReason, Otherwise, GoOn, Pass, NoChild, Child}
 use Rattle.meaning.specs.Labels.{holds}
 use Rattle.meaning.specs.declared.held.Held.{Held}

@@ -3,7 +3,7 @@ use Rattle.std.proofs.Common.{◌≡◌, ℕ, List, [], ◌++◌, Bool, Option, 
 use Rattle.meaning.specs.declared.end.End.TheVariants.{Ended, Aborted}
 use Rattle.meaning.specs.declared.held.Held.{Held}
 use Rattle.meaning.specs.declared.held.Held.TheVariants.{Outcome}
-use Rattle.meaning.specs.Entries.{State}
+use Rattle.objects.specs.Entries.{State}
 use Rattle.meaning.specs.Trees.{Block, NoStep, Steps, Step, Children, NoChild, Child, Handlers}
 use Rattle.meaning.specs.Records.{Taken, Nothing, Took, TakenStep, TakenChild, Committed, TakenHandler, TakenChildren}
 use Rattle.meaning.specs.OneThread.{Run, Ran, record_of, outcome_of, labels_of, state_of, label_if, go_on, go_on_children, act, after_abort, one, one_step, one_handler, one_children}

@@ -2,7 +2,7 @@
 use Rattle.std.specs.Prelude.{◌≡◌, ℕ, ◌+◌, ◌-◌, ◌<◌, ◌≤◌, List, ◌++◌, length, Option}
 use Rattle.objects.specs.declared.entry.Entry.{Entry}
 use Rattle.meaning.specs.declared.end.End.TheVariants.{Ended, Aborted}
-use Rattle.meaning.specs.Entries.{State, AreLegal, after, AllCommute}
+use Rattle.objects.specs.Entries.{State, AreLegal, after, AllCommute}
 use Rattle.meaning.specs.Trees.{Block, Children, NoChild, Child}
 use Rattle.meaning.specs.declared.held.Held.{Held}
 use Rattle.meaning.specs.Records.{TakenChildren, entries, entries_of_children, kept, kept_of_children}

@@ -4,7 +4,7 @@ use Rattle.objects.specs.declared.call.Call.{Call}
 use Rattle.objects.specs.declared.call.Reply.{Reply}
 use Rattle.meaning.specs.declared.end.End.{End}
 use Rattle.meaning.specs.declared.end.End.TheVariants.{Ended, Aborted}
-use Rattle.meaning.specs.Entries.{State, reply_at, after_call}
+use Rattle.objects.specs.Entries.{State, reply_at, after_call}
 use Rattle.meaning.specs.Trees.{Block, NoStep, Steps, Step, Operation, If, Subaction, Abort, Parallel, Handlers, ForReason, Otherwise, GoOn, Pass, Children, NoChild, Child}
 use Rattle.meaning.specs.Labels.{holds}
 use Rattle.meaning.specs.declared.held.Held.{Held}

@@ -6,7 +6,7 @@ use Rattle.objects.specs.declared.call.Call.{Call}
 use Rattle.meaning.specs.declared.end.End.TheVariants.{Ended}
 use Rattle.meaning.specs.declared.test.Test.{Test}
 use Rattle.objects.specs.declared.entry.Entry.{Entry}
-use Rattle.meaning.specs.Entries.{State, kinds, after_call, after}
+use Rattle.objects.specs.Entries.{State, kinds, after_call, after}
 use Rattle.meaning.specs.Records.{entries}
 use Rattle.meaning.specs.Trees.{Block, Step, Handlers, Children}
 use Rattle.meaning.specs.declared.held.Held.{Held}

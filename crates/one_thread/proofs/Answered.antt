@@ -1,7 +1,7 @@
 -- A batch of which the first transactions were run.
 use Rattle.std.proofs.Common.{◌≡◌, ℕ, zero, suc, ◌+◌, ◌<◌, ◌≤◌, List, [], ◌∷◌, ◌++◌, map, length, get_or, refl, sym, ap, subst, ◌∙◌, arith, add-one}
 use Rattle.std.proofs.lemmas.List.{length-map, map-append}
-use Rattle.meaning.specs.Entries.{State}
+use Rattle.objects.specs.Entries.{State}
 use Rattle.meaning.specs.Trees as meant
 use Rattle.meaning.specs.OneThread.{one}
 use Rattle.meaning.specs.Batch.{block_at, state_at, answer, settled, shown_of, shown_from, all_shown, final_state}

@@ -5,7 +5,7 @@ use Rattle.objects.specs.declared.call.Reply.{Reply}
 use Rattle.objects.specs.declared.entry.Entry.{Entry}
 use Rattle.meaning.specs.declared.end.End.TheVariants.{Ended, Aborted}
 use Rattle.meaning.specs.declared.held.Held.{Held}
-use Rattle.meaning.specs.Entries.{State, after}
+use Rattle.objects.specs.Entries.{State, after}
 use Rattle.meaning.specs.OneThread.{Run, Ran, record_of, outcome_of, state_of, one}
 use Rattle.meaning.specs.Records.{Taken, entries}
 use Rattle.meaning.specs.Trees as meant

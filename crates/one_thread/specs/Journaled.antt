@@ -5,7 +5,7 @@ use Rattle.objects.specs.Objects.{objects}
 use Rattle.objects.specs.Changes.{objects_undoing}
 use Rattle.objects.specs.declared.call.Call.{Call}
 use Rattle.objects.specs.declared.change.Change.{Change}
-use Rattle.meaning.specs.Entries.{State}
+use Rattle.objects.specs.Entries.{State}
 
 -- a change names its object
 abbrev pub Journaled : Type 0

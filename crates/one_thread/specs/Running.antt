@@ -1,6 +1,6 @@
 -- The objects and their journal as what a block is run on.
 use Rattle.std.specs.Prelude.{◌≡◌}
-use Rattle.meaning.specs.Entries.{after}
+use Rattle.objects.specs.Entries.{after}
 use Rattle.batch.specs.Grounds.{Ground}
 use Rattle.one_thread.specs.Journaled.{Journaled, LeadsBack}
 

@@ -1,7 +1,7 @@
 //! Objects that are changed in place, with a journal of the changes.
 ghost use Rattle.std.specs.Prelude.{◌≡◌, ◌≤◌, [], Some, length, drop, take, IfOk, OnOk};
 ghost use Rattle.atoms.specs.Undo.{undone_all};
-ghost use Rattle.meaning.specs.Entries.{reply_at};
+ghost use Rattle.objects.specs.Entries.{reply_at};
 ghost use Rattle.meaning.specs.Running.{CanPerform};
 ghost use Rattle.objects.specs.Changes.{objects_undoing};
 ghost use Rattle.one_thread.specs.Journaled.{performed, rewound};

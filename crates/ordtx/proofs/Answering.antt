@@ -2,7 +2,7 @@
 use Rattle.std.proofs.Common.{◌≡◌, ◌<◌, ◌^◌, length, sym, ap, ◌∙◌, arith}
 use Rattle.std.proofs.lemmas.List.{length-map}
 use Rattle.objects.specs.Objects.{kind_of_value}
-use Rattle.meaning.specs.Entries.{State, kinds}
+use Rattle.objects.specs.Entries.{State, kinds}
 use Rattle.meaning.specs.Batch.{final_state}
 use Rattle.batch.specs.declared.batch.Batch.{Batch}
 use Rattle.rounds.specs.Views.{blocks_of, start_of}

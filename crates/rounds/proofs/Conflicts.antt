@@ -1,9 +1,9 @@
 -- The first run of a round that doesn't stand is where the next opening is.
 use Rattle.std.proofs.Common.{◌≡◌, ℕ, zero, suc, ◌+◌, ◌-◌, ◌<◌, ◌≤◌, ◌↔◌, List, [], ◌∷◌, ◌++◌, length, get_or, take, refl, sym, ap, ◌∙◌, subst, arith}
 use native.Mathlib.Decide.{dec_le}
-use Rattle.meaning.specs.Entries.{State}
+use Rattle.objects.specs.Entries.{State}
 use Rattle.objects.specs.declared.entry.Entry.{Entry}
-use Rattle.meaning.specs.Entries.{AllCommute}
+use Rattle.objects.specs.Entries.{AllCommute}
 use Rattle.meaning.specs.Shown.{shown}
 use Rattle.meaning.specs.Trees.{Block}
 use Rattle.meaning.specs.Records.{Taken, entries, net}

@@ -1,8 +1,8 @@
 -- What stands once every transaction is committed.
 use Rattle.std.proofs.Common.{◌≡◌, ℕ, zero, suc, ◌+◌, ◌<◌, ◌≤◌, List, [], ◌∷◌, map, length, get_or, refl, sym, ap, ◌∙◌, subst, arith}
 use Rattle.std.proofs.lemmas.List.{get_or-map, length-map}
-use Rattle.meaning.specs.Entries.{State}
-use Rattle.meaning.specs.Entries.{after}
+use Rattle.objects.specs.Entries.{State}
+use Rattle.objects.specs.Entries.{after}
 use Rattle.meaning.specs.Trees.{Block}
 use Rattle.batch.specs.Views.{record_view}
 use Rattle.meaning.specs.Batch.{state_at, answer, nets, shown_of, shown_from, all_shown}

@@ -4,7 +4,7 @@ use Rattle.std.proofs.lemmas.List.{take_more, map-append, get_or-set_same, get_o
 use Rattle.std.proofs.lemmas.List.Elements.{All-push, All-same}
 use Rattle.std.specs.List.{All, sum_by, range_with_len}
 use native.Mathlib.Decide.{ℕ_discrete}
-use Rattle.meaning.specs.Entries.{State}
+use Rattle.objects.specs.Entries.{State}
 use Rattle.meaning.specs.declared.held.Held.{Held}
 use Rattle.intentions.specs.Levels.{Intentions as View, opened}
 use Rattle.rounds.specs.Views.{meaning}

@@ -1,6 +1,6 @@
 -- What the loop of openings keeps.
 use Rattle.std.specs.Prelude.{◌≡◌, ℕ, suc, ◌+◌, ◌<◌, ◌≤◌, List, length, slice_index_or}
-use Rattle.meaning.specs.Entries.{State}
+use Rattle.objects.specs.Entries.{State}
 use Rattle.meaning.specs.OneThread.{Run as OneRun}
 use Rattle.meaning.specs.Records.{Taken}
 use Rattle.meaning.specs.Batch.{state_at, alone, answer, shown_of}

@@ -3,11 +3,11 @@ use Rattle.std.proofs.Common.{◌≡◌, ℕ, zero, suc, ◌+◌, ◌-◌, ◌<�
 use Rattle.std.proofs.lemmas.List.{get_or_past, get_or-drop, take_all}
 use Rattle.std.proofs.Math.ListN.{length-drop}
 use native.Mathlib.Decide.{dec_le}
-use Rattle.meaning.specs.Entries.{State}
-use Rattle.meaning.specs.Entries as serial
-use Rattle.meaning.specs.Entries.{after, kinds}
+use Rattle.objects.specs.Entries.{State, AreLegal}
+use Rattle.objects.specs.Entries as serial
+use Rattle.objects.specs.Entries.{after, kinds}
 use Rattle.std.specs.List.{All}
-use Rattle.intentions.specs.Levels.{AllEntriesLegal, AllHaveRoom}
+use Rattle.intentions.specs.Levels.{AllHaveRoom}
 use Rattle.meaning.specs.OneThread.{one}
 use Rattle.meaning.specs.Batch.{block_at, state_at, alone, answer, nets}
 use Rattle.meaning.specs.Rounds.{IsNextOpening, Rounds, CountFrom, IsCommitted, StillStands, IsRefuted, Count}
@@ -197,7 +197,7 @@ pub round_commits : (batch : Batch) (b rounds passed : ℕ) (state : State) (old
     → first_of ≡ new
     → IsFirstFrom (take (length first_of - b) (drop b first_of)) 0 passed
     → prefix_of ≡ new
-    → AllEntriesLegal state (own_nets (take ((b + passed) - b) (drop b prefix_of))) × AllHaveRoom state (own_nets (take ((b + passed) - b) (drop b prefix_of)))
+    → AreLegal state (own_nets (take ((b + passed) - b) (drop b prefix_of))) × AllHaveRoom state (own_nets (take ((b + passed) - b) (drop b prefix_of)))
 round_commits batch b rounds passed state old new first_of prefix_of was counts given stale at stale_is put first_is first prefix_is =
     let fresh = renewed batch b rounds state old new was counts stale at (subst (λ ns. AreRenewed batch state ns old new was counts) stale_is put) in
     let conflict = subst (λ rs. IsFirstFrom rs 0 passed) (rest_of new b) (subst (λ rs. IsFirstFrom (take (length rs - b) (drop b rs)) 0 passed) first_is first) in
@@ -206,7 +206,7 @@ round_commits batch b rounds passed state old new first_of prefix_of was counts 
     let one_thread = prefix ∙ (left (start_of batch) (blocks_of batch) b (drop b new) passed (alone_from batch b rounds state new counts fresh) conflict).0 in
     let legal = (batch_leads (start_of batch) (blocks_of batch) b passed).0 in
     let room = nets_have_room batch b at.within passed legal in (
-      subst (λ s. AllEntriesLegal s (own_nets (take ((b + passed) - b) (drop b prefix_of)))) (sym at.reached) (subst (AllEntriesLegal (state_at (start_of batch) (blocks_of batch) b)) (sym one_thread) legal),
+      subst (λ s. AreLegal s (own_nets (take ((b + passed) - b) (drop b prefix_of)))) (sym at.reached) (subst (AreLegal (state_at (start_of batch) (blocks_of batch) b)) (sym one_thread) legal),
       subst (λ s. AllHaveRoom s (own_nets (take ((b + passed) - b) (drop b prefix_of)))) (sym at.reached) (subst (AllHaveRoom (state_at (start_of batch) (blocks_of batch) b)) (sym one_thread) room),
     )
 

@@ -9,7 +9,7 @@ use native.Mathlib.Decide.{dec_le}
 use Rattle.objects.specs.contracts.entry.EntryPartialEq.TheImpl as entry_eq
 use Rattle.objects.specs.declared.entry.Entry.{Entry}
 use Rattle.committed.proofs.SameLemmas.{same_entry}
-use Rattle.meaning.specs.Entries.{AllCommute}
+use Rattle.objects.specs.Entries.{AllCommute}
 use Rattle.committed.specs.Summaries.{entries_of, IsSummary}
 use Rattle.committed.proofs.SummaryLemmas.{stands-summary, past-summary, summary-append, summary-nil}
 use Rattle.speculate.specs.declared.speculated.Run.{Run}

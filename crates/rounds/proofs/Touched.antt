@@ -1,7 +1,6 @@
 -- Numbers that stand in a list once, and what is told of the runs of these numbers.
 use Rattle.std.proofs.Common.{◌≡◌, ◌≢◌, ◌⊎◌, ℕ, zero, suc, ◌+◌, ◌<◌, ◌≤◌, inl, inr, List, [], ◌∷◌, ◌++◌, length, get_or, take, length-append, refl, sym, ap, ◌∙◌, subst, arith}
 use native.Mathlib.Decide.{ℕ_discrete}
-use Rattle.committed.specs.Committed.{AllStand, CommutesWith}
 use Rattle.committed.specs.Summaries.{entries_of}
 use Rattle.committed.specs.Watching.{Watches}
 use Rattle.committed.specs.NumberSets.{Has, AreDistinct}
@@ -14,7 +13,7 @@ use Rattle.rounds.specs.PendingRuns.{times, all_left, left_by, HoldsPast, Kept, 
 use Rattle.rounds.specs.Pending.{WatchesAll, Tells, ArePlaces, AreTouched, IsIn}
 use Rattle.rounds.specs.declared.pending.Pending.{Pending}
 use Rattle.batch.specs.declared.batch.Batch.{Batch}
-use Rattle.meaning.specs.Entries.{State}
+use Rattle.objects.specs.Entries.{State, AllCommute, CommutesWith}
 use Rattle.rounds.proofs.Firsts.{next_nets}
 use Rattle.rounds.proofs.Times.{times_append, times_one, times_none, times_read}
 
@@ -235,7 +234,7 @@ all_put pending watch runs opened from made le tells count put others = record {
 }
 
 -- every list stands past none
-past_none : (es : List Entry) → AllStand es []
+past_none : (es : List Entry) → AllCommute es []
 past_none [] = tt
 past_none (e ∷ es) = (tt, past_none es)
 
@@ -245,7 +244,7 @@ commutes_both e [] ys first second = second
 commutes_both e (x ∷ xs) ys first second = (first.0, commutes_both e xs ys first.1 second)
 
 -- past two lists, one after the other
-past_both : (es xs ys : List Entry) → AllStand es xs → AllStand es ys → AllStand es (xs ++ ys)
+past_both : (es xs ys : List Entry) → AllCommute es xs → AllCommute es ys → AllCommute es (xs ++ ys)
 past_both [] xs ys first second = tt
 past_both (e ∷ es) xs ys first second = (commutes_both e xs ys first.0 second.0, past_both es xs ys first.1 second.1)
 
@@ -262,7 +261,7 @@ pub touched_more : (watch : Watch) (touched found : List ℕ) (runs : List Pendi
     → k < length done → run ≡ get_or done k run → net ≡ left_by run.sums → WatchesAll watch runs from → AreTouched touched runs from (all_left (take k done))
     → ((r : ℕ) → Has touched r → Has found r)
     → ((r : ℕ) → Has found r → Has touched r ⊎ ((from ≤ r) × (r < watch.count)))
-    → ((r : ℕ) (others : List Entry) → from ≤ r → ¬ Has found r → Watches watch r others → AllStand others net)
+    → ((r : ℕ) (others : List Entry) → from ≤ r → ¬ Has found r → Watches watch r others → AllCommute others net)
     → AreTouched found runs from (all_left (take (k + 1) done))
 touched_more watch touched found runs from done k run net lt is net_is watches are more only stand =
     let next : all_left (take k done) ++ net ≡ all_left (take (k + 1) done) =

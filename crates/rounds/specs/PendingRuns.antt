@@ -3,11 +3,10 @@ use Rattle.std.specs.Prelude.{◌≡◌, ◌≢◌, ℕ, ◌+◌, ◌<◌, ◌�
 use Rattle.std.specs.List.{All}
 use Rattle.std.specs.declared.vec.Vec.{Vec}
 use Rattle.std.specs.declared.alloc.Global.{Global}
-use Rattle.meaning.specs.Entries.{State}
+use Rattle.objects.specs.Entries.{State, AllCommute}
 use Rattle.meaning.specs.Records.{Taken, entries}
 use Rattle.meaning.specs.OneThread.{Run as OneRun, record_of}
 use Rattle.meaning.specs.Batch.{net_of, shown_of}
-use Rattle.committed.specs.Committed.{AllStand}
 use Rattle.committed.specs.NumberSets.{Has}
 use Rattle.committed.specs.Summaries.{entries_of, IsSummary}
 use Rattle.committed.specs.declared.marks.MarkedEntry.{MarkedEntry}
@@ -57,7 +56,7 @@ all_left (run ∷ runs) = left_by run.sums ++ all_left runs
 
 -- each entry of the run's summary commutes forward with each of the list
 abbrev pub HoldsPast : List Entry → PendingRun → Type 0
-HoldsPast since run = AllStand (entries_of run.sums.entries.items) since
+HoldsPast since run = AllCommute (entries_of run.sums.entries.items) since
 
 -- run i holds past what those before it leave
 abbrev pub HoldsAt : List PendingRun → ℕ → Type 0

@@ -1,6 +1,6 @@
 -- A batch as the meaning sees it.
 use Rattle.std.specs.Prelude.{ℕ, []}
-use Rattle.meaning.specs.Entries.{State}
+use Rattle.objects.specs.Entries.{State}
 use Rattle.meaning.specs.Records.{Taken}
 use Rattle.meaning.specs.OneThread.{Run, one}
 use Rattle.meaning.specs.Batch.{block_at}

@@ -1,11 +1,11 @@
 //! The loop of openings: each round makes the runs that are needed, seeks the first that doesn't
 //! stand, commits those before it, and tells which of the others are kept.
 ghost use Rattle.std.specs.Prelude.{◌≡◌, ◌<◌, ◌≤◌, ℕ, length, IfOk, OnOk, map, slice_index_or};
-ghost use Rattle.meaning.specs.Entries.{after};
+ghost use Rattle.objects.specs.Entries.{after, AreLegal};
 ghost use Rattle.meaning.specs.Batch.{all_shown, final_state, nets};
 ghost use Rattle.meaning.specs.Rounds.{Rounds};
 ghost use Rattle.batch.specs.Views.{record_view};
-ghost use Rattle.intentions.specs.Levels.{AllEntriesLegal, AllHaveRoom};
+ghost use Rattle.intentions.specs.Levels.{AllHaveRoom};
 ghost use Rattle.rounds.specs.Views.{start_of, blocks_of};
 ghost use Rattle.rounds.specs.PendingRuns.{own_nets, times};
 ghost use Rattle.rounds.specs.Openings.{AreCounts};
@@ -25,7 +25,7 @@ use std::thread::Threads;
 
 // Commits runs in order: their nets are performed on the objects.
 fn commit(runs: &[PendingRun], objects: &mut Objects) -> Result<(), NoMemory>
-    requires legal { AllEntriesLegal objects.old (own_nets runs.now) }
+    requires legal { AreLegal objects.old (own_nets runs.now) }
     requires room { AllHaveRoom objects.old (own_nets runs.now) }
     ensures { OnOk result (objects.new ≡ after objects.old (own_nets runs.now)) }
 {

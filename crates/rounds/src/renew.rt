@@ -1,7 +1,7 @@
 //! Runs that are made anew, each in the place of the one before it.
 ghost use Rattle.std.specs.Prelude.{◌≡◌, ◌+◌, ◌<◌, ◌≤◌, ℕ, length, IfOk, slice_index_or};
 ghost use Rattle.std.specs.List.{All};
-ghost use Rattle.meaning.specs.Entries.{kinds};
+ghost use Rattle.objects.specs.Entries.{kinds};
 ghost use Rattle.rounds.specs.Passes.{CanBeMade};
 ghost use Rattle.rounds.specs.PendingRuns.{times, AreRenewed};
 

@@ -2,8 +2,9 @@
 use Rattle.std.proofs.Common.{◌≡◌, List, [], ◌++◌, refl, sym, ap, ◌∙◌, append_assoc}
 use Rattle.std.proofs.lemmas.List.{append-nil}
 use Rattle.objects.specs.declared.entry.Entry.{Entry}
-use Rattle.intentions.specs.Levels.{Intentions as View, after_entries, shown, begun, committed, aborted, absorbed, joined}
-use Rattle.intentions.proofs.EntriesLemmas.{after_entries-append}
+use Rattle.objects.specs.Entries.{after}
+use Rattle.intentions.specs.Levels.{Intentions as View, shown, begun, committed, aborted, absorbed, joined}
+use Rattle.intentions.proofs.EntriesLemmas.{after-append}
 
 pub absorbed-none : (v : View) → v ≡ absorbed v [] []
 absorbed-none v =
@@ -12,11 +13,11 @@ absorbed-none v =
 pub absorbed-then : (v : View) (es ns fs ms : List Entry) → absorbed (absorbed v es ns) fs ms ≡ absorbed v (es ++ fs) (ns ++ ms)
 absorbed-then v es ns fs ms = let e = append_assoc v.entries es fs in let n = append_assoc v.net ns ms in cc
 
-pub shown-absorbed : (v : View) (es ns : List Entry) → shown (absorbed v es ns) ≡ after_entries (shown v) ns
-shown-absorbed v es ns = ap (after_entries v.snapshot) (sym (append_assoc (joined v.outer) v.net ns)) ∙ after_entries-append v.snapshot (joined v.outer ++ v.net) ns
+pub shown-absorbed : (v : View) (es ns : List Entry) → shown (absorbed v es ns) ≡ after (shown v) ns
+shown-absorbed v es ns = ap (after v.snapshot) (sym (append_assoc (joined v.outer) v.net ns)) ∙ after-append v.snapshot (joined v.outer ++ v.net) ns
 
 pub shown-begun : (v : View) → shown (begun v) ≡ shown v
-shown-begun v = ap (after_entries v.snapshot) (append-nil (joined v.outer ++ v.net))
+shown-begun v = ap (after v.snapshot) (append-nil (joined v.outer ++ v.net))
 
 pub committed-begun : (v : View) (es ns : List Entry) → committed (absorbed (begun v) es ns) ≡ absorbed v es ns
 committed-begun v es ns = refl

@@ -5,7 +5,7 @@ use Rattle.objects.specs.declared.call.Reply.{Reply}
 use Rattle.objects.specs.declared.entry.Entry.{Entry}
 use Rattle.meaning.specs.declared.end.End.TheVariants.{Ended, Aborted}
 use Rattle.meaning.specs.declared.held.Held.{Held}
-use Rattle.meaning.specs.Entries.{State, kinds, reply_at, after_call, AreLegal}
+use Rattle.objects.specs.Entries.{State, kinds, reply_at, after_call, AreLegal}
 use Rattle.meaning.specs.Records.{Taken, Nothing, Took, TakenStep, Performed, Branched, Acted, InParallel, TakenChild, Committed, Undone, TakenHandler, NoHandler, Handled, TakenChildren, NoChild, Child, entries, entries_of_step, entries_of_child, entries_of_handler, entries_of_children, kept, kept_of_step, kept_of_child, kept_of_handler, kept_of_children}
 use Rattle.meaning.specs.OneThread.{Run, Ran, record_of, act, one, one_handler}
 use Rattle.meaning.specs.WellFormed.{CallFits, operations, operations_of_handlers, HasRoom}

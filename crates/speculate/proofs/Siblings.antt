@@ -11,7 +11,7 @@ use Rattle.std.specs.declared.vec.IntoIter.{IntoIter}
 use Rattle.objects.specs.declared.entry.Entry.{Entry}
 use Rattle.meaning.specs.declared.end.End.TheVariants.{Ended, Aborted}
 use Rattle.meaning.specs.declared.held.Held.{Held}
-use Rattle.meaning.specs.Entries.{State, AreLegal, after, AllCommute}
+use Rattle.objects.specs.Entries.{State, AreLegal, after, AllCommute}
 use Rattle.meaning.specs.Trees.{Children, NoChild, Child}
 use Rattle.meaning.specs.Records.{TakenChild, TakenChildren, entries_of_child, entries_of_children, kept_of_child}
 use Rattle.meaning.specs.Shown.{shown_child}
@@ -24,8 +24,7 @@ use Rattle.batch.specs.Views.{Tried, subaction_view, children_view}
 use Rattle.batch.specs.Running.{CanTryHere, CanRunAllHere, acted}
 use Rattle.batch.specs.declared.tree.Subaction.{Subaction}
 use Rattle.batch.proofs.CanRun.{can_try}
-use Rattle.intentions.specs.Levels.{Intentions as View, shown as state_of_view, AllEntriesLegal, AllHaveRoom, absorbed}
-use Rattle.committed.specs.Committed.{AllStand}
+use Rattle.intentions.specs.Levels.{Intentions as View, shown as state_of_view, AllHaveRoom, absorbed}
 use Rattle.committed.specs.Summaries.{entries_of, IsSummary}
 use Rattle.committed.specs.declared.marks.MarkedEntry.{MarkedEntry}
 use Rattle.committed.proofs.SummaryLemmas.{stands-summary}
@@ -86,15 +85,15 @@ child_moves child held state since legal commute =
 
 -- that a test was true of its entries and all that was listed
 pub stand : (run : Ahead) → IsSummary (entries_of run.summary.items) run.entries.items → (since : List Entry) (summary : List MarkedEntry) (count : ℕ) (stands : Bool)
-    → (IsTrue stands ↔ AllStand (entries_of summary) (take count since)) → stands ≡ true → summary ≡ run.summary.items → count ≡ length since
-    → AllStand run.entries.items since
+    → (IsTrue stands ↔ AllCommute (entries_of summary) (take count since)) → stands ≡ true → summary ≡ run.summary.items → count ≡ length since
+    → AllCommute run.entries.items since
 stand run sums since summary count stands exact so is all =
     let whole : take count since ≡ since = ap (λ n. take n since) all ∙ take-length since in
-    let summed = subst (AllStand (entries_of run.summary.items)) whole (subst (λ es. AllStand (entries_of es) (take count since)) is (exact.0 so)) in
+    let summed = subst (AllCommute (entries_of run.summary.items)) whole (subst (λ es. AllCommute (entries_of es) (take count since)) is (exact.0 so)) in
     (stands-summary (entries_of run.summary.items) run.entries.items since sums).0 summed
 
 -- where its entries stand, a child that was run before is run the same here
-module _ (child : Tried) (held : List Held) (since : List Entry) (state : State) (run : Ahead) (before : IsRunBefore child held since state run) (stand : AllStand run.entries.items since) where
+module _ (child : Tried) (held : List Held) (since : List Entry) (state : State) (run : Ahead) (before : IsRunBefore child held since state run) (stand : AllCommute run.entries.items since) where
   same_here : IsSameRun (acted child held before.from) (acted child held state)
   same_here =
       let entries = ap (λ (v : View). v.entries) before.ahead.0.took in
@@ -112,8 +111,8 @@ module _ (child : Tried) (held : List Held) (since : List Entry) (state : State)
   entries_here : run.entries.items ≡ entries_of_child (record_of (acted child held state))
   entries_here = ap (λ (v : View). v.entries) before.ahead.0.took ∙ ap entries_of_child (sym same_here.taken)
 
-  pub net_is_legal : AllEntriesLegal state run.net.items
-  net_is_legal = subst (AllEntriesLegal state) (sym net_here) (acted_leads child held state).0
+  pub net_is_legal : AreLegal state run.net.items
+  net_is_legal = subst (AreLegal state) (sym net_here) (acted_leads child held state).0
 
   pub net_has_room : CanTryHere child held state → AllHaveRoom state run.net.items
   net_has_room can = subst (AllHaveRoom state) (sym net_here) (child_has_room child held state can (acted_leads child held state).0)

@@ -3,7 +3,7 @@ use Rattle.std.specs.Prelude.{◌≡◌, List, [], ◌∷◌, ⊤}
 use Rattle.std.specs.List.{All}
 use Rattle.objects.specs.declared.entry.Entry.{Entry}
 use Rattle.meaning.specs.declared.held.Held.{Held}
-use Rattle.meaning.specs.Entries.{State, AreLegal, after}
+use Rattle.objects.specs.Entries.{State, AreLegal, after}
 use Rattle.batch.specs.Views.{Tried, subaction_view}
 use Rattle.batch.specs.Running.{CanTryHere, acted}
 use Rattle.batch.specs.declared.tree.Subaction.{Subaction}

@@ -1,6 +1,6 @@
 -- What the run of a transaction asks, and what it has.
 use Rattle.std.specs.Prelude.{◌≡◌, ℕ, ◌+◌, ◌-◌, ◌*◌, ◌≤◌, List}
-use Rattle.meaning.specs.Entries.{State}
+use Rattle.objects.specs.Entries.{State}
 use Rattle.meaning.specs.Trees.{Block}
 use Rattle.meaning.specs.Records.{Taken, entries}
 use Rattle.meaning.specs.OneThread.{Run, record_of}

@@ -2,7 +2,7 @@
 ghost use Rattle.std.specs.Prelude.{◌≡◌, ◌-◌, ◌≤◌, [], map, length, IfOk, OnOk};
 ghost use Rattle.intentions.specs.Levels.{opened};
 ghost use Rattle.batch.specs.Views.{block_view};
-ghost use Rattle.meaning.specs.Entries.{kinds};
+ghost use Rattle.objects.specs.Entries.{kinds};
 ghost use Rattle.meaning.specs.OneThread.{one};
 ghost use Rattle.meaning.specs.Batch.{block_at};
 ghost use Rattle.speculate.specs.Runs.{IsRunOf, IsWithinOthers};

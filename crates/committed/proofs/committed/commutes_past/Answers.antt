@@ -1,7 +1,7 @@
 use Rattle.std.proofs.Common.{◌≡◌, ◌<◌, arith, get_or, length, refl, sym, ◌∙◌, subst, inl, inr}
 use Rattle.std.proofs.lemmas.Bool.{cases_lt, false≢true}
 use Rattle.std.proofs.lemmas.List.{get_or_default}
-use Rattle.committed.specs.Strictness.{Commute}
+use Rattle.objects.specs.Entries.{CommuteForward}
 use Rattle.committed.proofs.committed.commutes_past.Goals as goal
 
 pub returns-then-not-commute : goal.returns-then-not-commute
@@ -14,7 +14,7 @@ returns-then-not-commute c =
     ∙ sym c.index-entries-place.is in (
       λ h. absurd (false≢true h),
       λ h. absurd (false≢true (sym c.if-not-commute.true
-          ∙ c.commute.ensures.1 (subst (Commute e) read (h place c.loop-place.invariant.from c.loop-place-test.true)))),
+          ∙ c.commute.ensures.1 (subst (CommuteForward e) read (h place c.loop-place.invariant.from c.loop-place-test.true)))),
     )
 
 pub loop-place-preserved : goal.loop-place-preserved
@@ -30,7 +30,7 @@ loop-place-preserved c =
       passed = λ k from before. elim (cases_lt k place) [
         | inl earlier ↦ c.loop-place.invariant.passed k from earlier
         | inr here ↦ (let same : place ≡ k = omega arith in
-            subst (λ n. Commute e (get_or es n e)) same (subst (Commute e) (sym read) (c.commute.ensures.0 c.if-not-commute.false)))
+            subst (λ n. CommuteForward e (get_or es n e)) same (subst (CommuteForward e) (sym read) (c.commute.ensures.0 c.if-not-commute.false)))
       ];
     }
 

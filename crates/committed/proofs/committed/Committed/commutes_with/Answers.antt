@@ -5,7 +5,7 @@ use Rattle.std.specs.Int.{bit_at}
 use Rattle.objects.specs.declared.entry.Entry.{Entry}
 use Rattle.committed.specs.Classes.{class_of, number_of}
 use Rattle.committed.specs.Filter.{IsMarked}
-use Rattle.committed.specs.Strictness.{Commute}
+use Rattle.objects.specs.Entries.{CommuteForward}
 use Rattle.committed.proofs.StandsLemmas.{all_first}
 use Rattle.committed.proofs.committed.Committed.commutes_with.Goals as goal
 
@@ -20,7 +20,7 @@ pub returns-then-met-eq0 : goal.returns-then-met-eq0
 returns-then-met-eq0 c =
     let e = c.args.entry.now in
     let es = c.args.self.now in
-    let one : (k : ℕ) → k < c.args.upto → Commute e (get_or es k e) = λ k before. (
+    let one : (k : ℕ) → k < c.args.upto → CommuteForward e (get_or es k e) = λ k before. (
     let other : Entry = get_or es k e in
     let marked : IsMarked c.self.inside.filter other = subst (λ xs. IsMarked c.self.inside.filter (get_or xs k e)) c.self.view_is
     (c.self.invariant.filter k e (subst (λ xs. k < length xs) (sym c.self.view_is) (omega (arith, before, c.requires.within)))) in

@@ -8,7 +8,7 @@ use Rattle.committed.specs.Classes.{class_of, number_of, classes}
 use Rattle.committed.specs.Items.{is_compared}
 use Rattle.committed.specs.Marks.{mark_of}
 use Rattle.committed.specs.Index.{key_against, IsLinked, IsListed}
-use Rattle.committed.specs.Strictness.{Commute}
+use Rattle.objects.specs.Entries.{CommuteForward}
 use Rattle.committed.proofs.ClassesLemmas.{elsewhere}
 use Rattle.committed.proofs.ListsLemmas.{class_at, number-bound}
 use Rattle.committed.proofs.StandsLemmas.{all_first, each_first, linked_against, is_met}
@@ -21,7 +21,7 @@ returns-then-not-commutes c =
     let read : c.deref.result.now ≡ c.args.self.now = c.deref.ensures.value ∙ c.self.view_is in (
       λ h. absurd (false≢true h),
       λ h. absurd (false≢true (sym c.if-not-commutes.true ∙ c.commutes.ensures.all (λ k before.
-          subst (λ es. Commute e (get_or es k e)) (sym read) (each_first e c.args.self.now c.args.upto c.requires.within h k before)))),
+          subst (λ es. CommuteForward e (get_or es k e)) (sym read) (each_first e c.args.self.now c.args.upto c.requires.within h k before)))),
     )
 
 pub loop-class-preserved : goal.loop-class-preserved
@@ -51,7 +51,7 @@ loop-class-preserved c k before listed number = elim (cases_lt (number_of class)
     inside_listed = subst (λ xs. IsListed c.self.inside.index.links.items k (get_or xs k e)) c.self.view_is
         (c.self.invariant.index.listed k e listed)
 
-    by_compared : number_of class ≡ at → get_or classes at Deposit ≡ class → (b : Bool) → is_compared e other ≡ b → Commute e other
+    by_compared : number_of class ≡ at → get_or classes at Deposit ≡ class → (b : Bool) → is_compared e other ≡ b → CommuteForward e other
     by_compared here is false compared = elsewhere e other compared
     by_compared here is true compared = elim c.if-met-bit-ne0.branch [
       | then-met-bit-ne0+else-not-commutes w ↦ (
@@ -61,7 +61,7 @@ loop-class-preserved c k before listed number = elim (cases_lt (number_of class)
           let linked : IsLinked c.self.inside.index.links.items k w.key_against-key.result =
           subst (IsLinked c.self.inside.index.links.items k) key
           (linked_against c.self.inside.index.links.items e other k compared inside_listed) in
-          subst (λ xs. Commute e (get_or xs k e)) (w.deref.ensures.value
+          subst (λ xs. CommuteForward e (get_or xs k e)) (w.deref.ensures.value
           ∙ c.self.view_is) (w.commutes.ensures.found w.if-not-commutes.false k before linked))
       | else-met-bit-ne0 w ↦ (elim (c.requires.met k before) [
         | inl commutes ↦ commutes
@@ -79,9 +79,9 @@ returns c =
       λ h. all_first e es c.args.upto c.requires.within (λ k before. elim (cases_lt k c.self.inside.index.listed) [
         | inl listed ↦ c.loop-class.invariant k before listed
             (omega (arith, number-bound (class_of (get_or es k e).call (get_or es k e).reply), c.loop-class-test.false))
-        | inr past ↦ subst (λ xs. Commute e (get_or xs k e)) read
+        | inr past ↦ subst (λ xs. CommuteForward e (get_or xs k e)) read
             (c.commutes_past.ensures.0 h k (omega (arith, past, c.listed.ensures)) before)
       ]),
       λ h. c.commutes_past.ensures.1 (λ k from before.
-          subst (λ xs. Commute e (get_or xs k e)) (sym read) (each_first e es c.args.upto c.requires.within h k before)),
+          subst (λ xs. CommuteForward e (get_or xs k e)) (sym read) (each_first e es c.args.upto c.requires.within h k before)),
     )

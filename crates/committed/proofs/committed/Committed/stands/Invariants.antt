@@ -1,7 +1,7 @@
 use Rattle.std.proofs.Common.{◌↔◌, drop, take}
-use Rattle.committed.specs.Committed.{AllStand}
+use Rattle.objects.specs.Entries.{AllCommute}
 use Rattle.committed.specs.Summaries.{entries_of}
 use Rattle.committed.proofs.committed.Committed.stands.Given as goal
 
 abbrev pub invariant-loop-marked : goal.invariant-loop-marked
-invariant-loop-marked l = AllStand (entries_of (drop l.marked-index l.entries)) (take l.upto l.self) ↔ AllStand (entries_of l.entries) (take l.upto l.self)
+invariant-loop-marked l = AllCommute (entries_of (drop l.marked-index l.entries)) (take l.upto l.self) ↔ AllCommute (entries_of l.entries) (take l.upto l.self)

@@ -3,7 +3,7 @@ use Rattle.std.proofs.lemmas.Bool.{false≢true}
 use Rattle.std.proofs.lemmas.List.{get_or_default}
 use Rattle.committed.specs.declared.index.Link.{Link}
 use Rattle.committed.specs.Index.{slot_in, link_at, key_at, place_at, IsEnd, IsLink, IsSpan}
-use Rattle.committed.specs.Strictness.{Commute}
+use Rattle.objects.specs.Entries.{CommuteForward}
 use Rattle.committed.proofs.IndexLemmas.{passes}
 use Rattle.committed.proofs.index.Index.commutes.Goals as goal
 
@@ -22,7 +22,7 @@ returns-then-not-commute-clause-all c h =
     get_or_default es found.strictest e c.index-entries-found.result within
     ∙ ap (λ (y : Link). get_or es y.strictest c.index-entries-found.result) (sym c.get-found.ensures) ∙ sym c.index-entries-found.is in
     let early : found.strictest < c.args.upto = omega (arith, span.strictest, c.loop-at.invariant.below some) in
-    absurd (false≢true (sym c.if-not-commute.true ∙ c.commute.ensures.1 (subst (Commute e) read (h found.strictest early))))
+    absurd (false≢true (sym c.if-not-commute.true ∙ c.commute.ensures.1 (subst (CommuteForward e) read (h found.strictest early))))
 
 pub loop-at-preserved : goal.loop-at-preserved
 loop-at-preserved c =
@@ -41,7 +41,7 @@ loop-at-preserved c =
     let read : get_or es found.strictest e ≡ c.index-entries-found.result =
     get_or_default es found.strictest e c.index-entries-found.result within
     ∙ ap (λ (y : Link). get_or es y.strictest c.index-entries-found.result) (sym c.get-found.ensures) ∙ sym c.index-entries-found.is in
-    let commutes : Commute e (get_or es found.strictest e) = subst (Commute e) (sym read) (c.commute.ensures.0 c.if-not-commute.false) in
+    let commutes : CommuteForward e (get_or es found.strictest e) = subst (CommuteForward e) (sym read) (c.commute.ensures.0 c.if-not-commute.false) in
     let is : c.get-found.result.now.span ≡ found.span = ap (λ (y : Link). y.span) c.get-found.ensures in
     record {
       end = subst (IsEnd (slot_in index) links (length links) (slot_in index c.args.key)) (sym is)

@@ -1,6 +1,7 @@
 use Rattle.std.proofs.Common.{◌+◌, drop, sym, ap, ◌∙◌, subst}
 use Rattle.intentions.specs.Layers.{States}
-use Rattle.intentions.specs.Levels.{after_entries, AllEntriesLegal, AllHaveRoom}
+use Rattle.intentions.specs.Levels.{AllHaveRoom}
+use Rattle.objects.specs.Entries.{after, AreLegal}
 use Rattle.intentions.proofs.EntriesLemmas.{next_entry, legal-fits}
 use Rattle.intentions.proofs.layers.Layers.perform_all.Goals as goal
 
@@ -23,8 +24,8 @@ loop-entry-preserved c =
     let next = next_entry c.loop-entry.self.shown c.args.entries.now c.loop-entry.entry-index e c.loop-entry-test.true c.entry-item.is c.loop-entry.invariant.legal c.loop-entry.invariant.room in
     let same = ap (λ (s : States). s.shown) c.in_ok-_reply.ensures.ok in
     record {
-      legal = subst (λ ws. AllEntriesLegal ws rest) (sym same) next.rest_legal;
+      legal = subst (λ ws. AreLegal ws rest) (sym same) next.rest_legal;
       room = subst (λ ws. AllHaveRoom ws rest) (sym same) next.rest_room;
-      leads = ap (λ ws. after_entries ws rest) same ∙ sym next.leads ∙ c.loop-entry.invariant.leads;
+      leads = ap (λ ws. after ws rest) same ∙ sym next.leads ∙ c.loop-entry.invariant.leads;
       begun = ap (λ (s : States). s.begun) c.in_ok-_reply.ensures.ok ∙ c.loop-entry.invariant.begun;
     }

@@ -1,7 +1,7 @@
 use Rattle.std.proofs.Common.{sym, ap, ◌∙◌}
 use Rattle.std.proofs.lemmas.Result.{IfOk-weaker}
 use Rattle.intentions.specs.Layers.{States}
-use Rattle.intentions.specs.Levels.{after_entries}
+use Rattle.objects.specs.Entries.{after}
 use Rattle.intentions.proofs.ViewLemmas.{same_shown, length-layers}
 use Rattle.intentions.proofs.view.View.state.Goals as goal
 
@@ -17,5 +17,5 @@ returns-in-Ok c =
 pub returns-in_ok-perform_each-in-Err : goal.returns-in_ok-perform_each-in-Err
 returns-in_ok-perform_each-in-Err c =
     let same = same_shown c.self.inside c.args.self.now c.self.view_is c.self.invariant in
-    c.in_ok-perform_each-in-Err.ensures ∙ ap (λ ws. after_entries ws c.deref.result.now) c.in_ok-state-in-Err.ensures
-    ∙ ap (after_entries c.self.inside.snapshot.now) c.deref.ensures.value ∙ sym (ap (λ (s : States). s.shown) c.self.invariant.shows) ∙ sym same
+    c.in_ok-perform_each-in-Err.ensures ∙ ap (λ ws. after ws c.deref.result.now) c.in_ok-state-in-Err.ensures
+    ∙ ap (after c.self.inside.snapshot.now) c.deref.ensures.value ∙ sym (ap (λ (s : States). s.shown) c.self.invariant.shows) ∙ sym same
