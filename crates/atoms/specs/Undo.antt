@@ -1,9 +1,9 @@
--- Calls that are taken back: what each changes, and how the value before it is had again.
+-- Taking calls back: what each call changes, and how the value before it is restored.
 use Rattle.std.specs.Prelude.{◌≡◌, ℕ, List, [], ◌∷◌, ◌++◌, length, drop, take, Option, Some, None, option_map, option_and_then, option_to_list, slice_get, slice_set}
 use Rattle.serial.specs.Serial.{Serial}
 
--- what a call changes at a value, looked at before it, or none where it changes nothing; and the value that is
--- left where a change is taken back
+-- what a call changes at a value, seen before the call, or none where it changes nothing; and the value that is left after a change is
+-- taken back
 pub record Undoing (V C D : Type 0) : Type 0 where
   pub change : V → C → Option D
   pub undone : V → D → V
@@ -12,11 +12,11 @@ abbrev pub undone_if : {V C D : Type 0} → Undoing V C D → V → Option D →
 undone_if u v None = v
 undone_if u v (Some change) = u.undone v change
 
--- Where a call's change is taken back, the value before it is left.
+-- Taking back what a call changed leaves the value before it.
 abbrev pub TakesBack : {V C R D : Type 0} → Serial V C R → Undoing V C D → Type 0
 TakesBack {V} {C} s u = (v : V) (call : C) → undone_if u (s.after v call) (u.change v call) ≡ v
 
--- a journal is a list of changes, the oldest first: the newest is taken back first
+-- a journal is a list of changes, the earliest first: the last is taken back first
 unfoldable pub undone_all : {V C D : Type 0} → Undoing V C D → V → List D → V
 undone_all u v [] = v
 undone_all u v (change ∷ later) = u.undone (undone_all u v later) change
@@ -43,7 +43,7 @@ rewound u j mark = record { state = undone_all u j.state (drop mark j.journal); 
 abbrev pub Rewinds : {V C R D : Type 0} → Serial V C R → Undoing V C D → Type 0
 Rewinds {V} {C} {R} {D} s u = (j : Journaled V D) (calls : List C) → rewound u (all_performed s u j calls) (length j.journal) ≡ j
 
--- a journal that grew so that taking back what came to it leads back to the state of before
+-- a journal that grew, so that taking back what was added to it leads back to the state before
 pub record LeadsBack {V C D : Type 0} (u : Undoing V C D) (before now : Journaled V D) : Type 0 where
   pub more : List D
   pub grown : now.journal ≡ before.journal ++ more

@@ -8,7 +8,7 @@ ghost use Rattle.atoms.specs.Queue.{queue};
 ghost use Rattle.atoms.specs.Directory.{directory};
 ghost use Rattle.atoms.specs.MaxRegister.{max_register};
 
-/// Where what a call changed is undone, the value before the call is left.
+/// Taking back what a call changed leaves the value before the call.
 pub fn calls_are_undone()
     ensures account { TakesBack account account_undoing }
     ensures counter { TakesBack counter counter_undoing }

@@ -1,4 +1,4 @@
-//! Calls that are taken back: what each changed, and how the value before it is had again.
+//! Taking calls back: what each call changed, and how the value before it is restored.
 ghost use Rattle.std.specs.Prelude.{◌≡◌, Option, IsOk, OnOk, OnErr};
 ghost use Rattle.atoms.specs.Undo.{Undoing};
 ghost use Rattle.atoms.specs.Changes.{account_undoing, counter_undoing, max_undoing, set_undoing, queue_undoing, directory_undoing};
@@ -9,13 +9,13 @@ use crate::{
 };
 use serial::{Atom, NoMemory};
 
-/// A type of objects whose calls can be taken back: where what a call changed is undone, the value
-/// before the call is left (`laws::calls_are_undone`).
+/// A type of objects whose calls can be taken back. Undoing what a call changed leaves the value
+/// before the call (`laws::calls_are_undone`).
 pub trait Undo: Atom {
     /// What a call changed.
     type Change;
 
-    /// What each call changes at a value, and the value that is left where a change is taken back.
+    /// What each call changes at a value, and the value that is left after a change is taken back.
     ghost undoing: { Undoing Self.Value Self.Call Self.Change };
 
     /// What the call will change at this value, or none where it will change nothing.
@@ -28,29 +28,32 @@ pub trait Undo: Atom {
         ensures err { OnErr result (value.new ≡ value.old) };
 }
 
-/// The item that came into a set or went from it.
+/// What a call changed in a set: the item that was added or removed.
 #[derive(Clone, Copy, Debug, PartialEq, Eq)]
 pub enum SetChange {
     Added(Item),
     Removed(Item),
 }
 
-/// An item more at a queue's end, or the item that went from its front.
+/// What a call changed in a queue: an item was added at the end, or this item was taken from the
+/// front.
 #[derive(Clone, Copy, Debug, PartialEq, Eq)]
 pub enum QueueChange {
     Enqueued,
     Dequeued(Item),
 }
 
-/// A key of a directory, and what it was bound to.
+/// What a call changed in a directory: a key.
 #[derive(Clone, Copy, Debug, PartialEq, Eq)]
 pub struct DirectoryChange {
+    /// The key that was bound or freed.
     pub key: Item,
+    /// What it was bound to before, if it was.
     pub before: Option<Item>,
 }
 
 impl Undo for Account {
-    /// The number before.
+    /// The number before the call.
     type Change = u64;
 
     ghost undoing = { account_undoing };
@@ -73,7 +76,7 @@ impl Undo for Account {
 }
 
 impl Undo for Counter {
-    /// The number before.
+    /// The number before the call.
     type Change = i64;
 
     ghost undoing = { counter_undoing };
@@ -95,7 +98,7 @@ impl Undo for Counter {
 }
 
 impl Undo for MaxRegister {
-    /// The number before.
+    /// The number before the call.
     type Change = u64;
 
     ghost undoing = { max_undoing };

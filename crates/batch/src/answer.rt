@@ -1,8 +1,8 @@
-//! What running a batch answers.
+//! What running a batch returns.
 use crate::record::Record;
 use objects::Objects;
 
-/// What one thread answers, running the transactions by number.
+/// The result of running the transactions by number on one thread.
 #[derive(Drop)]
 pub struct Plain {
     /// One record for each transaction, by number.
@@ -11,7 +11,7 @@ pub struct Plain {
     pub objects: Objects,
 }
 
-/// What rounds of speculative runs answer.
+/// The result of running the transactions in rounds of speculative runs.
 #[derive(Drop)]
 pub struct Outcome {
     /// One record for each transaction, by number.

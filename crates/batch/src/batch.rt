@@ -1,4 +1,4 @@
-//! A batch: objects, their names, and transactions over them.
+//! Batches: objects, their names, and transactions over them.
 ghost use Rattle.std.specs.Prelude.{◌≡◌, map};
 ghost use Rattle.batch.specs.Views.{block_view};
 ghost use Rattle.batch.specs.Limits.{IsBatch};
@@ -8,14 +8,17 @@ use crate::names::Names;
 use crate::tree::Block;
 use objects::Objects;
 
-/// Objects, the names of what it numbers, and transactions, which are numbered from 1.
+/// Objects, the names of what the batch numbers, and transactions, which are numbered from 1.
 ///
-/// Every batch can be run: its calls fit their objects, its labels are bound, its tests fit them,
-/// and it is within the limits of a document, so that no number outgrows its type.
+/// Every batch can be run. Its calls fit their objects, its labels are bound, and its tests fit
+/// them. It is within the limits of a document, so that no number outgrows its type.
 #[derive(Drop)]
 pub struct Batch {
+    /// The objects before the first transaction.
     pub objects: Objects,
+    /// The names of objects, items and reasons.
     pub names: Names,
+    /// The transactions, by number.
     pub transactions: Vec<Block>,
     pub ghost is_batch: { IsBatch objects names (map block_view transactions.items) } by { IsBatch-prop objects names (map block_view transactions.items) },
 }

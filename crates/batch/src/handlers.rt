@@ -1,4 +1,4 @@
-//! What takes an abort.
+//! Which block takes an abort.
 ghost use Rattle.std.specs.Prelude.{◌≡◌, ◌<◌, option_map};
 ghost use Rattle.std.specs.List.{find};
 ghost use Rattle.std.specs.Option.{ForSome};
@@ -11,7 +11,7 @@ ghost use Rattle.batch.specs.declared.tree.Subaction.{out-Subaction, size-Subact
 use crate::tree::{Block, Handler, Otherwise, Subaction};
 use meaning::End;
 
-/// The first of a subaction's handlers that is for the reason of an abort, if one is.
+/// The first of a subaction's handlers for the reason of an abort, if there is one.
 pub fn handler_for(child: &Subaction, reason: Option<u32>) -> Option<&Handler>
     ensures first { option_map (λ handler. handler.now) result ≡ find (λ handler. is_for handler.reason reason) (out-Subaction child.now).handlers.items }
     ensures inside { ForSome result (λ handler. size-Block handler.now.block < size-Subaction child.now) }
@@ -22,7 +22,8 @@ pub fn handler_for(child: &Subaction, reason: Option<u32>) -> Option<&Handler>
         .find(|handler| is_for(handler.reason, reason))
 }
 
-/// The block that takes the abort of a subaction's body for this reason, if one does.
+/// The block that takes the abort of a subaction's body for this reason, if one does: a handler, or
+/// else what runs otherwise.
 pub fn taker(child: &Subaction, reason: Option<u32>) -> Option<&Block>
     ensures takes { option_map (λ block. block_view block.now) result ≡ taker (subaction_view child.now).handlers reason }
     ensures inside { ForSome result (λ block. size-Block block.now < size-Subaction child.now) }
@@ -37,7 +38,7 @@ pub fn taker(child: &Subaction, reason: Option<u32>) -> Option<&Block>
     }
 }
 
-/// How the block around goes on where nothing takes the abort.
+/// How the block around goes on where no handler takes the abort.
 pub fn untaken(child: &Subaction, reason: Option<u32>) -> End
     ensures { result ≡ untaken (subaction_view child.now).handlers reason }
 {

@@ -1,4 +1,4 @@
-//! Labels: what they hold, and tests of it.
+//! Labels: adding what a step's label holds, and testing it.
 ghost use Rattle.std.specs.Prelude.{◌≡◌, ◌==◌, ◌++◌, pos, OnOk};
 ghost use Rattle.std.specs.Int.RustNames.{int_le};
 ghost use Rattle.meaning.specs.Labels.{holds_of, if_there, is_word_of, is_outcome, item_of, number_of};
@@ -10,8 +10,8 @@ use objects::{
     SetReply,
 };
 
-/// Adds what the label of a step holds, where the step has one. `NoMemory` is answered where a growth
-/// of memory was refused.
+/// Adds what the label of a step holds, where the step has one. Returns `NoMemory` where a request
+/// for memory was refused.
 pub fn add_label(labels: &mut Vec<Held>, labelled: bool, held: Held) -> Result<(), NoMemory>
     ensures { OnOk result (labels.new.items ≡ labels.old.items ++ label_if labelled held) }
 {
@@ -37,7 +37,7 @@ pub fn test_holds(test: &Test, held: &Held) -> bool
     }
 }
 
-// Whether the word is the reply's first part.
+// Whether the word is the first part of the reply.
 fn is_word_of(word: Word, reply: &Reply) -> bool
     ensures { result ≡ is_word_of word reply.now }
 {

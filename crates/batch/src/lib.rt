@@ -1,5 +1,5 @@
-//! Batches of nested transactions and what running one answers: the types that every layer names,
-//! and the trees of the meaning that they stand for.
+//! Batches of nested transactions, and what running one returns. These are the types that every
+//! layer names, with the trees of the meaning that contracts see them as.
 #![tactic(auto)]
 
 mod answer;

@@ -1,12 +1,14 @@
-//! What a run of a block did.
+//! Records: what a run of a block did.
 use meaning::End;
 use objects::Reply;
 
-/// The steps of a block that were taken, and how the block ended.
+/// What a run of a block did.
 #[derive(Debug, Drop)]
 #[cycle(record)]
 pub struct Record {
+    /// The steps that were taken, in order.
     pub taken: Vec<Taken>,
+    /// How the block ended.
     pub outcome: End,
 }
 
@@ -14,12 +16,14 @@ pub struct Record {
 #[derive(Debug, Drop)]
 #[cycle(record)]
 pub enum Taken {
+    /// The reply of an operation.
     Op(Reply),
     /// Whether the test held, and the branch that was run.
     If(bool, Box<Record>),
-    /// A body, and the handler where one ran.
+    /// A subaction: its body, and the handler where one ran.
     Sub(Box<Record>, Option<Box<Record>>),
+    /// An abort.
     Abort,
-    /// The children that were reached, each as a subaction.
+    /// The children of a parallel step that were reached, each as a subaction.
     Parallel(Vec<(Record, Option<Record>)>),
 }

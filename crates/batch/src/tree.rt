@@ -1,8 +1,8 @@
-//! Transactions as trees: blocks of steps (Moss 1981: nested transactions).
+//! Transactions as trees of blocks and steps (nested transactions: Moss 1981).
 use meaning::Test;
 use objects::Call;
 
-/// Steps, taken in order. A transaction is a block.
+/// A list of steps, which are taken in order. A transaction is a block.
 #[derive(Debug, Drop)]
 #[cycle(tree)]
 pub struct Block {
@@ -10,17 +10,17 @@ pub struct Block {
 }
 
 /// A step of a block. A label is a number: how many labels are seen before it. A step that is
-/// `labelled` adds one more, for the steps behind it.
+/// `labelled` adds one more for the steps after it.
 #[derive(Debug, Drop)]
 #[cycle(tree)]
 pub enum Step {
-    /// One call on the object at this place; its label holds the reply.
+    /// One call on the object at this place. Its label holds the reply.
     Op {
         object: u32,
         call: Call,
         labelled: bool,
     },
-    /// The branch that the test of a label picks.
+    /// Runs the branch that the test of a label picks.
     If {
         label: u32,
         test: Test,
@@ -28,30 +28,37 @@ pub enum Step {
         otherwise: Box<Block>,
     },
     Sub(Box<Subaction>),
+    /// Runs a subaction.
     /// Ends the innermost subaction or the transaction around it, for a reason or without one.
     Abort(Option<u32>),
-    /// Subactions that may run at once; they mean the same as one after the other.
+    /// Subactions that may run at once. They mean the same as one after the other.
     Parallel(Vec<Subaction>),
 }
 
-/// A subaction, or a child of a parallel step; its label holds its outcome.
+/// A subaction, or a child of a parallel step. Its label holds its outcome.
 ///
-/// Where the body aborts, its effects are undone, and what takes the abort runs: the first of the
-/// handlers that is for its reason, or else what is `otherwise`.
+/// Where the body aborts, its effects are undone, and a block takes the abort. It is the first of
+/// the handlers for its reason, or else what `otherwise` says.
 #[derive(Debug, Drop)]
 #[cycle(tree)]
 pub struct Subaction {
+    /// The steps of the subaction.
     pub body: Block,
+    /// The handlers of some reasons, tried in this order.
     pub handlers: Vec<Handler>,
+    /// What comes of an abort that no handler is for.
     pub otherwise: Otherwise,
+    /// Whether the subaction has a label.
     pub labelled: bool,
 }
 
-/// The block that takes aborts for a reason.
+/// A handler: the block that takes aborts for a reason.
 #[derive(Debug, Drop)]
 #[cycle(tree)]
 pub struct Handler {
+    /// The reason, by its number.
     pub reason: u32,
+    /// The block that runs.
     pub block: Block,
 }
 

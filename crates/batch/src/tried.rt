@@ -1,4 +1,4 @@
-//! What trying a subaction gives.
+//! What running a subaction gives.
 ghost use Rattle.std.specs.Prelude.{◌≡◌, IfOk, Some};
 ghost use Rattle.meaning.specs.Shown.{Acted};
 ghost use Rattle.batch.specs.Views.{taken_view, tried_view};
@@ -8,16 +8,20 @@ use meaning::End;
 use objects::NoMemory;
 use std::alloc::Global;
 
-/// What running a subaction gives: its body and its handler, and how the block goes on.
+/// What running a subaction gives.
 #[derive(Drop)]
 pub struct Tried {
+    /// What the body did.
     pub body: Record,
+    /// What the handler did, where one ran.
     pub handler: Option<Record>,
+    /// How the block around goes on.
     pub end: End,
 }
 
 impl Tried {
-    /// The subaction as a step that was taken.
+    /// The subaction as a step that was taken. Returns `NoMemory` where a request for memory was
+    /// refused.
     pub fn into_taken(self, alloc: Global) -> Result<Taken, NoMemory>
         ensures { IfOk result (λ taken. taken_view taken ≡ Acted (tried_view (self.body, self.handler))) }
     {
@@ -27,7 +31,7 @@ impl Tried {
     }
 }
 
-/// A handler that ran, and how the block goes on.
+/// The handler that ran, and how the block around goes on.
 pub fn handled(done: Record) -> (Option<Record>, End)
     ensures handler { result.0 ≡ Some done }
     ensures end { result.1 ≡ done.outcome }

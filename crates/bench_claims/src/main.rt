@@ -1,6 +1,6 @@
-//! How long a claim takes. `bench_claims BOARDS` opens that many boards of 10,000 pieces for 1, 2
-//! and 4 threads each, and prints the nanoseconds that a thread spends on one claim. With no
-//! argument it opens one board for each, and prints nothing.
+//! Measures how long a claim takes. `bench_claims BOARDS` opens that many boards of 10,000 pieces
+//! for 1, 2 and 4 threads each, and prints the nanoseconds that a thread spends on one claim. With
+//! no argument it opens one board for each, and prints nothing.
 #![tactic(auto)]
 
 ghost use Rattle.std.specs.Prelude.{◌≤◌};

@@ -1,8 +1,11 @@
-//! How long each stage of `ordtx serial` takes. `bench_stages read FILE` prints the milliseconds of reading a batch from the
-//! file's bytes, of running it on one thread, and of writing its report into a text. `bench_stages value FILE` prints those
-//! of making the JSON value alone (`serde_json`) and of freeing it: in a process of its own, since a second value would be
-//! made on the heap that the first one left. `bench_stages run FILE` prints the milliseconds of running the batch on one
-//! thread, and in rounds with 1, 2 and 4 workers. With no argument it prints nothing.
+//! Measures how long each stage of `ordtx serial` takes, in milliseconds.
+//!
+//! `bench_stages read FILE` prints the times of reading a batch from the file's bytes, of running
+//! it on one thread, and of writing its report into a text. `bench_stages value FILE` prints those
+//! of making the JSON value alone (`serde_json`) and of freeing it. That is a process of its own,
+//! since a second value would be made on the heap that the first one left. `bench_stages run FILE`
+//! prints the times of running the batch on one thread, and in rounds with 1, 2 and 4 workers. With
+//! no argument it prints nothing.
 #![tactic(auto)]
 
 use lang::read;
@@ -18,7 +21,7 @@ use std::{env, fs};
 
 const MOST_OBJECTS: usize = 1_000;
 
-// The milliseconds since then; 0 where the clock can't be read.
+// The milliseconds since then, or 0 where the clock can't be read.
 fn since<R: Clock>(rt: &R, start: Instant) -> u64 {
     match start.elapsed(rt) {
         Ok(taken) => u64::try_from(taken.as_millis()).unwrap_or(u64::MAX),
@@ -55,7 +58,7 @@ fn time_stages(rt: &HostRuntime, alloc: Global, bytes: &[u8]) -> Option<()> {
     Some(())
 }
 
-/// How many transactions a worker takes at once, as in the program where nothing else is asked for.
+/// How many transactions a worker takes at once, as in the program by default.
 const CUT: u32 = 16;
 
 // The milliseconds of running the batch in rounds.

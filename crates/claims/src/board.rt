@@ -1,4 +1,4 @@
-// A board, which deals out pieces.
+//! The claim board, which deals out pieces to seats.
 ghost use Rattle.std.specs.Prelude.{◌≡◌, ◌<◌, ◌≤◌, List, length, replicate, true, false, [], IfOk};
 ghost use Rattle.std.specs.List.{All, list_any};
 ghost use Rattle.std.specs.Vec.{vec_capacity};
@@ -31,10 +31,10 @@ const FIRST: usize = 2;
 
 type Words = Shared<(), View, Size, Rule>;
 
-/// A board of the pieces 0, 1, .. below a number, which threads share by `&`, a seat in each.
+/// A board of the pieces from 0 up to a number. Threads share it by `&`, each with a seat.
 ///
-/// Every call but [`Board::open`] takes no memory, and none waits, locks or tries again: each is
-/// the few atomic exchanges that it names.
+/// Every call but [`Board::open`] takes no memory. None waits, locks or tries again: each is the
+/// few atomic exchanges that it names.
 #[derive(Drop)]
 pub struct Board {
     table: Table<(), View, Size, Rule, Global>,
@@ -59,7 +59,7 @@ impl Model for Board {
         × (b.pieces ≤ most_pieces) × (0 < b.table.shared.key.seats) };
 }
 
-// Cuts one share after another off, and makes a seat of each.
+// Cuts off one share after another, and makes a seat of each.
 fn deal(words: &Words, mut first: Token, seats: u32, all: &mut Vec<Seat>)
     requires first { (first.table_id ≡ words.now.table_id)
         × (first.me ≡ (fresh seats words.now.key.pieces, [])) }
@@ -79,7 +79,7 @@ fn deal(words: &Words, mut first: Token, seats: u32, all: &mut Vec<Seat>)
     });
 }
 
-// One token of all the seats'.
+// Joins the tokens of all the seats into one.
 fn join_all(words: &Words, mut seats: Vec<Seat>) -> Token
     requires own { All (λ s. s.board ≡ words.now.table_id) seats.items }
     requires words { words.now.table_id.words ≡ 3 }
@@ -113,10 +113,11 @@ fn close(table: Table<(), View, Size, Rule, Global>, whole: Token) -> [u64; 3]
 }
 
 impl Board {
-    /// A board of `pieces` pieces, at most 10,000, and its `seats` seats, 1 to 64, one for each
-    /// worker. No piece is drawn, no seat raised or lowered.
+    /// Opens a board of `pieces` pieces, at most 10,000, and its `seats` seats, 1 to 64, one for
+    /// each worker. No piece is drawn yet, and no seat raised or lowered.
     ///
-    /// `NoMemory` where the words or the list of the seats can't be had. Nothing is left then.
+    /// Returns `NoMemory` where there is no memory for the words or the list of the seats. Nothing
+    /// is left then.
     pub fn open(alloc: Global, pieces: u32, seats: u32) -> Result<(Board, Vec<Seat>), NoMemory>
         requires pieces { pieces ≤ most_pieces }
         requires seats { (1 ≤ seats) × (seats ≤ most_seats) }
@@ -131,18 +132,18 @@ impl Board {
         Ok((Board { table, pieces }, all))
     }
 
-    /// Claims a piece: one look at STOP, and where it isn't raised one draw from NEXT. The seat is
+    /// Claims a piece: one look at STOP and, where it isn't raised, one draw from NEXT. The seat is
     /// one of this board's, and isn't over.
     ///
     /// - `Piece(k)`: piece `k` is this seat's, and no other seat's. It is below the number of
     ///   pieces, and above every piece that the seat has.
     /// - `Done`: all pieces are drawn. The seat is over.
-    /// - `Stopped`: some seat raised. The seat is over. A seat that raised itself is told so by
-    ///   its next claim.
+    /// - `Stopped`: some seat raised. The seat is over. After a seat raised itself, its next claim
+    ///   returns this.
     ///
-    /// A claim changes nothing else of the seat. `claims_left` falls with each, so a loop that
-    /// claims until the seat is over has it as its measure, and makes at most one claim more than
-    /// there are pieces.
+    /// A claim changes nothing else of the seat. `claims_left` falls with each claim, so it is the
+    /// measure of a loop that claims until the seat is over. Such a loop makes at most one claim
+    /// more than there are pieces.
     #[tactic(auto, using(crate::proofs::Claiming::claims_left_falls))]
     pub fn claim(&self, seat: &mut Seat) -> Claim
         requires board { IsSeatOf self.now seat.old }
@@ -168,8 +169,8 @@ impl Board {
         Claim::Done
     }
 
-    /// Tells all seats to stop: one exchange on STOP. Each is told `Stopped` by a later claim, this
-    /// one by its next. Of the seat nothing changes but that it raised.
+    /// Stops all seats: one exchange on STOP. A later claim of each returns `Stopped`, the next one
+    /// of this seat. Nothing of the seat changes but that it raised.
     pub fn raise(&self, seat: &mut Seat)
         requires { IsSeatOf self.now seat.old }
         ensures board { IsSeatOf self.now seat.new }
@@ -180,8 +181,9 @@ impl Board {
             .fetch_or::<Raise>(&mut seat.token, STOP, 1);
     }
 
-    /// Lowers the board's bound to `k`, a piece of the board, where it is above: one exchange on
-    /// FIRST. Of the seat nothing changes but its low, the least number that it lowered to.
+    /// Lowers the board's bound to `k`, a piece of the board, where the bound is above it: one
+    /// exchange on FIRST. Nothing of the seat changes but its low, the least number that it lowered
+    /// to.
     pub fn lower(&self, seat: &mut Seat, k: u32)
         requires board { IsSeatOf self.now seat.old }
         requires piece { k < self.now.pieces }
@@ -193,10 +195,10 @@ impl Board {
             .fetch_min::<Lower>(&mut seat.token, FIRST, u64::from(k));
     }
 
-    /// The board's bound: the least number that any seat lowered to so far, or the number of
-    /// pieces where none did. One load of FIRST. It is at most what this seat was told before,
-    /// and at most each number that it lowered to. Of the seat nothing changes but what it was
-    /// told.
+    /// The board's bound: the least number that any seat lowered to so far, or the number of pieces
+    /// where none did. One load of FIRST. It is at most what this seat read before, and at most
+    /// each number that the seat lowered to. Nothing of the seat changes but the bound that it read
+    /// last.
     pub fn bound(&self, seat: &mut Seat) -> u32
         requires { IsSeatOf self.now seat.old }
         ensures board { IsSeatOf self.now seat.new }
@@ -207,14 +209,15 @@ impl Board {
         self.table.shared.load::<Bound>(&mut seat.token, FIRST) as u32
     }
 
-    /// Ends the board, and says what its seats did together. It asks for all of them: as many as
-    /// `open` gave, each this board's.
+    /// Ends the board, and returns what its seats did together. It takes all of them: as many as
+    /// `open` returned, each this board's.
     ///
-    /// - `drawn`: the seats' lists together hold the numbers below it, each once. Where a seat was
-    ///   told `Done`, it is the number of pieces.
-    /// - `stopped`: whether some seat raised. It is true where a seat was told `Stopped`.
-    /// - `first`: the least number that a seat lowered to, or the number of pieces. No seat was
-    ///   told a smaller bound.
+    /// - `drawn`: the seats' lists together hold the numbers below it, each once. It is the number
+    ///   of pieces where a claim of some seat returned `Done`.
+    /// - `stopped`: whether some seat raised. It is true where a claim of some seat returned
+    ///   `Stopped`.
+    /// - `first`: the least number that a seat lowered to, or the number of pieces. No seat read a
+    ///   smaller bound.
     pub fn gather(self, seats: Vec<Seat>) -> Tally
         requires all { length seats.items ≡ self.seats }
         requires own { All (λ s. IsSeatOf self s) seats.items }

@@ -1,6 +1,6 @@
-// What a claim and a gathering answer.
+//! What a claim returns, and what a gathering returns.
 
-/// What a claim answers.
+/// What a claim returns.
 #[derive(Clone, Copy, Debug, PartialEq, Eq)]
 pub enum Claim {
     /// This piece is the seat's own, and no other seat's.
@@ -11,7 +11,7 @@ pub enum Claim {
     Stopped,
 }
 
-/// What the seats of a board did together.
+/// What the seats of a board did together, as a gathering returns it.
 #[derive(Clone, Copy, Debug, PartialEq, Eq)]
 pub struct Tally {
     /// How many pieces were drawn: those below this number, each by one seat.

@@ -1,16 +1,16 @@
-//! A claim board deals out the numbers below a bound to threads, each number once, and no thread
-//! waits for another.
+//! A claim board deals out the numbers below a bound to threads, each number once. No thread waits
+//! for another.
 //!
 //! [`Board::open`] makes a board of so many pieces and its seats, one for each worker. A worker
-//! claims with its seat until it is told `Done` or `Stopped`. Two marks go with the pieces: any
-//! seat may *raise*, which stops all of them at their next claim, and any may *lower* the board's
-//! bound, which begins at the number of pieces, as a search for the least piece that fails does.
-//! [`Board::gather`] takes all seats back and says what they did together.
+//! claims with its seat until a claim returns `Done` or `Stopped`. Any seat may *raise*, which
+//! stops all of them at their next claim. Any seat may *lower* the board's bound, which begins at
+//! the number of pieces: a search for the least piece that fails does so. [`Board::gather`] takes
+//! all seats back and returns what they did together.
 //!
 //! The board is three words, NEXT, STOP and FIRST, that change in single atomic exchanges
-//! (`atomic_table`). What is promised holds for every interleaving of these: `specs/Rule.antt` is
-//! the fact that each exchange keeps, `specs/Steps.antt` what each tells its seat. No proof says
-//! which seat gets which piece, nor that a raise reaches another seat at once.
+//! (`atomic_table`). What is promised holds for every interleaving of these. `specs/Rule.antt` is
+//! the fact that each exchange keeps, and `specs/Steps.antt` is what each exchange says to its
+//! seat. No proof says which seat gets which piece, nor that a raise reaches another seat at once.
 #![tactic(auto)]
 
 mod board;

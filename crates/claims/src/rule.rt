@@ -1,4 +1,4 @@
-// The rule of a board's table, and the kinds of step that keep it.
+//! The rule of a board's table, and the kinds of step that keep it.
 ghost use Rattle.claims.specs.Views.{fresh};
 ghost use Rattle.claims.specs.Rule.{Holds};
 ghost use Rattle.claims.specs.Steps.{Draws, Looks, Raises, Lowers, Bounds};

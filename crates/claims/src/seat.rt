@@ -1,4 +1,4 @@
-// A seat at a board.
+//! The seats of a board.
 ghost use Rattle.std.specs.Prelude.{◌≡◌, []};
 ghost use Rattle.claims.specs.Views.{is_over};
 
@@ -7,8 +7,8 @@ use std::marker::Model;
 
 pub(crate) type Token = atomic_table::Seat<(), View>;
 
-/// A seat at a board, with which one thread at a time claims. It has no copy, so the seats that
-/// [`Board::open`](crate::Board::open) gave are all that there are of a board.
+/// A seat at a board, with which one thread at a time claims. A seat can't be copied, so the seats
+/// that [`Board::open`](crate::Board::open) returned are all the seats of a board.
 #[derive(Drop)]
 pub struct Seat {
     pub(crate) token: Token,
@@ -29,8 +29,8 @@ impl Model for Seat {
 }
 
 impl Seat {
-    /// Whether the seat was told `Done` or `Stopped`. It claims no more then, and may still raise,
-    /// lower and ask for the bound. It takes no step and no memory.
+    /// Whether a claim of the seat returned `Done` or `Stopped`. The seat claims no more then, and
+    /// may still raise, lower and read the bound. It takes no step and no memory.
     pub fn is_over(&self) -> bool
         ensures { result ≡ is_over self.now.view }
     {

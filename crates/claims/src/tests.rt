@@ -9,7 +9,7 @@ use std::process::Abort;
 use std::test::Fail;
 use std::thread::{Threads, join};
 
-// Claims, and stops the test unless it is told a piece.
+// Claims a piece, and stops the test where the claim returns none.
 fn piece(rt: &impl Abort, board: &Board, seat: &mut Seat) -> u32
     requires board { IsSeatOf board.now seat.old }
     requires going { is_over seat.old.view ≡ false }
@@ -123,7 +123,7 @@ fn a_board_of_no_pieces_is_done_at_once(rt: HostRuntime) -> Result<(), Fail> {
     Ok(())
 }
 
-// Each seat claims once. In one thread they are told the pieces in order.
+// Each seat claims once. In one thread the pieces come in order.
 fn claim_once_each(
     rt: &impl Abort,
     alloc: Global,
@@ -167,8 +167,8 @@ fn sixty_four_seats_draw_from_one_board(rt: HostRuntime) -> Result<(), Fail> {
     Ok(())
 }
 
-// Claims until its seat is over. A piece that finds no room in the list is missed by the count of
-// the pieces.
+// Claims until its seat is over. A piece that finds no room in the list is missing from the count
+// of the pieces.
 fn claim_all(board: &Board, mut seat: Seat, mut mine: Vec<u32>) -> (Seat, Vec<u32>)
     requires { IsSeatOf board.now seat }
     ensures { IsSeatOf board.now result.0 }

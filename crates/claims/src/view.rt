@@ -1,4 +1,4 @@
-// What a seat knows, how large a board is, and how views are cut and joined.
+//! Views: what a seat knows, how large a board is, and how views are cut and joined.
 
 use atomic_table::{Join, Split};
 use std::collections::LinkedList;
@@ -11,19 +11,19 @@ pub(crate) struct View {
     pub pieces: u32,
     /// The pieces that it drew, in order.
     pub drawn: LinkedList<u32>,
-    /// How often it was told `Done`.
+    /// How often a claim of it returned `Done`.
     pub done: u32,
-    /// It was told `Stopped`.
+    /// A claim of it returned `Stopped`.
     pub stopped: bool,
     /// It raised.
     pub raised: bool,
     /// The least number that it lowered to, or the number of pieces.
     pub low: u32,
-    /// The bound that it was told last, or the number of pieces.
+    /// The bound that it read last, or the number of pieces.
     pub told: u32,
 }
 
-/// How large a board is. Its table is told once, when it is made.
+/// How large a board is, which its table keeps from the start.
 #[derive(Clone, Copy)]
 pub(crate) struct Size {
     pub pieces: u32,

@@ -7,32 +7,32 @@ use objects::{
     MaxEffect, MaxRegister, Queue, QueueEffect, Reply, SetEffect,
 };
 
-/// What an operation did, as far as it decides with which others it always commutes forward. It goes by
-/// the operation's effect.
+/// What an operation did, as far as it decides with which others it always commutes forward. It
+/// depends on the operation's effect.
 #[derive(Clone, Copy)]
 pub enum Class {
     Deposit,
     Withdrawal,
     /// A withdrawal that was refused.
     Refusal,
-    /// It told the balance of an account.
+    /// It read the balance of an account.
     Balance,
     /// It changed a counter.
     Count,
-    /// It raised a register, or found it higher.
+    /// It raised a register, or found it higher already.
     Raise,
     /// It changed a set, or bound or freed a key.
     Change,
-    /// It wrote a key, whatever that was bound to.
+    /// It put an item under a key, whatever the key was bound to.
     Put,
     Enqueue,
     /// It took an item out of a queue.
     Dequeue,
-    /// It told how many items a set or a queue has, or that a queue has none.
+    /// It counted the items of a set or a queue, or found a queue empty.
     Size,
     /// It left the value as it was, and is of no other class.
     Look,
-    /// It found a key bound that it was to bind.
+    /// It was to bind a key, and found it bound.
     Taken,
 }
 
@@ -54,7 +54,7 @@ impl Class {
         Class::Taken,
     ];
 
-    /// The set of those classes whose entries are compared with those of their own item alone.
+    /// The set of the classes whose entries are compared only with those of their own item.
     pub const BY_ITEM: u16 = 0b1_1010_1100_0000;
 
     /// The class of an entry's operation.
@@ -99,15 +99,15 @@ impl Class {
         }
     }
 
-    /// The set of this class alone. A set of classes is a number, whose bits stand for the classes
-    /// of their numbers.
+    /// The set of this class alone. A set of classes is a number: each bit is for the class of its
+    /// place.
     pub fn bit(self) -> u16
         ensures { result ≡ 2 ^ number_of self }
     {
         1u16 << self.number()
     }
 
-    /// The set of the classes that it doesn't always commute with.
+    /// The set of the classes with which it doesn't always commute.
     pub fn conflicts(self) -> u16
         ensures { result ≡ conflicts_of self }
     {
@@ -136,8 +136,8 @@ impl Class {
         }
     }
 
-    /// Whether entries of the class are compared with those of their own item alone, where they are
-    /// about items.
+    /// Whether entries of the class that are about items are compared only with those of their own
+    /// item.
     pub fn is_by_item(self) -> bool
         ensures { result ≡ is_by_item self }
     {

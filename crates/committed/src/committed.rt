@@ -1,4 +1,4 @@
-//! A list of entries, against which others are checked.
+//! The list of committed entries, against which other entries are checked.
 ghost use Rattle.std.specs.Prelude.{◌≡◌, ◌↔◌, ◌+◌, ◌<◌, ◌≤◌, ℕ, [], ◌++◌, length, take, slice_index_or, vec_len, vec_capacity, IsTrue, OnOk, OnErr};
 ghost use Rattle.objects.specs.Entries.{CommutesWith, AllCommute, CommuteForward};
 ghost use Rattle.committed.specs.Marks.{mark_of};
@@ -15,17 +15,19 @@ use objects::{Entry, NoMemory, commute};
 use std::alloc::Global;
 use std::marker::Model;
 
-/// What runs leave, in the order in which they are committed, with an index by object, item and class.
-/// So an entry is compared with entries of its own object and item, with none of a class that it always
-/// commutes with, and in a span of a chain with the strictest alone; and a filter tells of most entries
-/// that there is nothing to compare. Entries that commute forward with all that was committed
-/// since their snapshot have the same replies after it (Weihl 1988).
+/// The entries that committed runs leave, in the order in which they are committed, with an index
+/// by object, item and class. Entries that commute forward with all that was committed since their
+/// snapshot have the same replies after it (Weihl 1988).
+///
+/// An entry is compared with entries of its own object, and of its own item where the class asks
+/// for it. It is compared with none of a class that it always commutes with, and in a span of a
+/// chain only with the strictest. A filter clears most entries, with nothing to compare.
 #[derive(Drop)]
 pub struct Committed {
     entries: Vec<Entry>,
-    /// Finds those that an entry may not commute with.
+    /// Finds the entries that an entry may not commute with.
     index: Index,
-    /// Clears most of the entries that commute forward with all that are listed.
+    /// Clears most of the entries that commute forward with all listed ones.
     filter: Filter,
 }
 
@@ -48,7 +50,7 @@ impl Model for Committed {
 }
 
 impl Committed {
-    /// An empty list. Takes no memory.
+    /// An empty list. It takes no memory.
     pub fn new(alloc: Global) -> Self
         ensures { result ≡ [] }
     {
@@ -66,14 +68,14 @@ impl Committed {
         self.entries.len()
     }
 
-    /// The entries, in the order in which they were added.
+    /// The entries, in the order in which they were appended.
     pub fn entries(&self) -> &[Entry]
         ensures { result.now ≡ self.now }
     {
         &self.entries
     }
 
-    /// Adds entries at the end, to list and index. On `NoMemory` none is added.
+    /// Appends entries. On `NoMemory` none is appended.
     pub fn append(&mut self, entries: &[Entry]) -> Result<(), NoMemory>
         ensures ok { OnOk result (self.new ≡ self.old ++ entries.now) }
         ensures err { OnErr result (self.new ≡ self.old) }
@@ -82,7 +84,7 @@ impl Committed {
         self.append_marked(&marked)
     }
 
-    /// Adds entries that have their marks. On `NoMemory` none is added.
+    /// Appends entries that have their marks. On `NoMemory` none is appended.
     pub fn append_marked(&mut self, entries: &[MarkedEntry]) -> Result<(), NoMemory>
         ensures ok { OnOk result (self.new ≡ self.old ++ entries_of entries.now) }
         ensures err { OnErr result (self.new ≡ self.old) }
@@ -99,8 +101,8 @@ impl Committed {
         Ok(())
     }
 
-    /// Whether each entry commutes forward, over all states, with each of the first `upto` of the list.
-    /// Takes no memory.
+    /// Whether each of these entries commutes forward, over all states, with each of the first
+    /// `upto` entries of the list. It takes no memory.
     pub fn stands(&self, entries: &[MarkedEntry], upto: usize) -> bool
         requires within { upto ≤ length self.now }
         ensures { IsTrue result ↔ AllCommute (entries_of entries.now) (take upto self.now) }
@@ -113,7 +115,8 @@ impl Committed {
         true
     }
 
-    /// Whether the entry, which has this mark, commutes forward with each of the first `upto`.
+    /// Whether the entry, which has this mark, commutes forward with each of the first `upto`
+    /// entries.
     fn commutes_with(&self, entry: &Entry, mark: &Mark, upto: usize) -> bool
         requires mark { mark.now ≡ mark_of entry.now }
         requires within { upto ≤ length self.now }
@@ -123,8 +126,9 @@ impl Committed {
         met == 0 || self.commutes_with_met(entry, mark, met, upto)
     }
 
-    /// The same, where those that it may not commute with are of these classes. It looks at the entries
-    /// of its own object, class by class, and of its own item where the class asks for one.
+    /// The same, where the entries with which it may not commute are of the classes `met`. It looks
+    /// at the entries of its own object, class by class, and at those of its own item where the
+    /// class asks for one.
     fn commutes_with_met(&self, entry: &Entry, mark: &Mark, met: u16, upto: usize) -> bool
         requires mark { mark.now ≡ mark_of entry.now }
         requires within { upto ≤ length self.now }
@@ -143,7 +147,7 @@ impl Committed {
     }
 }
 
-/// Puts entries at the end of a list, its filter and its index, which have room for them.
+/// Appends entries to a list, its filter and its index, which have room for them.
 fn put_all(entries: &mut Vec<Entry>, filter: &mut Filter, index: &mut Index, more: &[MarkedEntry])
     requires room { vec_len entries.old + length more.now ≤ vec_capacity entries.old }
     requires index_room { HasRoom index.old (length more.now) }
@@ -162,7 +166,7 @@ fn put_all(entries: &mut Vec<Entry>, filter: &mut Filter, index: &mut Index, mor
     }
 }
 
-/// Whether the entry commutes forward with each of the first `upto` from a place on.
+/// Whether the entry commutes forward with each entry from the place `since` on and before `upto`.
 fn commutes_past(entry: &Entry, entries: &[Entry], since: usize, upto: usize) -> bool
     requires { upto ≤ length entries.now }
     ensures { IsTrue result ↔ ((k : ℕ) → since ≤ k → k < upto → CommuteForward entry.now (slice_index_or entries.now k entry.now)) }

@@ -1,5 +1,6 @@
-//! A filter of listed entries, which tells of most others at once that they commute with all of
-//! these (after B. H. Bloom, "Space/time trade-offs in hash coding with allowable errors", 1970).
+//! A filter of listed entries. It says of most other entries at once that they commute with all
+//! listed ones (after B. H. Bloom, "Space/time trade-offs in hash coding with allowable errors",
+//! 1970).
 ghost use Rattle.std.specs.Prelude.{◌≡◌, ◌-◌, ℕ, [], length, IfOk, OnErr};
 ghost use Rattle.objects.specs.declared.entry.Entry.{Entry as OneEntry};
 ghost use Rattle.committed.specs.Marks.{mark_of};
@@ -16,16 +17,16 @@ const FEWEST: usize = 1024;
 /// How many sets it grows to.
 const MOST: usize = 1048576;
 
-/// For each object, and for each item of an object, the classes of the entries about it. Its set may
-/// have more, since others share it.
+/// For each object, and for each item of an object, the classes of the entries about it. A set may
+/// have more classes, since others share it.
 #[derive(Drop)]
 pub struct Filter {
-    /// Sets of classes, as bits, at hashes of object and item. They are a power of two.
+    /// Sets of classes, as bits, at hashes of object and item. Their number is a power of two.
     sets: Vec<u16>,
 }
 
 impl Filter {
-    /// A filter that clears no entry. Takes no memory.
+    /// A filter that has no entry, and clears none. It takes no memory.
     pub fn new(alloc: Global) -> Filter
         ensures { IsFilterOf [] result }
     {
@@ -34,8 +35,8 @@ impl Filter {
         }
     }
 
-    /// Grows, so that it still clears most entries when so many more are marked. On `NoMemory` the
-    /// filter is as before.
+    /// Makes room, so that it still clears most entries after so many more are marked. On
+    /// `NoMemory` the filter is as before.
     pub fn reserve(&mut self, entries: &[Entry], more: usize) -> Result<(), NoMemory>
         requires { IsFilterOf entries.now self.old }
         ensures filter { IsFilterOf entries.now self.new }
@@ -85,8 +86,9 @@ impl Filter {
         }
     }
 
-    /// The set of the classes of marked entries that an entry with this mark may conflict with. The
-    /// set of its object has the classes of all entries about the object, so it is looked at first.
+    /// The set of the classes of marked entries with which an entry with this mark may conflict.
+    /// The set of its object has the classes of all entries about the object, so it is looked at
+    /// first.
     pub fn met(&self, mark: &Mark) -> u16
         ensures { (entry other : OneEntry) → mark.now ≡ mark_of entry → IsMarked self.now other → Meets result entry other }
     {
@@ -107,7 +109,7 @@ impl Filter {
         }
     }
 
-    /// Where the set of a hash stands.
+    /// The place of the set of a hash.
     fn slot(&self, hash: u32) -> usize
         ensures { result ≡ slot_of (length self.now.sets.items) hash }
     {

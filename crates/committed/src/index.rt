@@ -1,8 +1,10 @@
-//! Chains of entries by headings: by object and class, and by object, item and class.
+//! An index of entries: chains by headings, which are an object and a class, or an object, an item
+//! and a class.
 //!
-//! Each link of a chain ends a span, in which one entry is as strict as all, and knows a link further
-//! back to skip to. The skips are those of E. W. Myers's random-access stacks ("An applicative random-access
-//! stack", 1983), so that the last link below a place is found in logarithmic time.
+//! Each link of a chain ends a span, of which one entry is as strict as all. Each link also knows a
+//! link further back to skip to. The skips are those of E. W. Myers's random-access stacks ("An
+//! applicative random-access stack", 1983), so the last link below a place is found in logarithmic
+//! time.
 ghost use Rattle.std.specs.Prelude.{◌≡◌, ◌≢◌, ◌<◌, ◌≤◌, ◌+◌, ◌-◌, ◌*◌, ◌^◌, ℕ, [], min, length, slice_index_or, vec_len, vec_capacity, IsTrue, IfOk, OnOk, OnErr};
 ghost use Rattle.objects.specs.declared.entry.Entry.{Entry as OneEntry};
 ghost use Rattle.committed.specs.Marks.{mark_of};
@@ -18,14 +20,14 @@ use std::alloc::Global;
 /// How many slots a table has at first.
 const FEWEST: usize = 64;
 
-/// How many slots it grows to.
+/// How many slots a table has at most.
 const MOST: usize = 1073741824;
 
-/// How many entries are listed at most. Each has two links or fewer, which are counted by 32 bits.
+/// How many entries are listed at most. Each has at most two links, which are counted in 32 bits.
 const MOST_LISTED: u32 = 2147483647;
 
-/// An entry in the chain of a heading. Links are named by how many there are up to them, so that 0
-/// stands for none.
+/// An entry in the chain of a heading. A link's number is how many links there are up to it, so 0
+/// is no link.
 #[derive(Clone, Copy)]
 pub struct Link {
     /// A hash of its heading.
@@ -42,7 +44,8 @@ pub struct Link {
     skip: u32,
     /// How far it skips: over `2 ^ (rank + 1) - 1` links of its chain.
     rank: u32,
-    /// How often the key of a link in its chain, up to it, is another than the one before.
+    /// How often, up to this link, the key of a link in its chain differs from that of the link
+    /// before.
     turns: u32,
 }
 
@@ -52,16 +55,16 @@ pub struct Index {
     /// For each slot the last link of its chain.
     last: Vec<u32>,
     links: Vec<Link>,
-    /// How many entries are listed. They are the first ones.
+    /// How many entries are listed, from the first on.
     listed: u32,
     /// What keys are multiplied by to find their slots.
     seed: u64,
-    /// How often keys take turns in the chain where they do so most.
+    /// How often the keys take turns in the chain where they do so most.
     turns: u32,
 }
 
 impl Index {
-    /// An index of no entries. Takes no memory.
+    /// An index of no entries. It takes no memory.
     pub fn new(alloc: Global) -> Index
         ensures { IsIndexOf [] result }
     {
@@ -74,15 +77,15 @@ impl Index {
         }
     }
 
-    /// How many entries are listed. They are the first ones.
+    /// How many entries are listed, from the first on.
     pub fn listed(&self) -> usize
         ensures { result ≡ self.now.listed }
     {
         self.listed as usize
     }
 
-    /// Makes room for so many more entries. Where the keys of a chain take turns too often, the chains
-    /// are made anew by another seed, so that none can be made long by a choice of keys.
+    /// Makes room for so many more entries. Where the keys of a chain take turns too often, all
+    /// chains are built again with another seed. So no choice of keys can make a chain long.
     pub fn reserve(&mut self, entries: &[Entry], more: usize) -> Result<(), NoMemory>
         requires { IsIndexOf entries.now self.old }
         ensures index { IsIndexOf entries.now self.new }
@@ -96,8 +99,8 @@ impl Index {
         Ok(())
     }
 
-    /// Makes the table large enough for so many links. Makes the chains anew where it wasn't, and where
-    /// keys take turns in a chain too often.
+    /// Makes the table large enough for so many links. Builds the chains again where it wasn't
+    /// large enough, or where keys take turns in a chain too often.
     fn grow(&mut self, entries: &[Entry], wanted: usize) -> Result<(), NoMemory>
         requires { IsIndexOf entries.now self.old }
         ensures index { IsIndexOf entries.now self.new }
@@ -122,7 +125,7 @@ impl Index {
         Ok(())
     }
 
-    /// An index of the first entries, with this many slots.
+    /// An index of the first entries, with so many slots.
     fn of(
         alloc: Global,
         entries: &[Entry],
@@ -190,7 +193,7 @@ impl Index {
         }
     }
 
-    /// Puts an entry at the end of a key's chain.
+    /// Puts an entry at the end of the chain of a key.
     fn link(&mut self, entries: &[Entry], key: u32, place: u32)
         requires chains { AreChains self.old }
         requires spans { AreSpans entries.now self.old }
@@ -217,8 +220,8 @@ impl Index {
         self.links.push_reserved(link);
     }
 
-    /// The link of an entry that comes next, where this is the last one of its chain. It lengthens the
-    /// span of the last, where one entry is as strict as the other.
+    /// The link of an entry to put after the last one of its chain. It lengthens the span of the
+    /// last, where one entry is as strict as the other.
     fn next(&self, entries: &[Entry], key: u32, place: u32, last: u32) -> Link
         requires chains { AreChains self.now }
         requires spans { AreSpans entries.now self.now }
@@ -270,7 +273,7 @@ impl Index {
         }
     }
 
-    /// Where a link skips to that comes behind this one, and its rank.
+    /// Where the link after this one skips to, and its rank.
     fn skip_behind(&self, last: u32) -> (u32, u32)
         requires some { 0 < last }
         requires within { last ≤ length self.now.links.items }
@@ -289,9 +292,9 @@ impl Index {
         }
     }
 
-    /// Whether the entry commutes forward with each of the first `upto` that has the key. Of each span
-    /// it looks at the strictest alone. Entries of other keys in the chain may be among those that it
-    /// looks at.
+    /// Whether the entry commutes forward with each of the first `upto` entries that has the key.
+    /// Of each span it looks at the strictest entry only. It may also look at entries of other keys
+    /// in the chain.
     pub fn commutes(&self, entry: &Entry, entries: &[Entry], key: u32, upto: usize) -> bool
         requires chains { AreChains self.now }
         requires spans { AreSpans entries.now self.now }
@@ -348,7 +351,7 @@ impl Index {
     }
 }
 
-/// The key of those entries of a class that an entry with this mark is compared with.
+/// The key of the entries of a class with which an entry with this mark is compared.
 pub fn key_against(mark: &Mark, class: Class) -> u32
     ensures { result ≡ key_against mark.now class }
 {

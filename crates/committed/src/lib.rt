@@ -1,6 +1,6 @@
-//! The list of committed entries, for whoever asks which entries still hold after it.
+//! The list of committed entries, for the check of which entries are still valid after it.
 //!
-//! A [`Committed`] is the list, and says whether entries commute forward (W. E. Weihl,
+//! A [`Committed`] is the list. It says whether entries commute forward (W. E. Weihl,
 //! "Commutativity-based concurrency control for abstract data types", 1988) with a part of it.
 #![tactic(auto)]
 

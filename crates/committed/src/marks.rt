@@ -1,4 +1,4 @@
-//! Marks of entries: what a filter needs to know of each.
+//! Marks: what the filter and the index need to know of an entry.
 ghost use Rattle.std.specs.Prelude.{◌≡◌};
 ghost use Rattle.committed.specs.Marks.{hash_of, mark_of};
 
@@ -6,16 +6,16 @@ use crate::classes::Class;
 use crate::items::item_of;
 use objects::{Entry, Item};
 
-/// A digest of an entry. It is made once, however often the entry is compared with others.
+/// A digest of an entry. It is made once, however often the entry is compared.
 #[derive(Clone, Copy, Debug, PartialEq, Eq)]
 pub struct Mark {
     /// A hash of its object.
     pub of_object: u32,
-    /// A hash of its object and item, or of its object again where it is about none.
+    /// A hash of its object and item, or of its object again where the entry is about no item.
     pub of_item: u32,
     /// The set of its class.
     pub class: u16,
-    /// The set of the classes that it doesn't always commute with.
+    /// The set of the classes with which it doesn't always commute.
     pub conflicts: u16,
 }
 
@@ -37,7 +37,9 @@ impl Mark {
 /// An entry with its mark.
 #[derive(Clone, Copy, Debug, PartialEq, Eq)]
 pub struct MarkedEntry {
+    /// The entry.
     pub entry: Entry,
+    /// Its mark.
     pub mark: Mark,
     pub ghost is_marked: { mark ≡ mark_of entry },
 }
@@ -54,7 +56,7 @@ impl MarkedEntry {
     }
 }
 
-/// A hash of an object and item, whose low bits depend on all of theirs.
+/// A hash of an object and an item. Its low bits depend on all bits of both.
 fn hash(object: u32, item: Option<Item>) -> u32
     ensures { result ≡ hash_of object item }
 {

@@ -1,5 +1,5 @@
-//! Sets of numbers that are emptied at once (P. Briggs and L. Torczon, "An efficient representation for
-//! sparse sets", 1993).
+//! Sets of numbers that are emptied at once (P. Briggs and L. Torczon, "An efficient representation
+//! for sparse sets", 1993).
 ghost use Rattle.std.specs.Prelude.{◌≡◌, ◌↔◌, ◌⊎◌, ℕ, [], IsTrue, OnOk, OnErr};
 ghost use Rattle.committed.specs.NumberSets.{Has, AreDistinct};
 
@@ -7,10 +7,10 @@ use objects::NoMemory;
 use std::alloc::Global;
 use std::marker::Model;
 
-/// Numbers, each once, in the order in which they came.
+/// A set of numbers, in the order in which they were inserted.
 #[derive(Drop)]
 pub struct NumberSet {
-    /// For each number where it stands among the members, if it is one.
+    /// For each number that is a member, its place among the members.
     places: Vec<usize>,
     members: Vec<usize>,
 }
@@ -31,7 +31,7 @@ impl Model for NumberSet {
 }
 
 impl NumberSet {
-    /// An empty set. Takes no memory.
+    /// An empty set. It takes no memory.
     pub fn new(alloc: Global) -> NumberSet
         ensures { result ≡ [] }
     {
@@ -41,7 +41,7 @@ impl NumberSet {
         }
     }
 
-    /// The members, in the order in which they came.
+    /// The members, in the order in which they were inserted.
     pub fn members(&self) -> &[usize]
         ensures all { result.now ≡ self.now }
         ensures distinct { AreDistinct result.now }
@@ -59,7 +59,7 @@ impl NumberSet {
         }
     }
 
-    /// Makes a number a member. On `NoMemory` the members are as before.
+    /// Inserts a number, where it isn't a member. On `NoMemory` the members are as before.
     pub fn insert(&mut self, number: usize) -> Result<(), NoMemory>
         ensures has { OnOk result (Has self.new number) }
         ensures kept { (other : ℕ) → Has self.old other → Has self.new other }
@@ -78,7 +78,7 @@ impl NumberSet {
         Ok(())
     }
 
-    /// Empties the set.
+    /// Empties the set. It keeps its memory.
     pub fn clear(&mut self)
         ensures { self.new ≡ [] }
     {

@@ -1,4 +1,4 @@
-//! Which of two entries commutes forward with less.
+//! Strictness: which of two entries commutes forward with less.
 ghost use Rattle.std.specs.Prelude.{◌≡◌, IsTrue};
 ghost use Rattle.committed.specs.Strictness.{IsAsStrict, is_strict_by_number, account_is_as_strict, counter_is_as_strict, max_is_as_strict};
 
@@ -6,12 +6,12 @@ use objects::{
     Account, AccountEffect, Call, Counter, CounterEffect, Entry, MaxEffect, MaxRegister, Reply,
 };
 
-/// Whether the first entry is sure to commute forward with no more than the second does. It does where
-/// they are equal, and where their numbers tell: of two withdrawals the smaller commutes with fewer
-/// balances, of two balances the larger with fewer withdrawals, of two raises the larger with fewer
-/// tops, and of two tops the smaller with fewer raises. Numbers make no difference to deposits, refused
-/// withdrawals, changes of a counter and reads of a counter: of two on one object, each is as strict
-/// as the other.
+/// Whether the first entry is known to commute forward with no more than the second does. It is
+/// where the two are equal, and by their numbers. Of two withdrawals the smaller commutes with
+/// fewer balances, of two balances the larger with fewer withdrawals. Of two raises the larger
+/// commutes with fewer tops, of two tops the smaller with fewer raises. Deposits, refused
+/// withdrawals, changes of a counter and reads of a counter don't depend on their numbers: of two
+/// on one object, each is as strict as the other.
 pub fn is_as_strict(first: &Entry, second: &Entry) -> bool
     ensures strict { IsTrue result → IsAsStrict first.now second.now }
     ensures equal { first.now ≡ second.now → IsTrue result }

@@ -1,4 +1,4 @@
-//! Entries with their marks: all, or fewer in their place.
+//! Entries with their marks: all of them, or a summary.
 ghost use Rattle.std.specs.Prelude.{◌≡◌, ◌<◌, ◌++◌, ◌∷◌, [], List, length, IfOk, OnOk};
 ghost use Rattle.objects.specs.declared.entry.Entry.{Entry as OneEntry};
 ghost use Rattle.committed.specs.Summaries.{entries_of, IsSummary};
@@ -11,10 +11,11 @@ use std::alloc::Global;
 /// How many slots a table has at most.
 const MOST: usize = 4096;
 
-/// How many entries aren't worth a table.
+/// Up to how many entries a table isn't worth its cost.
 const FEW: usize = 8;
 
-/// The entries with their marks, in order.
+/// The entries with their marks, in order. Returns `NoMemory` where a request for memory was
+/// refused.
 pub fn mark_all(alloc: Global, entries: &[Entry]) -> Result<Vec<MarkedEntry>, NoMemory>
     ensures { IfOk result (λ marked. entries_of marked.items ≡ entries.now) }
 {
@@ -25,10 +26,15 @@ pub fn mark_all(alloc: Global, entries: &[Entry]) -> Result<Vec<MarkedEntry>, No
     Ok(marked)
 }
 
-/// What commutes forward with all entries of the result commutes forward with all of these, and the other
-/// way round. It has one entry for each different heading (object, item and class, as far as the table
-/// tells them apart), the strictest of those under it, where one of them is; a few entries are all kept. So a
-/// run of many operations on one object is checked and listed by a few.
+/// A summary of the entries: what commutes forward with all of the summary commutes forward with
+/// all of these, and the other way round.
+///
+/// It has one entry for each different heading (object, item and class), as far as the table
+/// distinguishes them. That entry is the strictest under the heading, where one of them is. A few
+/// entries are all kept. So a run of many operations on one object is checked and listed by a few
+/// entries.
+///
+/// Returns `NoMemory` where a request for memory was refused.
 pub fn summary_of(alloc: Global, entries: &[Entry]) -> Result<Vec<MarkedEntry>, NoMemory>
     ensures { IfOk result (λ summary. IsSummary (entries_of summary.items) entries.now) }
 {
@@ -42,11 +48,11 @@ pub fn summary_of(alloc: Global, entries: &[Entry]) -> Result<Vec<MarkedEntry>, 
     Ok(table.summary)
 }
 
-/// A summary, and where it has an entry of a heading. The places only save looks: an entry is left out or
-/// replaced where the one at the place is compared with it.
+/// A summary, and where it has an entry of a heading. The places only save looks: an entry is left
+/// out or replaced after it is compared with the one at the place.
 #[derive(Drop)]
 struct Table {
-    /// For each slot the place of the last entry that was put in the summary under its headings.
+    /// For each slot, the place of the last entry that was put in the summary under its headings.
     places: Vec<usize>,
     summary: Vec<MarkedEntry>,
     ghost some: { 0 < length places.items },
@@ -67,7 +73,7 @@ impl Table {
         })
     }
 
-    /// Adds an entry, where the summary has none that is as strict.
+    /// Adds an entry, or puts it in place of the one at its slot, unless that one is as strict.
     fn add(&mut self, entry: &Entry) -> Result<(), NoMemory>
         ensures { OnOk result ((entries : List OneEntry) → IsSummary (entries_of self.old.summary.items) entries → IsSummary (entries_of self.new.summary.items) (entries ++ entry.now ∷ [])) }
     {

@@ -1,4 +1,4 @@
-//! The committed list, on its happy paths.
+//! Tests of the committed list.
 use super::*;
 use objects::{
     AccountCall, AccountReply, Amount, DirectoryCall, DirectoryReply, Item, MaxCall, MaxReply,
@@ -12,7 +12,7 @@ fn amount(rt: &impl Abort, number: u64) -> Amount {
     Amount::new(number).expect(rt, "an amount")
 }
 
-/// Whether the entries stand after the first `upto` of a list.
+/// Whether the entries are still valid after the first `upto` of a list.
 fn stand_in(
     committed: &Committed,
     alloc: Global,
@@ -23,7 +23,7 @@ fn stand_in(
     Ok(committed.stands(&marked, upto.min(committed.len())))
 }
 
-/// Whether the entries stand after others.
+/// Whether the entries are still valid after others.
 fn stand(alloc: Global, entries: &[Entry], others: &[Entry]) -> Result<bool, NoMemory> {
     let mut committed = Committed::new(alloc);
     committed.append(others)?;

@@ -1,4 +1,4 @@
-//! Which runs have a link in a slot.
+//! The watch of runs: by heading, the runs that have an entry under it.
 ghost use Rattle.std.specs.Prelude.{◌≡◌, ◌↔◌, ◌<◌, ◌≤◌, ◌^◌, ◌⊎◌, ℕ, length, IsTrue, IfOk, OnOk};
 ghost use Rattle.committed.specs.Chains.{slot_of, AreChains, HasLink};
 ghost use Rattle.committed.specs.NumberSets.{Has};
@@ -13,35 +13,36 @@ const FEWEST: usize = 1024;
 /// How many slots there are at most.
 const MOST: usize = 4194304;
 
-/// That a run has an entry under a heading.
+/// A run has an entry under a heading.
 #[derive(Clone, Copy, Debug)]
 struct Link {
-    /// Where the links of the heading stand, and some others.
+    /// The slot of the heading. Other headings may share it.
     slot: u32,
     run: u32,
     /// The number of the link before it in its slot, counted from 1; 0 where it is the first.
     before: usize,
 }
 
-/// The headings that runs have entries under. Of the runs that were put in, it finds those that have
-/// an entry that may conflict with one of some others, without a look at the rest.
+/// The headings under which runs have entries. Of the runs that were put in, it finds those that
+/// have an entry that may conflict with one of some others, without a look at the rest.
 ///
-/// Nothing is taken out. A run that is put in again is still found by what it had before.
+/// Nothing is removed. A run that is put in again is still found by what it had before.
 #[derive(Drop)]
 pub struct Watch {
-    /// For each slot the number of its last link, counted from 1; 0 where it has none.
+    /// For each slot, the number of its last link, counted from 1, or 0 where it has none.
     last: Vec<usize>,
     links: Vec<Link>,
     /// How many runs there are.
     count: usize,
-    /// How many links it should have at most: more are mostly stale.
+    /// How many links it should have at most. With more, most of them are stale.
     limit: usize,
     ghost chains: { AreChains last.items links.items count },
     ghost small: { (length last.items ≤ 2 ^ 32) × (count ≤ 2 ^ 32) },
 }
 
 impl Watch {
-    /// A watch of so many runs, which have about so many entries together. None is in it yet.
+    /// A watch of so many runs, which have about so many entries together. No run is in it yet.
+    /// Returns `NoMemory` where a request for memory was refused.
     pub fn new(alloc: Global, count: usize, entries: usize) -> Result<Watch, NoMemory>
         requires { count ≤ 2 ^ 32 }
         ensures count { IfOk result (λ watch. watch.count ≡ count) }
@@ -58,14 +59,15 @@ impl Watch {
         })
     }
 
-    /// Whether most of the links are those of entries that a run no longer has.
+    /// Whether it has more links than it should. Most are then those of entries that a run no
+    /// longer has.
     pub fn is_stale(&self) -> bool
         ensures { IsTrue result ↔ self.now.limit < length self.now.links.items }
     {
         self.links.len() > self.limit
     }
 
-    /// Adds to those that were found all runs from one on with a link in a slot.
+    /// Adds to the found runs all runs from the number `from` on that have a link in the slot.
     pub(crate) fn find_in(
         &self,
         slot: usize,
@@ -108,7 +110,7 @@ impl Watch {
         Ok(())
     }
 
-    /// Where the links of a key stand.
+    /// The slot of a key.
     pub(crate) fn slot(&self, key: u32) -> usize
         ensures is { result ≡ slot_of (length self.now.last.items) key }
         ensures within { result < length self.now.last.items }

@@ -1,4 +1,4 @@
-//! Which runs have an entry that may conflict with one of some others.
+//! Putting runs into the watch, and finding those that may conflict with some entries.
 ghost use Rattle.std.specs.Prelude.{◌≡◌, ◌<◌, ◌≤◌, ◌⊎◌, ℕ, List, OnOk};
 ghost use Rattle.objects.specs.declared.entry.Entry.{Entry as OneEntry};
 ghost use Rattle.objects.specs.Entries.{AllCommute};
@@ -33,9 +33,10 @@ impl Watch {
         Ok(())
     }
 
-    /// Adds to those that were found all runs from one on that have, or had when they were put in
-    /// earlier, an entry that may not commute forward with each of these. All entries of the others
-    /// commute forward with these.
+    /// Adds to the found runs all runs from the number `from` on that may conflict with these
+    /// entries: one of their entries, or of those that they had when they were put in earlier, may
+    /// not commute forward with one of these. All entries of the other runs commute forward with
+    /// these.
     pub fn find(
         &self,
         from: usize,

@@ -1,4 +1,4 @@
-//! Directories that differ from a lent one.
+//! Drafts of directories: what differs from a borrowed one.
 ghost use Rattle.std.specs.Prelude.{◌≡◌, IfOk, IfSome, IsSome, IsNone, OnOk, OnErr};
 ghost use Rattle.std.specs.FinMap as map;
 ghost use Rattle.atoms.specs.Directory.{directory, put_at};
@@ -12,8 +12,8 @@ use std::alloc::Global;
 use std::collections::BTreeMap;
 use std::marker::Model;
 
-/// A lent directory with what each touched key is bound to now, and the changes that led to it. A
-/// key stays touched where its change is taken back.
+/// A borrowed directory, with what each touched key is bound to now, and the changes that led to
+/// it. A key stays touched after its change is taken back.
 #[derive(Drop)]
 pub struct DirectoryDraft<'s> {
     lent: &'s Directory,
@@ -52,7 +52,7 @@ impl<'s> DirectoryDraft<'s> {
         }
     }
 
-    /// The item that the key is bound to.
+    /// The item that the key is bound to, if it is.
     pub fn get(&self, key: Item) -> Option<Item>
         ensures { result ≡ map.get self.now.value key }
     {
@@ -74,8 +74,8 @@ impl<'s> DirectoryDraft<'s> {
         Ok(())
     }
 
-    /// The reply of a call that leaves the directory as it is. None for a call that changes it; a
-    /// put is one, whatever the key is bound to.
+    /// The reply of a call that leaves the directory as it is, and none for a call that changes it.
+    /// A put counts as one that changes it, whatever the key is bound to.
     pub fn look(&self, call: &DirectoryCall) -> Option<DirectoryReply>
         ensures reply { IfSome result (λ reply. directory.reply self.now.value call.now ≡ reply) }
         ensures same { IsSome result → directory.after self.now.value call.now ≡ self.now.value }
@@ -98,7 +98,7 @@ impl<'s> DirectoryDraft<'s> {
         }
     }
 
-    /// Performs a call that changes the directory, and answers its reply. On `NoMemory` the
+    /// Performs a call that changes the directory, and returns its reply. On `NoMemory` the
     /// directory is as before.
     pub fn perform(&mut self, call: &DirectoryCall) -> Result<DirectoryReply, NoMemory>
         requires { IsSome (directory_undoing.change self.old.value call.now) }
@@ -139,7 +139,7 @@ impl<'s> DirectoryDraft<'s> {
         }
     }
 
-    /// The directory in memory of its own.
+    /// The directory in memory of its own, or `NoMemory`.
     pub fn whole(&self) -> Result<Directory, NoMemory>
         ensures { IfOk result (λ whole. whole ≡ self.now.value) }
     {

@@ -1,4 +1,4 @@
-//! A draft of a value of any kind.
+//! Drafts of values of any kind.
 ghost use Rattle.std.specs.Prelude.{◌≡◌, ◌↔◌, IsTrue, Some, IfOk, IfSome, IsSome, IsNone, OnOk, OnErr};
 ghost use Rattle.objects.specs.Objects.{kind_of_value, kind_of_call, one_value, HasRoom};
 ghost use Rattle.objects.specs.Changes.{value_change};
@@ -31,8 +31,8 @@ enum Kept<'s> {
     Max(NumberDraft<u64>),
 }
 
-/// What a lent value became, and what it was before each of its changes: what differs from it is
-/// kept, and the rest is read from it.
+/// What a borrowed value became, and what it was before each of its changes. Only what differs from
+/// the borrowed value is kept, and the rest is read from it.
 #[derive(Drop)]
 pub struct Draft<'s> {
     kept: Kept<'s>,
@@ -69,7 +69,7 @@ impl<'s> Draft<'s> {
         Draft { kept }
     }
 
-    /// Its kind.
+    /// The kind of the value.
     fn kind(&self) -> Kind
         ensures { result ≡ kind_of_value self.now.value }
     {
@@ -83,14 +83,14 @@ impl<'s> Draft<'s> {
         }
     }
 
-    /// Whether the call is of this kind.
+    /// Whether the call is of the value's kind.
     pub fn fits(&self, call: &Call) -> bool
         ensures { IsTrue result ↔ (kind_of_value self.now.value ≡ kind_of_call call.now) }
     {
         self.kind() == call.kind()
     }
 
-    /// Whether its numbers stay in range in the call.
+    /// Whether the value has room for the call: whether its numbers stay in range.
     pub fn has_room(&self, call: &Call) -> bool
         ensures { IsTrue result ↔ HasRoom self.now.value call.now }
     {
@@ -101,8 +101,8 @@ impl<'s> Draft<'s> {
         }
     }
 
-    /// The reply of a call that leaves the value as it is. None for a call that changes it; a put
-    /// into a directory is one, whatever the key is bound to.
+    /// The reply of a call that leaves the value as it is, and none for a call that changes it. A
+    /// put into a directory counts as one that changes it, whatever the key is bound to.
     pub fn look(&self, call: &Call) -> Option<Reply>
         ensures reply { IfSome result (λ reply. one_value.reply self.now.value call.now ≡ Some reply) }
         ensures same { IsSome result → one_value.after self.now.value call.now ≡ self.now.value }
@@ -126,7 +126,7 @@ impl<'s> Draft<'s> {
         }
     }
 
-    /// Performs a call that changes the value, and answers its reply. On `NoMemory` the value is as
+    /// Performs a call that changes the value, and returns its reply. On `NoMemory` the value is as
     /// before.
     pub fn perform(&mut self, call: &Call) -> Result<Reply, NoMemory>
         requires fits { kind_of_value self.old.value ≡ kind_of_call call.now }
@@ -155,8 +155,8 @@ impl<'s> Draft<'s> {
         }
     }
 
-    /// Performs a call that changes the value for good, and answers its reply: no change before it
-    /// can be taken back. A number takes no memory for it. On `NoMemory` the value is as before.
+    /// Performs a call that changes the value for good, and returns its reply: no change before it
+    /// can be taken back. This takes no memory for a number. On `NoMemory` the value is as before.
     pub fn settle(&mut self, call: &Call) -> Result<Reply, NoMemory>
         requires fits { kind_of_value self.old.value ≡ kind_of_call call.now }
         requires room { HasRoom self.old.value call.now }
@@ -211,7 +211,7 @@ impl<'s> Draft<'s> {
         }
     }
 
-    /// The value in memory of its own.
+    /// The value in memory of its own, or `NoMemory`.
     pub fn whole(&self, alloc: Global) -> Result<Value, NoMemory>
         ensures { IfOk result (λ whole. whole ≡ self.now.value) }
     {
@@ -226,7 +226,7 @@ impl<'s> Draft<'s> {
     }
 }
 
-/// The reply of a call that leaves the account as it is. None for a call that changes it.
+/// The reply of a call that leaves the account as it is, and none for a call that changes it.
 fn look_at_account(balance: u64, call: &AccountCall) -> Option<AccountReply>
     ensures reply { IfSome result (λ reply. account.reply balance call.now ≡ reply) }
     ensures same { IsSome result → account.after balance call.now ≡ balance }
@@ -245,7 +245,7 @@ fn look_at_account(balance: u64, call: &AccountCall) -> Option<AccountReply>
     }
 }
 
-/// The reply of a call that leaves the counter as it is. None for a call that changes it.
+/// The reply of a call that leaves the counter as it is, and none for a call that changes it.
 fn look_at_counter(number: i64, call: &CounterCall) -> Option<CounterReply>
     ensures reply { IfSome result (λ reply. counter.reply number call.now ≡ reply) }
     ensures same { IsSome result → counter.after number call.now ≡ number }
@@ -257,7 +257,7 @@ fn look_at_counter(number: i64, call: &CounterCall) -> Option<CounterReply>
     }
 }
 
-/// The reply of a call that leaves the register as it is. None for a call that changes it.
+/// The reply of a call that leaves the register as it is, and none for a call that changes it.
 fn look_at_max(top: u64, call: &MaxCall) -> Option<MaxReply>
     ensures reply { IfSome result (λ reply. max_register.reply top call.now ≡ reply) }
     ensures same { IsSome result → max_register.after top call.now ≡ top }

@@ -1,4 +1,4 @@
-//! Numbers with what they were.
+//! Drafts of numbers.
 ghost use Rattle.std.specs.Prelude.{◌≡◌, IfOk, OnOk, OnErr};
 ghost use Rattle.drafts.specs.History.{unchanged, changed, undone};
 ghost use Rattle.drafts.specs.Numbers.{number_history};
@@ -7,12 +7,12 @@ use objects::NoMemory;
 use serial::Atom;
 use std::alloc::Global;
 
-/// The number of an account, a counter or a register, with what it was.
+/// The number of an account, a counter or a register, with what it was before each change.
 #[derive(Drop)]
 pub struct NumberDraft<T: Drop> {
     /// The number now.
     pub number: T,
-    /// The number before each change, the oldest first.
+    /// The number before each change, the earliest first.
     pub before: Vec<T>,
 }
 
@@ -27,7 +27,7 @@ impl<T: Copy + Drop> NumberDraft<T> {
         }
     }
 
-    /// Performs a call, and answers its reply. On `NoMemory` the number is as before.
+    /// Performs a call, and returns its reply. On `NoMemory` the number is as before.
     pub fn perform<A: Atom<Value = T>>(&mut self, call: &A::Call) -> Result<A::Reply, NoMemory>
         requires { A.HasRoom self.old.number call.now }
         ensures reply { IfOk result (λ reply. reply ≡ A.serial.reply self.old.number call.now) }
@@ -41,7 +41,7 @@ impl<T: Copy + Drop> NumberDraft<T> {
         Ok(reply)
     }
 
-    /// Performs a call for good, and answers its reply: no change before it can be taken back. It
+    /// Performs a call for good, and returns its reply: no change before it can be taken back. It
     /// takes no memory but what the call takes. On `NoMemory` the number is as before.
     pub fn settle<A: Atom<Value = T>>(&mut self, call: &A::Call) -> Result<A::Reply, NoMemory>
         requires { A.HasRoom self.old.number call.now }

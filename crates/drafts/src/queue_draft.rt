@@ -1,4 +1,4 @@
-//! Queues that differ from a lent one.
+//! Drafts of queues: what differs from a borrowed one.
 ghost use Rattle.std.specs.Prelude.{◌≡◌, ◌∷◌, ◌++◌, [], length, drop, slice_get, IfOk, IfSome, IsSome, IsNone, OnOk, OnErr};
 ghost use Rattle.atoms.specs.Queue.{queue};
 ghost use Rattle.atoms.specs.Changes.{queue_undoing};
@@ -8,15 +8,16 @@ use objects::{Item, NoMemory, Queue, QueueCall, QueueReply};
 use std::alloc::Global;
 use std::marker::Model;
 
-/// An item came at the end; or one went from the front, before which so many had gone.
+/// A change: an item was added at the end, or one was taken from the front after so many were
+/// taken.
 #[derive(Clone, Copy)]
 enum QueueChange {
     Enqueued,
     Dequeued(usize),
 }
 
-/// A lent queue with how many items went from its front, those that came at its end, and the
-/// changes that led to it. An item that came and went is kept.
+/// A borrowed queue, with how many items were taken from its front, those that were added at its
+/// end, and the changes that led to it. An item that was added and taken is kept.
 #[derive(Drop)]
 pub struct QueueDraft<'s> {
     lent: &'s Queue,
@@ -43,7 +44,7 @@ impl<'s> Model for QueueDraft<'s> {
 }
 
 impl<'s> QueueDraft<'s> {
-    /// A draft to which nothing came and from which nothing went. It takes no memory.
+    /// A draft to which nothing was added and from which nothing was taken. It takes no memory.
     pub fn of(alloc: Global, lent: &'s Queue) -> QueueDraft<'s>
         ensures { result ≡ unchanged lent.now }
     {
@@ -74,7 +75,7 @@ impl<'s> QueueDraft<'s> {
         }
     }
 
-    /// The reply of a call that leaves the queue as it is. None for a call that changes it.
+    /// The reply of a call that leaves the queue as it is, and none for a call that changes it.
     pub fn look(&self, call: &QueueCall) -> Option<QueueReply>
         ensures reply { IfSome result (λ reply. queue.reply self.now.value call.now ≡ reply) }
         ensures same { IsSome result → queue.after self.now.value call.now ≡ self.now.value }
@@ -90,7 +91,7 @@ impl<'s> QueueDraft<'s> {
         }
     }
 
-    /// Performs a call that changes the queue, and answers its reply. On `NoMemory` the queue is as
+    /// Performs a call that changes the queue, and returns its reply. On `NoMemory` the queue is as
     /// before.
     pub fn perform(&mut self, call: &QueueCall) -> Result<QueueReply, NoMemory>
         requires { IsSome (queue_undoing.change self.old.value call.now) }
@@ -132,7 +133,7 @@ impl<'s> QueueDraft<'s> {
         ensures err { OnErr result (self.new ≡ self.old) }
     {
         self.journal.push(QueueChange::Dequeued(self.taken))?;
-        // The count fits: the lent items and those that came are fewer than 2^63 each.
+        // The count fits: the borrowed items and the added ones are fewer than 2^63 each.
         let _lent = self.lent.items().len();
         let _added = self.added.len();
         self.taken += 1;
@@ -159,7 +160,7 @@ impl<'s> QueueDraft<'s> {
         }
     }
 
-    /// The queue in memory of its own.
+    /// The queue in memory of its own, or `NoMemory`.
     pub fn whole(&self, alloc: Global) -> Result<Queue, NoMemory>
         ensures { IfOk result (λ whole. whole ≡ self.now.value) }
     {

@@ -1,4 +1,4 @@
-//! Sets that differ from a lent one.
+//! Drafts of sets: what differs from a borrowed one.
 ghost use Rattle.std.specs.Prelude.{◌≡◌, true, false, IfOk, IfSome, IsSome, IsNone, OnOk, OnErr};
 ghost use Rattle.std.specs.FinSet as set;
 ghost use Rattle.atoms.specs.ItemSet.{item_set};
@@ -12,8 +12,8 @@ use std::alloc::Global;
 use std::collections::BTreeMap;
 use std::marker::Model;
 
-/// A lent set with whether each touched item is inside now, the size now, and the changes that led
-/// to it. An item stays touched where its change is taken back.
+/// A borrowed set, with whether each touched item is a member now, the size now, and the changes
+/// that led to it. An item stays touched after its change is taken back.
 #[derive(Drop)]
 pub struct SetDraft<'s> {
     lent: &'s ItemSet,
@@ -63,7 +63,7 @@ impl<'s> SetDraft<'s> {
         }
     }
 
-    /// The reply of a call that leaves the set as it is. None for a call that changes it.
+    /// The reply of a call that leaves the set as it is, and none for a call that changes it.
     pub fn look(&self, call: &SetCall) -> Option<SetReply>
         ensures reply { IfSome result (λ reply. item_set.reply self.now.value call.now ≡ reply) }
         ensures same { IsSome result → item_set.after self.now.value call.now ≡ self.now.value }
@@ -95,7 +95,7 @@ impl<'s> SetDraft<'s> {
         }
     }
 
-    /// Performs a call that changes the set, and answers its reply. On `NoMemory` the set is as
+    /// Performs a call that changes the set, and returns its reply. On `NoMemory` the set is as
     /// before.
     pub fn perform(&mut self, call: &SetCall) -> Result<SetReply, NoMemory>
         requires { IsSome (set_undoing.change self.old.value call.now) }
@@ -116,7 +116,7 @@ impl<'s> SetDraft<'s> {
         }
     }
 
-    /// Adds an item that isn't there. On `NoMemory` the set is as before.
+    /// Adds an item that isn't a member. On `NoMemory` the set is as before.
     fn insert(&mut self, item: Item) -> Result<(), NoMemory>
         requires { set.contains self.old.value item ≡ false }
         ensures ok { OnOk result (self.new ≡ changed self.old (set.insert self.old.value item)) }
@@ -124,14 +124,14 @@ impl<'s> SetDraft<'s> {
     {
         self.journal.reserve(1)?;
         self.touched.insert(item, true)?;
-        // The size fits: the lent items and the touched ones are fewer than 2^63 each.
+        // The size fits: the borrowed items and the touched ones are fewer than 2^63 each.
         let _touched = self.touched.len();
         self.size += 1;
         self.journal.push_reserved(SetChange::Added(item));
         Ok(())
     }
 
-    /// Removes an item that is there. On `NoMemory` the set is as before.
+    /// Removes an item that is a member. On `NoMemory` the set is as before.
     fn remove(&mut self, item: Item) -> Result<(), NoMemory>
         requires { set.contains self.old.value item ≡ true }
         ensures ok { OnOk result (self.new ≡ changed self.old (set.remove self.old.value item)) }
@@ -169,7 +169,7 @@ impl<'s> SetDraft<'s> {
         }
     }
 
-    /// The set in memory of its own.
+    /// The set in memory of its own, or `NoMemory`.
     pub fn whole(&self) -> Result<ItemSet, NoMemory>
         ensures { IfOk result (λ whole. whole ≡ self.now.value) }
     {

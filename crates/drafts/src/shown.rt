@@ -1,4 +1,4 @@
-//! A value that is lent as it was, or as a draft of it.
+//! Values as a reader sees them: borrowed as they were, or as drafts.
 ghost use Rattle.std.specs.Prelude.{◌≡◌, ◌↔◌, IsTrue, Some, IfOk, IfSome, IsSome, IsNone};
 ghost use Rattle.objects.specs.Objects.{kind_of_value, kind_of_call, one_value, HasRoom};
 ghost use Rattle.objects.specs.Changes.{value_change};
@@ -8,7 +8,7 @@ use crate::Draft;
 use objects::{Call, NoMemory, Reply, Value};
 use std::alloc::Global;
 
-/// A lent value with no change, or a draft of one.
+/// A borrowed value with no change, or a draft of one.
 #[derive(Clone, Copy)]
 pub enum Shown<'a, 's> {
     Lent(&'s Value),
@@ -16,7 +16,7 @@ pub enum Shown<'a, 's> {
 }
 
 impl<'a, 's> Shown<'a, 's> {
-    /// Whether the call is of its kind.
+    /// Whether the call is of the value's kind.
     pub fn fits(&self, call: &Call) -> bool
         ensures { IsTrue result ↔ (kind_of_value (shown_value self.now) ≡ kind_of_call call.now) }
     {
@@ -26,7 +26,7 @@ impl<'a, 's> Shown<'a, 's> {
         }
     }
 
-    /// Whether its numbers stay in range in the call.
+    /// Whether the value has room for the call: whether its numbers stay in range.
     pub fn has_room(&self, call: &Call) -> bool
         requires { kind_of_value (shown_value self.now) ≡ kind_of_call call.now }
         ensures { IsTrue result ↔ HasRoom (shown_value self.now) call.now }
@@ -37,8 +37,9 @@ impl<'a, 's> Shown<'a, 's> {
         }
     }
 
-    /// The reply of a call that leaves the value as it is. None for a call that changes it; a put
-    /// into a directory is one, whatever the key is bound to. It takes no memory.
+    /// The reply of a call that leaves the value as it is, and none for a call that changes it. A
+    /// put into a directory counts as one that changes it, whatever the key is bound to. It takes
+    /// no memory.
     pub fn look(&self, alloc: Global, call: &Call) -> Option<Reply>
         ensures reply { IfSome result (λ reply. one_value.reply (shown_value self.now) call.now ≡ Some reply) }
         ensures same { IsSome result → one_value.after (shown_value self.now) call.now ≡ shown_value self.now }
@@ -51,7 +52,7 @@ impl<'a, 's> Shown<'a, 's> {
         }
     }
 
-    /// The value in memory of its own.
+    /// The value in memory of its own, or `NoMemory`.
     pub fn whole(&self, alloc: Global) -> Result<Value, NoMemory>
         ensures { IfOk result (λ whole. whole ≡ shown_value self.now) }
     {

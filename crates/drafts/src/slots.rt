@@ -1,4 +1,4 @@
-//! Slots for touched items.
+//! Slots of touched items.
 ghost use Rattle.std.specs.Prelude.{◌≡◌, IsSome, Some, cond};
 ghost use Rattle.std.specs.BTreeMap.{is_at};
 ghost use Rattle.atoms.specs.Item.{item_cmp};

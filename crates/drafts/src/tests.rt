@@ -1,4 +1,4 @@
-//! Drafts on their happy paths.
+//! Tests of drafts.
 use super::*;
 use objects::{
     Amount, Call, CounterCall, CounterReply, Directory, DirectoryCall, DirectoryReply, Item,

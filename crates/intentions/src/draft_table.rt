@@ -1,4 +1,4 @@
-//! The drafts of the objects that were changed, by object.
+//! The table of drafts: by object, the draft of each object that was changed.
 ghost use Rattle.std.specs.Prelude.{◌≡◌, ◌<◌, ℕ, List, length, option_map, None, Some, IsSomeAnd, IfSome, IfOk, IsSome, IsNone, OnOk, OnErr, slice_get, unwrap_or};
 ghost use Rattle.objects.specs.Objects.{kind_of_value, kind_of_call, one_value, HasRoom};
 ghost use Rattle.objects.specs.Changes.{value_change};
@@ -11,25 +11,25 @@ use drafts::Draft;
 use objects::{Call, NoMemory, Reply, Value};
 use std::alloc::Global;
 
-/// A draft, and the object that it is of.
+/// A draft, with the object that it is of.
 #[derive(Drop)]
 struct Drafted<'s> {
     object: u32,
     draft: Draft<'s>,
 }
 
-/// The drafts of objects, as a sparse set: it is emptied at once, and keeps its memory (P. Briggs
-/// and L. Torczon, "An efficient representation for sparse sets", 1993).
+/// The drafts of objects, as a sparse set (P. Briggs and L. Torczon, "An efficient representation
+/// for sparse sets", 1993). It is emptied at once, and keeps its memory.
 #[derive(Drop)]
 pub struct DraftTable<'s> {
-    /// For each object, the place where its draft stands. Where that place is past the end, or
-    /// another object's draft stands there, the object has none.
+    /// For each object, the place of its draft. Where that place is past the end, or has another
+    /// object's draft, the object has none.
     places: Vec<usize>,
     drafts: Vec<Drafted<'s>>,
 }
 
 impl<'s> DraftTable<'s> {
-    /// A table with no draft.
+    /// A table with no draft. It takes no memory.
     pub fn new(alloc: Global) -> DraftTable<'s>
         ensures { (object : ℕ) → drafts_of result object ≡ None }
     {
@@ -39,7 +39,7 @@ impl<'s> DraftTable<'s> {
         }
     }
 
-    /// Lets all drafts go. It takes no time that grows with the number of objects.
+    /// Frees all drafts. This takes no time that grows with the number of objects.
     pub fn clear(&mut self)
         ensures { (object : ℕ) → drafts_of self.new object ≡ None }
     {
@@ -47,7 +47,7 @@ impl<'s> DraftTable<'s> {
         self.drafts.clear();
     }
 
-    /// Where the draft of the object stands, if it has one.
+    /// The place of the draft of the object, if it has one.
     fn place(&self, object: u32) -> Option<usize>
         ensures found { IfSome result (λ place. IsPlaceOf self.now object place) }
         ensures none { IsNone result → drafts_of self.now object ≡ None }
@@ -71,8 +71,8 @@ impl<'s> DraftTable<'s> {
         }
     }
 
-    /// Makes a draft of the value that is lent, where the object has none. On `NoMemory` the table
-    /// is unchanged.
+    /// Makes a draft of the borrowed value, where the object has none. On `NoMemory` the table is
+    /// unchanged.
     pub fn add(&mut self, alloc: Global, object: u32, lent: &'s Value) -> Result<(), NoMemory>
         ensures ok { OnOk result (IsPut (drafts_of self.old) (drafts_of self.new) object
             (unwrap_or (drafts_of self.old object) (unchanged lent.now))) }
@@ -96,13 +96,14 @@ impl<'s> DraftTable<'s> {
         ensures drafts { self.new.drafts.items ≡ self.old.drafts.items }
     {
         if self.places.len() <= object as usize {
-            // No draft stands at the place past the end.
+            // The place past the end has no draft.
             self.places.resize(object as usize + 1, self.drafts.len())?;
         }
         Ok(())
     }
 
-    /// Performs a call that changes the draft of the object. On `NoMemory` the draft is as before.
+    /// Performs a call that changes the draft of the object, and returns its reply. On `NoMemory`
+    /// the draft is as before.
     pub fn perform(&mut self, object: u32, call: &Call) -> Result<Reply, NoMemory>
         requires fits { IsSomeAnd (drafts_of self.old object) (λ h. kind_of_value h.value ≡ kind_of_call call.now) }
         requires room { IfSome (drafts_of self.old object) (λ h. HasRoom h.value call.now) }
@@ -119,7 +120,7 @@ impl<'s> DraftTable<'s> {
     }
 
     /// Performs a call as `perform` does, for good: no change of the object before it can be taken
-    /// back. A number takes no memory.
+    /// back. This takes no memory for a number.
     pub fn settle(&mut self, object: u32, call: &Call) -> Result<Reply, NoMemory>
         requires fits { IsSomeAnd (drafts_of self.old object) (λ h. kind_of_value h.value ≡ kind_of_call call.now) }
         requires room { IfSome (drafts_of self.old object) (λ h. HasRoom h.value call.now) }

@@ -15,16 +15,16 @@ use objects::{Call, Entry, NoMemory, Objects, Reply};
 use std::alloc::Global;
 use std::marker::Model;
 
-/// The values of a snapshot and of what was changed since, by levels.
+/// The values of a snapshot, and what was changed since, by levels.
 #[derive(Drop)]
 pub struct Layers<'s> {
     snapshot: &'s Objects,
-    /// A draft of each object that was changed. It stays where its changes are taken back.
+    /// A draft of each object that was changed. It stays after its changes are taken back.
     drafts: DraftTable<'s>,
-    /// The object of each change that was made in a level, the oldest first. It is emptied by the
-    /// first change after the last level was closed.
+    /// The object of each change that was made in a level, the earliest first. The first change
+    /// after the last level was closed empties it.
     journal: Vec<u32>,
-    /// For each open level, how long the journal was at its begin.
+    /// For each open level, how long the journal was when it was opened.
     starts: Vec<usize>,
 }
 
@@ -62,7 +62,8 @@ impl<'s> Layers<'s> {
         }
     }
 
-    /// Shows this snapshot, with no level, as if it was just opened. The lists keep their memory.
+    /// Shows this snapshot, with no level, as if it had just been opened. The lists keep their
+    /// memory.
     pub fn restart(&mut self, snapshot: &'s Objects)
         ensures { self.new ≡ record { shown = snapshot.now; begun = [] } }
     {
@@ -72,7 +73,7 @@ impl<'s> Layers<'s> {
         self.starts.clear();
     }
 
-    /// What is shown of the object.
+    /// What is shown of the object, if it is there.
     pub fn value(&self, object: u32) -> Option<Shown<'_, 's>>
         ensures { option_map shown_value result ≡ slice_get self.now.shown object }
     {
@@ -85,8 +86,9 @@ impl<'s> Layers<'s> {
         }
     }
 
-    /// Performs a call on the object. The first change of an object makes a draft of it, and
-    /// nothing is copied. With no level open, what the object was before is not kept.
+    /// Performs a call on the object, and returns its reply. The first change of an object makes a
+    /// draft of it, which copies nothing. With no level open, what the object was before is not
+    /// kept.
     pub fn perform(&mut self, object: u32, call: &Call) -> Result<Reply, NoMemory>
         requires fits { Fits self.old.shown object call.now }
         requires room { ObjectHasRoom self.old.shown object call.now }
@@ -102,7 +104,7 @@ impl<'s> Layers<'s> {
         };
         self.drafts.add(*self.starts.allocator(), object, lent)?;
         if self.starts.is_empty() {
-            // No level is open that could take a change back.
+            // No open level could take a change back.
             self.journal.clear();
             return self.drafts.settle(object, call);
         }
@@ -112,7 +114,7 @@ impl<'s> Layers<'s> {
         Ok(reply)
     }
 
-    /// Performs the calls of entries, one after the other. On NoMemory some may have been
+    /// Performs the calls of entries, one after the other. On `NoMemory` some may have been
     /// performed.
     fn perform_all(&mut self, entries: &[Entry]) -> Result<(), NoMemory>
         requires legal { AreLegal self.old.shown entries.now }
@@ -126,7 +128,7 @@ impl<'s> Layers<'s> {
         Ok(())
     }
 
-    /// Performs the calls of entries, all or, on NoMemory, none.
+    /// Performs the calls of all the entries or, on `NoMemory`, of none.
     pub fn perform_whole(&mut self, entries: &[Entry]) -> Result<(), NoMemory>
         requires legal { AreLegal self.old.shown entries.now }
         requires room { AllHaveRoom self.old.shown entries.now }
@@ -146,7 +148,7 @@ impl<'s> Layers<'s> {
         }
     }
 
-    /// A copy of what is shown of these many objects, which are all.
+    /// A copy of what is shown, where these are all the objects.
     pub fn state(&self, alloc: Global, count: u32) -> Result<Objects, NoMemory>
         requires { count ≡ length self.now.shown }
         ensures { IfOk result (λ state. state ≡ self.now.shown) }
@@ -161,7 +163,7 @@ impl<'s> Layers<'s> {
         Ok(state)
     }
 
-    /// The reply of a call that leaves the object as it is. None for a call that changes it.
+    /// The reply of a call that leaves the object as it is, and none for a call that changes it.
     fn look(&self, object: u32, call: &Call) -> Option<Reply>
         ensures reply { IfSome result (λ reply. objects.reply self.now.shown (object, call.now) ≡ Some reply) }
         ensures same { IsSome result → objects.after self.now.shown (object, call.now) ≡ self.now.shown }
@@ -188,13 +190,13 @@ impl<'s> Layers<'s> {
         requires { 0 < length self.old.begun }
         ensures { self.new ≡ record self.old { begun = drop 1 self.old.begun } }
     {
-        // The level's changes stand in the journal after those of the level around it.
+        // In the journal, the level's changes come after those of the level around it.
         let Some(_start) = self.starts.pop() else {
             unreachable!()
         };
     }
 
-    /// Takes back all that was done since the begin of the innermost level, and closes it.
+    /// Takes back all that was done since the innermost level was opened, and closes it.
     pub fn abort(&mut self)
         requires { 0 < length self.old.begun }
         ensures { self.old.begun ≡ self.new.shown ∷ self.new.begun }
@@ -206,7 +208,7 @@ impl<'s> Layers<'s> {
     }
 }
 
-/// Takes the changes from this place of the journal on back, the newest first. It takes no memory.
+/// Takes back the changes from this place of the journal on, the last first. It takes no memory.
 fn undo_from(drafts: &mut DraftTable<'_>, journal: &mut Vec<u32>, start: usize)
     requires { start ≤ length journal.old.items }
     ensures drafts { (snapshot : List Value) → histories snapshot (drafts_of drafts.new)

@@ -1,4 +1,4 @@
-//! Views, on their happy paths.
+//! Tests of views.
 use super::*;
 use objects::{
     AccountCall, AccountReply, Amount, CounterCall, CounterReply, Directory, DirectoryCall,
@@ -50,7 +50,7 @@ fn take_run(rt: &impl Abort, view: &mut View<'_>) -> Result<Lists, NoMemory> {
     view.take_run()
 }
 
-/// Absorbs a child that enqueued the item twice and took the first of them back.
+/// Absorbs a child that enqueued the item twice and took the first of them.
 fn absorb_enq(view: &mut View<'_>, object: u32, item: Item) -> Result<(), NoMemory> {
     let call = Call::Queue(QueueCall::Enq(item));
     let entry = Entry {
@@ -206,7 +206,7 @@ fn a_view_is_used_again(rt: HostRuntime) -> Result<(), Fail> {
     let Lists { entries, net } = take_run(&rt, &mut view)?;
     assert_eq!(rt; entries.len(), 1);
     assert_eq!(rt; net.len(), 1);
-    // In this run another object's draft stands where that of object 5 stood.
+    // In this run another object's draft is where that of object 5 was.
     let _reply = perform(&rt, &mut view, 4, sub)?;
     assert_eq!(rt;
         perform(&rt, &mut view, 5, top)?,

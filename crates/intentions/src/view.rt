@@ -9,18 +9,22 @@ use objects::{Call, Entry, NoMemory, Objects, Reply};
 use std::alloc::Global;
 use std::marker::Model;
 
-/// What a view recorded: the entries of all calls in the order of the calls, and its net, those of
-/// them that no aborted level took back.
+/// What a view recorded: the entries of all calls in their order, and the net, which is those that
+/// no aborted level took back.
 #[derive(Drop)]
 pub struct Lists {
+    /// The entries of all calls, in order.
     pub entries: Vec<Entry>,
+    /// The entries that no aborted level took back, in order.
     pub net: Vec<Entry>,
 }
 
-/// A lent state, and the intentions of a transaction on it: it shows what the state would be after
-/// them, and leaves the state as it is (Weihl 1988, intentions lists). Subactions are levels, the
-/// base being the outermost one; an open level commits into the level around it, or is aborted
-/// (Moss 1981). After a call that answers `NoMemory` the view is unchanged.
+/// A borrowed state, and the intentions of a transaction on it. It shows what the state would be
+/// after them, and leaves the state as it is (Weihl 1988, intentions lists).
+///
+/// Subactions are levels, and the base is the outermost level. An open level commits into the level
+/// around it, or is aborted (Moss 1981). After a call that returns `NoMemory` the view is
+/// unchanged.
 #[derive(Drop)]
 pub struct View<'s> {
     snapshot: &'s Objects,
@@ -28,7 +32,7 @@ pub struct View<'s> {
     entries: Vec<Entry>,
     /// The nets of all levels, the outermost first.
     net: Vec<Entry>,
-    /// For each open level but the base, how long the net was at its begin.
+    /// For each open level but the base, how long the net was when it was opened.
     marks: Vec<usize>,
 }
 
@@ -59,8 +63,8 @@ impl<'s> Model for View<'s> {
 }
 
 impl<'s> View<'s> {
-    /// A view that shows the snapshot, with no entries and no level but the base. Takes no time or
-    /// memory that grows with the snapshot, and never answers `NoMemory`.
+    /// A view that shows the snapshot, with no entries and no level but the base. It takes no time
+    /// or memory that grows with the snapshot, and never returns `NoMemory`.
     pub fn open(alloc: Global, snapshot: &'s Objects) -> Result<View<'s>, NoMemory>
         ensures succeeds { IsOk result }
         ensures opened { IfOk result (λ view. view ≡ opened snapshot.now) }
@@ -74,7 +78,7 @@ impl<'s> View<'s> {
         })
     }
 
-    /// The number of levels begun and not ended.
+    /// The number of open levels, without the base.
     pub fn depth(&self) -> usize
         ensures { result ≡ length self.now.outer }
     {
@@ -88,7 +92,7 @@ impl<'s> View<'s> {
         self.snapshot
     }
 
-    /// All entries, in the order of the calls, those of aborted levels included.
+    /// All entries in the order of the calls, with those of aborted levels.
     pub fn entries(&self) -> &[Entry]
         ensures { result.now ≡ self.now.entries }
     {
@@ -115,7 +119,7 @@ impl<'s> View<'s> {
         }
     }
 
-    /// Whether the object, as it is shown, has room for the call. Never answers `NoMemory`.
+    /// Whether the object, as it is shown, has room for the call. It never returns `NoMemory`.
     pub fn has_room(&self, object: u32, call: &Call) -> Result<bool, NoMemory>
         requires { Fits (shown self.now) object call.now }
         ensures succeeds { IsOk result }
@@ -127,8 +131,8 @@ impl<'s> View<'s> {
         }
     }
 
-    /// Performs a call on what is shown, and records it in the entries and in the net of the
-    /// innermost level. On `NoMemory` the view is unchanged.
+    /// Performs a call on what is shown, and returns its reply. The call is recorded in the entries
+    /// and in the net of the innermost level. On `NoMemory` the view is unchanged.
     pub fn perform(&mut self, object: u32, call: &Call) -> Result<Reply, NoMemory>
         requires fits { Fits (shown self.old) object call.now }
         requires room { ObjectHasRoom (shown self.old) object call.now }
@@ -160,8 +164,8 @@ impl<'s> View<'s> {
         Ok(())
     }
 
-    /// Ends the innermost level as part of the level around it: its net joins the end of that
-    /// level's. Never answers `NoMemory`.
+    /// Ends the innermost level as part of the level around it: its net is appended to that
+    /// level's. It never returns `NoMemory`.
     pub fn commit(&mut self) -> Result<(), NoMemory>
         requires { 0 < length self.old.outer }
         ensures succeeds { IsOk result }
@@ -174,7 +178,7 @@ impl<'s> View<'s> {
         Ok(())
     }
 
-    /// Ends the innermost level and takes back what it did: its net is dropped, and the view shows
+    /// Ends the innermost level and takes back what it did. Its net is dropped, and the view shows
     /// the state at its begin. The entries stay.
     pub fn abort(&mut self)
         requires { 0 < length self.old.outer }
@@ -187,8 +191,8 @@ impl<'s> View<'s> {
         self.layers.abort();
     }
 
-    /// Takes in what a child recorded on a copy of what is shown: its entries, and its net into the
-    /// net of the innermost level. On `NoMemory` the view is unchanged.
+    /// Takes in what a child recorded on a copy of what is shown: its entries, and its net, which
+    /// joins the net of the innermost level. On `NoMemory` the view is unchanged.
     pub fn absorb(&mut self, entries: &[Entry], net: &[Entry]) -> Result<(), NoMemory>
         requires legal { AreLegal (shown self.old) net.now }
         requires room { AllHaveRoom (shown self.old) net.now }
@@ -203,13 +207,13 @@ impl<'s> View<'s> {
         Ok(())
     }
 
-    /// A copy of what is shown. `NoMemory` where there is no memory for it.
+    /// A copy of what is shown, or `NoMemory`.
     pub fn state(&self) -> Result<Objects, NoMemory>
         ensures { IfOk result (λ state. state ≡ shown self.now) }
     {
         match u32::try_from(self.snapshot.len()) {
             Ok(count) => self.layers.state(*self.entries.allocator(), count),
-            // So many objects that a `u32` can't name each.
+            // There are so many objects that a `u32` can't number them all.
             Err(_) => {
                 let mut state = self.snapshot.copy()?;
                 perform_each(&mut state, &self.net)?;
@@ -218,8 +222,8 @@ impl<'s> View<'s> {
         }
     }
 
-    /// The entries and the net of the base, copied. The view is then as it was opened, on the same
-    /// snapshot, and what it keeps of its memory serves the next run. On `NoMemory` the view is
+    /// The entries and the net of the base, copied. The view is then as if it had just been opened
+    /// on the same snapshot. It keeps its memory for the next run. On `NoMemory` the view is
     /// unchanged.
     pub fn take_run(&mut self) -> Result<Lists, NoMemory>
         requires { length self.old.outer ≡ 0 }
@@ -262,7 +266,7 @@ pub fn perform_each(state: &mut Objects, entries: &[Entry]) -> Result<(), NoMemo
     Ok(())
 }
 
-// Adds entries where room was reserved.
+// Appends entries, for which room was reserved.
 fn extend_reserved(list: &mut Vec<Entry>, entries: &[Entry])
     requires { vec_len list.old + length entries.now ≤ vec_capacity list.old }
     ensures { list.new.items ≡ list.old.items ++ entries.now }

@@ -1,4 +1,4 @@
--- The laws, as statements.
+-- The laws of the meaning, as statements.
 use Rattle.std.specs.Prelude.{◌≡◌, ℕ, ◌+◌, ◌-◌, ◌<◌, ◌≤◌, List, ◌++◌, length, Option}
 use Rattle.objects.specs.declared.entry.Entry.{Entry}
 use Rattle.meaning.specs.declared.end.End.TheVariants.{Ended, Aborted}
@@ -23,11 +23,11 @@ abbrev pub both_taken : TakenChildren → TakenChildren → TakenChildren
 both_taken TakenChildren.NoChild younger = younger
 both_taken (TakenChildren.Child child rest) younger = TakenChildren.Child child (both_taken rest younger)
 
--- the runs of two lists of children as one, the younger one made where the older one ends
+-- the runs of two lists of children as one, the later one made where the earlier one ends
 abbrev pub followed : Run TakenChildren → Run TakenChildren → Run TakenChildren
 followed older younger = Ran (both_taken (record_of older) (record_of younger)) (outcome_of younger) (labels_of older ++ labels_of younger) (state_of younger)
 
--- the same, the younger one made on the state before the older one
+-- the same, the later one made on the state before the earlier one
 abbrev pub joined : Run TakenChildren → Run TakenChildren → Run TakenChildren
 joined older younger = followed older (carried (kept_of_children (record_of older)) younger)
 
@@ -73,7 +73,8 @@ BatchLaw =
     → AreLegal (state_at start batch b) (nets start batch b count)
     × (state_at start batch (b + count) ≡ after (state_at start batch b) (nets start batch b count))
 
--- A run on the state of an earlier opening still stands at a later one where each of its entries commutes forward with what was left in between.
+-- A run on the state of an earlier opening still stands at a later one where each of its entries commutes forward with what was left in
+-- between.
 -- Then the run on the later state has the same record and outcome, and ends where what was left leads from the first one's end.
 abbrev pub StandingRunLaw : Type 0
 StandingRunLaw =
@@ -107,7 +108,8 @@ InOrderLaw =
     → outcome_of (one_children older labels state) ≡ Ended
     → one_children (both older younger) labels state ≡ followed (one_children older labels state) (one_children younger labels (state_of (one_children older labels state)))
 
--- Children may be run in two parts at once, both on the state at their entry: where the older part comes to its end, and each entry of the younger part commutes forward with each that the older part leaves, the two together are the one-thread run.
+-- Children may be run in two parts at once, both on the state at their entry. Where the earlier part comes to its end, and each entry of
+-- the later part commutes forward with each that the earlier part leaves, the two together are the one-thread run.
 abbrev pub ForkLaw : Type 0
 ForkLaw =
     (older younger : Children) (labels : List Held) (state : State)
@@ -115,7 +117,7 @@ ForkLaw =
     → AllCommute (entries_of_children (record_of (one_children younger labels state))) (kept_of_children (record_of (one_children older labels state)))
     → one_children (both older younger) labels state ≡ joined (one_children older labels state) (one_children younger labels state)
 
--- Where the older part aborts, the younger part is not reached.
+-- Where the earlier part aborts, the later part is not reached.
 abbrev pub AbortedForkLaw : Type 0
 AbortedForkLaw =
     (older younger : Children) (labels : List Held) (state : State) (reason : Option ℕ)
@@ -128,7 +130,7 @@ pub record IsUnique (P : ℕ → Type 0) : Type 0 where
   pub has : P value
   pub only : (other : ℕ) → P other → other ≡ value
 
--- There is one next opening below the end of the batch, and it lies further.
+-- There is one next opening below the end of the batch, and it lies further on.
 abbrev pub OpeningLaw : Type 0
 OpeningLaw =
     (start : State) (batch : List Block) (b : ℕ)

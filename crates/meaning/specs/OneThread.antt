@@ -77,7 +77,7 @@ abbrev pub go_on : Run TakenStep → (List Held → State → Run Taken) → Run
 go_on (Ran step Ended labels state) rest = before_rest step (rest labels state)
 go_on (Ran step (Aborted reason) labels state) rest = Ran (Took step Nothing) (Aborted reason) [] state
 
--- after a child its younger siblings are run, unless its handlers aborted
+-- after a child its later siblings are run, unless its handlers aborted
 abbrev pub before_younger : TakenChild → List Held → Run TakenChildren → Run TakenChildren
 before_younger child labels younger =
     Ran (TakenChildren.Child child (record_of younger)) (outcome_of younger) (labels ++ labels_of younger) (state_of younger)

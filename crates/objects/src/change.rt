@@ -1,4 +1,4 @@
-//! What calls change at values of any kind.
+//! What calls change at values of any kind, and how it is taken back.
 ghost use Rattle.std.specs.Prelude.{◌≡◌, OnOk, OnErr};
 ghost use Rattle.objects.specs.Changes.{value_change, value_undone};
 
@@ -9,7 +9,7 @@ use atoms::{
 };
 use serial::NoMemory;
 
-/// What a call changed at a value: of a number, the number before.
+/// What a call changed at a value. For a number it is the number before the call.
 #[derive(Clone, Copy, Debug, PartialEq, Eq)]
 pub enum Change {
     Account(u64),
@@ -21,7 +21,8 @@ pub enum Change {
 }
 
 impl Value {
-    /// What the call will change, or none where it will change nothing or is of another kind.
+    /// What the call will change. It is none where the call will change nothing, or is of another
+    /// kind.
     pub fn change(&self, call: &Call) -> Option<Change>
         ensures { result ≡ value_change self.now call.now }
     {
@@ -46,8 +47,8 @@ impl Value {
         }
     }
 
-    /// Takes a change back; one of another kind leaves the value. On `NoMemory` the value is as
-    /// before.
+    /// Takes a change back. A change of another kind leaves the value as it is. On `NoMemory` the
+    /// value is as before.
     pub fn undo(&mut self, change: &Change) -> Result<(), NoMemory>
         ensures ok { OnOk result (self.new ≡ value_undone self.old change.now) }
         ensures err { OnErr result (self.new ≡ self.old) }

@@ -1,4 +1,4 @@
-//! One thread runs a block, depth first, on objects that are changed in place.
+//! Running a block on one thread, depth first, on objects that are changed in place.
 ghost use Rattle.std.specs.Prelude.{◌≡◌, [], IfOk, OnOk};
 ghost use Rattle.meaning.specs.OneThread.{one, one_step, one_children, one_handler};
 ghost use Rattle.batch.specs.Views.{block_view, steps_view, step_view, subaction_view, children_view};
@@ -115,7 +115,7 @@ fn run_step(
     }
 }
 
-// Runs a body and, where it aborts, undoes it and runs the handler that takes the abort.
+// Runs a body. Where the body aborts, undoes it and runs the handler that takes the abort.
 #[cycle(run)]
 fn run_subaction(
     alloc: Global,
@@ -145,7 +145,7 @@ fn run_subaction(
     }
 }
 
-// Runs the block that takes an abort for this reason, if one does, and says how the block around it
+// Runs the block that takes an abort for this reason, if one does, and returns how the block around
 // goes on.
 #[cycle(run)]
 fn run_handler(

@@ -1,5 +1,5 @@
-//! The one-thread executor: transactions by number, depth first, on objects that are changed in place
-//! and taken back where a subaction or a transaction aborts.
+//! The one-thread executor. It runs the transactions by number, depth first, on objects that are
+//! changed in place. Where a subaction or a transaction aborts, its changes are taken back.
 #![tactic(auto)]
 
 mod executor;

@@ -1,4 +1,4 @@
-//! The transactions of a batch, one after the other.
+//! Running the transactions of a batch one after the other.
 ghost use Rattle.std.specs.Prelude.{◌≡◌, [], map, IfOk, OnOk};
 ghost use Rattle.meaning.specs.OneThread.{one};
 ghost use Rattle.meaning.specs.Batch.{settled, shown_of, all_shown, final_state};
@@ -11,11 +11,10 @@ use crate::workspace::Workspace;
 use batch::{Batch, Block, End, NoMemory, Plain, Record};
 use std::alloc::Global;
 
-/// Runs the transactions of a batch by number on one thread, depth first (Moss 1981), and answers
-/// their records and the objects after the last.
+/// Runs the transactions of a batch by number on one thread, depth first (Moss 1981). Returns their
+/// records and the objects after the last. The batch stays as it is.
 ///
-/// `NoMemory` is answered where a growth of memory was refused; nothing is given out then. The batch
-/// stays as it is.
+/// Returns `NoMemory` where a request for memory was refused, and nothing else then.
 pub fn plain(alloc: Global, batch: &Batch) -> Result<Plain, NoMemory>
     // Each transaction's replies, branches and outcomes are those of one thread.
     ensures records { IfOk result (λ p. map record_view p.records.items ≡ all_shown (start_of batch.now) (blocks_of batch.now)) }

@@ -10,8 +10,8 @@ use objects::{Call, Change, NoMemory, Objects, Reply};
 use std::alloc::Global;
 use std::marker::Model;
 
-/// Objects, and what takes back each change that was made to them since the journal was empty, the
-/// oldest first.
+/// Objects, and the journal of what takes back each change that was made to them since the journal
+/// was empty, the earliest first.
 #[derive(Drop)]
 pub(crate) struct Workspace {
     objects: Objects,
@@ -34,7 +34,7 @@ impl Model for Workspace {
 }
 
 impl Workspace {
-    /// These objects, with an empty journal. It takes no memory.
+    /// A workspace of these objects, with an empty journal. It takes no memory.
     pub(crate) fn new(alloc: Global, objects: Objects) -> Workspace
         ensures { result ≡ record { state = objects; journal = [] } }
     {
@@ -51,7 +51,8 @@ impl Workspace {
         self.journal.len()
     }
 
-    /// Performs a call on an object, and answers its reply; the journal keeps what it changed.
+    /// Performs a call on an object, and returns its reply. The journal keeps what the call
+    /// changed.
     pub(crate) fn perform(&mut self, object: u32, call: &Call) -> Result<Reply, NoMemory>
         requires { CanPerform self.old.state object call.now }
         ensures reply { IfOk result (λ reply. reply_at self.old.state object call.now ≡ Some reply) }
@@ -63,7 +64,7 @@ impl Workspace {
         Ok(self.objects.perform(object, call)?)
     }
 
-    /// Takes the changes since the mark back, the newest first.
+    /// Takes the changes since the mark back, the last first.
     pub(crate) fn rewind(&mut self, mark: usize) -> Result<(), NoMemory>
         requires { mark ≤ length self.old.journal }
         ensures { OnOk result (self.new ≡ rewound self.old mark) }
@@ -71,7 +72,7 @@ impl Workspace {
         undo_from(&mut self.objects, &mut self.journal, mark)
     }
 
-    /// Lets the journal go: its changes are not taken back any more.
+    /// Empties the journal: its changes are not taken back any more.
     pub(crate) fn settle(&mut self)
         ensures { self.new ≡ record { state = self.old.state; journal = [] } }
     {

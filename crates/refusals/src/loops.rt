@@ -1,4 +1,4 @@
-//! Calls that may be refused memory, one after the other.
+//! The loops of calls that may be refused memory.
 use crate::seen::{Seen, Sizes, item, refused};
 use intentions::{Committed, View};
 use objects::{
@@ -40,7 +40,7 @@ fn fill(alloc: Global, objects: &mut Objects) -> Seen {
     Seen::Whole
 }
 
-/// The call of a turn, on the object of that place among the four.
+/// The call of a turn, on the object at that place among the four.
 fn call_of(turn: u32) -> Call {
     match turn % 4 {
         0 => match Amount::new(5) {
@@ -83,7 +83,7 @@ fn try_objects(objects: &mut Objects) -> Seen {
     Seen::Whole
 }
 
-/// A call on a copy of a value, which stays as it was where the call is refused.
+/// A call on a copy of a value, which stays as it was where the call is refused memory.
 fn try_value(value: &Value, call: &Call) -> Seen {
     let Ok(mut copied) = value.copy() else {
         return Seen::Unchanged;
@@ -106,8 +106,8 @@ fn size(value: &Value) -> usize {
     }
 }
 
-/// Levels of a view, with a call in each, of which every third is aborted; then its entries are taken in by another view
-/// and by a committed list.
+/// Levels of a view, with a call in each. Every third level is aborted. Then another view and a
+/// committed list take in the view's entries.
 fn try_view(alloc: Global, objects: &Objects) -> Seen {
     let Ok(mut view) = View::open(alloc, objects) else {
         return Seen::Changed;
@@ -146,7 +146,7 @@ fn perform_turn(view: &mut View<'_>, turn: u32) -> Result<(), NoMemory> {
     Ok(())
 }
 
-/// Whether a view has this depth and so many entries still, and can show its state.
+/// Whether a view still has this depth and so many entries, and can show its state.
 fn is_as(view: &View<'_>, objects: &Objects, before: (usize, usize)) -> bool {
     match view.state() {
         Ok(state) => {
@@ -156,7 +156,7 @@ fn is_as(view: &View<'_>, objects: &Objects, before: (usize, usize)) -> bool {
     }
 }
 
-/// Entries that another view takes in, and that are committed.
+/// Another view takes entries in, and a committed list too.
 fn try_entries(alloc: Global, objects: &Objects, entries: &[Entry]) -> Seen {
     let Ok(mut view) = View::open(alloc, objects) else {
         return Seen::Changed;

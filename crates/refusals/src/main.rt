@@ -1,7 +1,9 @@
-//! What is left unchanged where memory is refused. The program fills objects, performs calls on them and on a view, and
-//! appends to a committed list; where a call answers `NoMemory` it looks whether all is as before. It prints what
-//! it saw: `whole` where no request was refused, `unchanged`, or `changed`. `make try` runs it with each request for
-//! memory refused in turn.
+//! A program for tests: it looks at what is left unchanged where memory is refused. It fills
+//! objects, performs calls on them and on a view, and appends to a committed list. After a call
+//! that returns `NoMemory` it looks whether all is as before.
+//!
+//! It prints what it saw: `whole` where no request was refused, or else `unchanged` or `changed`.
+//! `make try` runs it with each request for memory refused in turn.
 #![tactic(auto)]
 
 mod loops;

@@ -12,7 +12,7 @@ pub(crate) enum Seen {
     Changed,
 }
 
-/// Refused, with this said of what it left.
+/// A refusal, by whether all is as before.
 pub(crate) fn refused(same: bool) -> Seen {
     if same { Seen::Unchanged } else { Seen::Changed }
 }
@@ -34,7 +34,7 @@ impl Sizes {
         bindings: 0,
     };
 
-    /// Those of objects.
+    /// The sizes of objects.
     pub(crate) fn of(objects: &Objects) -> Sizes {
         let mut sizes = Sizes::NONE;
         for object in 0..4 {
@@ -56,7 +56,7 @@ impl Sizes {
     }
 }
 
-/// The item of a number.
+/// The item of this number.
 pub(crate) fn item(number: u32) -> Item {
     Item(number)
 }

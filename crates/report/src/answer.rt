@@ -1,4 +1,4 @@
-//! The texts of answers.
+//! The texts of results: the whole reports that the program prints.
 ghost use Rattle.std.specs.Prelude.{◌≡◌, ◌++◌, ◌^◌, ◌<◌, OnOk, IfOk, codes, length, map, string_bytes};
 ghost use Rattle.std.specs.Fmt.{decimal};
 ghost use Rattle.objects.specs.Objects.{kind_of_value};
@@ -16,14 +16,14 @@ use batch::{Batch, Block, Names, Outcome, Plain, Record};
 use objects::{NoMemory, Objects, Value};
 use std::alloc::Global;
 
-/// The text of what rounds of speculative runs answer to a batch.
+/// The report of rounds of speculative runs.
 ///
-/// A line `T NUMBER OUTCOME` for each transaction, in order, and below it a line for each step that
-/// was taken, under the path of its place; then a line `= NAME KIND VALUE` for each object, and a
-/// line `rounds COUNT`. A step that its record does not fit has no line, and a number that has no
-/// name has the empty name.
+/// It has a line `T NUMBER OUTCOME` for each transaction, in order, and below it a line for each
+/// step that was taken, under the path of its place. Then come a line `= NAME KIND VALUE` for each
+/// object, and a line `rounds COUNT`. A step that its record doesn't fit has no line. A number that
+/// has no name has the empty name.
 ///
-/// `NoMemory` is answered where a growth of memory was refused.
+/// Returns `NoMemory` where a request for memory was refused.
 pub fn render(alloc: Global, batch: &Batch, outcome: &Outcome) -> Result<String, NoMemory>
     requires { length outcome.now.objects < 2 ^ 32 }
     ensures { IfOk result (λ t. string_bytes t ≡ text (names_of batch.now.names) (map block_view batch.now.transactions.items) (map record_view outcome.now.records.items) outcome.now.objects outcome.now.rounds) }
@@ -34,9 +34,9 @@ pub fn render(alloc: Global, batch: &Batch, outcome: &Outcome) -> Result<String,
     Ok(out)
 }
 
-/// The text of what one thread answers to a batch: that of `render` without its last line.
+/// The report of one thread: that of `render` without its last line.
 ///
-/// `NoMemory` is answered where a growth of memory was refused.
+/// Returns `NoMemory` where a request for memory was refused.
 pub fn render_plain(alloc: Global, batch: &Batch, plain: &Plain) -> Result<String, NoMemory>
     requires { length plain.now.objects < 2 ^ 32 }
     ensures { IfOk result (λ t. string_bytes t ≡ plain_text (names_of batch.now.names) (map block_view batch.now.transactions.items) (map record_view plain.now.records.items) plain.now.objects) }
@@ -44,10 +44,10 @@ pub fn render_plain(alloc: Global, batch: &Batch, plain: &Plain) -> Result<Strin
     render_parts(alloc, batch, &plain.records, &plain.objects)
 }
 
-/// The text of `render`, and below it a line `runs NUMBER COUNT` for each transaction: how often it
-/// was run.
+/// The report of `render`, and below it a line `runs NUMBER COUNT` for each transaction: how often
+/// it was run.
 ///
-/// `NoMemory` is answered where a growth of memory was refused.
+/// Returns `NoMemory` where a request for memory was refused.
 pub fn render_audit(alloc: Global, batch: &Batch, outcome: &Outcome) -> Result<String, NoMemory>
     requires { length outcome.now.objects < 2 ^ 32 }
     ensures { IfOk result (λ t. string_bytes t ≡ audit_text (names_of batch.now.names) (map block_view batch.now.transactions.items) (map record_view outcome.now.records.items) outcome.now.objects outcome.now.rounds outcome.now.runs.items) }
@@ -57,10 +57,10 @@ pub fn render_audit(alloc: Global, batch: &Batch, outcome: &Outcome) -> Result<S
     Ok(out)
 }
 
-/// The line `ok objects COUNT transactions COUNT operations COUNT` of a batch: how much it holds. The
-/// operations of branches and handlers count, too.
+/// The line `ok objects COUNT transactions COUNT operations COUNT` of a batch, which says how much
+/// it holds. The operations of branches and handlers count too.
 ///
-/// `NoMemory` is answered where a growth of memory was refused.
+/// Returns `NoMemory` where a request for memory was refused.
 pub fn render_check(alloc: Global, batch: &Batch) -> Result<String, NoMemory>
     ensures { IfOk result (λ t. string_bytes t ≡ check_text (length batch.now.objects) (length batch.now.transactions.items) (all_operations (map block_view batch.now.transactions.items))) }
 {

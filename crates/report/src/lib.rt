@@ -1,5 +1,5 @@
-//! The text of a batch's answer: a line for each step that was taken, under the path of its place,
-//! and a line for each object.
+//! Reports: the text of what running a batch returned. They have a line for each step that was
+//! taken, under the path of its place, and a line for each object.
 #![tactic(auto)]
 
 mod answer;

@@ -1,4 +1,4 @@
-//! The names of numbers; a number that has none has the empty text.
+//! The names of numbers. A number that has no name has the empty text.
 ghost use Rattle.std.specs.Prelude.{◌≡◌};
 ghost use Rattle.batch.specs.Names.{names_of};
 

@@ -10,6 +10,7 @@ pub struct ChildCounting {
 }
 
 impl ChildCounting {
+    /// A gate that counts for this transaction and child, with no call yet.
     pub fn new(counted: (u32, u32)) -> ChildCounting {
         ChildCounting {
             counted,
@@ -17,6 +18,7 @@ impl ChildCounting {
         }
     }
 
+    /// How many calls there were.
     pub fn count(&self) -> u32 {
         self.count.load(Ordering::SeqCst)
     }

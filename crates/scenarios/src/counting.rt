@@ -1,4 +1,4 @@
-// A gate that counts runs.
+//! A gate that counts runs.
 ghost use Rattle.std.specs.Prelude.{◌<◌, IfSome};
 
 use batch::Taken;
@@ -9,9 +9,9 @@ use std::sync::atomic::{AtomicU32, Ordering};
 /// How many transactions are counted.
 const COUNTED: usize = 3;
 
-/// Counts, for each of the first three transactions, the runs that began, and those that were made;
-/// and keeps the last run of a transaction whose first reply was `no`; and counts the runs that began
-/// of all transactions.
+/// Counts, for each of the first three transactions, the runs that began and those that were made.
+/// It keeps which was the last run of each whose first reply was `no`. It also counts the runs that
+/// began of all transactions.
 #[derive(Drop)]
 pub struct Counting {
     all: AtomicU32,
@@ -21,6 +21,7 @@ pub struct Counting {
 }
 
 impl Counting {
+    /// A gate that has seen no run.
     pub fn new() -> Counting {
         Counting {
             all: AtomicU32::new(0),

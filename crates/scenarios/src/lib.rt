@@ -1,4 +1,4 @@
-//! Tests on whole batches that go through several crates, and those that start threads: gates hold
+//! Tests on whole batches that go through several crates, and those that start threads. Gates hold
 //! one call until another comes, and count.
 #![tactic(auto)]
 

@@ -1,4 +1,4 @@
-// A gate that holds one call until another comes.
+//! A gate that holds one call until another comes.
 use speculate::{Gate, Run};
 use std::hint;
 use std::sync::atomic::{AtomicBool, Ordering};
@@ -6,8 +6,8 @@ use std::sync::atomic::{AtomicBool, Ordering};
 // How many turns a held call waits at most.
 const TURNS: u32 = 1 << 30;
 
-/// Holds the call `held` of `pass` until the call `other` came, and tells whether they met. Each is
-/// a transaction and a child, as `pass` is given them.
+/// Holds the call `held` of `pass` until the call `other` came, and reports whether they met. Each
+/// is a transaction and a child, as `pass` is given them.
 #[derive(Drop)]
 pub struct Meeting {
     held: (u32, u32),
@@ -17,6 +17,7 @@ pub struct Meeting {
 }
 
 impl Meeting {
+    /// A gate for these two calls, of which none came yet.
     pub fn new(held: (u32, u32), other: (u32, u32)) -> Meeting {
         Meeting {
             held,
@@ -26,7 +27,7 @@ impl Meeting {
         }
     }
 
-    /// The held call came, and the other one came before its turns ran out.
+    /// Whether the held call came, and the other one came before its turns ran out.
     pub fn has_met(&self) -> bool {
         self.met.load(Ordering::SeqCst)
     }

@@ -1,10 +1,10 @@
-//! Documents that one thread runs, from their text to the text of the answer.
+//! Tests of documents that one thread runs, from their text to the text of the report.
 use lang::read;
 use one_thread::plain;
 use report::render_plain;
 use std::test::Fail;
 
-/// The text of what one thread answers to a document of these objects and transactions.
+/// The report of one thread for a document of these objects and transactions.
 fn answer(rt: &HostRuntime, objects: &str, transactions: &str) -> Result<String, Fail> {
     let alloc = rt.alloc();
     let document = format!(in alloc;

@@ -1,5 +1,5 @@
-//! The passes of a round on two workers: two of their calls meet, runs are made as often as they
-//! must, and the first conflict is the same for any number of workers.
+//! Tests of the passes of a round on two workers. Two of their calls meet, runs are made as often
+//! as they must be, and the first conflict is the same for any number of workers.
 use crate::{Counting, Meeting};
 use batch::{Record, Taken};
 use intentions::{Entry, NoMemory};
@@ -129,7 +129,7 @@ fn a_run_that_still_stands_is_not_made_again(rt: HostRuntime) -> Result<(), Fail
     Ok(())
 }
 
-/// The run of one call on an account, which is answered with ok.
+/// The run of one call on an account, with the reply `ok`.
 fn run_of(alloc: Global, object: u32, call: AccountCall) -> Result<Run, NoMemory> {
     let reply = Reply::Account(AccountReply::Ok);
     let entry = Entry {

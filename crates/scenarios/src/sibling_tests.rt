@@ -1,4 +1,4 @@
-//! Children of parallel steps, run at once.
+//! Tests of children of parallel steps that are run at once.
 ghost use Rattle.std.specs.Prelude.{◌≤◌};
 
 use crate::{ChildCounting, Meeting};
@@ -40,7 +40,7 @@ fn run_block<T: Threads + Sync, G: Gate>(
     Ok(run(threads, alloc, &batch.objects, &batch, 1, width, gate)?)
 }
 
-// Blocks of two parallel children, in one another, down to blocks of this one.
+// Blocks of two parallel children each, nested in one another, down to blocks of this one.
 fn in_pairs(rt: &HostRuntime, levels: u32, leaf: &str) -> Result<String, Fail> {
     let alloc = rt.alloc();
     let mut text = String::from_str(alloc, leaf)?;

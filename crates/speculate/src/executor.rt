@@ -1,5 +1,5 @@
-//! A block is run depth first in a view of the objects. Children of a parallel step are run ahead,
-//! at once, where there is width for it, and are then kept in order.
+//! Running a block depth first in a view of the objects. Where there is width for it, children of a
+//! parallel step are run ahead, at once, and are then kept in order.
 ghost use Rattle.std.specs.Prelude.{◌≡◌, ◌++◌, ◌-◌, ◌≤◌, ◌<◌, [], IfOk, OnOk, length, slice_range};
 ghost use Rattle.std.specs.Option.{ForSome};
 ghost use Rattle.std.specs.Thread.{IsSync};
@@ -32,14 +32,14 @@ pub(crate) struct Making<'a, T: Threads + Sync, G: Gate> {
 }
 
 impl<T: Threads + Sync, G: Gate> Making<'_, T, G> {
-    // Tells the gate that the child at this place (from 0) of its step starts.
+    // Calls the gate as the child at this place (from 0) of its step starts.
     fn pass(&self, place: usize) {
         let child = u32::try_from(place).unwrap_or(u32::MAX);
         self.gate.pass(self.number, child.saturating_add(1));
     }
 }
 
-/// What the children of a parallel step share that are run ahead: the labels and the state that
+/// What those children of a parallel step share that are run ahead: the labels and the state that
 /// their parent sees at the step.
 #[derive(Drop)]
 struct Fork {
@@ -49,8 +49,8 @@ struct Fork {
     state: Objects,
 }
 
-/// The run of a child in a view of its own, with all its entries and its net (Weihl 1988: an
-/// intentions list) and a summary of the former.
+/// The run of a child in a view of its own: all its entries, a summary of them, and its net (Weihl
+/// 1988: an intentions list).
 #[derive(Drop)]
 struct Ahead {
     tried: Tried,
@@ -163,7 +163,7 @@ fn run_step<T: Threads + Sync, G: Gate>(
     }
 }
 
-// Runs a body and, where it aborts, undoes it and runs the handler that takes the abort.
+// Runs a body. Where the body aborts, undoes it and runs the handler that takes the abort.
 #[cycle(run)]
 fn run_subaction<T: Threads + Sync, G: Gate>(
     making: &Making<'_, T, G>,
@@ -196,7 +196,7 @@ fn run_subaction<T: Threads + Sync, G: Gate>(
     }
 }
 
-// Runs the block that takes an abort for this reason, if one does, and says how the block around it
+// Runs the block that takes an abort for this reason, if one does, and returns how the block around
 // goes on.
 #[cycle(run)]
 fn run_handler<T: Threads + Sync, G: Gate>(
@@ -251,9 +251,10 @@ fn run_children<T: Threads + Sync, G: Gate>(
     Ok((all, End::Ended))
 }
 
-// A child's run that was made ahead is taken in where each of its entries commutes forward with all
-// that its elder siblings left. Else the child is run again, in its parent's view, after them. Then
-// it has a width of 1: its own children were run ahead once, and would be so again at each level.
+// Takes in a child's run that was made ahead, where each of its entries commutes forward with all
+// that its earlier siblings left. Otherwise the child is run again, in its parent's view, after
+// them. It then has a width of 1: its own children were run ahead once, and would be again at each
+// level.
 #[cycle(run)]
 fn run_child<T: Threads + Sync, G: Gate>(
     making: &Making<'_, T, G>,
@@ -289,8 +290,8 @@ fn run_child<T: Threads + Sync, G: Gate>(
     Ok(tried)
 }
 
-// The runs of children ahead, where there are several, the width is for more than one, and they are
-// worth the copies: all on a copy of the state that their parent shows.
+// Runs children ahead, all on a copy of the state that their parent shows. It does so where there
+// are several, the width is for more than one, and they are worth the copies.
 #[cycle(run)]
 fn run_if_wide<T: Threads + Sync, G: Gate>(
     making: &Making<'_, T, G>,
@@ -322,10 +323,10 @@ fn run_if_wide<T: Threads + Sync, G: Gate>(
     )
 }
 
-// The runs of the children from one place to before another, in two halves at once while the width
-// is for more than one: the first half gets half of it, rounded up, and the other the rest. (The
-// threads and the gate come by themselves, since `join` tells nothing of closures that capture a
-// struct which borrows.)
+// The runs of the children from one place to before another. While the width is for more than one,
+// they are made in two halves at once. The first half gets half of the width, rounded up, and the
+// other the rest. (The threads and the gate are passed by themselves: `join` says nothing of
+// closures that capture a struct which borrows.)
 #[cycle(run)]
 fn run_ahead<T: Threads + Sync, G: Gate>(
     threads: &T,

@@ -1,21 +1,23 @@
-//! The hook by which a caller sees what the executor does.
+//! The hook through which a caller sees what the executor does.
 use crate::speculated::Run;
 
-/// Sees runs and checks begin, and runs finished, from the threads that they are made on. It
-/// changes no answer.
+/// Sees runs and checks begin, and runs end, from the threads that they are made on. It changes no
+/// result.
 ///
-/// `pass(t, 0)` is called as a run of transaction `t` starts, `pass(t, c)` as child `c` of one of
-/// its parallel blocks starts (counted from 1), once more where it is run again, `pass(0, i)` as the
-/// check of the `i`-th run of a round starts (from 1), and `pass(0, 10000 + i)` as a worker begins to
-/// decide whether the `i`-th pending run of a later opening (from 1) is kept.
+/// - `pass(t, 0)` is called as a run of transaction `t` starts.
+/// - `pass(t, c)` is called as child `c` (from 1) of one of its parallel blocks starts, and once
+///   more where the child is run again.
+/// - `pass(0, i)` is called as the check of the `i`-th run of a round (from 1) starts.
+/// - `pass(0, 10000 + i)` is called as a worker begins to decide whether the `i`-th pending run of
+///   a later opening (from 1) is kept.
 pub trait Gate: Sync {
     fn pass(&self, transaction: u32, child: u32);
 
-    /// A run of the transaction is finished.
+    /// Called when a run of the transaction has been made.
     fn made(&self, transaction: u32, run: &Run);
 }
 
-/// A gate that looks at nothing.
+/// A gate that does nothing.
 #[derive(Clone, Copy, Debug)]
 pub struct NoGate;
 

@@ -1,4 +1,5 @@
-//! Speculative runs: what a transaction does on the objects of an opening, with all that it performed.
+//! Speculative runs: what a transaction does on the objects of an opening, with all operations that
+//! it performed.
 #![tactic(auto)]
 
 mod executor;

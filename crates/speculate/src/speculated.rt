@@ -1,13 +1,15 @@
-//! The run of one transaction, as it is kept.
+//! Speculative runs of transactions, as they are kept.
 use batch::Record;
 use intentions::Entry;
 
 /// What a transaction did on the objects that it was run on (Weihl 1988: an intentions list).
 #[derive(Drop)]
 pub struct Run {
+    /// The steps that were taken, and how the transaction ended.
     pub tree: Record,
-    /// All operations that it performed, with their replies, in order; those of aborted parts too.
+    /// All operations that it performed, with their replies, in order. Those of aborted parts are
+    /// among them.
     pub entries: Vec<Entry>,
-    /// The operations that stand in no aborted subaction; none where the transaction aborted.
+    /// The operations that no aborted subaction has. There are none where the transaction aborted.
     pub net: Vec<Entry>,
 }

@@ -1,4 +1,4 @@
-//! The run of one transaction on the objects of an opening.
+//! Running one transaction on the objects of an opening.
 ghost use Rattle.std.specs.Prelude.{◌≡◌, ◌-◌, ◌≤◌, [], map, length, IfOk, OnOk};
 ghost use Rattle.intentions.specs.Levels.{opened};
 ghost use Rattle.batch.specs.Views.{block_view};
@@ -16,10 +16,11 @@ use meaning::{End, Held};
 use std::alloc::Global;
 use std::thread::Threads;
 
-/// Runs transaction `number` (from 1) of the batch on these objects, which stay as they are.
+/// Runs transaction `number` (from 1) of the batch on these objects, which stay as they are. At
+/// most `width` children of a parallel block are run at once.
 ///
-/// At most `width` children of a parallel block are run at once. `NoMemory` is answered where a
-/// growth of memory was refused; the batch and the objects are then as before.
+/// Returns `NoMemory` where a request for memory was refused. The batch and the objects are then as
+/// before.
 pub fn run<T: Threads + Sync, G: Gate>(
     threads: &T,
     alloc: Global,
@@ -50,10 +51,10 @@ pub fn run<T: Threads + Sync, G: Gate>(
     )
 }
 
-/// Runs transaction `number` (from 1) of the batch as [`run`] does, in a view as it was opened on the
-/// objects, and with no labels. It leaves both so for the next run.
+/// Runs transaction `number` (from 1) of the batch as [`run`] does, in a view that is as it was
+/// opened on the objects, and with no labels. It leaves both so for the next run.
 ///
-/// Where `NoMemory` is answered, the view and the labels are of no further use.
+/// After it returns `NoMemory`, the view and the labels are of no further use.
 pub fn run_in<T: Threads + Sync, G: Gate>(
     threads: &T,
     alloc: Global,

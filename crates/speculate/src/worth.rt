@@ -1,8 +1,8 @@
-//! Whether children are worth being run ahead.
+//! Whether children are worth running ahead.
 //!
 //! Children that are run ahead work on a copy of the whole state, and each on a copy of all labels.
-//! Where they do little beside that, running them one after the other is faster. Any answer is
-//! right: the children's runs mean the same either way.
+//! Where they do little compared with that, running them one after the other is faster. Either
+//! choice is right: the children's runs mean the same.
 use batch::{Block, Otherwise, Step, Subaction, Value};
 use intentions::Objects;
 
@@ -21,7 +21,8 @@ pub(crate) fn is_worth(children: &[Subaction], labels: usize, objects: &Objects)
     copied < outweighed && are_within(objects, outweighed - copied)
 }
 
-// Whether the objects have no more items than this. It looks at no more objects either.
+// Whether the sizes of the objects add up to `most` or less. It looks at one object more than
+// `most` or fewer.
 fn are_within(objects: &Objects, most: u64) -> bool {
     let mut left = most;
     for place in 0..u32::MAX {
@@ -37,7 +38,7 @@ fn are_within(objects: &Objects, most: u64) -> bool {
     false
 }
 
-// The number of its items, and 1 for itself.
+// How many items the value has, and 1 for itself.
 fn size_of(value: &Value) -> u64 {
     let items = match value {
         Value::Account(_) => 0,
@@ -50,7 +51,8 @@ fn size_of(value: &Value) -> u64 {
     (items as u64).saturating_add(1)
 }
 
-// All operations, in branches and handlers too, which a run may not take.
+// How many operations there are. Those of branches and handlers count too, though a run may not
+// take them.
 #[cycle(count)]
 fn operations_in(block: &Block) -> u64 {
     let mut count: u64 = 0;

@@ -1,4 +1,4 @@
-// Threads that are started one after the other, as long as there are pieces left.
+//! Threads that are started one after the other, as long as there are pieces left.
 ghost use Rattle.std.specs.Prelude.{◌≡◌, ◌+◌, length, IfOk};
 ghost use Rattle.std.specs.List.{All};
 ghost use Rattle.std.specs.Thread.{IsSync, IsSend};
@@ -9,13 +9,14 @@ use claims::{Board, Claim, Seat};
 use std::alloc::{AllocError, Global};
 use std::thread::{Threads, join};
 
-/// What `work` gives of each seat. It is called with the seat, and with the answer to the seat's
-/// first claim.
+/// What `work` returns for each seat. It is called with the seat, and with what the seat's first
+/// claim returned.
 ///
 /// A seat that draws a piece leaves the other seats to a new thread, where one can be made, and
 /// works in its own. A seat that draws none starts no thread.
 ///
-/// `AllocError` where the list of the results found no memory. No seat has claimed then.
+/// Returns `AllocError` where there is no memory for the list of the results. No seat has claimed
+/// then.
 pub(crate) fn at_each_seat<R: Threads + Sync, X: Send + Drop, F: Fn(Seat, Claim) -> X + Sync>(
     threads: &R,
     alloc: Global,
@@ -32,8 +33,8 @@ pub(crate) fn at_each_seat<R: Threads + Sync, X: Send + Drop, F: Fn(Seat, Claim)
     Ok(seat_by_seat(threads, board, work, seats, all))
 }
 
-// Adds what `work` gives of each seat. There is room for it. The other seats are left to a new
-// thread before the piece is done, so that a long piece holds none of them up.
+// Adds what `work` returns for each seat, for which there is room. The other seats are left to a
+// new thread before the piece is done, so that a long piece holds none of them up.
 #[cycle(cascade)]
 fn seat_by_seat<R: Threads + Sync, X: Send + Drop, F: Fn(Seat, Claim) -> X + Sync>(
     threads: &R,

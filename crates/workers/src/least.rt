@@ -1,4 +1,4 @@
-// The least piece that doesn't pass a test.
+//! The least piece that doesn't pass a test.
 ghost use Rattle.std.specs.Prelude.{◌≡◌, ℕ, ◌<◌, ◌≤◌, true, false, length, IfOk};
 ghost use Rattle.std.specs.List.{All};
 ghost use Rattle.claims.specs.Views.{most_pieces, most_seats, is_over};
@@ -12,8 +12,8 @@ use claims::{Board, Claim, NoMemory, Seat};
 use std::alloc::{AllocError, Global};
 use std::thread::Threads;
 
-// Tests a piece that the seat drew, unless it is at or above the bound, and lowers the bound to
-// it where it doesn't pass.
+// Tests a piece that the seat drew, unless the piece is at or above the bound. Lowers the bound to
+// the piece where it doesn't pass.
 fn judge<F: Fn(u32) -> bool>(board: &Board, passes: &F, seat: &mut Seat, piece: u32)
     requires own { IsSeatOf board.now seat.old }
     requires piece { piece < board.now.pieces }
@@ -32,7 +32,7 @@ fn judge<F: Fn(u32) -> bool>(board: &Board, passes: &F, seat: &mut Seat, piece: 
     }
 }
 
-// Judges from the seat's first claim on, until the seat is over.
+// Judges pieces from the seat's first claim on, until the seat is over.
 fn seek<F: Fn(u32) -> bool>(board: &Board, passes: &F, mut seat: Seat, first: Claim) -> Seat
     requires first { HasClaimed board.now seat first }
     requires can { (k : ℕ) → k < board.now.pieces → F.pre passes.now k }
@@ -74,12 +74,12 @@ fn seek_all<R: Threads + Sync, F: Fn(u32) -> bool + Sync>(
     )
 }
 
-/// The least piece of which `passes` answers false, or the number of pieces where there is none.
+/// The least piece for which `passes` returns false, or the number of pieces where there is none.
 ///
-/// Whatever the workers and the order of their tests, the answer is the same: a worker passes over
-/// a piece only at or above one that was found to fail.
+/// The result is the same for any number of workers and any order of their tests. A worker passes
+/// over a piece only at or above one that was found to fail.
 ///
-/// `NoMemory` is answered where the board, its seats or a list found no memory.
+/// Returns `NoMemory` where there is no memory for the board, its seats or a list.
 pub fn first_failing<R: Threads + Sync, F: Fn(u32) -> bool + Sync>(
     threads: &R,
     alloc: Global,

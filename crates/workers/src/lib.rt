@@ -1,10 +1,10 @@
-//! Workers that share a claim board: the least piece that doesn't pass a test, and what all pieces
-//! give.
+//! Workers that share a claim board. [`first_failing`] finds the least piece that doesn't pass a
+//! test, and [`give_all`] collects what all pieces give.
 //!
 //! The pieces are the numbers below a bound. Each worker has a seat at one board (`claims`), and
 //! claims one piece after the other until there are none. Threads are started one after the other,
 //! each by the one before it, as long as there are pieces left. There are never more workers than
-//! pieces, and one worker alone is no thread of its own.
+//! pieces. One worker alone is no thread of its own.
 #![tactic(auto)]
 
 mod cascade;

@@ -1,7 +1,7 @@
-// How many workers there are.
+//! How many workers there are.
 ghost use Rattle.std.specs.Prelude.{◌≤◌};
 
-/// At most one worker for each piece, and at least one.
+/// How many seats to open: at most one for each piece, and at least one.
 pub(crate) fn seats_for(pieces: u32, workers: u32) -> u32
     requires { 1 ≤ workers }
     ensures some { (1 ≤ result) × (result ≤ workers) }

@@ -1,4 +1,4 @@
-// What all pieces of a work give.
+//! What all pieces of a work give.
 ghost use Rattle.std.specs.Prelude.{◌≡◌, ℕ, ◌<◌, ◌≤◌, false, length, map, IfOk, OnOk};
 ghost use Rattle.std.specs.List.{All, flat_map};
 ghost use Rattle.claims.specs.Views.{most_pieces, most_seats};
@@ -33,8 +33,8 @@ fn give_one<X: Drop, F: Fn(u32) -> Result<Vec<X>, NoMemory>>(
     Ok(())
 }
 
-// Does a piece that the seat drew, and adds what it gives. A worker that finds no memory raises, and
-// so is told `Stopped` by its next claim.
+// Does a piece that the seat drew, and adds what it gives. A worker that finds no memory raises,
+// and so its next claim returns `Stopped`.
 fn do_piece<X: Drop, F: Fn(u32) -> Result<Vec<X>, NoMemory>>(
     board: &Board,
     give: &F,
@@ -100,7 +100,7 @@ fn work_all<R: Threads + Sync, X: Send + Drop, F: Fn(u32) -> Result<Vec<X>, NoMe
     )
 }
 
-// The seats apart, and the items in one list.
+// Splits the results: the seats, and all items in one list.
 fn part<X: Drop>(alloc: Global, all: Vec<Worked<X>>) -> Result<(Vec<Seat>, Vec<X>), AllocError>
     ensures seats { IfOk result (λ p. p.0.items ≡ map (λ w. w.seat) all.items) }
     ensures items { IfOk result (λ p. p.1.items ≡ flat_map (λ w. w.items.items) all.items) }
@@ -119,11 +119,11 @@ fn part<X: Drop>(alloc: Global, all: Vec<Worked<X>>) -> Result<(Vec<Seat>, Vec<X
 }
 
 /// What all pieces give: the items of each piece side by side, the pieces in any order, each once.
-/// `give` does a piece, and answers its items.
+/// `give` does a piece, and returns its items.
 ///
-/// `NoMemory` is answered where the board, its seats or a list found no memory, and where a piece
-/// answered it: the worker that met it raises, and the others stop at their next claim. Nothing is
-/// given out then.
+/// Returns `NoMemory` where there is no memory for the board, its seats or a list, and where `give`
+/// returned it for a piece. The worker that met it raises, and the others stop at their next claim.
+/// Nothing else is returned then.
 pub fn give_all<R: Threads + Sync, X: Send + Drop, F: Fn(u32) -> Result<Vec<X>, NoMemory> + Sync>(
     threads: &R,
     alloc: Global,
