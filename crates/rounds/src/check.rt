@@ -1,4 +1,5 @@
-//! The first run that doesn't stand past those before it, which ends its round.
+//! The check of a round: the first run that doesn't stand past those before it, which ends the
+//! round.
 ghost use Rattle.std.specs.Prelude.{◌≡◌, ◌↔◌, ◌+◌, ◌<◌, ◌≤◌, IfOk, OnOk, IsTrue, length, take, slice_index_or};
 ghost use Rattle.rounds.specs.Passes.{IsFirstConflict};
 ghost use Rattle.rounds.specs.PendingRuns.{all_left, HoldsPast, HoldsAt, IsFirstFrom, AreStarts, AreSummed};
@@ -14,8 +15,8 @@ use std::alloc::Global;
 use std::thread::Threads;
 use workers::first_failing;
 
-/// What a check saw: the first conflict, a list that begins with the nets of the runs before it, and
-/// how many entries of the list these nets are.
+/// What a check found: the first conflict, a list that begins with the nets of the runs before it,
+/// and how many entries of the list these nets are.
 #[derive(Drop)]
 pub(crate) struct Seen {
     pub(crate) first: usize,
@@ -23,10 +24,10 @@ pub(crate) struct Seen {
     pub(crate) upto: usize,
 }
 
-/// How many runs the first block has above those that are expected to stand.
+/// How many more runs the first block has than are expected to stand.
 const SPARE: usize = 2;
 
-// Lists the nets of the runs from one place on after those of the runs before it, and tells for each
+// Lists the nets of the runs from one place on, after those of the runs before it. Adds for each
 // run how many entries come before its net.
 fn list_nets(
     runs: &[PendingRun],
@@ -47,7 +48,7 @@ fn list_nets(
     Ok(())
 }
 
-/// Whether a run stands past the first entries of a list, up to a place.
+/// Whether a run stands past the first `upto` entries of a list.
 pub(crate) fn stands_past(runs: &[PendingRun], place: usize, nets: &Committed, upto: usize) -> bool
     requires place { place < length runs.now }
     requires upto { upto ≤ length nets.now }
@@ -56,7 +57,7 @@ pub(crate) fn stands_past(runs: &[PendingRun], place: usize, nets: &Committed, u
     nets.stands(&runs[place].sums.entries, upto)
 }
 
-// The first conflict from one place on. All workers check the runs side by side, a run as a piece.
+// The first conflict from one place on. The workers check the runs side by side, a run as a piece.
 fn first_from<R: Threads + Sync, G: Gate>(
     crew: &Crew<R, G>,
     runs: &[PendingRun],
@@ -94,8 +95,8 @@ fn first_from<R: Threads + Sync, G: Gate>(
     Ok(from + passed as usize)
 }
 
-// The first conflict, sought in blocks of runs, each twice as long as the one before it, until one
-// has a conflict. The first block has a few more runs than are expected to stand.
+// The first conflict, sought in blocks of runs, until one has a conflict. Each block is twice as
+// long as the one before it. The first block has a few more runs than are expected to stand.
 fn seek_in_blocks<R: Threads + Sync, G: Gate>(
     crew: &Crew<R, G>,
     runs: &[PendingRun],
@@ -126,7 +127,7 @@ fn seek_in_blocks<R: Threads + Sync, G: Gate>(
     })
 }
 
-// The first conflict, sought run by run: the net of a run that stands is listed before the next one
+// The first conflict, sought run by run. The net of a run that stands is listed before the next run
 // is checked.
 fn seek_in_turn<G: Gate>(alloc: Global, runs: &[PendingRun], gate: &G) -> Result<Seen, NoMemory>
     requires few { length runs.now ≤ 10000 }
@@ -153,14 +154,17 @@ fn seek_in_turn<G: Gate>(alloc: Global, runs: &[PendingRun], gate: &G) -> Result
     })
 }
 
-/// The first conflict, and the nets of the runs before it. Where each piece of work is to be a run of
-/// its own and there are several workers, the runs are looked at in blocks, whose runs the workers
-/// check side by side. Each block is twice as long as the one before it, until one has a conflict, and
-/// the first has a few more runs than are expected to stand. Otherwise one worker checks each run and
-/// lists its net, run by run, up to the first conflict: listing a net costs as much as checking it, and
-/// only one worker can list.
+/// The first conflict, and the nets of the runs before it.
 ///
-/// `NoMemory` is answered where a growth of memory was refused.
+/// Where each run is a piece of work of its own and there are several workers, the runs are looked
+/// at in blocks, and the workers check the runs of a block side by side. Each block is twice as
+/// long as the one before it, until one has a conflict. The first has a few more runs than are
+/// expected to stand.
+///
+/// Otherwise one worker checks each run and lists its net, run by run, up to the first conflict.
+/// Listing a net costs as much as checking it, and only one worker can list.
+///
+/// Returns `NoMemory` where a request for memory was refused.
 pub(crate) fn seek_conflict<R: Threads + Sync, G: Gate>(
     crew: &Crew<R, G>,
     runs: &[PendingRun],
@@ -175,7 +179,7 @@ pub(crate) fn seek_conflict<R: Threads + Sync, G: Gate>(
     seek_in_blocks(crew, runs, expected)
 }
 
-// Pending runs that have nothing but the sums of these.
+// Pending runs that have only the summaries of these runs.
 fn summed(alloc: Global, runs: &[Run]) -> Result<Vec<PendingRun>, NoMemory>
     ensures { IfOk result (λ pending. AreSummed runs.now pending.items) }
 {
@@ -191,10 +195,10 @@ fn summed(alloc: Global, runs: &[Run]) -> Result<Vec<PendingRun>, NoMemory>
 }
 
 /// The least place (from 0) of a run of which some entry doesn't commute forward with some net
-/// entry of a run before it, or the number of runs where there is none. It is the same whatever
-/// the workers, who check the runs side by side, a run as a piece.
+/// entry of a run before it, or the number of runs where there is none. The workers check the runs
+/// side by side, a run as a piece. The result is the same for any number of them.
 ///
-/// `NoMemory` is answered where a growth of memory was refused.
+/// Returns `NoMemory` where a request for memory was refused.
 pub fn first_conflict<R: Threads + Sync, G: Gate>(
     threads: &R,
     alloc: Global,

@@ -1,13 +1,13 @@
-//! What the passes of a round are run with, and how many workers pay.
-ghost use Rattle.std.specs.Prelude.{◌≡◌, ◌<◌, ◌≤◌, ℕ, length, slice_index_or};
+//! The crew: what the passes of a round are run with, and how many workers pay.
+ghost use Rattle.std.specs.Prelude.{◌≡◌, ◌-◌, ◌*◌, ◌/◌, ◌<◌, ◌≤◌, ℕ, min, max, length, slice_index_or};
 
 use crate::pending_run::PendingRun;
 use crate::plan::Plan;
 use batch::Batch;
 use std::alloc::Global;
 
-/// The right to start threads, the allocator, how many workers there are, the gate that sees them, and
-/// how many operations a run may be taken to have.
+/// The right to start threads, the allocator, how many workers there are, the gate that sees them,
+/// and how many operations a run is taken to have.
 #[derive(Drop)]
 pub(crate) struct Crew<'a, R, G> {
     pub(crate) threads: &'a R,
@@ -18,7 +18,7 @@ pub(crate) struct Crew<'a, R, G> {
 }
 
 impl<'a, R, G> Crew<'a, R, G> {
-    /// For the runs of a batch.
+    /// A crew for the runs of a batch.
     pub(crate) fn of(
         threads: &'a R,
         alloc: Global,
@@ -38,17 +38,21 @@ impl<'a, R, G> Crew<'a, R, G> {
     }
 }
 
-/// How many operations a worker performs, at the least, for each transaction of a cut above 1: fewer
-/// are done sooner than a thread starts.
+/// How many operations a worker performs at the least for each transaction of the cut after the
+/// first. Fewer are done sooner than a thread starts.
 const OPERATIONS: usize = 256;
 
-/// How many operations are checked in the time that one is performed in, about.
+/// About how many operations are checked in the time in which one is performed.
 const CHECKS: usize = 8;
 
-/// How many workers so many operations are shared out among. The answers are the same for any number
-/// of them. A cut of 1 asks for as many as there are, and a coarser one for no more than pay.
+/// How many workers share so many operations. The results are the same for any number of them.
+///
+/// With a cut of 1 they are all workers of the plan, however few operations there are. With a
+/// larger cut there is one worker for each `256 * (cut - 1)` operations, at least 1 and at most all.
 pub(crate) fn paying(plan: Plan, operations: usize) -> u32
-    ensures { (1 ≤ result) × (result ≤ plan.workers) }
+    ensures within { (1 ≤ result) × (result ≤ plan.workers) }
+    ensures all { plan.cut ≡ 1 → result ≡ plan.workers }
+    ensures paid { 1 < plan.cut → result ≡ max 1 (min plan.workers (operations / (256 * (plan.cut - 1)))) }
 {
     if plan.cut == 1 {
         return plan.workers;
@@ -58,17 +62,21 @@ pub(crate) fn paying(plan: Plan, operations: usize) -> u32
     workers.max(1) as u32
 }
 
-/// How many workers to make so many runs with.
+/// How many workers to make so many runs with: all of the plan with a cut of 1, and else as many as
+/// pay for the operations that the runs are taken to have.
 pub(crate) fn makers<R, G>(crew: &Crew<R, G>, runs: usize) -> u32
-    ensures { (1 ≤ result) × (result ≤ crew.now.plan.workers) }
+    ensures within { (1 ≤ result) × (result ≤ crew.now.plan.workers) }
+    ensures all { crew.now.plan.cut ≡ 1 → result ≡ crew.now.plan.workers }
 {
     paying(crew.plan, runs.saturating_mul(crew.operations_each))
 }
 
-/// How many workers to check the runs of these numbers with.
+/// How many workers to check the runs of these numbers with: all of the plan with a cut of 1, and
+/// else as many as pay for an eighth of their entries.
 pub(crate) fn checkers(plan: Plan, runs: &[PendingRun], numbers: &[usize]) -> u32
     requires { (k : ℕ) → k < length numbers.now → slice_index_or numbers.now k 0 < length runs.now }
-    ensures { (1 ≤ result) × (result ≤ plan.workers) }
+    ensures within { (1 ≤ result) × (result ≤ plan.workers) }
+    ensures all { plan.cut ≡ 1 → result ≡ plan.workers }
 {
     let mut operations: usize = 0;
     for number in numbers {
@@ -77,7 +85,7 @@ pub(crate) fn checkers(plan: Plan, runs: &[PendingRun], numbers: &[usize]) -> u3
     paying(plan, operations / CHECKS)
 }
 
-// How many operations a transaction of the batch has, taken over all of them, rounded up.
+// How many operations a transaction of the batch has on average, rounded up.
 fn operations_each(batch: &Batch) -> usize {
     (batch.operations() as usize).div_ceil(batch.transactions.len().max(1))
 }

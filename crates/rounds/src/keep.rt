@@ -1,4 +1,4 @@
-//! The runs that no longer stand after a commit.
+//! The check after a commit: which pending runs conflict with what was committed.
 ghost use Rattle.std.specs.Prelude.{◌≡◌, ◌<◌, ◌≤◌, ℕ, IfOk, length, take, slice_index_or, slice_range};
 ghost use Rattle.rounds.specs.PendingRuns.{all_left, AreRefuted, AreRefutedAmong, IsDecided};
 ghost use Rattle.rounds.specs.Pending.{ArePlaces, Tells};
@@ -13,8 +13,8 @@ use std::alloc::Global;
 use std::thread::Threads;
 use workers::give_all;
 
-// The number of the run, where the run doesn't stand past what was committed: the first nets, up to
-// a place.
+// The number of the run, where the run doesn't stand past what was committed, which is the first
+// `upto` entries of the nets.
 fn refuted_at(
     alloc: Global,
     runs: &[PendingRun],
@@ -34,7 +34,7 @@ fn refuted_at(
 }
 
 // The numbers of those of the listed runs that don't stand past what was committed, in the order of
-// the list: what one worker does alone. The list is of runs from one place on.
+// the list. One worker does this alone. The listed runs are from one place on.
 fn refuted_among<G: Gate>(
     alloc: Global,
     runs: &[PendingRun],
@@ -59,7 +59,7 @@ fn refuted_among<G: Gate>(
     Ok(numbers)
 }
 
-// The same. The workers decide the runs side by side, a run as a piece.
+// The same, by all workers. They decide the runs side by side, a run as a piece.
 fn refuted_of<R: Threads + Sync, G: Gate>(
     crew: &Crew<R, G>,
     runs: &[PendingRun],
@@ -101,10 +101,11 @@ fn refuted_of<R: Threads + Sync, G: Gate>(
 }
 
 /// The numbers of the runs, from one place on, that don't stand past what was committed, in any
-/// order: that is the first nets, up to a place. Only the runs that the commit may touch are decided,
-/// since the others stand: the workers decide them side by side, a run as a piece.
+/// order. What was committed is the first `upto` entries of the nets. Only the runs that the commit
+/// may touch are decided, since the others stand. The workers decide them side by side, a run as a
+/// piece.
 ///
-/// `NoMemory` is answered where a growth of memory was refused.
+/// Returns `NoMemory` where a request for memory was refused.
 pub(crate) fn keep_all<R: Threads + Sync, G: Gate>(
     crew: &Crew<R, G>,
     runs: &[PendingRun],

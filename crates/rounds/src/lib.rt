@@ -1,5 +1,5 @@
-//! A batch in rounds: transactions are run speculatively on the objects of an opening, and those
-//! that stand are committed in order of number.
+//! Running a batch in rounds. Transactions are run speculatively on the objects of an opening, and
+//! those that stand are committed in order of number.
 #![tactic(auto)]
 
 mod check;

@@ -1,4 +1,4 @@
-//! Runs of the transactions that need one.
+//! Making the runs of the transactions that need one.
 ghost use Rattle.std.specs.Prelude.{◌≡◌, ◌*◌, ◌<◌, ◌≤◌, IfOk, length};
 ghost use Rattle.std.specs.Fork.{slice_chunk};
 ghost use Rattle.std.specs.List.{All};
@@ -21,7 +21,7 @@ pub(crate) struct Made {
     pub(crate) run: PendingRun,
 }
 
-// A run for each of the numbers of a group, one after the other, in one view.
+// A run for each number of a group, one after the other, in one view.
 fn make_group<R: Threads + Sync, G: Gate>(
     threads: &R,
     alloc: Global,
@@ -72,10 +72,10 @@ fn group_at(numbers: &[usize], cut: usize, piece: u32) -> &[usize]
 }
 
 /// A run for each of the numbers, in any order, made on these objects. A piece of the workers is a
-/// group of at most `cut` of the numbers, and the workers that are left over where there are fewer
-/// numbers share out the children of parallel blocks.
+/// group of at most `cut` of the numbers. Where there are at least twice as many workers as numbers,
+/// each run gets several workers for the children of parallel blocks.
 ///
-/// `NoMemory` is answered where a growth of memory was refused.
+/// Returns `NoMemory` where a request for memory was refused.
 pub(crate) fn make_all<R: Threads + Sync, G: Gate>(
     crew: &Crew<R, G>,
     batch: &Batch,

@@ -1,5 +1,5 @@
-//! The loop of openings: each round makes the runs that are needed, seeks the first that doesn't
-//! stand, commits those before it, and tells which of the others are kept.
+//! The loop of openings. Each round makes the runs that are needed, seeks the first that doesn't
+//! stand, commits those before it, and decides which of the others are kept.
 ghost use Rattle.std.specs.Prelude.{◌≡◌, ◌<◌, ◌≤◌, ℕ, length, IfOk, OnOk, map, slice_index_or};
 ghost use Rattle.objects.specs.Entries.{after, AreLegal};
 ghost use Rattle.meaning.specs.Batch.{all_shown, final_state, nets};
@@ -23,7 +23,7 @@ use speculate::{Gate, NoMemory, Objects};
 use std::alloc::Global;
 use std::thread::Threads;
 
-// Commits runs in order: their nets are performed on the objects.
+// Commits runs in order: performs their nets on the objects.
 fn commit(runs: &[PendingRun], objects: &mut Objects) -> Result<(), NoMemory>
     requires legal { AreLegal objects.old (own_nets runs.now) }
     requires room { AllHaveRoom objects.old (own_nets runs.now) }
@@ -91,10 +91,10 @@ fn records_of(alloc: Global, runs: Vec<PendingRun>) -> Result<Vec<Record>, NoMem
     Ok(records)
 }
 
-/// Runs a batch in rounds: what it answers is what one thread answers that runs the transactions by
-/// number, depth first.
+/// Runs a batch in rounds. It returns what one thread returns that runs the transactions by number,
+/// depth first.
 ///
-/// `NoMemory` is answered where a growth of memory was refused; nothing is given out then.
+/// Returns `NoMemory` where a request for memory was refused, and nothing else then.
 pub fn execute<R: Threads + Sync, G: Gate>(
     threads: &R,
     alloc: Global,
@@ -126,7 +126,7 @@ pub fn execute<R: Threads + Sync, G: Gate>(
     let crew = Crew::of(threads, alloc, batch, plan, gate);
     'opening: while opened < count {
         renew(&crew, batch, &objects, &stale, &mut runs, &mut counts)?;
-        // As many are expected to stand as in the round before.
+        // As many runs are expected to stand as in the round before.
         let seen = seek_conflict(&crew, &runs[opened..], passed)?;
         passed = seen.first;
         commit(&runs[opened..opened + passed], &mut objects)?;

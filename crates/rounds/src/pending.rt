@@ -1,4 +1,4 @@
-//! What tells, of the pending runs, those that a commit may touch.
+//! Which of the pending runs a commit may touch.
 ghost use Rattle.std.specs.Prelude.{◌≡◌, ◌<◌, ◌≤◌, ℕ, length, IfOk, OnOk, slice_index_or, slice_range};
 ghost use Rattle.committed.specs.NumberSets.{Has, AreDistinct};
 ghost use Rattle.rounds.specs.declared.pending_run.PendingRun.{PendingRun as OnePending};
@@ -10,7 +10,7 @@ use intentions::{NumberSet, Watch};
 use speculate::NoMemory;
 use std::alloc::Global;
 
-// A watch of the runs from one on.
+// A watch of the runs from one place on.
 fn watch_from(alloc: Global, runs: &[PendingRun], from: usize) -> Result<Watch, NoMemory>
     requires few { length runs.now ≤ 10000 }
     requires from { from ≤ length runs.now }
@@ -27,7 +27,7 @@ fn watch_from(alloc: Global, runs: &[PendingRun], from: usize) -> Result<Watch, 
     Ok(watch)
 }
 
-// Puts those of these runs that are from one place on in.
+// Puts those of these runs into the watch that are from one place on.
 fn put_made(
     watch: &mut Watch,
     runs: &[PendingRun],
@@ -48,7 +48,7 @@ fn put_made(
     Ok(())
 }
 
-/// What tells, of the pending runs, those that a commit may touch.
+/// The watch of the pending runs, and those that the last commit may have touched.
 #[derive(Drop)]
 pub(crate) struct Pending {
     watch: Watch,
@@ -56,7 +56,7 @@ pub(crate) struct Pending {
 }
 
 impl Pending {
-    /// Of so many runs, of which none was made yet.
+    /// For so many runs, of which none was made yet.
     pub(crate) fn new(alloc: Global, count: usize) -> Result<Pending, NoMemory>
         requires { count ≤ 10000 }
         ensures { IfOk result (λ pending. pending.watch.count ≡ count) }
@@ -75,10 +75,10 @@ impl Pending {
         self.touched.members()
     }
 
-    /// Heeds the runs that were made since the last commit, and seeks those from one place on that the
-    /// runs that are committed now, from `opened` on and before that place, may touch.
+    /// Puts in the runs that were made since the last commit. Then finds those from one place on
+    /// that a commit of the runs from `opened` on and before that place may touch.
     ///
-    /// `NoMemory` is returned where a growth of memory was refused.
+    /// Returns `NoMemory` where a request for memory was refused.
     pub(crate) fn touch(
         &mut self,
         alloc: Global,

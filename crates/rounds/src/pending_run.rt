@@ -1,4 +1,4 @@
-//! Runs that wait to be committed.
+//! Pending runs: those that wait to be committed.
 ghost use Rattle.std.specs.Prelude.{◌≡◌, IfOk};
 ghost use Rattle.committed.specs.Summaries.{entries_of};
 ghost use Rattle.rounds.specs.PendingRuns.{left_by, AreSumsOf, IsPendingFor};
@@ -20,7 +20,7 @@ pub(crate) struct Sums {
 impl Sums {
     /// The summaries of these entries and of this net.
     ///
-    /// `NoMemory` is returned where a growth of memory was refused.
+    /// Returns `NoMemory` where a request for memory was refused.
     pub(crate) fn of(alloc: Global, entries: &[Entry], net: &[Entry]) -> Result<Sums, NoMemory>
         ensures { IfOk result (λ sums. AreSumsOf sums entries.now net.now) }
     {
@@ -46,7 +46,7 @@ impl Sums {
     }
 }
 
-/// A run that waits to be committed: its record, its net, and summaries in the place of its entries.
+/// A run that waits to be committed: its record, its net, and summaries in place of its entries.
 #[derive(Drop)]
 pub(crate) struct PendingRun {
     pub(crate) tree: Record,
@@ -55,9 +55,9 @@ pub(crate) struct PendingRun {
 }
 
 impl PendingRun {
-    /// The run, with its entries summed up and let go.
+    /// The pending run of a run. The entries are summed up, and freed.
     ///
-    /// `NoMemory` is returned where a growth of memory was refused.
+    /// Returns `NoMemory` where a request for memory was refused.
     pub(crate) fn of(alloc: Global, run: Run) -> Result<PendingRun, NoMemory>
         ensures { IfOk result (λ pending. IsPendingFor run pending) }
     {

@@ -1,4 +1,4 @@
-//! Runs that are made anew, each in the place of the one before it.
+//! Runs that are made again, each in the place of the one before it.
 ghost use Rattle.std.specs.Prelude.{◌≡◌, ◌+◌, ◌<◌, ◌≤◌, ℕ, length, IfOk, slice_index_or};
 ghost use Rattle.std.specs.List.{All};
 ghost use Rattle.objects.specs.Entries.{kinds};
@@ -12,8 +12,8 @@ use batch::Batch;
 use speculate::{Gate, NoMemory, Objects, View, run_in};
 use std::thread::Threads;
 
-// The same by one worker, in one view: each run takes its place at once, and lets the memory of the
-// one before it go.
+// The same as `renew` by one worker, in one view. Each run takes its place at once, which frees the
+// memory of the one before it.
 fn renew_in_turn<R: Threads + Sync, G: Gate>(
     crew: &Crew<R, G>,
     batch: &Batch,
@@ -63,7 +63,7 @@ fn renew_in_turn<R: Threads + Sync, G: Gate>(
 
 /// Makes runs for the stale numbers, puts them in their places and counts them.
 ///
-/// `NoMemory` is answered where a growth of memory was refused.
+/// Returns `NoMemory` where a request for memory was refused.
 pub(crate) fn renew<R: Threads + Sync, G: Gate>(
     crew: &Crew<R, G>,
     batch: &Batch,

@@ -1,4 +1,4 @@
-//! Plans.
+//! Tests of plans.
 use super::*;
 
 #[test]
