@@ -1,0 +1,36 @@
+use Rattle.std.proofs.Common.{◌≡◌, List, ℕ, Bool, true, false, Some, None, IsTrue, cond, refl, subst, sym, true≢false, arith}
+use Rattle.std.specs.Str.{IsUtf8, is_utf8}
+use Rattle.std.proofs.lemmas.Result.{IfOk-weaker}
+use Rattle.std.proofs.lemmas.Str.{IsUtf8-from_is_utf8, is_utf8-from_IsUtf8}
+use Rattle.serde_json.specs.Read.{read as read_text}
+use Rattle.serde_json.specs.Errors.{IsMemory}
+use Rattle.serde_json.specs.View.{view}
+use Rattle.lang.specs.Found.{pointer_text}
+use Rattle.lang.specs.Reading.{value_of}
+use Rattle.lang.proofs.SeekLemmas.{not_all_met, place_shown}
+use Rattle.lang.proofs.places.locate.Goals as goal
+
+no_value : (bytes : List ℕ) (b : Bool) → is_utf8 bytes ≡ b → (IsUtf8 bytes → read_text bytes ≡ None) → cond b (read_text bytes) None ≡ None
+no_value bytes true is h = h (IsUtf8-from_is_utf8 bytes is)
+no_value bytes false is h = refl
+
+pub returns-in-Err-clause-place : goal.returns-in-Err-clause-place
+returns-in-Err-clause-place c =
+    let refused = λ (m : IsMemory c.in-Err.error). true≢false (sym (subst (λ b. IsTrue b) c.if-is_memory.false (c.is_memory.ensures.1 m))) in
+    (omega (arith, c.if-bytes-gt-MAX_BYTES.false), no_value c.args.bytes.now (is_utf8 c.args.bytes.now) refl (c.in-Err.ensures.err refused))
+
+pub returns-in-Ok-seek_document-clause-place : goal.returns-in-Ok-seek_document-clause-place
+returns-in-Ok-seek_document-clause-place c =
+    let bytes = c.args.bytes.now in
+    let d = view c.in-Ok.value in
+    let known : value_of bytes ≡ Some d = rw (is_utf8-from_IsUtf8 bytes c.in-Ok.ensures.ok.0) c.in-Ok.ensures.ok.1 in
+    absurd (not_all_met bytes d c.args.fault _ _ c.requires (omega (arith, c.if-bytes-gt-MAX_BYTES.false)) known c.new-state.ensures.counts c.in-Ok-seek_document.ensures.met)
+
+pub returns-clause-place : goal.returns-clause-place
+returns-clause-place c =
+    let bytes = c.args.bytes.now in
+    let d = view c.in-Ok.value in
+    let unmet = c.in-Err-seek_document.unmet in
+    let known : value_of bytes ≡ Some d = rw (is_utf8-from_IsUtf8 bytes c.in-Ok.ensures.ok.0) c.in-Ok.ensures.ok.1 in
+    IfOk-weaker c.place_of.result _ _ (λ place shown. place_shown bytes d c.args.fault unmet.fault (pointer_text unmet.pointer) place _ c.requires (omega (arith, c.if-bytes-gt-MAX_BYTES.false)) known
+    c.new-state.ensures.counts (c.in-Err-seek_document.ensures.unmet shown.0) shown.1) c.place_of.ensures.place

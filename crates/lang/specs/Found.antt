@@ -1,0 +1,45 @@
+-- What is told of a fault's place.
+use Rattle.std.specs.Prelude.{◌≡◌, ◌≢◌, ◌<◌, ◌≤◌, ◌⊎◌, ℕ, List, [], length, Option, None, Some, Ok, Err, option_map, string_bytes, unwrap_or, String}
+use Rattle.std.specs.declared.alloc.Global.{Global}
+use Rattle.serde_json.specs.Data.{Data}
+use Rattle.lang.specs.declared.counts.Counts.{Counts}
+use Rattle.lang.specs.declared.fault.Fault.{Fault}
+use Rattle.lang.specs.declared.places.Place.{Place}
+use Rattle.lang.specs.declared.places.Place.TheVariants.{Whole, Pointer, LineColumn}
+use Rattle.lang.specs.declared.places.Unmet.{Unmet}
+use Rattle.lang.specs.Demand.{no_counts}
+use Rattle.lang.specs.Faults.{memory_fault}
+use Rattle.lang.specs.Asked.{asked}
+use Rattle.lang.specs.Places.{Found, Placed, demands_of, placed, seek}
+use Rattle.lang.specs.Reading.{value_of}
+
+abbrev pub pointer_text : Option (String Global) → List ℕ
+pointer_text pointer = unwrap_or (option_map (λ text. string_bytes text) pointer) []
+
+-- what a demand that is not met tells
+abbrev pub found_of : Unmet → Found
+found_of unmet = record { fault = unmet.fault; pointer = pointer_text unmet.pointer }
+
+-- unless memory was refused, the demand is the first that is not met
+abbrev pub IsFound : Counts → Placed → Unmet → Type 0
+IsFound c asked unmet = unmet.fault ≢ memory_fault → seek c asked ≡ Err (found_of unmet)
+
+-- a pointer is shown so
+abbrev pub Shows : List ℕ → Place → Type 0
+Shows pointer Whole = pointer ≡ []
+Shows pointer (Pointer text) = string_bytes text ≡ pointer
+Shows pointer (LineColumn line column) = ⊥
+
+-- the bytes write a value, and the first demand that it doesn't meet has this fault and this pointer
+abbrev pub PointsTo : List ℕ → Fault → List ℕ → Type 0
+PointsTo bytes fault pointer = (d : Data) × (value_of bytes ≡ Some d) × (seek no_counts (placed d) ≡ Err (record { fault = fault; pointer = pointer }))
+
+-- The place of a fault. The whole is the place of a fault of its length, too.
+abbrev pub IsPlaceOf : List ℕ → Fault → Place → Type 0
+IsPlaceOf bytes fault Whole = (67108864 < length bytes) ⊎ PointsTo bytes fault []
+IsPlaceOf bytes fault (Pointer text) = (length bytes ≤ 67108864) × PointsTo bytes fault (string_bytes text)
+IsPlaceOf bytes fault (LineColumn line column) = (length bytes ≤ 67108864) × (value_of bytes ≡ None)
+
+-- The demands with their places are those that are asked, so that no other fault is first.
+abbrev pub PlacesLaw : Type 0
+PlacesLaw = (d : Data) → demands_of (placed d) ≡ asked d

@@ -1,0 +1,206 @@
+-- What is asked of a document, with the places: the same demands as in `asked`, each under the part that it is asked of.
+use Rattle.std.specs.Prelude.{ℕ, ◌+◌, List, [], ◌∷◌, ◌++◌, codes, map, Option, None, Some, Result, Ok, Err, zero, suc, nat_lt, length, option_map, unwrap_or, string_bytes, ◌≡◌, ◌≢◌}
+use Rattle.std.specs.Fmt.{decimal}
+use Rattle.serde_json.specs.Data.{Data, Items, no_items, item, Members, no_members, member}
+use Rattle.serde_json.specs.Find.{as_array, get}
+use Rattle.objects.specs.declared.kind.Kind.{Kind}
+use Rattle.objects.specs.declared.kind.Kind.TheVariants as kind
+use Rattle.lang.specs.declared.steps.Sort.{Sort}
+use Rattle.lang.specs.declared.steps.Sort.TheVariants.{Operation as an_operation, If as an_if, Sub as a_sub, Abort as an_abort, Parallel as a_parallel}
+use Rattle.lang.specs.declared.words.Subject.TheVariants.{Outcome}
+use Rattle.lang.specs.declared.fault.Fault.{Fault}
+use Rattle.lang.specs.declared.counts.Counts.{Counts}
+use Rattle.lang.specs.Demand.{Demand, one_more_node, in_transaction, check, no_counts}
+use Rattle.lang.specs.Scope.{Scope, Setting, Table, with_label, with_text}
+use Rattle.lang.specs.Asked.{abort_asked, array_asked, array_start_asked, block_asked, children_in, document_shape_asked, element_asked, entry_asked, handlers_in, if_label, if_shape_asked, key_of, kind_in, label_asked, label_in, member_asked, object_name, object_name_asked, object_shape_asked, objects_in, operation_asked, or_no_items, pair_asked, parallel_shape_asked, part, scope_after, seen_asked, setting_in, sort_of, start_asked, step_asked_by, sub_shape_asked, subject_of, test_asked, text_of, transactions_in, version_in}
+
+-- a member by its name, or an item by its index
+pub data Token : Type 0 where
+  member_named : List ℕ → Token
+  item_at : ℕ → Token
+
+-- Demands on a value: those on itself, and those on its parts, in reading order.
+pub data Placed : Type 0 where
+  nothing : Placed
+  itself : List Demand → Placed → Placed
+  inside : Token → Placed → Placed → Placed
+
+-- the demands without their places
+abbrev pub demands_of : Placed → List Demand
+demands_of nothing = []
+demands_of (itself ds rest) = ds ++ demands_of rest
+demands_of (inside token part rest) = demands_of part ++ demands_of rest
+
+-- ---- the first fault, with its place
+
+-- A fault, and the JSON Pointer (RFC 6901) from a value to the part in which it is.
+pub record Found : Type 0 where
+  pub fault : Fault
+  pub pointer : List ℕ
+
+-- A name has neither `~` nor `/`, and so stands for itself in a pointer.
+abbrev pub token_text : Token → List ℕ
+token_text (member_named name) = name
+token_text (item_at index) = decimal index
+
+abbrev pub found_here : Fault → Found
+found_here fault = record { fault = fault; pointer = [] }
+
+abbrev pub found_inside : Token → Found → Found
+found_inside token found = record { fault = found.fault; pointer = codes "/" ++ token_text token ++ found.pointer }
+
+abbrev pub here : Result Counts Fault → Result Counts Found
+here (Ok c) = Ok c
+here (Err fault) = Err (found_here fault)
+
+abbrev pub below : Token → Result Counts Found → Result Counts Found
+below token (Ok c) = Ok c
+below token (Err found) = Err (found_inside token found)
+
+abbrev pub go_on : Result Counts Found → (Counts → Result Counts Found) → Result Counts Found
+go_on (Ok c) f = f c
+go_on (Err found) f = Err found
+
+-- the counts after all the demands, or the first fault with its place
+abbrev pub seek : Counts → Placed → Result Counts Found
+seek c nothing = Ok c
+seek c (itself ds rest) = go_on (here (check c ds)) (λ next. seek next rest)
+seek c (inside token part rest) = go_on (below token (seek c part)) (λ next. seek next rest)
+
+-- ---- steps
+
+-- what a block of a step asks, where these labels are seen
+abbrev pub Places : Type 0
+Places = Scope → Data → Placed
+
+-- nothing is asked of the block of a step
+abbrev pub no_asks : Scope → Data → List Demand
+no_asks scope d = []
+
+unfoldable pub block_placed_if : Places → Scope → Option Data → Placed
+block_placed_if places scope None = nothing
+block_placed_if places scope (Some d) = places scope d
+
+unfoldable pub if_placed : Places → Scope → Data → Placed
+if_placed places scope d =
+    itself (if_shape_asked d)
+    (itself (one_more_node ∷ [])
+    (itself (seen_asked scope (if_label d))
+    (itself (test_asked (subject_of (if_label d) scope) d)
+    (inside (member_named (codes "then")) (places scope (part (codes "then") d))
+    (inside (member_named (codes "else")) (block_placed_if places scope (get (codes "else") d))
+    nothing)))))
+
+-- A reason that is no name is a fault of the handlers, not of its block.
+abbrev pub members_placed : Places → Scope → Members → Placed
+members_placed places scope no_members = nothing
+members_placed places scope (member reason d ds) = itself (member_asked no_asks scope reason d) (inside (member_named reason) (places scope d) (members_placed places scope ds))
+
+unfoldable pub handlers_placed : Places → Scope → Option Members → Placed
+handlers_placed places scope None = nothing
+handlers_placed places scope (Some ds) = members_placed places scope ds
+
+unfoldable pub sub_placed : ℕ → Places → Scope → Scope → Data → Placed
+sub_placed version places scope elder d =
+    itself (sub_shape_asked version d)
+    (itself (one_more_node ∷ [])
+    (itself (label_asked scope elder (label_in d))
+    (inside (member_named (codes "sub")) (places scope (part (codes "sub") d))
+    (inside (member_named (codes "handlers")) (handlers_placed places scope (handlers_in d))
+    (inside (member_named (codes "handler")) (block_placed_if places scope (get (codes "handler") d))
+    nothing)))))
+
+-- the children from an index on
+abbrev pub children_placed : ℕ → Places → Scope → Scope → ℕ → Items → Placed
+children_placed version places scope elder i no_items = nothing
+children_placed version places scope elder i (item d ds) = inside (item_at i) (sub_placed version places scope elder d) (children_placed version places scope (with_label (label_in d) Outcome elder) (i + 1) ds)
+
+unfoldable pub parallel_placed : ℕ → Places → Scope → Data → Placed
+parallel_placed version places scope d =
+    itself (parallel_shape_asked d)
+    (itself (one_more_node ∷ [])
+    (inside (member_named (codes "parallel")) (children_placed version places scope [] 0 (children_in d))
+    nothing))
+
+abbrev pub step_placed_by : Option Sort → Places → Setting → Scope → Data → Placed
+step_placed_by None places setting scope d = itself (step_asked_by None no_asks setting scope d) nothing
+step_placed_by (Some an_operation) places setting scope d = itself (operation_asked setting scope d) nothing
+step_placed_by (Some an_if) places setting scope d = if_placed places scope d
+step_placed_by (Some a_sub) places setting scope d = sub_placed setting.version places scope [] d
+step_placed_by (Some an_abort) places setting scope d = itself (abort_asked setting.version d) nothing
+step_placed_by (Some a_parallel) places setting scope d = parallel_placed setting.version places scope d
+
+unfoldable pub step_placed : Places → Setting → Scope → Data → Placed
+step_placed places setting scope d = step_placed_by (sort_of d) places setting scope d
+
+-- the steps from an index on
+abbrev pub steps_placed : Places → Setting → Scope → ℕ → Items → Placed
+steps_placed places setting scope i no_items = nothing
+steps_placed places setting scope i (item d ds) = inside (item_at i) (step_placed places setting scope d) (steps_placed places setting (scope_after setting scope d) (i + 1) ds)
+
+-- the items of an array, or none
+abbrev pub items_in : Data → Items
+items_in d = or_no_items (as_array d)
+
+-- a block within so many more levels
+unfoldable pub block_placed : Setting → ℕ → Places
+block_placed setting zero scope d = itself (block_asked setting zero scope d) nothing
+block_placed setting (suc n) scope d = itself (array_asked (λ ds. []) (as_array d)) (steps_placed (block_placed setting n) setting scope 0 (items_in d))
+
+-- ---- objects
+
+-- the entries of a queue, of a set and of a directory from an index on
+abbrev pub entries_placed : ℕ → Items → Placed
+entries_placed i no_items = nothing
+entries_placed i (item d ds) = inside (item_at i) (itself (entry_asked d) nothing) (entries_placed (i + 1) ds)
+
+abbrev pub elements_placed : Table → ℕ → Items → Placed
+elements_placed earlier i no_items = nothing
+elements_placed earlier i (item d ds) = inside (item_at i) (itself (element_asked earlier d) nothing) (elements_placed (with_text (text_of d) earlier) (i + 1) ds)
+
+abbrev pub pairs_placed : Table → ℕ → Items → Placed
+pairs_placed earlier i no_items = nothing
+pairs_placed earlier i (item d ds) = inside (item_at i) (itself (pair_asked earlier d) nothing) (pairs_placed (with_text (key_of d) earlier) (i + 1) ds)
+
+-- an array of entries
+unfoldable pub list_placed : (Items → Placed) → Data → Placed
+list_placed entries d = itself (array_start_asked (λ ds. []) (as_array d)) (entries (items_in d))
+
+unfoldable pub start_placed : Kind → Data → Placed
+start_placed kind.Account d = itself (start_asked kind.Account d) nothing
+start_placed kind.Counter d = itself (start_asked kind.Counter d) nothing
+start_placed kind.Set d = list_placed (elements_placed [] 0) d
+start_placed kind.Queue d = list_placed (entries_placed 0) d
+start_placed kind.Directory d = list_placed (pairs_placed [] 0) d
+start_placed kind.Max d = itself (start_asked kind.Max d) nothing
+
+unfoldable pub object_placed : ℕ → Table → Data → Placed
+object_placed version names d =
+    itself (object_shape_asked version d)
+    (itself (object_name_asked names (object_name d))
+    (inside (member_named (codes "start")) (start_placed (kind_in version d) (part (codes "start") d))
+    nothing))
+
+-- the objects from an index on
+abbrev pub objects_placed : ℕ → Table → ℕ → Items → Placed
+objects_placed version names i no_items = nothing
+objects_placed version names i (item d ds) = inside (item_at i) (object_placed version names d) (objects_placed version (names ++ object_name d ∷ []) (i + 1) ds)
+
+-- ---- the document
+
+-- a transaction by its number
+abbrev pub transaction_placed : ℕ → Setting → Data → Placed
+transaction_placed n setting d = itself (in_transaction n ∷ []) (block_placed setting 24 [] d)
+
+-- the transactions from an index on, which are numbered from 1
+abbrev pub transactions_placed : Setting → ℕ → Items → Placed
+transactions_placed setting i no_items = nothing
+transactions_placed setting i (item d ds) = inside (item_at i) (transaction_placed (i + 1) setting d) (transactions_placed setting (i + 1) ds)
+
+-- all that is asked of a document, with the places
+unfoldable pub placed : Data → Placed
+placed d =
+    itself (document_shape_asked d)
+    (inside (member_named (codes "objects")) (objects_placed (version_in d) [] 0 (objects_in d))
+    (inside (member_named (codes "transactions")) (transactions_placed (setting_in d) 0 (transactions_in d))
+    nothing))
