@@ -1,3 +1,5 @@
 mod Known
 mod Matches
 mod Answering
+mod Placing
+mod OneAnswer

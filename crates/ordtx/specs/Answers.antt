@@ -1,11 +1,16 @@
 -- What is written for a document, and its fault.
-use Rattle.std.specs.Prelude.{◌≡◌, ℕ, ◌<◌, ◌≤◌, List, length, slice_index_or, Ok, Err}
+use Rattle.std.specs.Prelude.{◌≡◌, ℕ, ◌<◌, ◌≤◌, ◌⊎◌, ◌++◌, List, [], codes, length, slice_index_or, string_bytes, Ok, Err}
+use Rattle.std.specs.Fmt.{decimal}
 use Rattle.meaning.specs.Rounds.{Rounds, Count}
 use Rattle.meaning.specs.Running.{all_operations}
-use Rattle.meaning.specs.Texts.{report, plain_report, audit_report, check_text}
+use Rattle.meaning.specs.Texts.{report, plain_report, audit_report, check_text, line}
 use Rattle.batch.specs.Names.{names_of}
 use Rattle.lang.specs.Reading.{Document, reading}
+use Rattle.lang.specs.Faults.{number_of}
+use Rattle.lang.specs.Found.{IsPlaceOf}
 use Rattle.lang.specs.declared.fault.Fault.{Fault}
+use Rattle.lang.specs.declared.places.Place.{Place}
+use Rattle.lang.specs.declared.places.Place.TheVariants.{Whole, Pointer, LineColumn}
 
 -- The bytes spell a document, and the text is the report of running its transactions by number, depth
 -- first, on one thread, with the number of rounds that is defined for it, which is at most that of its transactions.
@@ -44,3 +49,25 @@ pub record IsCheckOf (bytes text : List ℕ) : Type 0 where
 -- the first fault of what the bytes spell
 abbrev pub IsFaultOf : List ℕ → Fault → Type 0
 IsFaultOf bytes fault = reading bytes ≡ Err fault
+
+-- where a fault stands, as it is written after `at`
+abbrev pub place_text : Place → List ℕ
+place_text Whole = []
+place_text (Pointer text) = codes " " ++ string_bytes text
+place_text (LineColumn line column) = codes " line " ++ decimal line ++ codes " column " ++ decimal column
+
+-- the line of a fault and its place
+abbrev pub place_line : Fault → Place → List ℕ
+place_line fault place = line (codes "fault " ++ decimal (number_of fault.code) ++ codes " transaction " ++ decimal fault.transaction ++ codes " at" ++ place_text place)
+
+-- The bytes spell no document, and the text is the line of their first fault and its place.
+pub record IsPlacedFaultOf (bytes text : List ℕ) : Type 0 where
+  pub fault : Fault
+  pub refuses : IsFaultOf bytes fault
+  pub place : Place
+  pub at : IsPlaceOf bytes fault place
+  pub is : text ≡ place_line fault place
+
+-- The text says where the first fault of the bytes stands, or how much they hold.
+abbrev pub IsLocationOf : List ℕ → List ℕ → Type 0
+IsLocationOf bytes text = IsCheckOf bytes text ⊎ IsPlacedFaultOf bytes text

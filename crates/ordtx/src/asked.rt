@@ -1,8 +1,9 @@
-//! What a command line asks for.
+//! What a command line asks for, and why it is refused.
 use rounds::Plan;
 use std::alloc::AllocError;
 use thiserror::Error;
 
+/// What the program is to do.
 #[derive(Clone, Copy, Debug, PartialEq, Eq)]
 pub enum Command {
     /// Run a document's transactions on workers, and print the report.
@@ -11,29 +12,34 @@ pub enum Command {
     Serial,
     /// Read a document, and print how much it holds.
     Check,
+    /// Read a document, and print where its first fault is, or how much it holds.
+    Locate,
 }
 
-/// What the words of a command line ask for.
+/// What a command line asks for.
 #[derive(Debug, Drop)]
 pub struct Line {
+    /// What the program is to do.
     pub command: Command,
     /// The document's file, or standard input.
     pub file: Option<String>,
-    /// How many workers there are, and how many transactions a piece of their work has; the default
-    /// plan for the commands that have no workers.
+    /// How many workers there are, and how many transactions a piece of their work has. The
+    /// commands without workers have the default plan.
     pub plan: Plan,
     /// Whether the report says how often each transaction was run.
     pub audit: bool,
 }
 
-/// Why the words give no line, with what is printed.
+/// Why a command line is refused, with the text to print.
 #[derive(Debug, Drop, Error)]
 pub enum Refused {
+    /// A request for memory was refused.
     #[error("out of memory")]
     Memory,
     /// Help or the version was asked for.
     #[error("{0}")]
     Help(String),
+    /// The words are refused.
     #[error("{0}")]
     Words(String),
 }

@@ -1,20 +1,27 @@
-//! The command line.
+//! Reading the command line.
 ghost use Rattle.std.specs.Prelude.{◌≡◌, ◌↔◌, Some, None, codes, map, option_map, IfOk, IfSome, IsErr, IsTrue, false, string_bytes};
 ghost use Rattle.clap.specs.Words.{app_of, first_of, found_of, one_of, rows_of, rule_of};
 ghost use Rattle.clap.specs.declared.builder.command.Command.TheViews.{out-Command};
 ghost use Rattle.ordtx.specs.CommandLine.{HoldsLine, HoldsNumber, IsLineOf, command_name, file_app, number_rule, ordtx_app, run_app};
 
 use crate::asked::{Command, Line, Refused};
+use clap::builder::ValueParser;
 use clap::error::ErrorKind;
-use clap::{Arg, ArgAction, ArgMatches, value_parser};
+use clap::{Arg, ArgAction, ArgMatches};
 use rounds::Plan;
 use std::alloc::{AllocError, Global};
 
-/// How many workers there are where the words don't say.
+/// How many workers there are where the command line doesn't say.
 const DEFAULT_WORKERS: u32 = 4;
 
-/// How many transactions a piece of their work has where the words don't say.
+/// How many transactions a piece of their work has where the command line doesn't say.
 const DEFAULT_CUT: u32 = 16;
+
+/// The largest number of workers, as `Plan` takes it.
+const MOST_WORKERS: i64 = 64;
+
+/// The largest cut.
+const MOST_CUT: i64 = 1000;
 
 const ABOUT: &str = "Runs numbered transactions over typed objects on several threads, with the \
 answer of running them by number on one";
@@ -37,13 +44,16 @@ Their report, by `ordtx run FILE`:
   rounds 1
 
 Exit status: 0 where all was written; 1 for a fault, with the line `fault NUMBER
-transaction NUMBER` on standard error; 2 where the command line is refused.";
+transaction NUMBER` on standard error; 2 where the command line is refused.
+`ordtx locate FILE` prints where a document's fault is.";
 
-/// What the words ask for, of which the first is the program's name, as `clap` reads them.
+/// Reads the words of a command line, of which the first is the program's name, as `clap` reads
+/// them.
 ///
-/// `Refused::Memory` is answered where a growth of memory was refused, `Help` where help or the
-/// version was asked for, and `Words` for every other refusal, with what is to be printed: no
-/// command, one that there is not, or a number of workers or a cut that is out of range.
+/// `Refused::Memory` is returned where a request for memory was refused, and `Help` where help or
+/// the version was asked for. `Words` is returned for every other refusal, with the text to print:
+/// no command, an unknown one, or a number of workers or a cut that is out of range. The text names
+/// the option, the value and the range.
 pub fn line<'a>(alloc: Global, words: &'a [&'a str]) -> Result<Line, Refused>
     ensures { IfOk result (IsLineOf (map (λ word. word.now) words.entry.now)) }
 {
@@ -52,7 +62,28 @@ pub fn line<'a>(alloc: Global, words: &'a [&'a str]) -> Result<Line, Refused>
             Some((name, held)) => line_of(alloc, name, held),
             None => refuse(alloc, "no command is given"),
         },
-        Err(error) => Err(refusal(alloc, &error)),
+        Err(error) => match asking_about_help(words) {
+            Some(program) => Err(help_on_help(alloc, program)?),
+            None => Err(refusal(alloc, &error)),
+        },
+    }
+}
+
+// The program's name, where the words are `help` with a flag that asks for help. `clap` takes the
+// flag for a command.
+fn asking_about_help<'a>(words: &[&'a str]) -> Option<&'a str> {
+    match (words.first(), words.get(1), words.get(2)) {
+        (Some(program), Some(name), Some(flag))
+            if *name == "help" && (*flag == "-h" || *flag == "--help") => { Some(*program) }
+        _ => None,
+    }
+}
+
+// The help on the command `help`.
+fn help_on_help(alloc: Global, program: &str) -> Result<Refused, AllocError> {
+    match ordtx_command(alloc)?.try_get_matches_from(&[program, "help", "help"]) {
+        Ok(_) => Ok(Refused::Help(String::from_str(alloc, HELP)?)),
+        Err(error) => Ok(refusal(alloc, &error)),
     }
 }
 
@@ -87,6 +118,7 @@ fn command_named(name: &str) -> Option<Command>
         "run" => Some(Command::Run),
         "serial" => Some(Command::Serial),
         "check" => Some(Command::Check),
+        "locate" => Some(Command::Locate),
         _ => None,
     }
 }
@@ -100,7 +132,8 @@ fn held_text(alloc: Global, held: &ArgMatches<'_>, id: &str) -> Result<Option<St
     }
 }
 
-// The number that is held, or the default where there is none; None where no number is held.
+// The number that is held, or the default where there is none. None where what is held is no
+// number.
 fn held_number(held: &ArgMatches<'_>, id: &str, default: u32) -> Option<u32>
     ensures { IfSome result (HoldsNumber (one_of id.now (rows_of (found_of held.now))) default) }
 {
@@ -157,14 +190,21 @@ fn ordtx_command<'a>(alloc: Global) -> Result<clap::Command<'a>, AllocError>
         "check",
         "Reads a document, and prints how many objects, transactions and operations it has",
     )?;
+    let locate = file_command(
+        alloc,
+        "locate",
+        "Reads a document, and prints where its first fault is; without a fault, what check prints",
+    )?;
     clap::Command::new(alloc, "ordtx")
         .about(ABOUT)
         .after_help(HELP)
         .version("0.1.0")
+        .propagate_version(true)
         .subcommand_required(true)
         .subcommand(run)?
         .subcommand(serial)?
-        .subcommand(check)
+        .subcommand(check)?
+        .subcommand(locate)
 }
 
 fn run_command<'a>(alloc: Global) -> Result<clap::Command<'a>, AllocError>
@@ -175,12 +215,14 @@ fn run_command<'a>(alloc: Global) -> Result<clap::Command<'a>, AllocError>
         alloc,
         "workers",
         "N",
+        MOST_WORKERS,
         "How many workers there are, 1 to 64 [default: 4]",
     );
     let cut = number_argument(
         alloc,
         "cut",
         "K",
+        MOST_CUT,
         "How many transactions a worker takes at a time at most, 1 to 1000 [default: 16]",
     );
     let audit = Arg::new(alloc, "audit")
@@ -212,13 +254,20 @@ fn file_command<'a>(
     clap::Command::new(alloc, name).about(about).arg(file)
 }
 
-fn number_argument<'a>(alloc: Global, name: &'a str, value: &'a str, help: &'a str) -> Arg<'a>
-    ensures rule { rule_of result ≡ number_rule name.entry.now }
+// An option that takes a number from 1 to the most.
+fn number_argument<'a>(
+    alloc: Global,
+    name: &'a str,
+    value: &'a str,
+    most: i64,
+    help: &'a str,
+) -> Arg<'a>
+    ensures rule { rule_of result ≡ number_rule name.entry.now most }
     ensures local { result.global ≡ false }
 {
     Arg::new(alloc, name)
         .long(name)
         .value_name(value)
-        .value_parser(value_parser!(u32))
+        .value_parser(ValueParser::signed(1, most))
         .help(help)
 }

@@ -1,4 +1,4 @@
-//! The bytes of a source.
+//! Reading the bytes of a source.
 ghost use Rattle.std.specs.Prelude.{◌≡◌, ◌+◌, ◌<◌, ◌≤◌, ◌⊎◌, ◌↔◌, ◌||◌, true, false, Err, IfOk, OnOk, IfErr, is_err, take, drop, vec_len};
 ghost use Rattle.std.specs.Io.KnownBytes.{Consumes, IsAtEnd};
 ghost use Rattle.lang.specs.Faults.{input_fault, memory_fault};
@@ -8,12 +8,13 @@ use crate::source::{Failed, Source};
 use lang::{Code, Fault};
 use std::alloc::{AllocError, Global};
 
-// One byte more than a document has: so a longer input is told from a document of the greatest length.
+// One byte more than a document may have, so that a longer input is seen to be longer.
 const MOST_READ: usize = 67_108_865;
 
 const FIRST_ROOM: usize = 65_536;
 
-/// All bytes to the end of the source, but at most `MOST_READ`.
+/// Reads all bytes to the end of the source, but at most `MOST_READ`. The fault is one of memory,
+/// or of the input where a fetch failed.
 pub fn read_input<R: Source>(alloc: Global, source: &mut R) -> Result<Vec<u8>, Fault>
     requires { R.has_failed source.old ≡ false }
     ensures bytes { IfOk result (λ bytes. ReadsInput (R.remaining source.old) (R.remaining source.new) bytes.items) }
@@ -34,7 +35,7 @@ pub fn read_input<R: Source>(alloc: Global, source: &mut R) -> Result<Vec<u8>, F
     Ok(bytes)
 }
 
-// Room for a fetch behind the bytes that are filled, twice as much each time.
+// Makes room for a fetch after the filled bytes, twice as much each time.
 fn make_room(bytes: &mut Vec<u8>, filled: usize) -> Result<(), AllocError>
     requires room { filled < MOST_READ }
     requires within { filled ≤ vec_len bytes.old }
@@ -50,7 +51,7 @@ fn make_room(bytes: &mut Vec<u8>, filled: usize) -> Result<(), AllocError>
     bytes.resize(wanted, 0)
 }
 
-// One fetch behind the bytes that are filled.
+// One fetch to after the filled bytes.
 fn fetch_at<R: Source>(source: &mut R, bytes: &mut Vec<u8>, filled: usize) -> Result<usize, Failed>
     requires { filled < vec_len bytes.old }
     ensures len { vec_len bytes.new ≡ vec_len bytes.old }

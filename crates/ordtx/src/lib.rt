@@ -1,9 +1,11 @@
-//! Transactions from a source to a sink: the document is read, and its answer is written.
+//! Running documents from a source to a sink: the document is read, and its report is written.
 #![tactic(auto)]
 
 mod asked;
 mod command_line;
 mod input;
+pub mod laws;
+mod location;
 mod marked;
 mod memory;
 mod output;
@@ -21,7 +23,7 @@ pub use rounds::Plan;
 pub use sink::Sink;
 pub use source::{Failed, Source};
 pub use speculate::{Gate, NoGate};
-pub use streams::{audit_stream, check_stream, run_stream, serial_stream};
+pub use streams::{audit_stream, check_stream, locate_stream, run_stream, serial_stream};
 
 #[cfg(test)]
 mod tests;

@@ -1,12 +1,13 @@
-//! A reader or a writer of std, with the mark of a device.
+//! Readers and writers of std as sources and sinks, with a mark of whether a call failed.
 ghost use Rattle.std.specs.Prelude.{◌≡◌, false};
 
 use crate::sink::Sink;
 use crate::source::{Failed, Source};
 use std::io::{Read, Write};
 
-/// A source over a reader or a sink over a writer. A call failed where the reader or the writer gave an error, also for
-/// an interruption, and where the writer took no byte of a piece that isn't empty.
+/// A source over a reader, or a sink over a writer. A call failed where the reader or the writer
+/// returned an error, which includes an interruption. It also failed where the writer took no byte
+/// of a piece that isn't empty.
 #[derive(Drop)]
 pub struct Marked<D> {
     device: D,
@@ -14,6 +15,7 @@ pub struct Marked<D> {
 }
 
 impl<D> Marked<D> {
+    /// This device, of which no call has failed yet.
     pub fn new(device: D) -> Marked<D>
         ensures device { result.device ≡ device }
         ensures unmarked { result.failed ≡ false }
@@ -24,6 +26,7 @@ impl<D> Marked<D> {
         }
     }
 
+    /// The device.
     pub fn into_inner(self) -> D
         ensures { result ≡ self.device }
     {

@@ -1,10 +1,12 @@
-//! Sources and sinks over memory, which give and take a few bytes a call, and fail after some.
+//! Sources and sinks over memory, for tests. They move a few bytes a call, and fail after some
+//! bytes.
 ghost use Rattle.std.specs.Prelude.{◌≡◌, ◌<◌, false, Some};
 
 use crate::sink::Sink;
 use crate::source::{Failed, Source};
 
-/// A source that gives at most `most` bytes a call, and fails where it is asked for more than `sound` in all.
+/// A source of these bytes that moves at most `most` bytes a call. A fetch fails once `sound` bytes
+/// were given.
 #[derive(Debug, Drop)]
 pub struct TestSource<'a> {
     rest: &'a [u8],
@@ -15,6 +17,7 @@ pub struct TestSource<'a> {
 }
 
 impl<'a> TestSource<'a> {
+    /// A source that gives these bytes.
     pub fn new(bytes: &'a [u8], most: usize, sound: usize) -> TestSource<'a>
         requires { 0 < most }
         ensures rest { result.rest ≡ bytes.entry }
@@ -56,7 +59,8 @@ impl<'a> Source for TestSource<'a> {
     }
 }
 
-/// A sink that takes at most `most` bytes a call, and fails where it is given more than `sound` in all.
+/// A sink that takes at most `most` bytes a call. A put fails once `sound` bytes were taken, or
+/// where there is no memory.
 #[derive(Debug, Drop)]
 pub struct TestSink {
     taken: Vec<u8>,
@@ -67,7 +71,7 @@ pub struct TestSink {
 }
 
 impl TestSink {
-    /// The sink's room is taken beforehand, so that a put needs no memory.
+    /// A sink that adds to `taken`. Where `taken` has room beforehand, a put needs no memory.
     pub fn new(taken: Vec<u8>, most: usize, sound: usize) -> TestSink
         requires { 0 < most }
         ensures taken { result.taken ≡ taken }
@@ -81,6 +85,7 @@ impl TestSink {
         }
     }
 
+    /// The bytes that were taken.
     pub fn taken(&self) -> &[u8]
         ensures { result.now ≡ self.now.taken.items }
     {

@@ -1,4 +1,4 @@
-//! The text to a sink.
+//! Writing a text to a sink.
 ghost use Rattle.std.specs.Prelude.{◌≡◌, ◌↔◌, ℕ, true, false, Err, OnOk, OnErr, IfErr, take};
 ghost use Rattle.std.specs.Io.KnownBytes.{Appends};
 ghost use Rattle.lang.specs.Faults.{output_fault};
@@ -7,7 +7,8 @@ use crate::sink::Sink;
 use crate::source::Failed;
 use lang::{Code, Fault};
 
-/// Writes the whole text, in whatever pieces the sink takes.
+/// Writes the whole text, in whatever pieces the sink takes. The fault is one of the output, where
+/// a put failed. A beginning of the text was written then.
 pub fn write_text<W: Sink>(sink: &mut W, text: &[u8]) -> Result<(), Fault>
     requires { W.has_failed sink.old ≡ false }
     ensures whole { OnOk result (Appends (W.taken sink.old) (W.taken sink.new) text.now) }

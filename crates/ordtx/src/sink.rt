@@ -1,9 +1,10 @@
-//! Where a text goes.
+//! Sinks: where a text goes.
 ghost use Rattle.std.specs.Prelude.{◌≡◌, ◌<◌, ◌≤◌, ◌||◌, ℕ, Bool, List, Option, IfOk, is_err, length};
 ghost use Rattle.std.specs.Io.KnownBytes.{WriteAppends};
 
 use crate::source::Failed;
 
+/// A device that bytes are written to.
 pub trait Sink {
     // The bytes that were taken, where they are known.
     ghost taken: { Self → Option (List ℕ) };
@@ -11,7 +12,8 @@ pub trait Sink {
     // Whether a put failed.
     ghost has_failed: { Self → Bool };
 
-    /// Takes bytes from the front of the piece and answers how many, at least one of a piece that isn't empty.
+    /// Takes bytes from the front of the piece, and returns how many: at least one of a piece that
+    /// isn't empty.
     fn put(&mut self, piece: &[u8]) -> Result<usize, Failed>
         ensures bound { IfOk result (λ count. count ≤ length piece.now) }
         ensures progress { 0 < length piece.now → IfOk result (λ count. 0 < count) }

@@ -1,4 +1,4 @@
-//! Where a document comes from.
+//! Sources: where a document comes from.
 ghost use Rattle.std.specs.Prelude.{◌≡◌, ◌≤◌, ◌||◌, ℕ, Bool, List, Option, IfOk, is_err, length};
 ghost use Rattle.std.specs.Io.KnownBytes.{ReadConsumes};
 
@@ -6,6 +6,7 @@ ghost use Rattle.std.specs.Io.KnownBytes.{ReadConsumes};
 #[derive(Clone, Copy, Debug, Drop, PartialEq, Eq)]
 pub struct Failed;
 
+/// A device that bytes are read from.
 pub trait Source {
     // The bytes that fetches will give from here on, where they are known.
     ghost remaining: { Self → Option (List ℕ) };
@@ -13,7 +14,8 @@ pub trait Source {
     // Whether a fetch failed.
     ghost has_failed: { Self → Bool };
 
-    /// Writes the next bytes to the front of the piece and answers how many: none of a piece that isn't empty is the end.
+    /// Writes the next bytes to the front of the piece, and returns how many. For a piece that
+    /// isn't empty, 0 is the end.
     fn fetch(&mut self, piece: &mut [u8]) -> Result<usize, Failed>
         ensures bound { IfOk result (λ count. count ≤ length piece.new) }
         ensures bytes { ReadConsumes (remaining self.old) (remaining self.new) result piece.new }

@@ -1,10 +1,11 @@
 //! Whole calls, from a source to a sink.
-ghost use Rattle.std.specs.Prelude.{◌≡◌, ◌≢◌, ◌↔◌, true, false, Err, OnOk, IfErr};
+ghost use Rattle.std.specs.Prelude.{◌≡◌, ◌≢◌, ◌↔◌, ◌⊎◌, true, false, Err, OnOk, IfErr};
 ghost use Rattle.lang.specs.Faults.{input_fault, memory_fault, output_fault};
-ghost use Rattle.ordtx.specs.Answers.{IsAuditOf, IsCheckOf, IsFaultOf, IsPlainReportOf, IsReportOf};
+ghost use Rattle.ordtx.specs.Answers.{IsAuditOf, IsCheckOf, IsFaultOf, IsLocationOf, IsPlainReportOf, IsReportOf};
 ghost use Rattle.ordtx.specs.Streams.{IsRead, WritesAnswer, WritesBeginning, ReadsFault};
 
 use crate::input::read_input;
+use crate::location::location_of;
 use crate::output::write_text;
 use crate::sink::Sink;
 use crate::source::Source;
@@ -143,5 +144,39 @@ pub fn check_stream<R: Source, W: Sink>(
 {
     let document = read_input(alloc, source)?;
     let text = check_of(alloc, document.as_slice())?;
+    write_text(sink, text.as_bytes())
+}
+
+/// Reads a document from the source, and writes to the sink where its first fault is. For a
+/// document without a fault it writes the line of [`check_stream`]. Nothing is run.
+///
+/// The line is `fault NUMBER transaction NUMBER at PLACE`. The place is a JSON Pointer (RFC 6901) to
+/// the member or item that the fault is of, or `line NUMBER column NUMBER` where the bytes are no
+/// JSON. It is left out where the fault is of the whole document.
+///
+/// Only `Memory`, `Input` and `Output` are returned, as by [`run_stream`].
+pub fn locate_stream<R: Source, W: Sink>(
+    alloc: Global,
+    source: &mut R,
+    sink: &mut W,
+) -> Result<(), Fault>
+    requires unread { R.has_failed source.old ≡ false }
+    requires unwritten { W.has_failed sink.old ≡ false }
+    // All bytes are read, but at most 67,108,865.
+    ensures read { OnOk result (IsRead (R.remaining source.old) (R.remaining source.new)) }
+    // Exactly the line of the fault of what was read was written.
+    ensures written { OnOk result (WritesAnswer IsLocationOf (R.remaining source.old) (W.taken sink.old) (W.taken sink.new)) }
+    // A fault of the document is no error here.
+    ensures fault { IfErr result (λ fault. (fault ≡ memory_fault) ⊎ (fault ≡ input_fault) ⊎ (fault ≡ output_fault)) }
+    ensures input { R.has_failed source.new ≡ true ↔ result ≡ Err input_fault }
+    ensures output { W.has_failed sink.new ≡ true ↔ result ≡ Err output_fault }
+    // After any error but that of the output nothing was written.
+    ensures untouched { IfErr result (λ fault. fault ≢ output_fault → sink.new ≡ sink.old) }
+    // After that of the output a beginning of it was written.
+    ensures beginning { result ≡ Err output_fault
+        → WritesBeginning IsLocationOf (R.remaining source.old) (W.taken sink.old) (W.taken sink.new) }
+{
+    let document = read_input(alloc, source)?;
+    let text = location_of(alloc, document.as_slice())?;
     write_text(sink, text.as_bytes())
 }

@@ -1,4 +1,5 @@
-//! Streams that give and take a few bytes a call, and that fail; whole batches; the command line.
+//! Tests of streams that move a few bytes a call and fail, of whole batches, and of the command
+//! line.
 use crate::{
     Code, Command, Marked, NoGate, Plan, Refused, Sink, Source, TestSink, TestSource, audit_stream,
     check_stream, line, run_stream, serial_stream,
@@ -146,4 +147,46 @@ fn refuses_lines(rt: HostRuntime) {
     for word in ["--help", "--version"] {
         assert!(rt; matches!(line(rt.alloc(), &["ordtx", word]), Err(Refused::Help(_))));
     }
+}
+
+// The text of a refusal or of help.
+fn refused_text(rt: &HostRuntime, words: &[&str]) -> Result<String, Fail> {
+    match line(rt.alloc(), words) {
+        Err(Refused::Words(text)) | Err(Refused::Help(text)) => Ok(text),
+        _ => Err(Fail::from("a line")),
+    }
+}
+
+#[test]
+fn names_the_option_and_its_range(rt: HostRuntime) -> Result<(), Fail> {
+    let refused = [
+        ("--workers", "N", "0", "64"),
+        ("--workers", "N", "65", "64"),
+        ("--cut", "K", "0", "1000"),
+        ("--cut", "K", "1001", "1000"),
+    ];
+    for (option, name, value, most) in refused {
+        let given = refused_text(&rt, &["ordtx", "run", option, value])?;
+        let wanted = format!(in rt.alloc();
+            "error: invalid value '{value}' for '{option} <{name}>': {value} is not in 1..={most}\n\nFor more information, try '--help'.\n"
+        )?;
+        assert_eq!(rt; given.as_str(), wanted.as_str());
+    }
+    Ok(())
+}
+
+#[test]
+fn has_help_and_versions_everywhere(rt: HostRuntime) -> Result<(), Fail> {
+    for name in ["run", "serial", "check", "locate"] {
+        for flag in ["-V", "--version"] {
+            let given = refused_text(&rt, &["ordtx", name, flag])?;
+            let wanted = format!(in rt.alloc(); "ordtx-{name} 0.1.0\n")?;
+            assert_eq!(rt; given.as_str(), wanted.as_str());
+        }
+    }
+    for flag in ["-h", "--help", "help"] {
+        let given = refused_text(&rt, &["ordtx", "help", flag])?;
+        assert!(rt; given.as_str().contains("Usage: ordtx help [COMMAND]..."));
+    }
+    Ok(())
 }

@@ -1,5 +1,5 @@
-//! `ordtx run`, `ordtx serial` and `ordtx check`: a document from a file or standard input, and what
-//! answers it to standard output.
+//! The program: `ordtx run`, `ordtx serial`, `ordtx check` and `ordtx locate`. It reads a document from a file or
+//! standard input, and writes the report to standard output.
 #![tactic(auto)]
 
 mod program;

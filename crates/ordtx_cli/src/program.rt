@@ -1,21 +1,26 @@
-// What the program does with its words, and how it ends.
+//! What the program does with its words, and how it ends.
 ghost use Rattle.std.specs.Prelude.{◌≡◌, false};
 
 use ordtx::{
     Code, Command, Fault, Line, Marked, NoGate, Refused, Source, audit_stream, check_stream, line,
-    run_stream, serial_stream,
+    locate_stream, run_stream, serial_stream,
 };
 use std::alloc::{AllocError, Global};
 use std::fs::File;
 use std::io::ErrorKind;
 use std::process::ExitCode;
+use std::rt::Env;
 use std::thread::Threads;
-use std::{env, io};
+use std::{env, io, str};
 
-// The status of a refused command line.
+// The status where the command line is refused.
 const REFUSED: u8 = 2;
 
-/// Does what the program's words ask for, and says how it ends.
+// The most bytes of one argument that Linux passes to a program.
+const LONGEST: usize = 131_072;
+
+/// Does what the program's words ask for, and returns the exit status. A fault or a refusal is
+/// written to standard error.
 pub fn answer_words<T: Threads + Sync>(rt: &HostRuntime, threads: &T) -> ExitCode {
     match asked(rt) {
         Ok(line) => status_of(rt, answer_line(rt, threads, &line)),
@@ -32,29 +37,57 @@ fn asked(rt: &HostRuntime) -> Result<Line, Refused> {
     let alloc = rt.alloc();
     let given = match env::args(rt) {
         Ok(given) => given,
-        Err(error) => return Err(unread_words(alloc, &error)),
+        Err(error) => return Err(unread_words(rt, &error)?),
     };
     let owned: Vec<String> = given.collect(alloc)?;
     let words: Vec<&str> = owned.iter().map(|word| word.as_str()).collect(alloc)?;
     line(alloc, words.as_slice())
 }
 
-// The words are no text, or found no memory.
-fn unread_words(alloc: Global, error: &io::Error) -> Refused {
+// The refusal where a word is no text, or memory was refused.
+fn unread_words(rt: &HostRuntime, error: &io::Error) -> Result<Refused, AllocError> {
     if error.kind() == ErrorKind::OutOfMemory {
-        return Refused::Memory;
+        return Ok(Refused::Memory);
     }
-    match String::from_str(alloc, "error: the arguments are no text\n") {
-        Ok(text) => Refused::Words(text),
-        Err(AllocError) => Refused::Memory,
+    let alloc = rt.alloc();
+    let text = match no_text(rt, alloc)? {
+        Some(number) => format!(in alloc; "error: argument {number} is no text\n")?,
+        None => String::from_str(alloc, "error: an argument is no text\n")?,
+    };
+    Ok(Refused::Words(text))
+}
+
+// The number of the first argument that is no text.
+fn no_text(rt: &HostRuntime, alloc: Global) -> Result<Option<usize>, AllocError> {
+    let mut bytes = vec![in alloc; 0u8; LONGEST]?;
+    for number in 0..usize::MAX {
+        match rt.arg(number, bytes.as_mut_slice()) {
+            Ok(count) => {
+                if str::from_utf8(&bytes[..count]).is_err() {
+                    return Ok(Some(number));
+                }
+            }
+            Err(_) => break,
+        }
     }
+    Ok(None)
 }
 
 fn answer_line<T: Threads + Sync>(rt: &HostRuntime, threads: &T, line: &Line) -> Result<(), Fault> {
     match &line.file {
         Some(path) => match File::open(rt, path.as_str()) {
-            Ok(file) => answer_source(rt, threads, line, &mut Marked::new(file)),
-            Err(_) => Err(Code::Input.outside()),
+            Ok(file) => {
+                let mut source = Marked::new(file);
+                let answer = answer_source(rt, threads, line, &mut source);
+                if source.failed() {
+                    let _ = eprintln!(rt; "ordtx: cannot read '{path}'");
+                }
+                answer
+            }
+            Err(error) => {
+                let _ = eprintln!(rt; "ordtx: cannot open '{path}': {error}");
+                Err(Code::Input.outside())
+            }
         },
         None => answer_source(rt, threads, line, &mut Marked::new(rt.stdin())),
     }
@@ -77,6 +110,7 @@ fn answer_source<T: Threads + Sync, R: Source>(
         Command::Run => run_stream(threads, alloc, source, &mut sink, line.plan, &NoGate),
         Command::Serial => serial_stream(alloc, source, &mut sink),
         Command::Check => check_stream(alloc, source, &mut sink),
+        Command::Locate => locate_stream(alloc, source, &mut sink),
     }
 }
 

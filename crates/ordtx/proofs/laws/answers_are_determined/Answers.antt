@@ -1,0 +1,14 @@
+use Rattle.ordtx.proofs.OneAnswer.{one_report, one_audit, one_plain, one_check}
+use Rattle.ordtx.proofs.laws.answers_are_determined.Goals as goal
+
+pub returns-clause-reports : goal.returns-clause-reports
+returns-clause-reports c = one_report
+
+pub returns-clause-audits : goal.returns-clause-audits
+returns-clause-audits c = one_audit
+
+pub returns-clause-plain : goal.returns-clause-plain
+returns-clause-plain c = one_plain
+
+pub returns-clause-checks : goal.returns-clause-checks
+returns-clause-checks c = one_check

@@ -1,0 +1,17 @@
+use Rattle.ordtx.proofs.OneAnswer.{one_fault, report_faultless, audit_faultless, plain_faultless, check_faultless}
+use Rattle.ordtx.proofs.laws.faults_are_determined.Goals as goal
+
+pub returns-clause-faults : goal.returns-clause-faults
+returns-clause-faults c = one_fault
+
+pub returns-clause-reports : goal.returns-clause-reports
+returns-clause-reports c = report_faultless
+
+pub returns-clause-audits : goal.returns-clause-audits
+returns-clause-audits c = audit_faultless
+
+pub returns-clause-plain : goal.returns-clause-plain
+returns-clause-plain c = plain_faultless
+
+pub returns-clause-checks : goal.returns-clause-checks
+returns-clause-checks c = check_faultless

@@ -1,0 +1,45 @@
+//! Where a document's first fault stands, as a line.
+ghost use Rattle.std.specs.Prelude.{◌≡◌, IfErr, IfOk, string_bytes};
+ghost use Rattle.lang.specs.Faults.{memory_fault};
+ghost use Rattle.ordtx.specs.Answers.{IsLocationOf, place_line, place_text};
+
+use lang::{Code, Fault, Place, locate, read};
+use report::render_check;
+use std::alloc::{AllocError, Global};
+
+/// The line of a document's first fault and its place, or that of `check` where it has no fault.
+pub(crate) fn location_of(alloc: Global, document: &[u8]) -> Result<String, Fault>
+    ensures text { IfOk result (λ text. IsLocationOf document.now (string_bytes text)) }
+    ensures fault { IfErr result (λ fault. fault ≡ memory_fault) }
+{
+    let fault = match read(alloc, document) {
+        Ok(batch) => return Ok(render_check(alloc, &batch)?),
+        Err(fault) => fault,
+    };
+    if fault.code == Code::Memory {
+        return Err(Code::Memory.outside());
+    }
+    let place = locate(alloc, document, fault)?;
+    let text = place_line(alloc, fault, &place)?;
+    Ok(text)
+}
+
+// The line of a fault and its place.
+fn place_line(alloc: Global, fault: Fault, place: &Place) -> Result<String, AllocError>
+    ensures { IfOk result (λ text. string_bytes text ≡ place_line fault place.now) }
+{
+    let number = fault.number();
+    let transaction = fault.transaction;
+    let place = place_text(alloc, place)?;
+    format!(in alloc; "fault {number} transaction {transaction} at{place}\n")
+}
+
+fn place_text(alloc: Global, place: &Place) -> Result<String, AllocError>
+    ensures { IfOk result (λ text. string_bytes text ≡ place_text place.now) }
+{
+    match place {
+        Place::Whole => Ok(String::new(alloc)),
+        Place::Pointer(pointer) => format!(in alloc; " {pointer}"),
+        Place::LineColumn { line, column } => format!(in alloc; " line {line} column {column}"),
+    }
+}
