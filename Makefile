@@ -3,7 +3,8 @@
 # make test     the gate: every proof from nothing, the must-fail edits, the tests, the programs; then `make try`
 # make try      tries the built program: documents, command lines, failing devices, refused memory
 # make bench    prints the figures of bench/
-# make install  puts the program, its pages, the documents and the examples into PREFIX/bin, PREFIX/share/man and PREFIX/share/doc/ordtx
+# make install  puts the program, its pages, the documents and the examples into PREFIX/bin, PREFIX/share/man and PREFIX/share/doc/ordtx,
+#               and completions for bash, zsh and fish where these look for them below PREFIX/share
 RT ?= rt
 PREFIX ?= /usr/local
 PROGRAM := crates/ordtx_cli
@@ -55,8 +56,14 @@ install: bin/ordtx
 	install -m 644 docs/ordtx.1 $(DESTDIR)$(PREFIX)/share/man/man1/ordtx.1
 	install -m 644 docs/ordtx.5 $(DESTDIR)$(PREFIX)/share/man/man5/ordtx.5
 	install -d $(DESTDIR)$(PREFIX)/share/doc/ordtx/examples
-	install -m 644 docs/*.md docs/document.schema.json $(DESTDIR)$(PREFIX)/share/doc/ordtx
-	install -m 644 examples/* $(DESTDIR)$(PREFIX)/share/doc/ordtx/examples
+	install -m 644 docs/*.md docs/*.svg docs/document.schema.json $(DESTDIR)$(PREFIX)/share/doc/ordtx
+	install -m 644 examples/*.* $(DESTDIR)$(PREFIX)/share/doc/ordtx/examples
+	install -d $(DESTDIR)$(PREFIX)/share/bash-completion/completions
+	install -m 644 completions/ordtx.bash $(DESTDIR)$(PREFIX)/share/bash-completion/completions/ordtx
+	install -d $(DESTDIR)$(PREFIX)/share/zsh/site-functions
+	install -m 644 completions/_ordtx $(DESTDIR)$(PREFIX)/share/zsh/site-functions/_ordtx
+	install -d $(DESTDIR)$(PREFIX)/share/fish/vendor_completions.d
+	install -m 644 completions/ordtx.fish $(DESTDIR)$(PREFIX)/share/fish/vendor_completions.d/ordtx.fish
 
 clean:
 	rm -rf bin crates/*/out
