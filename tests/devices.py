@@ -4,6 +4,7 @@ import os
 import subprocess
 import tempfile
 
+COMMANDS = ("run", "serial", "check", "locate")
 NO_INPUT = b"fault 21 transaction 0\n"
 NO_OUTPUT = b"fault 22 transaction 0\n"
 
@@ -21,16 +22,22 @@ def try_slow_input(program, document, report):
 
 def try_failing_input(program):
     with tempfile.TemporaryDirectory() as folder:
-        for name, file in (("an absent file", os.path.join(folder, "absent")),
-                           ("a folder", folder)):
-            for command in ("run", "serial", "check"):
-                program.expect(name, [command, file], b"", b"", 1, NO_INPUT)
+        absent = os.path.join(folder, "absent")
+        for name, file, message in (
+                ("an absent file", absent, "ordtx: cannot open '%s': "
+                 "No such file or directory (os error 2)\n" % absent),
+                ("a folder", folder, "ordtx: cannot read '%s'\n" % folder)):
+            for command in COMMANDS:
+                program.expect(name, [command, file], b"", b"", 1,
+                               message.encode() + NO_INPUT)
         if os.geteuid() != 0:
             file = os.path.join(folder, "unreadable")
             with open(file, "wb"):
                 os.chmod(file, 0)
+            message = ("ordtx: cannot open '%s': "
+                       "Permission denied (os error 13)\n" % file)
             program.expect("an unreadable file", ["run", file], b"", b"", 1,
-                           NO_INPUT)
+                           message.encode() + NO_INPUT)
     with open(os.devnull, "wb") as unreadable:
         done = subprocess.run([program.path, "run"], stdin=unreadable,
                               stdout=subprocess.PIPE, stderr=subprocess.PIPE)
@@ -40,7 +47,7 @@ def try_failing_input(program):
 
 
 def try_failing_output(program, document):
-    for command in ("run", "serial", "check"):
+    for command in COMMANDS:
         with open("/dev/full", "wb") as full:
             done = subprocess.run([program.path, command], input=document,
                                   stdout=full, stderr=subprocess.PIPE)
@@ -53,7 +60,7 @@ def try_failing_output(program, document):
                         (done.returncode, done.stderr), (1, NO_OUTPUT))
 
 
-def try_limited_output(program, document, report):
+def try_limited_output(program, words, document, report):
     """A file that takes so many bytes and no more."""
     import resource
     import signal
@@ -66,11 +73,11 @@ def try_limited_output(program, document, report):
 
     for size in range(len(report)):
         with tempfile.TemporaryFile() as out:
-            done = subprocess.run([program.path, "run"], input=document,
+            done = subprocess.run([program.path, *words], input=document,
                                   stdout=out, stderr=subprocess.PIPE,
                                   preexec_fn=limit(size))
             out.seek(0)
-            program.compare("output that takes %d bytes" % size, ["run"],
+            program.compare("output that takes %d bytes" % size, words,
                             (out.read(), done.returncode, done.stderr),
                             (report[:size], 1, NO_OUTPUT))
 
@@ -81,4 +88,5 @@ def try_all(program, case):
     try_slow_input(program, document, report)
     try_failing_input(program)
     try_failing_output(program, document)
-    try_limited_output(program, document, report)
+    try_limited_output(program, ["run"], document, report)
+    try_limited_output(program, ["locate"], b"{", b"fault 1 transaction 0 at line 1 column 1\n")

@@ -50,8 +50,27 @@ def try_case(program, library, words, case):
                  turned_round(document), report)
 
 
+def try_places(program, library, case):
+    """Where a fault is, four blocks and a child deep, in the start of a set, and where the bytes are no JSON."""
+    deep = [{"sub": [], "handlers": {"r": [{"parallel": [{"sub": []}, {"sub": [], "handler": [
+        {"op": ["a", "balance"], "as": "n"}, {"if": "n", "atleast": 0, "then": [], "else": [{"op": ["b", "balance"]}]}]}]}]}}]
+    starts = [{"name": "a", "kind": "account", "start": 0}, {"name": "s", "kind": "set", "start": ["x", "x"]}]
+    for name, objects, transactions, line in (
+            ("a fault deep in a transaction", starts[:1], [[], deep],
+             b"fault 5 transaction 2 at /transactions/1/0/handlers/r/0/parallel/1/handler/1/else/0\n"),
+            ("a fault of a start", starts, [], b"fault 13 transaction 0 at /objects/1/start/1\n")):
+        document = json.dumps({"ordtx": 4, "objects": objects, "transactions": transactions}).encode()
+        try_document(program, library, ["locate"], name, document, line)
+        try_document(program, library, ["locate"], name + ", turned round", turned_round(document), line)
+    try_document(program, library, ["locate"], "no JSON", b'{"ordtx":4,\n"objects"?',
+                 b"fault 1 transaction 0 at line 2 column 10\n")
+    try_document(program, library, ["locate"], case.name, case.with_suffix(".json").read_bytes(),
+                 case.with_suffix(".check").read_bytes())
+
+
 def try_all(program, library, loops, cases):
     try_loops(program, library, loops)
+    try_places(program, library, cases[0])
     for case in cases:
         for workers in ("1", "4"):
             words = ["run", "--workers", workers, "--cut", "1"]

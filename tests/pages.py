@@ -3,9 +3,15 @@
 import json
 import pathlib
 import re
+import shlex
+import shutil
+import subprocess
+
+from places import part_at
 
 ROOT = pathlib.Path(__file__).resolve().parent.parent
-FAULT = re.compile(r"^`fault (\d+) transaction (\d+)`")
+FAULT = re.compile(r"^`(fault (\d+) transaction (\d+) at(?: (.+?))?)`")
+JQ = re.compile(r"^    (jq -c --arg at .*) FILE$", re.M)
 
 
 def try_examples(program):
@@ -14,8 +20,18 @@ def try_examples(program):
                               document.with_suffix(".txt").read_bytes())
 
 
+def try_pointer(program, words, document, pointer):
+    """The page's line of `jq`, with another pointer."""
+    words = shlex.split(words)
+    words[words.index("at") + 1] = pointer
+    done = subprocess.run(words, input=document, stdout=subprocess.PIPE, stderr=subprocess.PIPE)
+    part = json.loads(done.stdout) if done.returncode == 0 else None
+    program.compare("jq with " + pointer, words, (part, done.stderr),
+                    (part_at(json.loads(document), pointer), b""))
+
+
 def try_faults(program):
-    """Each fault's section: a document, the line that it gets, and a document that is read."""
+    """Each fault's section: a document, the line that `locate` prints for it, and a document that is read."""
     text = (ROOT / "docs" / "FAULTS.md").read_text()
     shown = 0
     for section in text.split("\n## ")[1:]:
@@ -30,8 +46,11 @@ def try_faults(program):
                 program.compare("mended: " + section.split("\n")[0], words,
                                 (status, err), (0, b""))
             elif fault and document is not None:
-                program.expect_fault_everywhere(
-                    section.split("\n")[0], document, int(fault[1]), int(fault[2]))
+                name = section.split("\n")[0]
+                program.expect_fault_everywhere(name, document, int(fault[2]), int(fault[3]))
+                program.expect(name, ["locate"], document, fault[1].encode() + b"\n")
+                if fault[4] and fault[4].startswith("/") and shutil.which("jq"):
+                    try_pointer(program, JQ.search(text)[1], document, fault[4])
                 shown += 1
     program.compare("faults that are shown", [], (shown,), (12,))
 

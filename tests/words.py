@@ -18,7 +18,55 @@ REFUSED = (
     ["serial", "--workers", "1"],
     ["serial", "--audit"],
     ["check", "--cut", "1"],
+    ["locate", "--workers", "1"],
+    ["locate", "a", "b"],
+    ["place"],
 )
+
+# Each is out of its option's range.
+OUT_OF_RANGE = (
+    ("--workers", "N", "0", 64),
+    ("--workers", "N", "65", 64),
+    ("--workers", "N", "4294967296", 64),
+    ("--cut", "K", "0", 1000),
+    ("--cut", "K", "1001", 1000),
+)
+
+TRY_HELP = b"\n\nFor more information, try '--help'.\n"
+
+
+def try_messages(program, document):
+    """What a refused line says, whole."""
+    for option, name, value, most in OUT_OF_RANGE:
+        message = "error: invalid value '%s' for '%s <%s>': %s is not in 1..=%d" % (
+            value, option, name, value, most)
+        program.expect("out of range", ["run", option, value], document, b"", 2,
+                       message.encode() + TRY_HELP)
+    program.expect("no number", ["run", "--workers", "two"], document, b"", 2,
+                   b"error: invalid value 'two' for '--workers <N>': "
+                   b"invalid digit found in string" + TRY_HELP)
+    for place, words in ((1, [b"\xff"]), (2, [b"run", b"\xff"]),
+                         (2, [b"run", b"a" * 70000 + b"\x80", b"\xff"]),
+                         (4, [b"run", b"--cut", b"1", b"a\xfe"])):
+        out, status, err = program.run(words, document)
+        program.compare("no text", ["argument %d" % place], (out, status, err),
+                        (b"", 2, b"error: argument %d is no text\n" % place))
+
+
+def try_help(program):
+    for words in (["--help"], ["help"], ["run", "--help"], ["locate", "--help"],
+                  ["help", "locate"]):
+        out, status, err = program.run(words)
+        program.compare("help", words, (out != b"", status, err),
+                        (True, 0, b""))
+    help_of_help = program.run(["help", "help"])[0]
+    for flag in ("-h", "--help"):
+        program.expect("help on help", ["help", flag], b"", help_of_help)
+    for flag in ("-V", "--version"):
+        program.expect("the version", [flag], b"", b"ordtx 0.1.0\n")
+        for command in ("run", "serial", "check", "locate"):
+            program.expect("the version", [command, flag], b"",
+                           b"ordtx-%s 0.1.0\n" % command.encode())
 
 
 def try_all(program, case):
@@ -35,9 +83,8 @@ def try_all(program, case):
                    ["run", file, "--workers", "64", "--cut", "1000"], b"", report)
     program.expect("options before a file",
                    ["run", "--workers=2", "--cut=1", file], b"", report)
-    program.expect("a file", ["check", file], b"",
-                   case.with_suffix(".check").read_bytes())
-    for words in (["--help"], ["help"], ["run", "--help"], ["--version"]):
-        out, status, err = program.run(words)
-        program.compare("help", words, (out != b"", status, err),
-                        (True, 0, b""))
+    for command in ("check", "locate"):
+        program.expect("a file", [command, file], b"",
+                       case.with_suffix(".check").read_bytes())
+    try_messages(program, document)
+    try_help(program)

@@ -1,0 +1,263 @@
+"""Where a document's first fault is, by `locate`: a JSON Pointer that is known from how the document was built, or a line
+and a column."""
+
+import json
+import pathlib
+
+CASES = pathlib.Path(__file__).with_name("cases")
+
+ACCOUNT = {"name": "a", "kind": "account", "start": 9}
+COUNTER = {"name": "c", "kind": "counter", "start": 0}
+QUEUE = {"name": "q", "kind": "queue", "start": []}
+OBJECTS = [ACCOUNT, COUNTER, QUEUE]
+GOOD = {"op": ["a", "deposit", 1]}
+BALANCE = {"op": ["a", "balance"]}
+# A later fault, which is never the first.
+LATER = {"op": ["nobody", "balance"]}
+
+
+# ---- a block with a fault, put into a step of another block; each gives that block, and the way to the one inside
+
+def in_then(label, block):
+    test = {"if": label, "atleast": 0, "then": block, "else": [LATER]}
+    return [{**BALANCE, "as": label}, test, LATER], [1, "then"]
+
+
+def in_else(label, block):
+    test = {"if": label, "is": "committed", "then": [GOOD], "else": block}
+    return [GOOD, {"sub": [GOOD], "as": label}, test], [2, "else"]
+
+
+def in_sub(label, block):
+    return [{"sub": block, "handlers": {"r": [LATER]}, "handler": [LATER], "as": label}], [0, "sub"]
+
+
+def in_handler(label, block):
+    return [GOOD, {"handler": block, "handlers": {"r": [GOOD]}, "sub": [GOOD]}, LATER], [1, "handler"]
+
+
+def in_handlers(label, block):
+    handlers = {"z": [LATER], "m": block, "b": [GOOD], "0": [{"abort": True}]}
+    return [GOOD, GOOD, {"sub": [{"abort": "m"}], "handlers": handlers, "handler": [LATER]}], [2, "handlers", "m"]
+
+
+def in_child(label, block):
+    return [{"parallel": [{"sub": [GOOD], "as": label}, {"sub": []}, {"sub": block}, {"sub": [LATER]}]}], [0, "parallel", 2, "sub"]
+
+
+def in_child_handler(label, block):
+    return [GOOD, {"parallel": [{"sub": [], "handler": block}, LATER]}], [1, "parallel", 0, "handler"]
+
+
+def in_child_handlers(label, block):
+    return [{"parallel": [{"sub": []}, {"sub": [], "handlers": {"1": block}}]}], [0, "parallel", 1, "handlers", "1"]
+
+
+WAYS = (in_then, in_else, in_sub, in_handler, in_handlers, in_child, in_child_handler, in_child_handlers)
+
+
+# ---- blocks with a fault: its number, the block, and the way to the part
+
+IN_BLOCKS = (
+    (2, {}, []),
+    (2, "block", []),
+    (2, [GOOD, 7], [1]),
+    (2, [{"op": ["a"]}], [0]),
+    (2, [{"op": ["a", "balance"], "abort": True}], [0]),
+    (2, [GOOD, GOOD, {"if": "x", "atleast": 1}], [2]),
+    (2, [{"abort": False}], [0]),
+    (2, [{"parallel": {}}], [0]),
+    (2, [{"parallel": [{"sub": []}, GOOD]}], [0, "parallel", 1]),
+    (2, [{"sub": [], "handlers": []}], [0]),
+    (2, [{"sub": [], "handler": {}}], [0, "handler"]),
+    (3, [{**BALANCE, "as": "no name"}], [0]),
+    (3, [{"abort": "no/name"}], [0]),
+    (3, [{"sub": [], "handlers": {"no~name": [LATER]}}], [0, "handlers"]),
+    (3, [{"op": ["q", "enq", "x"]}, {"op": ["q", "enq", ""]}], [1]),
+    (5, [LATER], [0]),
+    (6, [GOOD, {"op": ["a", "add", 1]}], [1]),
+    (7, [{"op": ["c", "sub", 0]}], [0]),
+    (8, [{"sub": [{**BALANCE, "as": "own"}]}, {"if": "own", "atleast": 0, "then": []}], [1]),
+    (9, [{**BALANCE, "as": "own"}, {**BALANCE, "as": "own"}], [1]),
+    (9, [{"parallel": [{"sub": [], "as": "own"}, {"sub": [], "as": "own"}]}], [0, "parallel", 1]),
+    (10, [{**BALANCE, "as": "own"}, {"if": "own", "is": "ok", "then": []}], [1]),
+)
+
+# Objects with a fault in the last of them: its number, them, and the way to the part from the last one.
+IN_OBJECTS = (
+    (2, [{"name": "b", "kind": "account"}], []),
+    (2, [ACCOUNT, {"name": "b", "kind": "heap", "start": 0}], []),
+    (2, [ACCOUNT, 7], []),
+    (3, [{"name": "b b", "kind": "account", "start": -1}], []),
+    (4, [ACCOUNT, QUEUE, {"name": "a", "kind": "set", "start": 0}], []),
+    (13, [ACCOUNT, {"name": "b", "kind": "account", "start": -1}], ["start"]),
+    (13, [{"name": "c", "kind": "counter", "start": 0.5}], ["start"]),
+    (13, [{"name": "m", "kind": "max", "start": "0"}], ["start"]),
+    (13, [{"name": "s", "kind": "set", "start": {}}], ["start"]),
+    (13, [ACCOUNT, {"name": "s", "kind": "set", "start": ["x", "y", "z", "y", 7]}], ["start", 3]),
+    (3, [{"name": "s", "kind": "set", "start": ["x", "no name"]}], ["start", 1]),
+    (13, [ACCOUNT, {"name": "q", "kind": "queue", "start": ["x", "x", 7, ""]}], ["start", 2]),
+    (3, [{"name": "q", "kind": "queue", "start": [""]}], ["start", 0]),
+    (13, [{"name": "d", "kind": "directory", "start": [["k", "v"], ["l", "v"], ["k", "w"]]}], ["start", 2]),
+    (13, [{"name": "d", "kind": "directory", "start": [["k", "v"], ["l"]]}], ["start", 1]),
+    (3, [{"name": "d", "kind": "directory", "start": [["k", "no name"], 7]}], ["start", 0]),
+)
+
+
+def batch(objects, transactions, version=4):
+    return {"ordtx": version, "objects": objects, "transactions": transactions}
+
+
+def bytes_of(value):
+    return json.dumps(value).encode()
+
+
+def pointer(way):
+    """A JSON Pointer; no name here has `~` or `/`."""
+    return "".join("/%s" % part for part in way)
+
+
+def located(number, transaction, way):
+    place = " " + pointer(way) if way else ""
+    return ("fault %d transaction %d at%s\n" % (number, transaction, place)).encode()
+
+
+def expect_place(program, name, value, number, transaction, way):
+    """In the usual order of the members, which is read without a tree, and in the opposite order."""
+    for given in (value, dict(reversed(value.items())) if isinstance(value, dict) else value):
+        program.expect("%s at %s" % (name, pointer(way)), ["locate"],
+                       bytes_of(given), located(number, transaction, way))
+
+
+def inside(ways, block, way):
+    """The block within these ways, the first outermost, and the way to the part."""
+    for depth, put in reversed(list(enumerate(ways))):
+        block, steps = put("l%d" % depth, block)
+        way = steps + way
+    return block, way
+
+
+def expect_inside(program, ways, number, block, way):
+    """As the third of four transactions."""
+    names = ", ".join(put.__name__ for put in ways[:8]) or "a transaction"
+    name = "fault %d in %s" % (number, names)
+    block, way = inside(ways, block, way)
+    expect_place(program, name, batch(OBJECTS, [[GOOD], [], block, [LATER]]), number, 3,
+                 ["transactions", 2] + way)
+
+
+def try_blocks(program):
+    """Each fault in a transaction, in each sort of block, and in two and in eight of them; each two sorts around a third."""
+    for place, (number, block, way) in enumerate(IN_BLOCKS):
+        others = WAYS[place % len(WAYS):] + WAYS[:place % len(WAYS)]
+        for ways in ((), others[:2], others, others[::-1], *[(put,) for put in WAYS]):
+            expect_inside(program, ways, number, block, way)
+    for outer in WAYS:
+        for place, middle in enumerate(WAYS):
+            expect_inside(program, (outer, middle, WAYS[place - 3]), 5, [GOOD, LATER], [1])
+
+
+def try_depth(program):
+    """The block that is too deep is the place, not its transaction."""
+    for put in WAYS:
+        for last in (in_then, in_sub):
+            expect_inside(program, (put,) * 23 + (last,), 11, [LATER], [])
+        expect_inside(program, (put,) * 23, 5, [LATER], [0])
+
+
+def try_objects(program):
+    for number, objects, way in IN_OBJECTS:
+        expect_place(program, "fault %d of an object" % number, batch(objects, [[LATER]]), number, 0,
+                     ["objects", len(objects) - 1] + way)
+
+
+def try_limits(program):
+    """The part with which there are too many, or the document."""
+    item = {"name": "q", "kind": "queue", "start": ["x"] * 60_000}
+    other = {"name": "p", "kind": "queue", "start": ["x"] * 60_000}
+    expect_place(program, "100,001 starting entries", batch([item, other], []), 12, 0,
+                 ["objects", 1, "start", 40_000])
+    body = [{"sub": [GOOD] * 60_000}]
+    expect_place(program, "100,001 operations", batch(OBJECTS, [body, [GOOD], body], 3), 12, 3,
+                 ["transactions", 2, 0, "sub", 39_999])
+    children = [{"parallel": [{"sub": []}] * 60_000}]
+    expect_place(program, "100,001 children and other steps", batch([], [children, children]), 12, 2,
+                 ["transactions", 1, 0, "parallel", 39_998])
+    expect_place(program, "a last transaction", batch(OBJECTS, [[GOOD]] * 9_999 + [[GOOD, {"sub": [LATER]}]]), 5, 10_000,
+                 ["transactions", 9_999, 1, "sub", 0])
+
+
+def try_wholes(program):
+    """Faults of the whole document have no pointer."""
+    for number, value in (
+            (2, []), (2, 7), (2, {}), (2, {"ordtx": 1, "objects": []}),
+            (2, {**batch([], []), "more": 1}), (2, batch([], [], 5)), (2, batch({}, [])), (2, batch([], "")),
+            (12, batch([ACCOUNT] * 1_001, [])), (12, batch([], [[]] * 10_001))):
+        expect_place(program, "fault %d of a whole document" % number, value, number, 0, [])
+    program.expect("a byte too many", ["locate"], b" " * 67_108_865, located(12, 0, []))
+
+
+def no_json(before):
+    """The line of a text that goes no further after these bytes. A string that isn't closed counts by its first quote."""
+    if before.count(b'"') % 2:
+        before = before[:before.rindex(b'"') + 1]
+    column = len(before) - (before.rfind(b"\n") + 1)
+    return b"fault 1 transaction 0 at line %d column %d\n" % (1 + before.count(b"\n"), column)
+
+
+def try_no_json(program):
+    """A text that is cut off, and one with a byte that can't be there, which is counted."""
+    whole = json.dumps(batch(OBJECTS, [[GOOD], [{"sub": [], "as": "l"}]]), indent=2).encode()
+    for length in range(len(whole)):
+        program.expect("the first %d bytes" % length, ["locate"], whole[:length], no_json(whole[:length]))
+    for place in (whole.index(word) for word in (
+            b"{", b'"ordtx"', b"4", b'"objects"', b'"name"', b'"kind"', b"9", b'"transactions"', b'"op"', b'"sub"')):
+        given = whole[:place] + b"?" + whole[place:]
+        program.expect("a question mark at %d" % place, ["locate"], given, no_json(given[:place + 1]))
+    program.expect("a second text", ["locate"], whole + b"\n7", no_json(whole + b"\n7"))
+
+
+def part_at(value, path):
+    """The part to which a JSON Pointer (RFC 6901) leads."""
+    for token in path.split("/")[1:]:
+        token = token.replace("~1", "/").replace("~0", "~")
+        value = value[int(token) if isinstance(value, list) else token]
+    return value
+
+
+def leads_somewhere(document, place):
+    try:
+        part_at(json.loads(document), place)
+    except (KeyError, IndexError, ValueError, TypeError):
+        return False
+    return True
+
+
+def try_fault_of_a_case(program, name, document, fault):
+    out, status, err = program.run(["locate"], document)
+    line, at, place = out.decode().rstrip("\n").partition(" at")
+    program.compare(name, ["locate"], (line.encode() + b"\n", status, err), (fault, 0, b""))
+    program.compare(name + " has a place", ["locate"], (at, out.count(b"\n")), (" at", 1))
+    if fault.startswith(b"fault 1 "):
+        program.compare(name + " has a line", ["locate"], (place.startswith(" line "),), (True,))
+    else:
+        program.compare(name + " leads somewhere", ["locate"], (leads_somewhere(document, place.strip()),), (True,))
+
+
+def try_cases(program):
+    for file in sorted(CASES.glob("*.json")):
+        document, fault = file.read_bytes(), file.with_suffix(".fault")
+        if fault.exists():
+            try_fault_of_a_case(program, file.stem, document, fault.read_bytes())
+        else:
+            program.expect(file.stem, ["locate"], document, file.with_suffix(".check").read_bytes())
+
+
+def try_all(program):
+    try_blocks(program)
+    try_depth(program)
+    try_objects(program)
+    try_limits(program)
+    try_wholes(program)
+    try_no_json(program)
+    try_cases(program)
