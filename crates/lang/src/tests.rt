@@ -631,9 +631,13 @@ fn other_nodes_are_counted(rt: HostRuntime) -> Result<(), Fail> {
 /// A document's first fault and its place, as `ordtx locate` prints them.
 fn place(rt: &HostRuntime, text: &str) -> Result<String, Fail> {
     let alloc = rt.alloc();
-    let Err(fault) = read(alloc, text.as_bytes()) else {
-        return Ok(String::new(alloc));
+    let fault = match read(alloc, text.as_bytes()) {
+        Ok(_) => return Ok(String::new(alloc)),
+        Err(fault) => fault,
     };
+    if fault.code == Code::Memory {
+        return Err(fault.into());
+    }
     match locate(alloc, text.as_bytes(), fault)? {
         Place::Whole => Ok(format!(in alloc; "{fault}")?),
         Place::Pointer(pointer) => Ok(format!(in alloc; "{fault} at {pointer}")?),
