@@ -44,10 +44,10 @@ fn commit(rt: &impl Abort, view: &mut View<'_>) -> Result<(), NoMemory> {
     view.commit()
 }
 
-/// The lists of a view with no level but the base, which is then used again.
-fn take_run(rt: &impl Abort, view: &mut View<'_>) -> Result<Lists, NoMemory> {
+/// The lists of a view with no level but the base, which is then used again with spare lists.
+fn take_run(rt: &impl Abort, view: &mut View<'_>, spare: Lists) -> Lists {
     assert!(rt; view.depth() == 0);
-    view.take_run()
+    view.take_run(spare)
 }
 
 /// Absorbs a child that enqueued the item twice and took the first of them.
@@ -203,9 +203,9 @@ fn a_view_is_used_again(rt: HostRuntime) -> Result<(), Fail> {
     let top = Call::Max(MaxCall::Top);
     let read = Call::Counter(CounterCall::Read);
     let _reply = perform(&rt, &mut view, 5, raise)?;
-    let Lists { entries, net } = take_run(&rt, &mut view)?;
-    assert_eq!(rt; entries.len(), 1);
-    assert_eq!(rt; net.len(), 1);
+    let lists = take_run(&rt, &mut view, Lists::empty(rt.alloc()));
+    assert_eq!(rt; lists.entries.len(), 1);
+    assert_eq!(rt; lists.net.len(), 1);
     // In this run another object's draft is where that of object 5 was.
     let _reply = perform(&rt, &mut view, 4, sub)?;
     assert_eq!(rt;
@@ -217,5 +217,8 @@ fn a_view_is_used_again(rt: HostRuntime) -> Result<(), Fail> {
         Reply::Counter(CounterReply::Number(-5))
     );
     assert_eq!(rt; view.entries().len(), 3);
+    let lists = take_run(&rt, &mut view, lists);
+    assert_eq!(rt; lists.entries.len(), 3);
+    assert_eq!(rt; view.net().len(), 0);
     Ok(())
 }

@@ -1,5 +1,5 @@
 //! Views: what a transaction sees while its intentions are recorded.
-ghost use Rattle.std.specs.Prelude.{◌≡◌, ◌↔◌, ◌+◌, ◌<◌, ◌≤◌, ◌++◌, length, vec_len, vec_capacity, IsTrue, Some, IsOk, IfOk, OnOk, OnErr};
+ghost use Rattle.std.specs.Prelude.{◌≡◌, ◌↔◌, ◌+◌, ◌<◌, ◌≤◌, ◌++◌, [], length, vec_len, vec_capacity, IsTrue, Some, IsOk, IfOk, OnOk, OnErr};
 ghost use Rattle.objects.specs.Objects.{objects, Fits, ObjectHasRoom};
 ghost use Rattle.intentions.specs.Levels.{shown, opened, performed, begun, committed, aborted, absorbed, AllHaveRoom};
 ghost use Rattle.objects.specs.Entries.{after, AreLegal};
@@ -8,6 +8,7 @@ use crate::layers::Layers;
 use objects::{Call, Entry, NoMemory, Objects, Reply};
 use std::alloc::Global;
 use std::marker::Model;
+use std::mem::replace;
 
 /// What a view recorded: the entries of all calls in their order, and the net, which is those that
 /// no aborted level took back.
@@ -17,6 +18,19 @@ pub struct Lists {
     pub entries: Vec<Entry>,
     /// The entries that no aborted level took back, in order.
     pub net: Vec<Entry>,
+}
+
+impl Lists {
+    /// No entries. This takes no memory.
+    pub fn empty(alloc: Global) -> Lists
+        ensures entries { result.entries.items ≡ [] }
+        ensures net { result.net.items ≡ [] }
+    {
+        Lists {
+            entries: Vec::new(alloc),
+            net: Vec::new(alloc),
+        }
+    }
 }
 
 /// A borrowed state, and the intentions of a transaction on it. It shows what the state would be
@@ -222,23 +236,25 @@ impl<'s> View<'s> {
         }
     }
 
-    /// The entries and the net of the base, copied. The view is then as if it had just been opened
-    /// on the same snapshot. It keeps its memory for the next run. On `NoMemory` the view is
-    /// unchanged.
-    pub fn take_run(&mut self) -> Result<Lists, NoMemory>
+    /// The entries and the net of the base. The view is then as if it had just been opened on the
+    /// same snapshot. Its next run uses the memory of the spare lists again.
+    pub fn take_run(&mut self, spare: Lists) -> Lists
         requires { length self.old.outer ≡ 0 }
-        ensures entries { IfOk result (λ lists. lists.entries.items ≡ self.old.entries) }
-        ensures net { IfOk result (λ lists. lists.net.items ≡ self.old.net) }
-        ensures opened { OnOk result (self.new ≡ opened self.old.snapshot) }
-        ensures err { OnErr result (self.new ≡ self.old) }
+        ensures entries { result.entries.items ≡ self.old.entries }
+        ensures net { result.net.items ≡ self.old.net }
+        ensures opened { self.new ≡ opened self.old.snapshot }
     {
-        let alloc = *self.entries.allocator();
-        let entries = Vec::from_slice(alloc, &self.entries)?;
-        let net = Vec::from_slice(alloc, &self.net)?;
+        let Lists {
+            mut entries,
+            mut net,
+        } = spare;
+        entries.clear();
+        net.clear();
         self.layers.restart(self.snapshot);
-        self.entries.truncate(0);
-        self.net.truncate(0);
-        Ok(Lists { entries, net })
+        Lists {
+            entries: replace(&mut self.entries, entries),
+            net: replace(&mut self.net, net),
+        }
     }
 
     /// The entries, and the net of the base.

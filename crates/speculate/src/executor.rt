@@ -59,7 +59,7 @@ struct Ahead {
     net: Vec<Entry>,
 }
 
-/// Runs a block. Its labels are forgotten at its end.
+/// Runs a block. Its labels are forgotten at its end. The record uses the memory of the spare list.
 #[cycle(run)]
 pub(crate) fn run_block<T: Threads + Sync, G: Gate>(
     making: &Making<'_, T, G>,
@@ -67,6 +67,7 @@ pub(crate) fn run_block<T: Threads + Sync, G: Gate>(
     labels: &mut Vec<Held>,
     view: &mut View<'_>,
     width: u32,
+    spare: Vec<Taken>,
 ) -> Result<Record, NoMemory>
     requires { CanRunHere (block_view block.now) labels.old.items (state_of_view view.old) }
     ensures shows { IfOk result
@@ -74,7 +75,7 @@ pub(crate) fn run_block<T: Threads + Sync, G: Gate>(
     ensures labels { OnOk result (labels.new.items ≡ labels.old.items) }
 {
     let seen = labels.len();
-    let record = run_steps(making, &block.steps, labels, view, width)?;
+    let record = run_steps(making, &block.steps, labels, view, width, spare)?;
     labels.truncate(seen);
     Ok(record)
 }
@@ -86,13 +87,16 @@ fn run_steps<T: Threads + Sync, G: Gate>(
     labels: &mut Vec<Held>,
     view: &mut View<'_>,
     width: u32,
+    spare: Vec<Taken>,
 ) -> Result<Record, NoMemory>
     requires { CanRunHere (steps_view steps.now) labels.old.items (state_of_view view.old) }
     ensures shows { IfOk result
         (λ r. ShowsRun in_view (one (steps_view steps.now) labels.old.items (state_of_view view.old)) r view.old view.new) }
     ensures labels { OnOk result (StillSeen labels.old.items labels.new.items) }
 {
-    let mut taken = Vec::with_capacity(making.alloc, steps.len())?;
+    let mut taken = spare;
+    taken.clear();
+    taken.reserve_exact(steps.len())?;
     for step in steps {
         let (done, end) = run_step(making, step, labels, view, width)?;
         taken.push(done)?;
@@ -143,7 +147,8 @@ fn run_step<T: Threads + Sync, G: Gate>(
         } => {
             let holds = test_holds(test, &labels[*label as usize]);
             let branch = if holds { then } else { otherwise };
-            let record = run_block(making, branch, labels, view, width)?;
+            let spare = Vec::new(making.alloc);
+            let record = run_block(making, branch, labels, view, width, spare)?;
             let end = record.outcome;
             Ok((Taken::If(holds, Box::new(making.alloc, record)?), end))
         }
@@ -178,7 +183,8 @@ fn run_subaction<T: Threads + Sync, G: Gate>(
     ensures labels { OnOk result (labels.new.items ≡ labels.old.items) }
 {
     view.begin()?;
-    let body = run_block(making, &child.body, labels, view, width)?;
+    let spare = Vec::new(making.alloc);
+    let body = run_block(making, &child.body, labels, view, width, spare)?;
     match body.outcome {
         End::Ended => {
             view.commit()?;
@@ -213,7 +219,11 @@ fn run_handler<T: Threads + Sync, G: Gate>(
     ensures labels { OnOk result (labels.new.items ≡ labels.old.items) }
 {
     match taker(child, reason) {
-        Some(block) => Ok(handled(run_block(making, block, labels, view, width)?)),
+        Some(block) => {
+            let spare = Vec::new(making.alloc);
+            let record = run_block(making, block, labels, view, width, spare)?;
+            Ok(handled(record))
+        }
         None => Ok((None, untaken(child, reason))),
     }
 }

@@ -1,6 +1,9 @@
 //! Speculative runs of transactions, as they are kept.
+ghost use Rattle.std.specs.Prelude.{◌≡◌, []};
 use batch::Record;
-use intentions::Entry;
+use intentions::{Entry, Lists};
+use meaning::End;
+use std::alloc::Global;
 
 /// What a transaction did on the objects that it was run on (Weihl 1988: an intentions list).
 #[derive(Drop)]
@@ -12,4 +15,23 @@ pub struct Run {
     pub entries: Vec<Entry>,
     /// The operations that no aborted subaction has. There are none where the transaction aborted.
     pub net: Vec<Entry>,
+}
+
+impl Run {
+    /// A run of no steps. This takes no memory.
+    pub fn empty(alloc: Global) -> Run
+        ensures steps { result.tree.taken.items ≡ [] }
+        ensures entries { result.entries.items ≡ [] }
+        ensures net { result.net.items ≡ [] }
+    {
+        let Lists { entries, net } = Lists::empty(alloc);
+        Run {
+            tree: Record {
+                taken: Vec::new(alloc),
+                outcome: End::Ended,
+            },
+            entries,
+            net,
+        }
+    }
 }

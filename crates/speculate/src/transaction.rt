@@ -48,11 +48,13 @@ pub fn run<T: Threads + Sync, G: Gate>(
         number,
         width,
         gate,
+        Run::empty(alloc),
     )
 }
 
 /// Runs transaction `number` (from 1) of the batch as [`run`] does, in a view that is as it was
-/// opened on the objects, and with no labels. It leaves both so for the next run.
+/// opened on the objects, and with no labels. It leaves both so for the next run. The memory of the
+/// spare run is used again.
 ///
 /// After it returns `NoMemory`, the view and the labels are of no further use.
 pub fn run_in<T: Threads + Sync, G: Gate>(
@@ -64,6 +66,7 @@ pub fn run_in<T: Threads + Sync, G: Gate>(
     number: u32,
     width: u32,
     gate: &G,
+    spare: Run,
 ) -> Result<Run, NoMemory>
     requires first { 1 ≤ number }
     requires last { number ≤ length batch.now.transactions.items }
@@ -84,12 +87,14 @@ pub fn run_in<T: Threads + Sync, G: Gate>(
         gate,
         number,
     };
-    let tree = run_block(&making, block, labels, view, width)?;
-    let Lists { entries, net: kept } = view.take_run()?;
-    let net = match tree.outcome {
-        End::Ended => kept,
-        End::Aborted(_) => Vec::new(alloc),
-    };
+    let Run { tree, entries, net } = spare;
+    let tree = run_block(&making, block, labels, view, width, tree.taken)?;
+    let Lists { entries, mut net } = view.take_run(Lists { entries, net });
+    match tree.outcome {
+        End::Ended => {}
+        // What an aborted transaction did is not in its net.
+        End::Aborted(_) => net.clear(),
+    }
     let run = Run { tree, entries, net };
     gate.made(number, &run);
     Ok(run)

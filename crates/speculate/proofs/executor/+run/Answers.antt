@@ -18,7 +18,7 @@ use Rattle.speculate.proofs.executor.+run.Goals.{run_step-then-holds, run_step-e
 -- ---- steps one after the other
 
 pub run_steps-loop-step-init : goal.run_steps-loop-step-init
-run_steps-loop-step-init g t c = rw c.in_ok-taken.ensures.items (part_run-start ground c.args.steps.now c.args.labels.now.items c.args.view.now c.requires)
+run_steps-loop-step-init g t c = rw (c.in_ok-reserve_exact.ensures.items, c.clear.ensures.items) (part_run-start ground c.args.steps.now c.args.labels.now.items c.args.view.now c.requires)
 
 pub run_steps-returns-in-Aborted-clause-shows : goal.run_steps-returns-in-Aborted-clause-shows
 run_steps-returns-in-Aborted-clause-shows g t c =
@@ -79,9 +79,9 @@ run_handler-run_block-requires g t c κs lives =
     let can = taker_can_run _ _ _ c.args.reason _ c.requires c.in-Some.ensures.takes in
     search rules
 
-pub run_handler-returns-in_ok-run_block-in-Some-clause-shows : goal.run_handler-returns-in_ok-run_block-in-Some-clause-shows
-run_handler-returns-in_ok-run_block-in-Some-clause-shows g t c =
-    let shows = c.in_ok-run_block-in-Some.ensures.shows in
+pub run_handler-returns-in_ok-record-in-Some-clause-shows : goal.run_handler-returns-in_ok-record-in-Some-clause-shows
+run_handler-returns-in_ok-record-in-Some-clause-shows g t c =
+    let shows = c.in_ok-record-in-Some.ensures.shows in
     rw c.handled.ensures.handler (shows_taker ground _ _ _ c.args.reason _ _ _ _ c.in-Some.ensures.takes shows c.handled.ensures.end)
 
 pub run_handler-returns-in-None-clause-shows : goal.run_handler-returns-in-None-clause-shows
