@@ -1,10 +1,10 @@
 -- Entries that stand for many: what commutes forward with them.
-use Rattle.std.proofs.Common.{◌≡◌, ℕ, suc, zero, ◌<◌, ◌↔◌, arith, List, [], ◌∷◌, ◌++◌, length, set, get_or, sym, ap, ◌∙◌, subst}
-use Rattle.std.proofs.lemmas.List.{get_or-map, length-map, map-append, map-set}
+use Rattle.std.proofs.Common.{◌≡◌, ℕ, suc, zero, ◌<◌, ◌≤◌, ◌↔◌, arith, List, [], ◌∷◌, ◌++◌, length, set, get_or, sym, ap, ◌∙◌, subst}
+use Rattle.std.proofs.lemmas.List.{get_or-map, get_or-set_other, length-map, length-set, map-append, map-set}
 use Rattle.objects.specs.declared.entry.Entry.{Entry}
 use Rattle.committed.specs.declared.marks.MarkedEntry.{MarkedEntry}
 use Rattle.objects.specs.Entries.{CommutesWith, AllCommute, CommuteForward}
-use Rattle.committed.specs.Strictness.{IsAsStrict}
+use Rattle.committed.specs.Strictness.{AreAsStrict}
 use Rattle.committed.specs.Summaries.{entries_of, IsSummary}
 use Rattle.committed.proofs.StandsLemmas.{commute_turned, one_commutes}
 
@@ -100,38 +100,57 @@ commutes_unset other (x ∷ xs) (suc n) e old all = (all.0, commutes_unset other
 entry_at : (marked : List MarkedEntry) (at : ℕ) (m : MarkedEntry) (e : Entry) → at < length marked → m ≡ get_or marked at m → get_or (entries_of marked) at e ≡ m.entry
 entry_at marked at m e within is = get_or-map (λ (k : MarkedEntry). k.entry) marked at m e within ∙ sym (ap (λ (k : MarkedEntry). k.entry) is)
 
-module _ (marked : List MarkedEntry) (at : ℕ) (old : MarkedEntry) (e : Entry) (entries : List Entry) (within : at < length marked) (is : old ≡ get_or marked at old) (summary : IsSummary (entries_of marked) entries) where
-  low : at < length (entries_of marked)
+module _ (marked : List MarkedEntry) (before last : ℕ) (earlier later : MarkedEntry) (e : Entry) (entries : List Entry)
+    (ordered : before ≤ last) (within : last < length marked) (first : earlier ≡ get_or marked before earlier) (second : later ≡ get_or marked last later)
+    (summary : IsSummary (entries_of marked) entries) where
+  low_first : before < length (entries_of marked)
+  low_first = omega (arith, length-map marked (λ (k : MarkedEntry). k.entry), within, ordered)
+
+  low : last < length (entries_of marked)
   low = omega (arith, length-map marked (λ (k : MarkedEntry). k.entry), within)
 
-  -- an entry is left out where one in the summary is as strict
-  pub summary_left : IsAsStrict old.entry e → IsSummary (entries_of marked) (entries ++ e ∷ [])
+  is_earlier : (other : Entry) → get_or (entries_of marked) before other ≡ earlier.entry
+  is_earlier other = entry_at marked before earlier other (omega (arith, within, ordered)) first
+
+  is_later : (other : Entry) → get_or (entries_of marked) last other ≡ later.entry
+  is_later other = entry_at marked last later other within second
+
+  -- an entry is left out where two in the summary are as strict
+  pub summary_left : AreAsStrict earlier.entry later.entry e → IsSummary (entries_of marked) (entries ++ e ∷ [])
   summary_left strict = record {
     same = λ other. (
-      λ h. commutes_both other entries (e ∷ []) ((summary.same other).0 h)
-          (strict other (subst (CommuteForward other) (entry_at marked at old other within is) (one_commutes other (entries_of marked) at low h)), tt),
+      λ h. (
+          let with_earlier : CommuteForward other earlier.entry = subst (CommuteForward other) (is_earlier other) (one_commutes other (entries_of marked) before low_first h) in
+          let with_later : CommuteForward other later.entry = subst (CommuteForward other) (is_later other) (one_commutes other (entries_of marked) last low h) in
+          commutes_both other entries (e ∷ []) ((summary.same other).0 h) (strict other with_earlier with_later, tt)
+          ),
       λ h. (summary.same other).1 (commutes_first other entries (e ∷ []) h),
     );
   }
 
-  -- it takes the place of one where it is as strict
-  set_there : IsAsStrict e old.entry → IsSummary (set (entries_of marked) at e) (entries ++ e ∷ [])
-  set_there strict = record {
+  -- what commutes with the summary where it stands for the later one commutes with the earlier
+  with_earlier_set : (other : Entry) → before < last → CommutesWith other (set (entries_of marked) last e) → CommuteForward other earlier.entry
+  with_earlier_set other less h = subst (CommuteForward other) (get_or-set_other (entries_of marked) last before e other (λ same. absurd (omega (arith, same, less))) ∙ is_earlier other)
+      (one_commutes other (set (entries_of marked) last e) before (omega (arith, length-set (entries_of marked) last e, low_first)) h)
+
+  -- it takes the place of the later where it is as strict with the earlier
+  set_there : before < last → AreAsStrict earlier.entry e later.entry → IsSummary (set (entries_of marked) last e) (entries ++ e ∷ [])
+  set_there less strict = record {
     same = λ other. (
       λ h. (
-          let own : CommuteForward other e = commutes_own other (entries_of marked) at e low h in
-          let was : CommuteForward other (get_or (entries_of marked) at other) = subst (CommuteForward other) (sym (entry_at marked at old other within is)) (strict other own) in
-          commutes_both other entries (e ∷ []) ((summary.same other).0 (commutes_unset other (entries_of marked) at e was h)) (own, tt)
+          let own : CommuteForward other e = commutes_own other (entries_of marked) last e low h in
+          let was : CommuteForward other (get_or (entries_of marked) last other) = subst (CommuteForward other) (sym (is_later other)) (strict other (with_earlier_set other less h) own) in
+          commutes_both other entries (e ∷ []) ((summary.same other).0 (commutes_unset other (entries_of marked) last e was h)) (own, tt)
           ),
-      λ h. commutes_set other (entries_of marked) at e ((summary.same other).1 (commutes_first other entries (e ∷ []) h))
+      λ h. commutes_set other (entries_of marked) last e ((summary.same other).1 (commutes_first other entries (e ∷ []) h))
           (commutes_second other entries (e ∷ []) h).0,
     );
   }
 
   -- with its mark
-  pub summary_set : (next : MarkedEntry) → next.entry ≡ e → IsAsStrict e old.entry → IsSummary (entries_of (set marked at next)) (entries ++ e ∷ [])
-  summary_set next own strict =
-      subst (λ xs. IsSummary xs (entries ++ e ∷ [])) (sym (map-set (λ (k : MarkedEntry). k.entry) marked at next ∙ ap (set (entries_of marked) at) own)) (set_there strict)
+  pub summary_set : (next : MarkedEntry) → next.entry ≡ e → before < last → AreAsStrict earlier.entry e later.entry → IsSummary (entries_of (set marked last next)) (entries ++ e ∷ [])
+  summary_set next own less strict =
+      subst (λ xs. IsSummary xs (entries ++ e ∷ [])) (sym (map-set (λ (k : MarkedEntry). k.entry) marked last next ∙ ap (set (entries_of marked) last) own)) (set_there less strict)
 
 -- an entry is put at the end
 pub summary_pushed : (marked : List MarkedEntry) (next : MarkedEntry) (e : Entry) (entries : List Entry) → next.entry ≡ e → IsSummary (entries_of marked) entries

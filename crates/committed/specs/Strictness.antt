@@ -1,5 +1,5 @@
 -- Which of two entries commutes forward with less.
-use Rattle.std.specs.Prelude.{Bool, true, false, nat_le}
+use Rattle.std.specs.Prelude.{Bool, true, false, nat_le, IsTrue}
 use Rattle.atoms.specs.Account.{account_effect}
 use Rattle.atoms.specs.Counter.{counter_effect}
 use Rattle.atoms.specs.MaxRegister.{max_effect}
@@ -19,6 +19,14 @@ use Rattle.objects.specs.Entries.{CommuteForward}
 -- what commutes forward with the first commutes forward with the second
 abbrev pub IsAsStrict : Entry → Entry → Type 0
 IsAsStrict first second = (e : Entry) → CommuteForward e first → CommuteForward e second
+
+-- what commutes forward with the first and the second commutes forward with the third
+abbrev pub AreAsStrict : Entry → Entry → Entry → Type 0
+AreAsStrict first second third = (e : Entry) → CommuteForward e first → CommuteForward e second → CommuteForward e third
+
+-- the same of effects, by their table
+abbrev pub EffectsAreAsStrict : {Effect : Type 0} → (Effect → Effect → Bool) → Effect → Effect → Effect → Type 0
+EffectsAreAsStrict {Effect} commute first second third = (e : Effect) → IsTrue (commute e first) → IsTrue (commute e second) → IsTrue (commute e third)
 
 -- deposits conflict with refusals and balances, and refusals with deposits, whatever their amounts
 abbrev pub account_is_as_strict : AccountEffect → AccountEffect → Bool

@@ -28,7 +28,8 @@ fn taken_item(effect: QueueEffect) -> Option<Item>
     }
 }
 
-fn set_item(effect: SetEffect) -> Option<Item>
+/// The item that an operation of this effect on a set is about.
+pub fn set_item(effect: SetEffect) -> Option<Item>
     ensures { result ≡ set_item effect }
 {
     match effect {

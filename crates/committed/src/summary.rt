@@ -4,7 +4,7 @@ ghost use Rattle.objects.specs.declared.entry.Entry.{Entry as OneEntry};
 ghost use Rattle.committed.specs.Summaries.{entries_of, IsSummary};
 
 use crate::marks::{Mark, MarkedEntry};
-use crate::strictness::is_as_strict;
+use crate::strictness::are_as_strict;
 use objects::{Entry, NoMemory};
 use std::alloc::Global;
 
@@ -29,9 +29,9 @@ pub fn mark_all(alloc: Global, entries: &[Entry]) -> Result<Vec<MarkedEntry>, No
 /// A summary of the entries: what commutes forward with all of the summary commutes forward with
 /// all of these, and the other way round.
 ///
-/// It has one entry for each different heading (object, item and class), as far as the table
-/// distinguishes them. That entry is the strictest under the heading, where one of them is. A few
-/// entries are all kept. So a run of many operations on one object is checked and listed by a few
+/// It has an entry or two for each different heading (object and item, or object and class where
+/// there is no item), as far as the table distinguishes them. Those are the strictest under the
+/// heading, where one or two of them are. A few entries are all kept. So a run of many operations on one object is checked and listed by a few
 /// entries.
 ///
 /// Returns `NoMemory` where a request for memory was refused.
@@ -48,14 +48,20 @@ pub fn summary_of(alloc: Global, entries: &[Entry]) -> Result<Vec<MarkedEntry>, 
     Ok(table.summary)
 }
 
-/// A summary, and where it has an entry of a heading. The places only save looks: an entry is left
-/// out or replaced after it is compared with the one at the place.
+/// Where a summary has the two entries that were last put in it at one slot.
+#[derive(Clone, Copy)]
+struct Places {
+    last: usize,
+    before: usize,
+}
+
+/// A summary, and where it has entries of a heading. The places only save looks: an entry is left
+/// out or replaced after it is compared with those at the places.
 #[derive(Drop)]
 struct Table {
-    /// For each slot, the place of the last entry that was put in the summary under its headings.
-    places: Vec<usize>,
+    slots: Vec<Places>,
     summary: Vec<MarkedEntry>,
-    ghost some: { 0 < length places.items },
+    ghost some: { 0 < length slots.items },
 }
 
 impl Table {
@@ -68,39 +74,49 @@ impl Table {
             size *= 2;
         }
         Ok(Table {
-            places: vec![in alloc; 0usize; size]?,
+            slots: vec![in alloc; Places { last: 0, before: 0 }; size]?,
             summary: Vec::new(alloc),
         })
     }
 
-    /// Adds an entry, or puts it in place of the one at its slot, unless that one is as strict.
+    /// Adds an entry, unless the two at its slot are as strict. Where the earlier of them is as strict
+    /// with it as with the later, it takes the place of the later.
     fn add(&mut self, entry: &Entry) -> Result<(), NoMemory>
         ensures { OnOk result ((entries : List OneEntry) → IsSummary (entries_of self.old.summary.items) entries → IsSummary (entries_of self.new.summary.items) (entries ++ entry.now ∷ [])) }
     {
         let next = MarkedEntry::of(entry);
         let slot = self.slot(&next.mark);
-        let place = self.places[slot];
-        if place < self.summary.len() {
-            let old = self.summary[place].entry;
-            if is_as_strict(&old, entry) {
+        let Places { last, before } = self.slots[slot];
+        if before <= last && last < self.summary.len() {
+            let later = self.summary[last].entry;
+            let earlier = self.summary[before].entry;
+            if are_as_strict(&earlier, &later, entry) {
                 return Ok(());
             }
-            if is_as_strict(entry, &old) {
-                self.summary[place] = next;
+            if before < last && are_as_strict(&earlier, entry, &later) {
+                self.summary[last] = next;
                 return Ok(());
             }
         }
-        self.places[slot] = self.summary.len();
+        self.slots[slot] = Places {
+            last: self.summary.len(),
+            before: last,
+        };
         self.summary.push(next)?;
         Ok(())
     }
 
-    /// The slot of a mark's heading.
+    /// The slot of a mark: one for all entries about an item, and for those about none one for each
+    /// class.
     fn slot(&self, mark: &Mark) -> usize
-        ensures { result < length self.now.places.items }
+        ensures { result < length self.now.slots.items }
     {
-        let class = (mark.class as u32).wrapping_mul(0x9E37_79B9);
+        let class = if mark.of_item == mark.of_object {
+            (mark.class as u32).wrapping_mul(0x9E37_79B9)
+        } else {
+            0
+        };
         let hash = mark.of_item.wrapping_add(class);
-        (hash ^ hash >> 15) as usize & (self.places.len() - 1)
+        (hash ^ hash >> 15) as usize & (self.slots.len() - 1)
     }
 }

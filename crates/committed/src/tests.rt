@@ -435,3 +435,55 @@ fn many_operations_have_a_short_summary(rt: HostRuntime) -> Result<(), Fail> {
     }
     Ok(())
 }
+
+#[test]
+fn a_third_that_two_cover_is_left_out(rt: HostRuntime) -> Result<(), Fail> {
+    let set = |call: SetCall, reply: SetReply| -> Entry {
+        Entry {
+            object: 1,
+            call: Call::Set(call),
+            reply: Reply::Set(reply),
+        }
+    };
+    let directory = |call: DirectoryCall, reply: DirectoryReply| -> Entry {
+        Entry {
+            object: 2,
+            call: Call::Directory(call),
+            reply: Reply::Directory(reply),
+        }
+    };
+    let enqueue = |item: u32| -> Entry {
+        Entry {
+            object: 3,
+            call: Call::Queue(QueueCall::Enq(Item(item))),
+            reply: Reply::Queue(QueueReply::Ok),
+        }
+    };
+    let alloc = rt.alloc();
+    let (mut of_set, mut of_key, mut of_queue) = (
+        Vec::new(alloc),
+        Vec::new(alloc),
+        Vec::new(alloc),
+    );
+    for number in 0..100u32 {
+        of_set.push(set(SetCall::Insert(Item(7)), SetReply::Added))?;
+        of_set.push(set(SetCall::Has(Item(7)), SetReply::Yes))?;
+        of_set.push(set(SetCall::Remove(Item(7)), SetReply::Removed))?;
+        of_set.push(set(SetCall::Has(Item(7)), SetReply::No))?;
+        of_key.push(directory(
+            DirectoryCall::Put(Item(7), Item(number)),
+            DirectoryReply::Ok,
+        ))?;
+        of_key.push(directory(
+            DirectoryCall::Lookup(Item(7)),
+            DirectoryReply::Found(Item(number)),
+        ))?;
+        of_queue.push(enqueue(number))?;
+    }
+    assert_eq!(rt; summary_of(alloc, &of_set)?.len(), 2);
+    assert_eq!(rt; summary_of(alloc, &of_key)?.len(), 2);
+    assert_eq!(rt; summary_of(alloc, &of_queue)?.len(), 2);
+    of_key.push(directory(DirectoryCall::Put(Item(8), Item(1)), DirectoryReply::Ok))?;
+    assert_eq!(rt; summary_of(alloc, &of_key)?.len(), 3);
+    Ok(())
+}
