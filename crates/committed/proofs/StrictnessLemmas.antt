@@ -1,5 +1,5 @@
 -- Entries of which the numbers tell that one commutes forward with no more than the other.
-use Rattle.std.proofs.Common.{◌≡◌, Bool, true, false, nat_eq, nat_le, refl, sym, ap, ◌∙◌, arith}
+use Rattle.std.proofs.Common.{◌≡◌, Bool, true, false, nat_eq, refl, sym, ap, ◌∙◌, arith}
 use Rattle.std.proofs.lemmas.Bool.{leb-true, le-leb, ltb-true, lt-ltb}
 use Rattle.std.specs.Prelude.{IsTrue, if◌then◌else◌}
 use Rattle.atoms.specs.Account.{account_effect, account_effects_commute}

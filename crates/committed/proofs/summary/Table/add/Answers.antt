@@ -1,4 +1,4 @@
-use Rattle.std.proofs.Common.{◌<◌, ◌≤◌, ◌∷◌, ◌++◌, [], arith, length, sym, subst}
+use Rattle.std.proofs.Common.{◌<◌, ◌∷◌, ◌++◌, [], arith, length, sym, subst}
 use Rattle.committed.specs.Summaries.{entries_of, IsSummary}
 use Rattle.committed.proofs.SummaryLemmas.{summary_left, summary_set, summary_pushed}
 use Rattle.committed.proofs.summary.Table.add.Goals as goal
