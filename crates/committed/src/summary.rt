@@ -19,7 +19,16 @@ const FEW: usize = 8;
 pub fn mark_all(alloc: Global, entries: &[Entry]) -> Result<Vec<MarkedEntry>, NoMemory>
     ensures { IfOk result (λ marked. entries_of marked.items ≡ entries.now) }
 {
-    let mut marked = Vec::with_capacity(alloc, entries.len())?;
+    mark_in(entries, Vec::new(alloc))
+}
+
+// The entries with their marks, in the memory of the spare list.
+fn mark_in(entries: &[Entry], spare: Vec<MarkedEntry>) -> Result<Vec<MarkedEntry>, NoMemory>
+    ensures { IfOk result (λ marked. entries_of marked.items ≡ entries.now) }
+{
+    let mut marked = spare;
+    marked.clear();
+    marked.reserve_exact(entries.len())?;
     for entry in entries {
         marked.push(MarkedEntry::of(entry))?;
     }
@@ -31,17 +40,21 @@ pub fn mark_all(alloc: Global, entries: &[Entry]) -> Result<Vec<MarkedEntry>, No
 ///
 /// It has an entry or two for each different heading (object and item, or object and class where
 /// there is no item), as far as the table distinguishes them. Those are the strictest under the
-/// heading, where one or two of them are. A few entries are all kept. So a run of many operations on one object is checked and listed by a few
-/// entries.
+/// heading, where one or two of them are. A few entries are all kept. So a run of many operations
+/// on one object is checked and listed by a few entries. It is in the memory of the spare list.
 ///
 /// Returns `NoMemory` where a request for memory was refused.
-pub fn summary_of(alloc: Global, entries: &[Entry]) -> Result<Vec<MarkedEntry>, NoMemory>
+pub fn summary_of(
+    alloc: Global,
+    entries: &[Entry],
+    spare: Vec<MarkedEntry>,
+) -> Result<Vec<MarkedEntry>, NoMemory>
     ensures { IfOk result (λ summary. IsSummary (entries_of summary.items) entries.now) }
 {
     if entries.len() <= FEW {
-        return mark_all(alloc, entries);
+        return mark_in(entries, spare);
     }
-    let mut table = Table::new(alloc, entries.len())?;
+    let mut table = Table::new(alloc, entries.len(), spare)?;
     for entry in entries {
         table.add(entry)?;
     }
@@ -65,18 +78,18 @@ struct Table {
 }
 
 impl Table {
-    /// A table for so many entries, and an empty summary.
-    fn new(alloc: Global, count: usize) -> Result<Table, NoMemory>
+    /// A table for so many entries, and an empty summary in the memory of the spare list.
+    fn new(alloc: Global, count: usize, spare: Vec<MarkedEntry>) -> Result<Table, NoMemory>
         ensures { IfOk result (λ table. table.summary.items ≡ []) }
     {
         let mut size = 1;
         while size < MOST && size / 2 < count {
             size *= 2;
         }
-        Ok(Table {
-            slots: vec![in alloc; Places { last: 0, before: 0 }; size]?,
-            summary: Vec::new(alloc),
-        })
+        let slots = vec![in alloc; Places { last: 0, before: 0 }; size]?;
+        let mut summary = spare;
+        summary.clear();
+        Ok(Table { slots, summary })
     }
 
     /// Adds an entry, unless the two at its slot are as strict. Where the earlier of them is as strict

@@ -412,7 +412,7 @@ fn many_operations_have_a_short_summary(rt: HostRuntime) -> Result<(), Fail> {
         entries.push(account(AccountCall::Deposit(some), AccountReply::Ok))?;
         entries.push(account(AccountCall::Withdraw(some), AccountReply::Ok))?;
     }
-    let summary = summary_of(alloc, &entries)?;
+    let summary = summary_of(alloc, &entries, Vec::new(alloc))?;
     assert_eq!(rt; summary.len(), 2);
     let few = amount(&rt, 1);
     let mut others = Vec::new(alloc);
@@ -480,10 +480,10 @@ fn a_third_that_two_cover_is_left_out(rt: HostRuntime) -> Result<(), Fail> {
         ))?;
         of_queue.push(enqueue(number))?;
     }
-    assert_eq!(rt; summary_of(alloc, &of_set)?.len(), 2);
-    assert_eq!(rt; summary_of(alloc, &of_key)?.len(), 2);
-    assert_eq!(rt; summary_of(alloc, &of_queue)?.len(), 2);
+    assert_eq!(rt; summary_of(alloc, &of_set, Vec::new(alloc))?.len(), 2);
+    assert_eq!(rt; summary_of(alloc, &of_key, Vec::new(alloc))?.len(), 2);
+    assert_eq!(rt; summary_of(alloc, &of_queue, Vec::new(alloc))?.len(), 2);
     of_key.push(directory(DirectoryCall::Put(Item(8), Item(1)), DirectoryReply::Ok))?;
-    assert_eq!(rt; summary_of(alloc, &of_key)?.len(), 3);
+    assert_eq!(rt; summary_of(alloc, &of_key, Vec::new(alloc))?.len(), 3);
     Ok(())
 }

@@ -45,7 +45,7 @@ fn commit(rt: &impl Abort, view: &mut View<'_>) -> Result<(), NoMemory> {
 }
 
 /// The lists of a view with no level but the base, which is then used again with spare lists.
-fn take_run(rt: &impl Abort, view: &mut View<'_>, spare: Lists) -> Lists {
+fn take_run(rt: &impl Abort, view: &mut View<'_>, spare: Lists) -> Result<Lists, NoMemory> {
     assert!(rt; view.depth() == 0);
     view.take_run(spare)
 }
@@ -203,7 +203,7 @@ fn a_view_is_used_again(rt: HostRuntime) -> Result<(), Fail> {
     let top = Call::Max(MaxCall::Top);
     let read = Call::Counter(CounterCall::Read);
     let _reply = perform(&rt, &mut view, 5, raise)?;
-    let lists = take_run(&rt, &mut view, Lists::empty(rt.alloc()));
+    let lists = take_run(&rt, &mut view, Lists::empty(rt.alloc()))?;
     assert_eq!(rt; lists.entries.len(), 1);
     assert_eq!(rt; lists.net.len(), 1);
     // In this run another object's draft is where that of object 5 was.
@@ -217,7 +217,7 @@ fn a_view_is_used_again(rt: HostRuntime) -> Result<(), Fail> {
         Reply::Counter(CounterReply::Number(-5))
     );
     assert_eq!(rt; view.entries().len(), 3);
-    let lists = take_run(&rt, &mut view, lists);
+    let lists = take_run(&rt, &mut view, lists)?;
     assert_eq!(rt; lists.entries.len(), 3);
     assert_eq!(rt; view.net().len(), 0);
     Ok(())

@@ -236,25 +236,29 @@ impl<'s> View<'s> {
         }
     }
 
-    /// The entries and the net of the base. The view is then as if it had just been opened on the
-    /// same snapshot. Its next run uses the memory of the spare lists again.
-    pub fn take_run(&mut self, spare: Lists) -> Lists
+    /// The entries and the net of the base. The net is a copy in the memory of the spare one, and
+    /// takes no more than it needs. The view is then as if it had just been opened on the same
+    /// snapshot, and has the memory of the spare entries for its next run. On `NoMemory` the view is
+    /// unchanged.
+    pub fn take_run(&mut self, spare: Lists) -> Result<Lists, NoMemory>
         requires { length self.old.outer ≡ 0 }
-        ensures entries { result.entries.items ≡ self.old.entries }
-        ensures net { result.net.items ≡ self.old.net }
-        ensures opened { self.new ≡ opened self.old.snapshot }
+        ensures entries { IfOk result (λ lists. lists.entries.items ≡ self.old.entries) }
+        ensures net { IfOk result (λ lists. lists.net.items ≡ self.old.net) }
+        ensures opened { OnOk result (self.new ≡ opened self.old.snapshot) }
+        ensures err { OnErr result (self.new ≡ self.old) }
     {
         let Lists {
             mut entries,
             mut net,
         } = spare;
-        entries.clear();
         net.clear();
+        net.reserve_exact(self.net.len())?;
+        extend_reserved(&mut net, &self.net);
+        entries.clear();
         self.layers.restart(self.snapshot);
-        Lists {
-            entries: replace(&mut self.entries, entries),
-            net: replace(&mut self.net, net),
-        }
+        self.net.clear();
+        let entries = replace(&mut self.entries, entries);
+        Ok(Lists { entries, net })
     }
 
     /// The entries, and the net of the base.

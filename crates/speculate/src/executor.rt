@@ -424,7 +424,7 @@ fn run_alone<T: Threads + Sync, G: Gate>(
     let mut view = View::open(making.alloc, &fork.state)?;
     let tried = run_subaction(making, child, &mut labels, &mut view, width)?;
     let Lists { entries, net } = view.into_run();
-    let summary = summary_of(making.alloc, &entries)?;
+    let summary = summary_of(making.alloc, &entries, Vec::new(making.alloc))?;
     Ok(Ahead {
         tried,
         entries,

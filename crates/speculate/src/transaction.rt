@@ -89,7 +89,7 @@ pub fn run_in<T: Threads + Sync, G: Gate>(
     };
     let Run { tree, entries, net } = spare;
     let tree = run_block(&making, block, labels, view, width, tree.taken)?;
-    let Lists { entries, mut net } = view.take_run(Lists { entries, net });
+    let Lists { entries, mut net } = view.take_run(Lists { entries, net })?;
     match tree.outcome {
         End::Ended => {}
         // What an aborted transaction did is not in its net.
