@@ -1,7 +1,7 @@
 //! Taking calls back: what each call changed, and how the value before it is restored.
-ghost use Rattle.std.specs.Prelude.{◌≡◌, Option, IsOk, OnOk, OnErr};
+ghost use Rattle.std.specs.Prelude.{◌≡◌, Option, OnOk, OnErr};
 ghost use Rattle.atoms.specs.Undo.{Undoing};
-ghost use Rattle.atoms.specs.Changes.{account_undoing, counter_undoing, max_undoing, set_undoing, queue_undoing, directory_undoing};
+ghost use Rattle.atoms.specs.Changes.{account_undoing, counter_undoing, max_undoing, set_undoing, set_undo_may_grow, queue_undoing, queue_undo_may_grow, directory_undoing, directory_undo_may_grow};
 
 use crate::{
     Account, AccountCall, Counter, CounterCall, Directory, DirectoryCall, Item, ItemSet, MaxCall,
@@ -18,6 +18,9 @@ pub trait Undo: Atom {
     /// What each call changes at a value, and the value that is left after a change is taken back.
     ghost undoing: { Undoing Self.Value Self.Call Self.Change };
 
+    /// Taking the change back may take memory.
+    ghost UndoMayGrow: { Self.Change → Type 0 };
+
     /// What the call will change at this value, or none where it will change nothing.
     fn change(value: &Self::Value, call: &Self::Call) -> Option<Self::Change>
         ensures { result ≡ undoing.change value.now call.now };
@@ -25,7 +28,8 @@ pub trait Undo: Atom {
     /// Takes a change back. On `NoMemory` the value is as before.
     fn undo(value: &mut Self::Value, change: &Self::Change) -> Result<(), NoMemory>
         ensures ok { OnOk result (value.new ≡ undoing.undone value.old change.now) }
-        ensures err { OnErr result (value.new ≡ value.old) };
+        ensures err { OnErr result (value.new ≡ value.old) }
+        ensures refused { OnErr result (UndoMayGrow change.now) };
 }
 
 /// What a call changed in a set: the item that was added or removed.
@@ -58,6 +62,8 @@ impl Undo for Account {
 
     ghost undoing = { account_undoing };
 
+    ghost UndoMayGrow = { λ change. ⊥ };
+
     fn change(value: &u64, call: &AccountCall) -> Option<u64> {
         match call {
             AccountCall::Deposit(_) => Some(*value),
@@ -68,7 +74,7 @@ impl Undo for Account {
 
     fn undo(value: &mut u64, change: &u64) -> Result<(), NoMemory>
         ensures ok { value.new ≡ account_undoing.undone value.old change.now }
-        ensures never_fails { IsOk result }
+        ensures refused { OnErr result ⊥ }
     {
         *value = *change;
         Ok(())
@@ -81,6 +87,8 @@ impl Undo for Counter {
 
     ghost undoing = { counter_undoing };
 
+    ghost UndoMayGrow = { λ change. ⊥ };
+
     fn change(value: &i64, call: &CounterCall) -> Option<i64> {
         match call {
             CounterCall::Add(_) | CounterCall::Sub(_) => Some(*value),
@@ -90,7 +98,7 @@ impl Undo for Counter {
 
     fn undo(value: &mut i64, change: &i64) -> Result<(), NoMemory>
         ensures ok { value.new ≡ counter_undoing.undone value.old change.now }
-        ensures never_fails { IsOk result }
+        ensures refused { OnErr result ⊥ }
     {
         *value = *change;
         Ok(())
@@ -103,6 +111,8 @@ impl Undo for MaxRegister {
 
     ghost undoing = { max_undoing };
 
+    ghost UndoMayGrow = { λ change. ⊥ };
+
     fn change(value: &u64, call: &MaxCall) -> Option<u64> {
         match call {
             MaxCall::Raise(amount) if amount.get() > *value => Some(*value),
@@ -112,7 +122,7 @@ impl Undo for MaxRegister {
 
     fn undo(value: &mut u64, change: &u64) -> Result<(), NoMemory>
         ensures ok { value.new ≡ max_undoing.undone value.old change.now }
-        ensures never_fails { IsOk result }
+        ensures refused { OnErr result ⊥ }
     {
         *value = *change;
         Ok(())
@@ -123,6 +133,8 @@ impl Undo for ItemSet {
     type Change = SetChange;
 
     ghost undoing = { set_undoing };
+
+    ghost UndoMayGrow = { set_undo_may_grow };
 
     fn change(value: &ItemSet, call: &SetCall) -> Option<SetChange> {
         match call {
@@ -150,6 +162,8 @@ impl Undo for Queue {
 
     ghost undoing = { queue_undoing };
 
+    ghost UndoMayGrow = { queue_undo_may_grow };
+
     fn change(value: &Queue, call: &QueueCall) -> Option<QueueChange> {
         match call {
             QueueCall::Enq(_) => Some(QueueChange::Enqueued),
@@ -171,6 +185,8 @@ impl Undo for Directory {
     type Change = DirectoryChange;
 
     ghost undoing = { directory_undoing };
+
+    ghost UndoMayGrow = { directory_undo_may_grow };
 
     fn change(value: &Directory, call: &DirectoryCall) -> Option<DirectoryChange> {
         match call {
