@@ -1,5 +1,5 @@
 -- What the calls of each type change, and how it is taken back.
-use Rattle.std.specs.Prelude.{⊤, ℕ, ◌-◌, nat_le, ℤ, List, ◌∷◌, length, take, slice_get, Option, Some, None, option_map, is_some, IsSome, if◌then◌else◌}
+use Rattle.std.specs.Prelude.{◌≡◌, ⊤, ℕ, ◌-◌, nat_le, ℤ, List, ◌∷◌, length, take, slice_get, Option, Some, None, IsNone, option_map, is_some, IsSome, false, if◌then◌else◌}
 use Rattle.std.specs.FinSet as set
 use Rattle.std.specs.FinMap as map
 use Rattle.atoms.specs.Undo.{Undoing}
@@ -60,9 +60,9 @@ set_undone s (Added x) = set.remove s x
 set_undone s (Removed x) = set.insert s x
 
 -- only an item that is put back may take memory
-abbrev pub set_undo_may_grow : SetChange → Type 0
-set_undo_may_grow (Removed x) = ⊤
-set_undo_may_grow change = ⊥
+abbrev pub set_undo_may_grow : Sets → SetChange → Type 0
+set_undo_may_grow s (Removed x) = set.contains s x ≡ false
+set_undo_may_grow s change = ⊥
 
 abbrev pub set_undoing : Undoing Sets SetCall SetChange
 set_undoing = record { change = set_change; undone = set_undone }
@@ -78,9 +78,9 @@ queue_undone v Enqueued = take (length v - 1) v
 queue_undone v (Dequeued x) = x ∷ v
 
 -- only an item that is put back may take memory
-abbrev pub queue_undo_may_grow : QueueChange → Type 0
-queue_undo_may_grow (Dequeued x) = ⊤
-queue_undo_may_grow change = ⊥
+abbrev pub queue_undo_may_grow : List Item → QueueChange → Type 0
+queue_undo_may_grow v (Dequeued x) = ⊤
+queue_undo_may_grow v change = ⊥
 
 abbrev pub queue_undoing : Undoing (List Item) QueueCall QueueChange
 queue_undoing = record { change = queue_change; undone = queue_undone }
@@ -98,6 +98,6 @@ directory_change m (Lookup k) = None
 abbrev pub directory_undoing : Undoing Directories DirectoryCall DirectoryChange
 directory_undoing = record { change = directory_change; undone = λ m change. put_at m change.key change.before }
 
--- only a key that is bound again may take memory
-abbrev pub directory_undo_may_grow : DirectoryChange → Type 0
-directory_undo_may_grow change = IsSome change.before
+-- only a free key that is bound again may take memory
+abbrev pub directory_undo_may_grow : Directories → DirectoryChange → Type 0
+directory_undo_may_grow m change = IsSome change.before × IsNone (map.get m change.key)

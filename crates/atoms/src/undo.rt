@@ -18,8 +18,8 @@ pub trait Undo: Atom {
     /// What each call changes at a value, and the value that is left after a change is taken back.
     ghost undoing: { Undoing Self.Value Self.Call Self.Change };
 
-    /// Taking the change back may take memory.
-    ghost UndoMayGrow: { Self.Change → Type 0 };
+    /// Taking the change back may take memory at this value.
+    ghost UndoMayGrow: { Self.Value → Self.Change → Type 0 };
 
     /// What the call will change at this value, or none where it will change nothing.
     fn change(value: &Self::Value, call: &Self::Call) -> Option<Self::Change>
@@ -29,7 +29,7 @@ pub trait Undo: Atom {
     fn undo(value: &mut Self::Value, change: &Self::Change) -> Result<(), NoMemory>
         ensures ok { OnOk result (value.new ≡ undoing.undone value.old change.now) }
         ensures err { OnErr result (value.new ≡ value.old) }
-        ensures refused { OnErr result (UndoMayGrow change.now) };
+        ensures refused { OnErr result (UndoMayGrow value.old change.now) };
 }
 
 /// What a call changed in a set: the item that was added or removed.
@@ -62,7 +62,7 @@ impl Undo for Account {
 
     ghost undoing = { account_undoing };
 
-    ghost UndoMayGrow = { λ change. ⊥ };
+    ghost UndoMayGrow = { λ v change. ⊥ };
 
     fn change(value: &u64, call: &AccountCall) -> Option<u64> {
         match call {
@@ -87,7 +87,7 @@ impl Undo for Counter {
 
     ghost undoing = { counter_undoing };
 
-    ghost UndoMayGrow = { λ change. ⊥ };
+    ghost UndoMayGrow = { λ v change. ⊥ };
 
     fn change(value: &i64, call: &CounterCall) -> Option<i64> {
         match call {
@@ -111,7 +111,7 @@ impl Undo for MaxRegister {
 
     ghost undoing = { max_undoing };
 
-    ghost UndoMayGrow = { λ change. ⊥ };
+    ghost UndoMayGrow = { λ v change. ⊥ };
 
     fn change(value: &u64, call: &MaxCall) -> Option<u64> {
         match call {
