@@ -1,7 +1,7 @@
 -- What calls change at a value of any kind and in a list of them, and how it is taken back.
 use Rattle.std.specs.Prelude.{ℕ, List, Option, None, option_map}
 use Rattle.atoms.specs.Undo.{Undoing, undoing_at_places}
-use Rattle.atoms.specs.Changes.{account_undoing, counter_undoing, set_undoing, queue_undoing, directory_undoing, max_undoing}
+use Rattle.atoms.specs.Changes.{account_undoing, counter_undoing, set_undoing, set_undo_may_grow, queue_undoing, queue_undo_may_grow, directory_undoing, directory_undo_may_grow, max_undoing}
 use Rattle.objects.specs.declared.value.Value.{Value}
 use Rattle.objects.specs.declared.value.Value.TheVariants as value
 use Rattle.objects.specs.declared.call.Call.{Call}
@@ -27,6 +27,13 @@ value_undone (value.Queue v) (change.Queue d) = value.Queue (queue_undoing.undon
 value_undone (value.Directory v) (change.Directory d) = value.Directory (directory_undoing.undone v d)
 value_undone (value.Max v) (change.Max d) = value.Max (max_undoing.undone v d)
 value_undone v d = v
+
+-- taking the change back may take memory at this value
+abbrev pub UndoMayGrow : Value → Change → Type 0
+UndoMayGrow (value.Set v) (change.Set d) = set_undo_may_grow v d
+UndoMayGrow (value.Queue v) (change.Queue d) = queue_undo_may_grow v d
+UndoMayGrow (value.Directory v) (change.Directory d) = directory_undo_may_grow v d
+UndoMayGrow v d = ⊥
 
 -- of one value of any kind
 abbrev pub value_undoing : Undoing Value Call Change

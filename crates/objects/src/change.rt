@@ -1,6 +1,6 @@
 //! What calls change at values of any kind, and how it is taken back.
 ghost use Rattle.std.specs.Prelude.{◌≡◌, OnOk, OnErr};
-ghost use Rattle.objects.specs.Changes.{value_change, value_undone};
+ghost use Rattle.objects.specs.Changes.{value_change, value_undone, UndoMayGrow};
 
 use crate::{Call, Value};
 use atoms::{
@@ -52,6 +52,7 @@ impl Value {
     pub fn undo(&mut self, change: &Change) -> Result<(), NoMemory>
         ensures ok { OnOk result (self.new ≡ value_undone self.old change.now) }
         ensures err { OnErr result (self.new ≡ self.old) }
+        ensures refused { OnErr result (UndoMayGrow self.old change.now) }
     {
         match (self, change) {
             (Value::Account(value), Change::Account(before)) => Account::undo(value, before),
