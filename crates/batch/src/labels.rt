@@ -1,5 +1,5 @@
 //! Labels: adding what a step's label holds, and testing it.
-ghost use Rattle.std.specs.Prelude.{◌≡◌, ◌==◌, ◌++◌, pos, OnOk};
+ghost use Rattle.std.specs.Prelude.{◌≡◌, ◌==◌, ◌++◌, pos, IsTrue, OnOk, OnErr};
 ghost use Rattle.std.specs.Int.RustNames.{int_le};
 ghost use Rattle.meaning.specs.Labels.{holds_of, if_there, is_word_of, is_outcome, item_of, number_of};
 ghost use Rattle.meaning.specs.OneThread.{label_if};
@@ -10,10 +10,12 @@ use objects::{
     SetReply,
 };
 
-/// Adds what the label of a step holds, where the step has one. Returns `NoMemory` where a request
-/// for memory was refused.
+/// Adds what the label of a step holds, where the step has one. A step without a label takes no
+/// memory. On `NoMemory` the labels are as before.
 pub fn add_label(labels: &mut Vec<Held>, labelled: bool, held: Held) -> Result<(), NoMemory>
-    ensures { OnOk result (labels.new.items ≡ labels.old.items ++ label_if labelled held) }
+    ensures ok { OnOk result (labels.new.items ≡ labels.old.items ++ label_if labelled held) }
+    ensures err { OnErr result (labels.new.items ≡ labels.old.items) }
+    ensures refused { OnErr result (IsTrue labelled) }
 {
     if labelled {
         labels.push(held)?;

@@ -38,7 +38,7 @@ run_step-index-requires t c = let below = if-bound c.args.step.now c.in-If.label
 
 pub run_step-returns-in_ok-add_label-in-Op-clause-shows : goal.run_step-returns-in_ok-add_label-in-Op-clause-shows
 run_step-returns-in_ok-add_label-in-Op-clause-shows t c =
-    op-shows ground c.args.step.now _ _ _ _ _ _ _ _ c.in-Op.is c.in_ok-reply-in-Op.ensures.reply (call_took _ _ _ _ c.in_ok-reply-in-Op.reply c.in_ok-reply-in-Op.ensures.ok) c.in_ok-add_label-in-Op.ensures
+    op-shows ground c.args.step.now _ _ _ _ _ _ _ _ c.in-Op.is c.in_ok-reply-in-Op.ensures.reply (call_took _ _ _ _ c.in_ok-reply-in-Op.reply c.in_ok-reply-in-Op.ensures.ok) c.in_ok-add_label-in-Op.ensures.ok
 
 pub run_step-returns-in_ok-new-in-If-clause-shows : goal.run_step-returns-in_ok-new-in-If-clause-shows
 run_step-returns-in_ok-new-in-If-clause-shows t c =
@@ -55,7 +55,7 @@ run_step-returns-in_ok-into_taken-in-Sub-clause-shows t c =
     let child = c.in-Sub.child in
     let tried = c.in_ok-tried-in-Sub in
     sub-shows ground c.args.step.now child c.args.labels.now.items _ c.args.workspace.now _ tried.tried _ c.in-Sub.is (rw c.deref-in-Sub.ensures at tried.ensures.shows)
-    (rw (c.in_ok-add_label-in-Sub.ensures, tried.ensures.labels, c.deref-in-Sub-2.ensures, subaction_view-labelled child.value) refl) c.in_ok-into_taken-in-Sub.ensures
+    (rw (c.in_ok-add_label-in-Sub.ensures.ok, tried.ensures.labels, c.deref-in-Sub-2.ensures, subaction_view-labelled child.value) refl) c.in_ok-into_taken-in-Sub.ensures
 
 pub run_step-returns-in-Abort-clause-shows : goal.run_step-returns-in-Abort-clause-shows
 run_step-returns-in-Abort-clause-shows t c = abort-shows ground c.args.step.now c.in-Abort.reason c.args.labels.now.items c.args.workspace.now c.in-Abort.is
@@ -79,7 +79,7 @@ run_children-returns-in-Aborted-clause-shows t c =
 pub run_children-loop-child-preserved : goal.run_children-loop-child-preserved
 run_children-loop-child-preserved t c =
     let more = part_tried-more ground _ _ _ _ _ _ _ c.child-item.result c.in_ok-tried.tried _ (c.in_ok-tried.tried.body, c.in_ok-tried.tried.handler) _ c.loop-child.invariant.part c.loop-child-test.true c.child-item.is c.in_ok-tried.ensures.shows c.in-Ended.is refl (ap (λ b. label_if b (Outcome c.in_ok-tried.tried.body.outcome)) (sym (subaction_view-labelled c.child-item.result))) in
-    record { same = c.in_ok-tried.ensures.labels ∙ c.loop-child.invariant.same; part = rw (c.in_ok-push.ensures.items, c.in_ok-add_label.ensures, c.in_ok-tried.ensures.labels) more }
+    record { same = c.in_ok-tried.ensures.labels ∙ c.loop-child.invariant.same; part = rw (c.in_ok-push.ensures.items, c.in_ok-add_label.ensures.ok, c.in_ok-tried.ensures.labels) more }
 
 pub run_children-returns-clause-shows : goal.run_children-returns-clause-shows
 run_children-returns-clause-shows t c = rw (← c.loop-child.invariant.same) (part_tried-ended ground _ _ _ _ _ _ _ c.loop-child.invariant.part c.loop-child-test.false)

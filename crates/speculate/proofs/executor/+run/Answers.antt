@@ -44,7 +44,7 @@ run_step-index-requires g t c = let below = if-bound c.args.step.now c.in-If.lab
 
 pub run_step-returns-in_ok-add_label-in-Op-clause-shows : goal.run_step-returns-in_ok-add_label-in-Op-clause-shows
 run_step-returns-in_ok-add_label-in-Op-clause-shows g t c =
-    op-shows ground c.args.step.now _ _ _ _ _ _ _ _ c.in-Op.is c.in_ok-reply-in-Op.ensures.reply c.in_ok-reply-in-Op.ensures.ok c.in_ok-add_label-in-Op.ensures
+    op-shows ground c.args.step.now _ _ _ _ _ _ _ _ c.in-Op.is c.in_ok-reply-in-Op.ensures.reply c.in_ok-reply-in-Op.ensures.ok c.in_ok-add_label-in-Op.ensures.ok
 
 pub run_step-returns-in_ok-new-in-If-clause-shows : goal.run_step-returns-in_ok-new-in-If-clause-shows
 run_step-returns-in_ok-new-in-If-clause-shows g t c =
@@ -61,7 +61,7 @@ run_step-returns-in_ok-into_taken-in-Sub-clause-shows g t c =
     let child = c.in-Sub.child in
     let tried = c.in_ok-tried-in-Sub in
     sub-shows ground c.args.step.now child c.args.labels.now.items _ c.args.view.now _ tried.tried _ c.in-Sub.is (rw c.deref-in-Sub.ensures at tried.ensures.shows)
-    (rw (c.in_ok-add_label-in-Sub.ensures, tried.ensures.labels, c.deref-in-Sub-2.ensures, subaction_view-labelled child.value) refl) c.in_ok-into_taken-in-Sub.ensures
+    (rw (c.in_ok-add_label-in-Sub.ensures.ok, tried.ensures.labels, c.deref-in-Sub-2.ensures, subaction_view-labelled child.value) refl) c.in_ok-into_taken-in-Sub.ensures
 
 pub run_step-returns-in-Abort-clause-shows : goal.run_step-returns-in-Abort-clause-shows
 run_step-returns-in-Abort-clause-shows g t c = abort-shows ground c.args.step.now c.in-Abort.reason c.args.labels.now.items c.args.view.now c.in-Abort.is
@@ -162,7 +162,7 @@ run_children-loop-place-preserved g t c =
     let more = part_tried-more ground _ _ _ _ _ _ _ c.index-children-place.result c.in_ok-tried.tried _ (c.in_ok-tried.tried.body, c.in_ok-tried.tried.handler) _ c.loop-place.invariant.part c.loop-place-test.true c.index-children-place.is c.in_ok-tried.ensures.shows c.in-Ended.is refl (ap (λ b. label_if b (Outcome c.in_ok-tried.tried.body.outcome)) (sym (subaction_view-labelled c.index-children-place.result))) in
     record {
       same = rw c.in_ok-tried.ensures.labels c.loop-place.invariant.same;
-      part = rw (c.in_ok-push.ensures.items, c.in_ok-add_label.ensures, c.in_ok-tried.ensures.labels) more;
+      part = rw (c.in_ok-push.ensures.items, c.in_ok-add_label.ensures.ok, c.in_ok-tried.ensures.labels) more;
       left = rw c.in_ok-tried.ensures.labels
           (left-more c.args.children.now c.loop-place.place c.index-children-place.result c.loop-place.labels.items c.loop-place.kept c.loop-place.view c.loop-place.ahead c.next-run.new.self c.loop-place.invariant.left c.loop-place-test.true c.index-children-place.is
           c.next-run.result c.run_child.new.view c.in_ok-tried.tried c.run_child.new.kept c.next-run.ensures.cases c.in_ok-tried.ensures.shows c.in_ok-tried.ensures.kept);
