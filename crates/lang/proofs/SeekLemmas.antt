@@ -1,7 +1,7 @@
 -- The first demand that is not met, of a step and of a block.
 use Rattle.std.specs.Result.{IfErr, IsErrAnd}
 use Rattle.std.specs.Prelude.{codes, nat_lt}
-use Rattle.std.proofs.Common.{◌≡◌, ℕ, zero, suc, ◌≤◌, Bool, true, false, cond, Option, None, Some, Result, Ok, Err, [], ◌∷◌, List, length, inr, refl, subst, sym, ap, ap₂, ◌∙◌, arith}
+use Rattle.std.proofs.Common.{◌≡◌, ℕ, zero, suc, ◌<◌, ◌≤◌, Bool, true, false, cond, Option, None, Some, Result, Ok, Err, [], ◌∷◌, List, length, inr, refl, subst, sym, ap, ap₂, ◌∙◌, arith}
 use Rattle.std.proofs.lemmas.Bool.{le-ltb}
 use Rattle.serde_json.specs.Data.{Data, Items}
 use Rattle.serde_json.specs.Find.{as_array, get}
@@ -149,5 +149,5 @@ place_shown bytes d fault found pointer place start reads short known begun fail
 
     by : (place : Place) → Shows pointer place → IsPlaceOf bytes fault place
     by Whole shows = inr (d, known, here ∙ ap₂ make same shows)
-    by (Pointer text) shows = (short, (d, known, here ∙ ap₂ make same (sym shows)))
+    by (Pointer text) shows = (short, subst (λ p. 0 < length p) (sym shows.1) shows.0, (d, known, here ∙ ap₂ make same (sym shows.1)))
     by (LineColumn line column) shows = absurd shows

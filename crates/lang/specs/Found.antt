@@ -24,20 +24,20 @@ found_of unmet = record { fault = unmet.fault; pointer = pointer_text unmet.poin
 abbrev pub IsFound : Counts → Placed → Unmet → Type 0
 IsFound c asked unmet = unmet.fault ≢ memory_fault → seek c asked ≡ Err (found_of unmet)
 
--- a pointer is shown so
+-- A pointer is shown so. The empty pointer is that of the whole.
 abbrev pub Shows : List ℕ → Place → Type 0
 Shows pointer Whole = pointer ≡ []
-Shows pointer (Pointer text) = string_bytes text ≡ pointer
+Shows pointer (Pointer text) = (0 < length pointer) × (string_bytes text ≡ pointer)
 Shows pointer (LineColumn line column) = ⊥
 
 -- the bytes write a value, and the first demand that it doesn't meet has this fault and this pointer
 abbrev pub PointsTo : List ℕ → Fault → List ℕ → Type 0
 PointsTo bytes fault pointer = (d : Data) × (value_of bytes ≡ Some d) × (seek no_counts (placed d) ≡ Err (record { fault = fault; pointer = pointer }))
 
--- The place of a fault. The whole is the place of a fault of its length, too.
+-- The place of a fault. The whole is the place of a fault of its length, too, and a pointer leads to a part of it.
 abbrev pub IsPlaceOf : List ℕ → Fault → Place → Type 0
 IsPlaceOf bytes fault Whole = (67108864 < length bytes) ⊎ PointsTo bytes fault []
-IsPlaceOf bytes fault (Pointer text) = (length bytes ≤ 67108864) × PointsTo bytes fault (string_bytes text)
+IsPlaceOf bytes fault (Pointer text) = (length bytes ≤ 67108864) × (0 < length (string_bytes text)) × PointsTo bytes fault (string_bytes text)
 IsPlaceOf bytes fault (LineColumn line column) = (length bytes ≤ 67108864) × (value_of bytes ≡ None)
 
 -- The demands with their places are those that are asked, so that no other fault is first.

@@ -173,8 +173,9 @@ fn place_of(unmet: Unmet) -> Result<Place, Fault>
     if unmet.fault.code == Code::Memory {
         return Err(Code::Memory.outside());
     }
+    // The empty pointer leads to the whole.
     match unmet.pointer {
-        Some(pointer) => Ok(Place::Pointer(pointer)),
-        None => Ok(Place::Whole),
+        Some(pointer) if !pointer.is_empty() => Ok(Place::Pointer(pointer)),
+        _ => Ok(Place::Whole),
     }
 }
