@@ -1,5 +1,7 @@
 """Documents that are too long to keep, and what is printed for them."""
 
+import itertools
+
 ACCOUNT = '{"name":"a","kind":"account","start":0}'
 
 
@@ -248,6 +250,26 @@ def try_refusals(program):
                         name + " without " + lacking, fewer.encode(), 2, 0)
 
 
+def by_reason(order):
+    """A subaction with handlers by reason in this order."""
+    blocks = {"a": '{"op":["s","insert","one"]}', "b": '{"op":["s","insert","two"]},{"op":["s","insert","one"]}',
+              "c": '{"op":["s","insert","three"]}'}
+    return document(['{"name":"s","kind":"set","start":[]}'], [
+        '[{"sub":[{"abort":"b"}],"handlers":{%s}},{"op":["s","insert","three"]}]'
+        % ",".join('"%s":[%s]' % (reason, blocks[reason]) for reason in order)], 4)
+
+
+BY_REASON = ["T 1 committed", "S 1.1 aborted b", "A 1.1.b.1 b", "O 1.1.h:b.1 s insert two = added",
+             "O 1.1.h:b.2 s insert one = added", "O 1.2 s insert three = added", "= s set {one two three}"]
+
+
+def try_reasons(program):
+    """In each order the same report: names are numbered by the order of the reasons' bytes."""
+    for order in itertools.permutations("abc"):
+        program.expect_report("handlers by reason, as " + "".join(order), by_reason(order),
+                              lines(BY_REASON + ["rounds 1"]), [])
+
+
 def try_steps(program):
     """Steps whose members come in other orders, each with the same report."""
     queued = '{"op":["q","enq","%s"]}'
@@ -280,6 +302,7 @@ def try_steps(program):
         ((label_tested, second, first, test), (body, handler, handlers, label)),
         ((second, first, test, label_tested), (label, handler, handlers, body)),
     )
+    try_reasons(program)
     for condition, subaction in orders:
         program.expect_report(
             "steps with %s and %s first" % (condition[1], subaction[1]),

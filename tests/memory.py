@@ -2,6 +2,7 @@
 
 import json
 
+import documents
 import preloaded
 
 FAULT = (b"", 1, b"fault 20 transaction 0\n")
@@ -68,8 +69,16 @@ def try_places(program, library, case):
                  case.with_suffix(".check").read_bytes())
 
 
+def try_reasons(program, library):
+    """Handlers whose reasons ascend, and others, for which the document is begun again."""
+    for order in ("abc", "acb"):
+        try_document(program, library, ["serial"], "handlers by reason, as " + order,
+                     documents.by_reason(order), documents.lines(documents.BY_REASON))
+
+
 def try_all(program, library, loops, cases):
     try_loops(program, library, loops)
+    try_reasons(program, library)
     try_places(program, library, cases[0])
     for case in cases:
         for workers in ("1", "4"):

@@ -1,5 +1,8 @@
 -- What is taken from the tokens of a text, as the data that `serde_json` reads from them.
-use Rattle.std.specs.Prelude.{◌≡◌, ◌≤◌, ℕ, Bool, List, length, Option, Some, None, codes, nat_le, true}
+use Rattle.std.specs.Prelude.{⊤, ◌≡◌, ◌≤◌, ℕ, Bool, List, length, Option, Some, None, codes, nat_le, true}
+use Rattle.std.proofs.Common.{Less}
+use Rattle.std.specs.Ordering.{nat_cmp}
+use Rattle.std.specs.Cmp.Lexicographic.{slice_cmp}
 use Rattle.json.specs.Token.{Token}
 use Rattle.json.specs.Json as json
 use Rattle.serde_json.specs.Data.{Data, array, boolean, number, object, string, unsigned, Items, item, Members, no_members, member, put}
@@ -51,6 +54,11 @@ with_handler (Some d) ms = put (codes "handler") d ms
 -- a subaction's members: its body, and its handlers by reason, its handler and its label, where it has them
 abbrev pub sub_members : Data → Option Members → Option Data → Option (List ℕ) → Members
 sub_members body reasons every label = labelled label (with_handler every (with_handlers reasons (member (codes "sub") body no_members)))
+
+-- a reason is greater than the one before it, where there is one, by their bytes
+abbrev pub IsAfter : List ℕ → Option (List ℕ) → Type 0
+IsAfter reason None = ⊤
+IsAfter reason (Some before) = slice_cmp nat_cmp before reason ≡ Less
 
 -- a version may have them
 abbrev pub are_allowed : ℕ → Option Members → Bool

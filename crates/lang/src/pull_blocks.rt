@@ -5,19 +5,20 @@
 //! alone; `if`, one of `is`, `atleast` and `item`, then `then`, and `else`; `abort` alone. What may be
 //! left out may be left out, and no member comes twice.
 //!
-//! Of `handlers`, and of a step whose first member is another, a small tree is made and read as in any
-//! other document. So texts are numbered in the same order.
+//! Of a step whose first member is another, a small tree is made and read as in any other document. So
+//! texts are numbered in the same order. Handlers by reason are read in the order of the reasons' bytes:
+//! straight, where they stand in this order, and where some don't, by a small tree of each step's.
 ghost use Rattle.std.specs.Prelude.{◌≡◌, ℕ, List, [], ◌∷◌, codes, map, Option, option_map, true, Some, None, IfSome, ◌<◌, ◌+◌, ◌*◌, ◌≤◌};
 ghost use Rattle.json.specs.Json.{read_key};
 ghost use Rattle.json.specs.Token as token;
-ghost use Rattle.serde_json.specs.Data.{Data, Items, Members, object, put};
+ghost use Rattle.serde_json.specs.Data.{Data, Items, Members, no_members, object, put};
 ghost use Rattle.batch.specs.Views.{block_view, handler_view, step_view, subaction_view};
-ghost use Rattle.lang.specs.Asked.{Asks, block_asked, block_asked_if, children_asked, is_abort, label_asked, label_in, labels_of, members_asked, part, scope_after, sort_of, step_asked, steps_asked, sub_asked, test_asked};
+ghost use Rattle.lang.specs.Asked.{Asks, block_asked, block_asked_if, children_asked, is_abort, label_asked, label_in, labels_of, member_asked, members_asked, part, scope_after, sort_of, step_asked, steps_asked, sub_asked, test_asked};
 ghost use Rattle.lang.specs.Answer.{IsMet};
 ghost use Rattle.lang.specs.declared.counts.Counts.{Counts};
-ghost use Rattle.lang.specs.Pulled.{ReadsItems, ReadsMembers, ReadsValue, SubTail, TestKey, abort_step, if_step, test_key, with_else};
+ghost use Rattle.lang.specs.Pulled.{IsAfter, ReadsItems, ReadsMembers, ReadsValue, SubTail, TestKey, abort_step, if_step, test_key, with_else};
 ghost use Rattle.lang.specs.Scope.{AreUnseen, Extends, Scope, numbers_of, scope_of, setting_of};
-ghost use Rattle.lang.specs.Spelled.{Spelling, block_of, block_of_if, children_spelled, members_of, or_no_step, spelled_map, step_of, steps_spelled, sub_of, test_of};
+ghost use Rattle.lang.specs.Spelled.{Spelling, block_of, block_of_if, children_spelled, member_of, members_of, or_no_step, spelled_map, step_of, steps_spelled, sub_of, test_of};
 
 use crate::declared::Declared;
 use crate::hashing::Labels;
@@ -27,9 +28,9 @@ use crate::pull::{
     pull_begin_array, pull_begin_object, pull_end_object, pull_key, pull_members, pull_name,
     pull_object, pull_operation, pull_text, pull_whole,
 };
-use crate::state::{Numbering, State};
+use crate::state::{Numbering, State, number_of};
 use crate::steps::{Sort, read_members, read_reason, read_step, taking};
-use crate::words::{Subject, fits_item, fits_number, fits_word, word_of};
+use crate::words::{Subject, fits_item, fits_number, fits_word, is_name, word_of};
 use batch::{Block, Handler, Step, Subaction, Test};
 use indexmap::IndexMap;
 use json::{Reader, Token};
@@ -38,7 +39,104 @@ use std::alloc::Global;
 
 // ---- subactions
 
-/// The handlers by reason, in the order of the reasons' bytes. A small tree is made of them.
+/// Whether a reason is greater than the one before it, by their bytes.
+fn is_after(reason: &str, before: Option<&str>) -> bool
+    ensures { result ≡ true → IsAfter reason.now (option_map (λ text. text.now) before.entry) }
+{
+    match before {
+        Some(before) => before < reason,
+        None => true,
+    }
+}
+
+/// A handler whose reason has been read.
+#[cycle(blocks)]
+fn pull_handler(
+    alloc: Global,
+    reason: &str,
+    reader: &mut Reader<'_>,
+    levels: usize,
+    declared: &Declared,
+    state: &mut State,
+) -> Option<Handler>
+    requires few { levels ≤ 24 }
+    ensures { IfSome result (λ handler. (d : Data) × ReadsValue (5 * levels) reader.old d reader.new
+        × IsMet state.old.counts (member_asked (block_asked (setting_of declared.now) levels)
+        (scope_of state.old.labels.entries) reason.now d) state.new.counts
+        × ((handler_view handler, numbers_of state.new.numbering)
+        ≡ member_of (block_of (setting_of declared.now) levels) (scope_of state.old.labels.entries)
+        (numbers_of state.old.numbering) reason.now d)
+        × (scope_of state.new.labels.entries ≡ scope_of state.old.labels.entries)) }
+{
+    if !is_name(reason) {
+        return None;
+    }
+    let number = number_of(alloc, &mut state.numbering.reasons, reason).ok()?;
+    let block = pull_block(alloc, reader, levels, declared, state)?;
+    Some(Handler {
+        reason: number,
+        block,
+    })
+}
+
+/// The handlers by reason up to their end, if their reasons ascend.
+#[cycle(blocks)]
+fn pull_ascending(
+    alloc: Global,
+    reader: &mut Reader<'_>,
+    levels: usize,
+    declared: &Declared,
+    state: &mut State,
+) -> Option<Vec<Handler>>
+    requires few { levels ≤ 24 }
+    ensures { IfSome result (λ handlers. (hs : Members) × ReadsMembers (5 * levels) no_members reader.old hs reader.new
+        × IsMet state.old.counts (members_asked (block_asked (setting_of declared.now) levels)
+        (scope_of state.old.labels.entries) hs) state.new.counts
+        × ((map handler_view handlers.items, numbers_of state.new.numbering)
+        ≡ members_of (block_of (setting_of declared.now) levels) (scope_of state.old.labels.entries)
+        (numbers_of state.old.numbering) hs)
+        × (scope_of state.new.labels.entries ≡ scope_of state.old.labels.entries)) }
+{
+    let mut handlers = Vec::new(alloc);
+    let mut before = None;
+    while let Some(reason) = reader.next_key().ok()? {
+        if !is_after(reason, before) {
+            state.any_order = true;
+            return None;
+        }
+        handlers
+            .push(pull_handler(alloc, reason, reader, levels, declared, state)?)
+            .ok()?;
+        before = Some(reason);
+    }
+    handlers.shrink_to_fit();
+    Some(handlers)
+}
+
+/// The handlers by reason up to their end, in the order of the reasons' bytes. A small tree is made of them.
+fn pull_sorted(
+    alloc: Global,
+    reader: &mut Reader<'_>,
+    levels: usize,
+    declared: &Declared,
+    state: &mut State,
+) -> Option<Vec<Handler>>
+    requires few { levels ≤ 24 }
+    ensures { IfSome result (λ handlers. (hs : Members) × ReadsMembers (5 * levels) no_members reader.old hs reader.new
+        × IsMet state.old.counts (members_asked (block_asked (setting_of declared.now) levels)
+        (scope_of state.old.labels.entries) hs) state.new.counts
+        × ((map handler_view handlers.items, numbers_of state.new.numbering)
+        ≡ members_of (block_of (setting_of declared.now) levels) (scope_of state.old.labels.entries)
+        (numbers_of state.old.numbering) hs)
+        × (scope_of state.new.labels.entries ≡ scope_of state.old.labels.entries)) }
+{
+    let members = pull_members(alloc, reader, 5 * levels, Map::new(alloc))?;
+    let handlers = read_members(alloc, &members, levels, declared, state).ok()?;
+    Some(handlers)
+}
+
+/// The handlers by reason.
+#[cycle(blocks)]
 fn pull_handlers(
     alloc: Global,
     reader: &mut Reader<'_>,
@@ -60,9 +158,11 @@ fn pull_handlers(
         return None;
     }
     pull_begin_object(reader)?;
-    let members = pull_members(alloc, reader, 5 * levels, Map::new(alloc))?;
-    let handlers = read_members(alloc, &members, levels, declared, state).ok()?;
-    Some(handlers)
+    if state.any_order {
+        pull_sorted(alloc, reader, levels, declared, state)
+    } else {
+        pull_ascending(alloc, reader, levels, declared, state)
+    }
 }
 
 /// What stands behind the body of a subaction.

@@ -1,14 +1,14 @@
-use Rattle.std.proofs.Common.{◌≡◌, true, Ok, List, [], ◌∷◌, ◌++◌, Some, None, map, length, refl, sym, subst, ap, ap₂, ◌∙◌, ◌+◌, ◌*◌, append-nil, arith, rules, ◌-◌, suc, option_map, le-leb, Vec, Global}
+use Rattle.std.proofs.Common.{◌≡◌, ℕ, true, Ok, List, [], ◌∷◌, ◌++◌, Some, None, map, length, refl, sym, subst, ap, ap₂, ◌∙◌, ◌+◌, ◌*◌, append-nil, arith, rules, ◌-◌, suc, option_map, le-leb, Vec, Global}
 use Rattle.std.proofs.lemmas.List.{map-append}
 use Rattle.json.specs.Json.{after_end_array, read_key}
 use Rattle.serde_json.specs.Data.{Items, no_items, item, array, no_members, object, member, put, string}
 use Rattle.meaning.specs.Trees as tree
 use Rattle.batch.specs.Views.{block_view, step_view, steps_of, Tried, handler_view, otherwise_view, subaction_view, children_of}
-use Rattle.lang.specs.Asked.{label_asked, block_asked, scope_after, step_asked, steps_asked, label_in, members_asked, children_asked, labels_of, sub_asked, block_asked_if, seen_asked, subject_of, test_asked}
-use Rattle.lang.specs.Demand.{check, one_more_node}
-use Rattle.lang.specs.Scope.{AreUnseen, Extends, Numbers, Scope, numbers_of, scope_of, setting_of, with_label, with_labels, label_number}
-use Rattle.lang.specs.Spelled.{block_of, steps_spelled, spelled_map, members_of, sub_step, tried, children_spelled, sub_of, block_of_if, or_no_step, test_of}
-use Rattle.lang.specs.Pulled.{ReadsValue, SubTail, sub_members, ReadsMembers, if_step, test_key, with_else}
+use Rattle.lang.specs.Asked.{label_asked, block_asked, scope_after, step_asked, steps_asked, label_in, member_asked, members_asked, children_asked, labels_of, sub_asked, block_asked_if, seen_asked, subject_of, test_asked}
+use Rattle.lang.specs.Demand.{check, holds, one_more_node}
+use Rattle.lang.specs.Scope.{AreUnseen, Extends, Numbers, Scope, Table, number_of, numbers_of, scope_of, setting_of, with_label, with_labels, with_text, label_number}
+use Rattle.lang.specs.Spelled.{block_of, steps_spelled, spelled_map, member_of, members_of, sub_step, tried, children_spelled, sub_of, block_of_if, or_no_step, test_of}
+use Rattle.lang.specs.Pulled.{IsAfter, ReadsValue, SubTail, sub_members, ReadsMembers, if_step, test_key, with_else}
 use Rattle.lang.proofs.Checks.{check_met}
 use Rattle.lang.proofs.ListLemmas.{in_front, in_front_none, in_front_push}
 use Rattle.lang.proofs.LabelLemmas.{child_label_met, extends_twice, scope_after_extends, cut_back}
@@ -19,7 +19,7 @@ use Rattle.batch.proofs.ViewLemmas.{block_view-is, step_view-If, step_view-Sub, 
 use Rattle.lang.proofs.BlockLemmas.{block_asks, block_spells}
 use Rattle.std.specs.Prelude.{codes, is_some, IfOk}
 use Rattle.json.proofs.Grammar.{read_key-shorter}
-use Rattle.batch.specs.declared.tree.Handler.{Handler}
+use Rattle.batch.specs.declared.tree.Handler.{Handler, roll-Handler, the_lemmas as handler_lemmas}
 use Rattle.batch.specs.declared.tree.Subaction.{roll-Subaction, the_lemmas}
 use Rattle.meaning.specs.Trees.{for_reasons, handlers_of}
 use Rattle.lang.specs.Answer.{IsMet}
@@ -27,6 +27,10 @@ use Rattle.lang.proofs.PulledSubs.{label_anywhere, sub_label, sub_met, sub_sort,
 use Rattle.lang.specs.declared.words.Subject.TheVariants.{Outcome}
 use Rattle.std.proofs.lemmas.Option.{IfSome_then}
 use Rattle.batch.specs.declared.tree.Step.{If}
+use Rattle.batch.specs.Names.{texts_of}
+use Rattle.lang.specs.Words.{is_name}
+use Rattle.lang.specs.declared.fault.Code.TheVariants.{Name}
+use Rattle.lang.proofs.PulledHandlers.{after_both, put_after}
 use Rattle.lang.proofs.PulledTests.{if_met, if_scope, if_spelled}
 use Rattle.lang.proofs.pull_blocks.+blocks.Goals as goal
 
@@ -119,6 +123,142 @@ pull_block-returns t c =
       ap scope_of c.truncate.ensures.entries
           ∙ rw c.len-seen.ensures.len (cut_back c.args.state.now.labels.entries c.pull_steps.new.state.labels.entries done.4.0 done.4.1),
     )
+
+pub pull_handler-returns : goal.pull_handler-returns
+pull_handler-returns t c =
+    let setting = setting_of c.args.declared.now in
+    let asks = block_asked setting c.args.levels in
+    let scope = scope_of c.args.state.now.labels.entries in
+    let start = c.args.state.now.counts in
+    let numbers = numbers_of c.args.state.now.numbering in
+    let reason = c.args.reason.now in
+    let done = c.in_ok-block.ensures in
+    let d = done.0 in
+    let b = c.in_ok-block.block in
+    let named : is_name reason ≡ true = grind (arith, rules) in
+    let numbered : c.in_ok-number.number ≡ number_of reason numbers.reasons = grind (arith, rules) in
+    let joined : texts_of c.number_of.new.table.keys ≡ with_text reason numbers.reasons = grind (arith, rules) in
+    let after = numbers_of c.pull_block.new.state.numbering in
+    let n = c.in_ok-number.number in
+    let shown : handler_view (roll-Handler (record { reason = n; block = b })) ≡ (n, block_view b) = search (rules, handler_lemmas) in (
+      d,
+      done.1,
+      check_met start start (holds (is_name reason) Name ∷ []) (asks scope d) (rw named refl) ∙ done.2,
+      ap (λ (v : ℕ × tree.Block). (v, after)) shown ∙ ap (spelled_map (λ (x : tree.Block). (n, x))) done.3
+          ∙ ap₂ (λ m (ts : Table). spelled_map (λ (x : tree.Block). (m, x)) (block_of setting c.args.levels scope (record {
+            items = numbers.items;
+            reasons = ts;
+          }) d)) numbered joined,
+      done.4,
+    )
+
+pub pull_ascending-loop-handlers-init : goal.pull_ascending-loop-handlers-init
+pull_ascending-loop-handlers-init t c =
+    let none : c.new-handlers.result.items ≡ [] = c.new-handlers.ensures.items in (
+      λ ds. ds,
+      λ ms new reads. reads,
+      λ reason d ds after. refl,
+      λ ds. refl,
+      λ ds. ap (λ (vs : List _). in_front (map handler_view vs)
+          (members_of (block_of (setting_of c.args.declared.now) c.args.levels) (scope_of c.args.state.now.labels.entries)
+          (numbers_of c.args.state.now.numbering) ds)) (sym none),
+      refl,
+    )
+
+pub pull_ascending-loop-handlers-smaller : goal.pull_ascending-loop-handlers-smaller
+pull_ascending-loop-handlers-smaller t c =
+    let keyed : read_key c.loop-handlers.reader ≡ Some (Some c.in-Some.reason.now, c.next_key.new.self) = grind (arith, rules) in
+    let done = c.in_ok-pull_handler.ensures in
+    omega (arith, reads_shorter (5 * c.args.levels) _ done.0 _ done.1, read_key-shorter _ _ _ keyed)
+
+pub pull_ascending-loop-handlers-preserved : goal.pull_ascending-loop-handlers-preserved
+pull_ascending-loop-handlers-preserved t c =
+    let l = c.loop-handlers in
+    let k = 5 * c.args.levels in
+    let setting = setting_of c.args.declared.now in
+    let asks = block_asked setting c.args.levels in
+    let block = block_of setting c.args.levels in
+    let scope = scope_of c.args.state.now.labels.entries in
+    let inside = c.next_key.new.self in
+    let left = c.pull_handler.new.reader in
+    let reason = c.in-Some.reason.now in
+    let done = c.in_ok-pull_handler.ensures in
+    let d = done.0 in
+    let counts = c.pull_handler.new.state.counts in
+    let after = numbers_of c.pull_handler.new.state.numbering in
+    let read = map handler_view l.handlers.items in
+    let x = c.in_ok-pull_handler.field-0 in
+    let keyed : read_key l.reader ≡ Some (Some reason, inside) = grind (arith, rules) in
+    let ascends : c.is_after.result ≡ true = grind (arith, rules) in
+    let behind : IsAfter reason (option_map (λ text. text.now) l.before) = c.is_after.ensures ascends in
+    let pushed : c.push.new.self.items ≡ l.handlers.items ++ x ∷ [] = grind (arith, rules) in
+    let met = subst (λ s. IsMet l.state.counts (member_asked asks s reason d) counts) l.invariant.5 done.2 in
+    let value = subst (λ s. (handler_view x, after) ≡ member_of block s (numbers_of l.state.numbering) reason d) l.invariant.5 done.3 in
+    let put_last = l.invariant.2 reason d no_members behind in (
+      λ ds. l.invariant.0 (member reason d ds),
+      λ ms new reads. l.invariant.1 ms new
+          (reads_member k (l.invariant.0 no_members) reason l.reader inside left new d ms keyed (read_key-shorter _ _ _ keyed) done.1
+          (subst (λ found. ReadsMembers k found left ms new) (sym put_last) reads)),
+      λ next e ds later. l.invariant.2 next e (member reason d ds)
+          (after_both (option_map (λ text. text.now) l.before) reason next behind later)
+          ∙ ap l.invariant.0 (put_after reason next d e ds later),
+      λ ds. l.invariant.3 (member reason d ds)
+          ∙ check_met l.state.counts counts (member_asked asks scope reason d) (members_asked asks scope ds) met,
+      λ ds. l.invariant.4 (member reason d ds)
+          ∙ ap (λ (p : (ℕ × tree.Block) × Numbers). in_front read (p.0 ∷ (members_of block scope p.1 ds).0, (members_of block scope p.1 ds).1))
+          (sym value)
+          ∙ sym (in_front_push read (handler_view x) (members_of block scope after ds))
+          ∙ ap (λ ys. in_front ys (members_of block scope after ds))
+          (sym (map-append handler_view l.handlers.items (x ∷ [])) ∙ ap (map handler_view) (sym pushed)),
+      done.4 ∙ l.invariant.5,
+    )
+
+pub pull_ascending-returns : goal.pull_ascending-returns
+pull_ascending-returns t c =
+    let l = c.loop-handlers in
+    let k = 5 * c.args.levels in
+    let closed : read_key l.reader ≡ Some (None, c.next_key.new.self) = grind (arith, rules) in (
+      l.invariant.0 no_members,
+      l.invariant.1 (l.invariant.0 no_members) _ (reads_no_members k (l.invariant.0 no_members) l.reader _ closed),
+      l.invariant.3 no_members,
+      ap (λ (vs : List _). (map handler_view vs, numbers_of l.state.numbering)) c.shrink_to_fit.ensures.items
+          ∙ sym (l.invariant.4 no_members ∙ in_front_none (map handler_view l.handlers.items) (numbers_of l.state.numbering)),
+      l.invariant.5,
+    )
+
+pub pull_handlers-returns-then-state : goal.pull_handlers-returns-then-state
+pull_handlers-returns-then-state t c =
+    let k = 5 * c.args.levels in
+    let inside = c.pull_begin_object.new.reader in
+    let tokens : c.args.reader.now ≡ Token.begin_object ∷ inside = grind (arith, rules) in
+    IfSome_then c.pull_sorted.result c.pull_sorted.ensures
+    (λ handlers w. (
+      w.0,
+      subst (λ ts. ReadsValue (k + 1) ts (object w.0) c.pull_sorted.new.reader) (sym tokens)
+          (reads_deeper (suc k) (k + 1) _ (object w.0) c.pull_sorted.new.reader (omega arith)
+          (reads_object k inside w.0 c.pull_sorted.new.reader w.1)),
+      omega (arith, c.if-declared-lt3.false),
+      w.2,
+      w.3,
+      w.4,
+    ))
+
+pub pull_handlers-returns-else-state : goal.pull_handlers-returns-else-state
+pull_handlers-returns-else-state t c =
+    let k = 5 * c.args.levels in
+    let inside = c.pull_begin_object.new.reader in
+    let tokens : c.args.reader.now ≡ Token.begin_object ∷ inside = grind (arith, rules) in
+    IfSome_then c.pull_ascending.result c.pull_ascending.ensures
+    (λ handlers w. (
+      w.0,
+      subst (λ ts. ReadsValue (k + 1) ts (object w.0) c.pull_ascending.new.reader) (sym tokens)
+          (reads_deeper (suc k) (k + 1) _ (object w.0) c.pull_ascending.new.reader (omega arith)
+          (reads_object k inside w.0 c.pull_ascending.new.reader w.1)),
+      omega (arith, c.if-declared-lt3.false),
+      w.2,
+      w.3,
+      w.4,
+    ))
 
 pub pull_sub_rest-loop-handler-init : goal.pull_sub_rest-loop-handler-init
 pull_sub_rest-loop-handler-init t c = (tail_none _ _ _ _ _ _ _ _, refl)

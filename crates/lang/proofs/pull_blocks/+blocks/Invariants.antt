@@ -1,12 +1,12 @@
-use Rattle.std.proofs.Common.{◌≡◌, List, ◌+◌, ◌*◌, length, map, option_map}
+use Rattle.std.proofs.Common.{◌≡◌, ℕ, List, ◌+◌, ◌*◌, length, map, option_map}
 use Rattle.json.specs.Token.{Token}
-use Rattle.serde_json.specs.Data.{Items}
+use Rattle.serde_json.specs.Data.{Data, Items, Members, no_members, put}
 use Rattle.batch.specs.Views.{block_view, handler_view, step_view, subaction_view}
-use Rattle.lang.specs.Asked.{block_asked, children_asked, labels_of, steps_asked}
+use Rattle.lang.specs.Asked.{block_asked, children_asked, labels_of, members_asked, steps_asked}
 use Rattle.lang.specs.Demand.{check}
-use Rattle.lang.specs.Pulled.{ReadsItems, SubTail}
+use Rattle.lang.specs.Pulled.{IsAfter, ReadsItems, ReadsMembers, SubTail}
 use Rattle.lang.specs.Scope.{AreUnseen, Extends, numbers_of, scope_of, setting_of}
-use Rattle.lang.specs.Spelled.{block_of, children_spelled, steps_spelled}
+use Rattle.lang.specs.Spelled.{block_of, children_spelled, members_of, steps_spelled}
 use Rattle.lang.proofs.ListLemmas.{in_front}
 use Rattle.lang.proofs.pull_blocks.+blocks.Given as goal
 
@@ -32,19 +32,19 @@ abbrev pub decreases-pull_steps-loop-alloc : goal.decreases-pull_steps-loop-allo
 decreases-pull_steps-loop-alloc l = length l.reader
 
 abbrev pub decreases-pull_steps : goal.decreases-pull_steps
-decreases-pull_steps l = 10 * l.levels + 6
+decreases-pull_steps l = 10 * l.levels + 9
 
 abbrev pub decreases-pull_step : goal.decreases-pull_step
-decreases-pull_step l = 10 * l.levels + 5
+decreases-pull_step l = 10 * l.levels + 8
 
 abbrev pub decreases-pull_sub_step : goal.decreases-pull_sub_step
-decreases-pull_sub_step l = 10 * l.levels + 3
+decreases-pull_sub_step l = 10 * l.levels + 6
 
 abbrev pub decreases-pull_sub : goal.decreases-pull_sub
-decreases-pull_sub l = 10 * l.levels + 2
+decreases-pull_sub l = 10 * l.levels + 5
 
 abbrev pub decreases-pull_sub_rest : goal.decreases-pull_sub_rest
-decreases-pull_sub_rest l = 10 * l.levels + 1
+decreases-pull_sub_rest l = 10 * l.levels + 4
 
 abbrev pub decreases-pull_block : goal.decreases-pull_block
 decreases-pull_block l = 10 * l.levels
@@ -64,10 +64,10 @@ abbrev pub decreases-pull_sub_rest-loop-handler : goal.decreases-pull_sub_rest-l
 decreases-pull_sub_rest-loop-handler l = length l.reader
 
 abbrev pub decreases-pull_parallel : goal.decreases-pull_parallel
-decreases-pull_parallel l = 10 * l.levels + 4
+decreases-pull_parallel l = 10 * l.levels + 7
 
 abbrev pub decreases-pull_children : goal.decreases-pull_children
-decreases-pull_children l = 10 * l.levels + 3
+decreases-pull_children l = 10 * l.levels + 6
 
 -- what was read stands in front of any children that follow, where none of all their labels is seen before them
 abbrev pub invariant-pull_children-loop-alloc : goal.invariant-pull_children-loop-alloc
@@ -97,3 +97,32 @@ decreases-pull_if l = 10 * l.levels + 4
 
 abbrev pub decreases-pull_else : goal.decreases-pull_else
 decreases-pull_else l = 10 * l.levels + 1
+
+abbrev pub decreases-pull_handlers : goal.decreases-pull_handlers
+decreases-pull_handlers l = 10 * l.levels + 3
+
+abbrev pub decreases-pull_ascending : goal.decreases-pull_ascending
+decreases-pull_ascending l = 10 * l.levels + 2
+
+abbrev pub decreases-pull_handler : goal.decreases-pull_handler
+decreases-pull_handler l = 10 * l.levels + 1
+
+-- what was read stands in front of any members that follow, and so does what is put among them after its last reason
+abbrev pub invariant-pull_ascending-loop-handlers : goal.invariant-pull_ascending-loop-handlers
+invariant-pull_ascending-loop-handlers l =
+    (front : Members → Members)
+    × ((ms : Members) (new : List Token) → ReadsMembers (5 * l.levels) (front no_members) l.reader ms new
+    → ReadsMembers (5 * l.levels) no_members l.initial.reader ms new)
+    × ((reason : List ℕ) (d : Data) (ds : Members) → IsAfter reason (option_map (λ text. text.now) l.before)
+    → put reason d (front ds) ≡ front (put reason d ds))
+    × ((ds : Members) → check l.initial.state.counts
+    (members_asked (block_asked (setting_of l.declared) l.levels) (scope_of l.initial.state.labels.entries) (front ds))
+    ≡ check l.state.counts (members_asked (block_asked (setting_of l.declared) l.levels) (scope_of l.initial.state.labels.entries) ds))
+    × ((ds : Members) → members_of (block_of (setting_of l.declared) l.levels) (scope_of l.initial.state.labels.entries)
+    (numbers_of l.initial.state.numbering) (front ds)
+    ≡ in_front (map handler_view l.handlers.items)
+    (members_of (block_of (setting_of l.declared) l.levels) (scope_of l.initial.state.labels.entries) (numbers_of l.state.numbering) ds))
+    × (scope_of l.state.labels.entries ≡ scope_of l.initial.state.labels.entries)
+
+abbrev pub decreases-pull_ascending-loop-handlers : goal.decreases-pull_ascending-loop-handlers
+decreases-pull_ascending-loop-handlers l = length l.reader
