@@ -7,7 +7,7 @@ ghost use Rattle.rounds.specs.Checks.{IsSeen};
 ghost use Rattle.rounds.specs.declared.pending_run.PendingRun.{PendingRun as OnePending};
 
 use crate::crew::Crew;
-use crate::pending_run::{PendingRun, Sums, blank_record};
+use crate::pending_run::{PendingRun, Sums};
 use crate::plan::Plan;
 use intentions::Committed;
 use speculate::{Gate, NoMemory, Run};
@@ -185,11 +185,9 @@ fn summed(alloc: Global, runs: &[Run]) -> Result<Vec<PendingRun>, NoMemory>
 {
     let mut pending = Vec::with_capacity(alloc, runs.len())?;
     for run in runs {
-        pending.push(PendingRun {
-            tree: blank_record(alloc),
-            net: Vec::new(alloc),
-            sums: Sums::of(alloc, &run.entries, &run.net)?,
-        })?;
+        let PendingRun { tree, net, sums } = PendingRun::empty(alloc);
+        let sums = Sums::of(alloc, &run.entries, &run.net, sums)?;
+        pending.push(PendingRun { tree, net, sums })?;
     }
     Ok(pending)
 }

@@ -4,6 +4,7 @@
 
 mod check;
 mod crew;
+mod desk;
 mod keep;
 pub mod laws;
 mod make;

@@ -7,9 +7,10 @@ ghost use Rattle.rounds.specs.Passes.{CanBeMade};
 ghost use Rattle.rounds.specs.PendingRuns.{AreMade};
 
 use crate::crew::{Crew, makers};
+use crate::desk::Desk;
 use crate::pending_run::PendingRun;
 use batch::Batch;
-use speculate::{Gate, NoMemory, Objects, View, run_in};
+use speculate::{Gate, NoMemory, Objects};
 use std::alloc::Global;
 use std::thread::Threads;
 use workers::give_all;
@@ -21,7 +22,7 @@ pub(crate) struct Made {
     pub(crate) run: PendingRun,
 }
 
-// A run for each number of a group, one after the other, in one view.
+// A run for each number of a group, one after the other, at one desk.
 fn make_group<R: Threads + Sync, G: Gate>(
     threads: &R,
     alloc: Global,
@@ -37,25 +38,12 @@ fn make_group<R: Threads + Sync, G: Gate>(
     ensures { IfOk result (λ made. AreMade batch.now objects.now group.now made.items) }
 {
     let mut all = Vec::with_capacity(alloc, group.len())?;
-    let mut view = View::open(alloc, objects)?;
-    let mut labels = Vec::new(alloc);
+    let mut desk = Desk::open(alloc, objects)?;
     for number in group {
-        let transaction = (*number + 1) as u32;
-        let run = run_in(
-            threads,
-            alloc,
-            &mut view,
-            &mut labels,
-            batch,
-            transaction,
-            width,
-            gate,
-        )?;
-        let pending = PendingRun::of(alloc, run)?;
-        all.push(Made {
-            number: *number,
-            run: pending,
-        })?;
+        let number = *number;
+        let spare = PendingRun::empty(alloc);
+        let run = desk.run(threads, alloc, batch, number, width, gate, spare)?;
+        all.push(Made { number, run })?;
     }
     Ok(all)
 }

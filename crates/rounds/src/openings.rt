@@ -14,7 +14,7 @@ use crate::check::seek_conflict;
 use crate::crew::Crew;
 use crate::keep::keep_all;
 use crate::pending::Pending;
-use crate::pending_run::{PendingRun, Sums, blank_record};
+use crate::pending_run::PendingRun;
 use crate::plan::Plan;
 use crate::renew::renew;
 use batch::{Batch, Outcome, Record};
@@ -41,14 +41,7 @@ fn blank_runs(alloc: Global, count: usize) -> Result<Vec<PendingRun>, NoMemory>
 {
     let mut runs = Vec::with_capacity(alloc, count)?;
     for _ in 0..count {
-        runs.push(PendingRun {
-            tree: blank_record(alloc),
-            net: Vec::new(alloc),
-            sums: Sums {
-                entries: Vec::new(alloc),
-                of_net: None,
-            },
-        })?;
+        runs.push(PendingRun::empty(alloc))?;
     }
     Ok(runs)
 }

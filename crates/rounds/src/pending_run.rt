@@ -18,19 +18,37 @@ pub(crate) struct Sums {
 }
 
 impl Sums {
-    /// The summaries of these entries and of this net.
+    /// No summaries. This takes no memory.
+    fn empty(alloc: Global) -> Sums {
+        Sums {
+            entries: Vec::new(alloc),
+            of_net: None,
+        }
+    }
+
+    /// The summaries of these entries and of this net, in the memory of the spare ones.
     ///
     /// Returns `NoMemory` where a request for memory was refused.
-    pub(crate) fn of(alloc: Global, entries: &[Entry], net: &[Entry]) -> Result<Sums, NoMemory>
+    pub(crate) fn of(
+        alloc: Global,
+        entries: &[Entry],
+        net: &[Entry],
+        spare: Sums,
+    ) -> Result<Sums, NoMemory>
         ensures { IfOk result (λ sums. AreSumsOf sums entries.now net.now) }
     {
+        let Sums {
+            entries: spare_of_entries,
+            of_net: spare_of_net,
+        } = spare;
         let of_net = if net == entries {
             None
         } else {
-            Some(summary_of(alloc, net)?)
+            let spare = spare_of_net.unwrap_or(Vec::new(alloc));
+            Some(summary_of(alloc, net, spare)?)
         };
         Ok(Sums {
-            entries: summary_of(alloc, entries)?,
+            entries: summary_of(alloc, entries, spare_of_entries)?,
             of_net,
         })
     }
@@ -55,22 +73,31 @@ pub(crate) struct PendingRun {
 }
 
 impl PendingRun {
-    /// The pending run of a run. The entries are summed up, and freed.
+    /// A run of no steps. This takes no memory.
+    pub(crate) fn empty(alloc: Global) -> PendingRun {
+        PendingRun {
+            tree: Record {
+                taken: Vec::new(alloc),
+                outcome: End::Ended,
+            },
+            net: Vec::new(alloc),
+            sums: Sums::empty(alloc),
+        }
+    }
+
+    /// The pending run of a run, with summaries in the memory of the spare ones, and the entries,
+    /// which nothing needs any more.
     ///
     /// Returns `NoMemory` where a request for memory was refused.
-    pub(crate) fn of(alloc: Global, run: Run) -> Result<PendingRun, NoMemory>
-        ensures { IfOk result (λ pending. IsPendingFor run pending) }
+    pub(crate) fn of(
+        alloc: Global,
+        run: Run,
+        spare: Sums,
+    ) -> Result<(PendingRun, Vec<Entry>), NoMemory>
+        ensures { IfOk result (λ made. IsPendingFor run made.0) }
     {
         let Run { tree, entries, net } = run;
-        let sums = Sums::of(alloc, &entries, &net)?;
-        Ok(PendingRun { tree, net, sums })
-    }
-}
-
-/// A record of no steps.
-pub(crate) fn blank_record(alloc: Global) -> Record {
-    Record {
-        taken: Vec::new(alloc),
-        outcome: End::Ended,
+        let sums = Sums::of(alloc, &entries, &net, spare)?;
+        Ok((PendingRun { tree, net, sums }, entries))
     }
 }

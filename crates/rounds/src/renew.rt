@@ -6,14 +6,16 @@ ghost use Rattle.rounds.specs.Passes.{CanBeMade};
 ghost use Rattle.rounds.specs.PendingRuns.{times, AreRenewed};
 
 use crate::crew::{Crew, makers};
+use crate::desk::Desk;
 use crate::make::{Made, make_all};
 use crate::pending_run::PendingRun;
 use batch::Batch;
-use speculate::{Gate, NoMemory, Objects, View, run_in};
+use speculate::{Gate, NoMemory, Objects};
+use std::mem::replace;
 use std::thread::Threads;
 
-// The same as `renew` by one worker, in one view. Each run takes its place at once, which frees the
-// memory of the one before it.
+// The same as `renew` by one worker, at one desk. Each run takes its place at once, in the memory of
+// the one before it.
 fn renew_in_turn<R: Threads + Sync, G: Gate>(
     crew: &Crew<R, G>,
     batch: &Batch,
@@ -39,23 +41,12 @@ fn renew_in_turn<R: Threads + Sync, G: Gate>(
         ..
     } = *crew;
     let width = plan.width(stale.len() as u32);
-    let mut view = View::open(alloc, objects)?;
-    let mut labels = Vec::new(alloc);
+    let mut desk = Desk::open(alloc, objects)?;
     for number in stale {
         let place = *number;
-        let transaction = place as u32 + 1;
-        let run = run_in(
-            threads,
-            alloc,
-            &mut view,
-            &mut labels,
-            batch,
-            transaction,
-            width,
-            gate,
-        )?;
-        let pending = PendingRun::of(alloc, run)?;
-        runs[place] = pending;
+        let spare = replace(&mut runs[place], PendingRun::empty(alloc));
+        let run = desk.run(threads, alloc, batch, place, width, gate, spare)?;
+        runs[place] = run;
         counts[place] += 1;
     }
     Ok(())

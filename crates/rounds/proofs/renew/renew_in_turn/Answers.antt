@@ -1,17 +1,11 @@
-use Rattle.std.proofs.Common.{◌≡◌, ◌+◌, ◌-◌, ◌<◌, ℕ, length, get_or, set, take, refl, sym, ap, ◌∙◌, subst, arith}
+use Rattle.std.proofs.Common.{◌≡◌, ◌+◌, ◌<◌, length, get_or, set, set-set, take, refl, sym, ap, ◌∙◌, subst, arith}
 use Rattle.std.proofs.lemmas.List.{get_or_read}
 use Rattle.intentions.specs.Levels.{Intentions as View}
-use Rattle.speculate.specs.Runs.{IsRunOf}
 use Rattle.rounds.specs.Views.{meaning}
-use Rattle.rounds.specs.PendingRuns.{AreRenewed}
-use Rattle.rounds.proofs.Making.{pending_of}
+use Rattle.rounds.specs.PendingRuns.{AreRenewed, IsPendingOf}
 use Rattle.rounds.proofs.Times.{times_read}
 use Rattle.rounds.proofs.Renewing.{renewed_more, times_take}
 use Rattle.rounds.proofs.renew.renew_in_turn.Goals as goal
-
--- numbers are counted from 1 where a transaction is run
-same_number : (n : ℕ) → (n + 1) - 1 ≡ n
-same_number n = omega arith
 
 pub overflow_add-index_mut : goal.overflow_add-index_mut
 overflow_add-index_mut g c =
@@ -20,7 +14,7 @@ overflow_add-index_mut g c =
     let all = c.requires.counted in
     let same = c.loop-number.invariant.renewed.counted in
     let lt : place < length c.loop-number.counts.items = omega arith in
-    let read = get_or_read c.loop-number.counts.items place c.index_mut-in-loop-number.result.now lt c.index_mut-in-loop-number.ensures.value 0 in
+    let read = get_or_read c.loop-number.counts.items place c.index_mut-in-loop-number-2.result.now lt c.index_mut-in-loop-number-2.ensures.value 0 in
     let told = c.loop-number.invariant.renewed.told place (omega arith) in
     let few = times_take place c.loop-number.number-index c.args.stale.now in
     let room = c.requires.room place in
@@ -38,21 +32,18 @@ loop-number-preserved g c =
     let same = so_far.renewed.counted in
     let counts = c.loop-number.counts.items in
     let lt : place < length counts = omega arith in
-    let read : c.index_mut-in-loop-number.result.now ≡ get_or counts place 0 =
-    get_or_read counts place c.index_mut-in-loop-number.result.now lt c.index_mut-in-loop-number.ensures.value 0 in
+    let read : c.index_mut-in-loop-number-2.result.now ≡ get_or counts place 0 =
+    get_or_read counts place c.index_mut-in-loop-number-2.result.now lt c.index_mut-in-loop-number-2.ensures.value 0 in
     let sizes : length c.args.counts.now.items ≡ length c.args.runs.now.items = c.requires.counted ∙ sym c.requires.every in
     let in_runs : place < length c.args.runs.now.items = subst (λ n. place < n) (sym c.requires.every) inside in
-    let shown : c.loop-number.view.snapshot ≡ objects = ap (λ (v : View). v.snapshot) so_far.as_opened in
-    let run = c.in_ok-run.run' in
-    let here : IsRunOf (meaning batch ((place + 1) - 1) objects) run = subst (λ s. IsRunOf (meaning batch ((place + 1) - 1) s) run) shown c.in_ok-run.ensures.run in
-    let meant = subst (λ n. IsRunOf (meaning batch n objects) run) (same_number place) here in
-    let made = c.in_ok-pending.pending in
-    let is_made = pending_of (meaning batch place objects) run made meant c.in_ok-pending.ensures in
+    let shown : c.loop-number.desk.view.snapshot ≡ objects = ap (λ (v : View). v.snapshot) so_far.as_opened in
+    let made = c.in_ok-run.run' in
+    let is_made = subst (λ s. IsPendingOf (meaning batch place s) made) shown c.in_ok-run.ensures.made in
     let more = renewed_more batch objects c.args.stale.now at place made c.args.runs.now.items c.loop-number.runs.items c.args.counts.now.items counts
     c.loop-number-test.true refl sizes in_runs is_made so_far.renewed in
     record {
-      renewed = subst (λ n. AreRenewed batch objects (take (at + 1) c.args.stale.now) c.args.runs.now.items (set c.loop-number.runs.items place made)
-          c.args.counts.now.items (set counts place (n + 1))) (sym read) more;
+      renewed = rw (set-set c.loop-number.runs.items place) (subst (λ n. AreRenewed batch objects (take (at + 1) c.args.stale.now) c.args.runs.now.items (set c.loop-number.runs.items place made)
+          c.args.counts.now.items (set counts place (n + 1))) (sym read) more);
       as_opened = c.in_ok-run.ensures.again ∙ so_far.as_opened;
       unlabelled = c.in_ok-run.ensures.unlabelled;
     }

@@ -1,0 +1,16 @@
+use Rattle.std.proofs.Common.{◌≡◌, ℕ, ◌+◌, ◌-◌, subst, arith}
+use Rattle.speculate.specs.Runs.{IsRunOf}
+use Rattle.rounds.specs.Views.{meaning}
+use Rattle.rounds.proofs.Making.{pending_of}
+use Rattle.rounds.proofs.desk.Desk.run.Goals as goal
+
+-- numbers are counted from 1 where a transaction is run
+same_number : (n : ℕ) → (n + 1) - 1 ≡ n
+same_number n = omega arith
+
+pub returns-clause-made : goal.returns-clause-made
+returns-clause-made g c =
+    let meant : ℕ → _ = λ n. meaning c.args.batch.now n c.args.self.now.view.snapshot in
+    let run = c.in_ok-run.run' in
+    let made = subst (λ n. IsRunOf (meant n) run) (same_number c.args.number) c.in_ok-run.ensures.run in
+    pending_of (meant c.args.number) run c.in_ok-pending.pending made c.in_ok-pending.ensures

@@ -1,0 +1,85 @@
+//! What one worker uses again from run to run.
+ghost use Rattle.std.specs.Prelude.{◌≡◌, ◌≤◌, [], IfOk, OnOk};
+ghost use Rattle.objects.specs.Entries.{kinds};
+ghost use Rattle.intentions.specs.Levels.{opened};
+ghost use Rattle.rounds.specs.Views.{meaning};
+ghost use Rattle.rounds.specs.Passes.{CanBeMade};
+ghost use Rattle.rounds.specs.PendingRuns.{IsPendingOf};
+
+use crate::pending_run::PendingRun;
+use batch::Batch;
+use intentions::Entry;
+use meaning::Held;
+use speculate::{Gate, NoMemory, Objects, Run, View, run_in};
+use std::alloc::Global;
+use std::mem::replace;
+use std::thread::Threads;
+
+/// A view of the objects, labels and a list of entries, in which one worker makes its runs, one
+/// after the other.
+#[derive(Drop)]
+pub(crate) struct Desk<'s> {
+    view: View<'s>,
+    labels: Vec<Held>,
+    entries: Vec<Entry>,
+}
+
+impl<'s> Desk<'s> {
+    /// A desk for runs on these objects.
+    pub(crate) fn open(alloc: Global, objects: &'s Objects) -> Result<Desk<'s>, NoMemory>
+        ensures opened { IfOk result (λ desk. desk.view ≡ opened objects.now) }
+        ensures unlabelled { IfOk result (λ desk. desk.labels.items ≡ []) }
+    {
+        Ok(Desk {
+            view: View::open(alloc, objects)?,
+            labels: Vec::new(alloc),
+            entries: Vec::new(alloc),
+        })
+    }
+
+    /// A run of the transaction with this number, counted from 0. It uses the memory of the spare
+    /// run, and leaves the desk ready for the next.
+    ///
+    /// After it returns `NoMemory`, the desk is of no further use.
+    pub(crate) fn run<R: Threads + Sync, G: Gate>(
+        &mut self,
+        threads: &R,
+        alloc: Global,
+        batch: &Batch,
+        number: usize,
+        width: u32,
+        gate: &G,
+        spare: PendingRun,
+    ) -> Result<PendingRun, NoMemory>
+        requires few { number ≤ 10000 }
+        requires can { CanBeMade batch.now self.old.view.snapshot number }
+        requires same_kinds { kinds self.old.view.snapshot ≡ kinds batch.now.objects }
+        requires narrow { (1 ≤ width) × (width ≤ 64) }
+        requires opened { self.old.view ≡ opened self.old.view.snapshot }
+        requires unlabelled { self.old.labels.items ≡ [] }
+        ensures made { IfOk result (IsPendingOf (meaning batch.now number self.old.view.snapshot)) }
+        ensures again { OnOk result (self.new.view ≡ self.old.view) }
+        ensures unlabelled { OnOk result (self.new.labels.items ≡ []) }
+    {
+        let PendingRun { tree, net, sums } = spare;
+        let spare = Run {
+            tree,
+            entries: replace(&mut self.entries, Vec::new(alloc)),
+            net,
+        };
+        let run = run_in(
+            threads,
+            alloc,
+            &mut self.view,
+            &mut self.labels,
+            batch,
+            number as u32 + 1,
+            width,
+            gate,
+            spare,
+        )?;
+        let (pending, entries) = PendingRun::of(alloc, run, sums)?;
+        self.entries = entries;
+        Ok(pending)
+    }
+}
