@@ -1,5 +1,6 @@
 //! Speculative runs of transactions, as they are kept.
 ghost use Rattle.std.specs.Prelude.{◌≡◌, []};
+
 use batch::Record;
 use intentions::{Entry, Lists};
 use meaning::End;
