@@ -1,5 +1,7 @@
 pub mod Names
 pub mod Views
+pub mod Named
+pub mod NamedProps
 pub mod Limits
 pub mod LimitsProps
 pub mod Counting

@@ -9,7 +9,8 @@ use Rattle.objects.specs.Entries.{State, kinds}
 use Rattle.meaning.specs.Trees.{Block, NoStep, Steps, Step, Operation, If, Subaction, Abort, Parallel, Handlers, ForReason, Otherwise, GoOn, Pass, Children, NoChild, Child}
 use Rattle.meaning.specs.WellFormed.{IsWellFormed, largest}
 use Rattle.meaning.specs.Running.{all_operations}
-use Rattle.batch.specs.Names.{Texts}
+use Rattle.batch.specs.Names.{AreNames, Texts}
+use Rattle.batch.specs.Named.{AllNamed, AllNamedValues}
 
 abbrev mutual
   -- how deep blocks stand in one another: 1 for a block whose steps have no blocks
@@ -85,7 +86,13 @@ AllShallow (block ∷ blocks) = (depth block ≤ 24) × AllShallow blocks
 pub record IsBatch (start : State) (texts : Texts) (transactions : List Block) : Type 0 where
   -- calls fit their objects, labels are bound, and tests fit them
   pub well_formed : AllWellFormed transactions (kinds start)
+  -- each object has one name, and each item and reason that is named has one
   pub named : length texts.objects ≡ length start
+  pub named_starts : AllNamedValues texts start
+  pub named_transactions : AllNamed texts transactions
+  pub object_names : AreNames texts.objects
+  pub item_names : AreNames texts.items
+  pub reason_names : AreNames texts.reasons
   pub few_objects : length start ≤ 1000
   pub few_transactions : length transactions ≤ 10000
   pub few_operations : all_operations transactions ≤ 1_000_000

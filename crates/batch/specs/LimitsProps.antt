@@ -6,6 +6,7 @@ use Rattle.objects.specs.Entries.{State, kinds}
 use Rattle.meaning.specs.Trees.{Block}
 use Rattle.meaning.specs.WellFormedProps.{IsWellFormed-prop}
 use Rattle.batch.specs.Names.{Texts}
+use Rattle.batch.specs.NamedProps.{AllNamed-prop, AllNamedValues-prop}
 use Rattle.batch.specs.Limits.{AllWellFormed, AllShallow, IsBatch}
 
 AllWellFormed-prop : (blocks : List Block) (ks : List Kind) → IsProp (AllWellFormed blocks ks)
@@ -17,4 +18,4 @@ AllShallow-prop [] = hlevel props
 AllShallow-prop (block ∷ blocks) = hlevel (props, AllShallow-prop blocks)
 
 pub IsBatch-prop : (start : State) (texts : Texts) (transactions : List Block) → IsProp (IsBatch start texts transactions)
-IsBatch-prop start texts transactions = hlevel (props, AllWellFormed-prop transactions (kinds start), AllShallow-prop transactions)
+IsBatch-prop start texts transactions = hlevel (props, AllWellFormed-prop transactions (kinds start), AllShallow-prop transactions, AllNamedValues-prop texts start, AllNamed-prop texts transactions)

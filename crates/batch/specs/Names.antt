@@ -1,7 +1,22 @@
--- The texts of a batch's numbers: of each object, item and reason by its number.
-use Rattle.std.specs.Prelude.{ℕ, List, [], map, slice_index_or, string_bytes, String}
+-- Names, and the texts of a batch's numbers: of each object, item and reason by its number.
+use Rattle.std.specs.Prelude.{ℕ, ◌&&◌, ◌||◌, ◌==◌, Bool, IsTrue, List, [], length, map, nat_lt, nat_le, slice_index_or, string_bytes, String}
+use Rattle.std.specs.List.{list_all}
 use Rattle.std.specs.declared.alloc.Global.{Global}
 use Rattle.meaning.specs.Words.{Names}
+
+abbrev pub is_between : ℕ → ℕ → ℕ → Bool
+is_between low high x = nat_le low x && nat_le x high
+
+-- ASCII letters, digits, `_` and `-`
+abbrev pub is_name_byte : ℕ → Bool
+is_name_byte x = is_between 48 57 x || is_between 65 90 x || is_between 97 122 x || x == 95 || x == 45
+
+-- 1 to 32 such bytes
+unfoldable pub is_name : List ℕ → Bool
+is_name s = nat_lt 0 (length s) && nat_le (length s) 32 && list_all is_name_byte s
+
+abbrev pub AreNames : List (List ℕ) → Type 0
+AreNames texts = IsTrue (list_all is_name texts)
 
 pub record Texts : Type 0 where
   pub objects : List (List ℕ)

@@ -11,7 +11,8 @@ use objects::Objects;
 /// Objects, the names of what the batch numbers, and transactions, which are numbered from 1.
 ///
 /// Every batch can be run. Its calls fit their objects, its labels are bound, and its tests fit
-/// them. It is within the limits of a document, so that no number outgrows its type.
+/// them. Each object, item and reason has a name. It is within the limits of a document, so that
+/// no number outgrows its type.
 #[derive(Drop)]
 pub struct Batch {
     /// The objects before the first transaction.

@@ -18,7 +18,7 @@ pub use batch::Batch;
 pub use handlers::{handler_for, taker, untaken};
 pub use labels::{add_label, test_holds};
 pub use meaning::{End, Test, Word};
-pub use names::Names;
+pub use names::{Names, is_name};
 pub use objects::{Call, Entry, Item, Kind, NoMemory, Objects, Reply, Value};
 pub use record::{Record, Taken};
 pub use tree::{Block, Handler, Otherwise, Step, Subaction};

@@ -25,8 +25,12 @@ use Rattle.lang.specs.Asked.{array_start_asked, asked, block_asked, document_sha
 use Rattle.lang.specs.Scope.{with_item, with_text}
 use Rattle.lang.specs.Spelled.{bind_all, block_of, blocks_of, document_in, entries_of, or_zero, pair_of, pairs_of, parts_in, put_all, start_of, starts_of}
 use Rattle.lang.proofs.Faultless.{block_good, counted, most_labels}
+use Rattle.lang.proofs.Later.{blocks_later, values_later}
 use Rattle.lang.proofs.ListLemmas.{kinds_of_starts}
 use Rattle.lang.proofs.MetLemmas.{AllMet, What, count, count-append, faultless, first_met, passed, rest_met}
+use Rattle.lang.proofs.Numbered.{blocks_numbered}
+use Rattle.lang.proofs.NumberedStarts.{objects_named, starts_numbered}
+use Rattle.lang.proofs.Tables.{grows_behind, grows_on, texts_in}
 
 -- ---- transactions
 
@@ -193,7 +197,7 @@ start_is_small kind.Counter numbers d = signed_at_most 1_000_000_000_000_000 (wh
 start_is_small kind.Set numbers d = omega arith
 start_is_small kind.Queue numbers d = omega arith
 start_is_small kind.Directory numbers d = omega arith
-start_is_small kind.Max numbers d = omega arith
+start_is_small kind.Max numbers d = at_most 1_000_000_000_000_000 (whole d)
 
 starts_are_small : (version : ℕ) (numbers : Numbers) (ds : Items) → largest (starts_of version numbers ds).0 ≤ 1_000_000_000_000_000
 starts_are_small version numbers no_items = omega arith
@@ -223,9 +227,19 @@ met_is_batch d met few_starts few_operations few_nodes =
     let nds = count-append What.nodes (A ++ B) C in
     let after = (starts_of version no_numbers (objects_in d)).1 in
     let good = blocks_good setting paired 1 after (transactions_in d) (omega (arith, ops, nds, few_operations, few_nodes)) (rest_met (A ++ B) C met) in
+    let texts = (document_in d).texts in
+    let starts = starts_numbered version [] no_numbers (objects_in d) in
+    let transactions = blocks_numbered setting 1 after (transactions_in d) in
+    let last = (blocks_of setting after (transactions_in d)).1 in
+    let all = grows_on no_numbers after last (A ++ B) C (grows_behind no_numbers after A B starts.grows) transactions.grows in
     record {
       well_formed = subst (AllWellFormed (blocks_of setting after (transactions_in d)).0) (sym (kinds_of_starts version no_numbers (objects_in d))) good.fit;
       named = names ∙ sym many;
+      named_starts = values_later (texts_in after) texts transactions.grows.items transactions.grows.reasons (starts_of version no_numbers (objects_in d)).0 starts.named;
+      named_transactions = blocks_later (texts_in last) texts (omega arith) (omega arith) (blocks_of setting after (transactions_in d)).0 transactions.named;
+      object_names = objects_named version [] (objects_in d) (rest_met A B (first_met (A ++ B) C met));
+      item_names = all.item_names met refl;
+      reason_names = all.reason_names met refl;
       few_objects = omega (arith, many, limits.0);
       few_transactions = omega (arith, blocks_are_many setting after (transactions_in d), limits.1);
       few_operations = omega (arith, few_operations, ops, good.operations_are);

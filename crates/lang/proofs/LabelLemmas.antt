@@ -11,7 +11,7 @@ use Rattle.lang.specs.declared.steps.Sort.TheVariants.{Operation, If, Sub, Abort
 use Rattle.lang.specs.Answer.{IsMet}
 use Rattle.lang.specs.Asked.{children_in, label_asked, label_in, labels_of, scope_after, scope_after_by, sort_of}
 use Rattle.lang.specs.Demand.{check, holds}
-use Rattle.lang.specs.Words.{is_name}
+use Rattle.batch.specs.Names.{is_name}
 use Rattle.lang.specs.declared.counts.Counts.{Counts}
 use Rattle.lang.specs.declared.fault.Code.TheVariants.{DuplicateLabel, Name}
 use Rattle.lang.specs.declared.words.Subject.TheVariants.{Outcome}

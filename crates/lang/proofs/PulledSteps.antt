@@ -9,7 +9,8 @@ use Rattle.lang.specs.declared.words.ItemVerb.{ItemVerb}
 use Rattle.lang.specs.declared.words.PairVerb.{PairVerb}
 use Rattle.lang.specs.declared.words.LoneVerb.{LoneVerb}
 use Rattle.lang.specs.declared.words.Verb.TheVariants.{OfAmount, OfItem, OfPair, Alone}
-use Rattle.lang.specs.Words.{amount_call, item_call, is_name, lone_call, pair_call}
+use Rattle.batch.specs.Names.{is_name}
+use Rattle.lang.specs.Words.{amount_call, item_call, lone_call, pair_call}
 use Rattle.lang.proofs.AmountLemmas.{amount_of-value}
 use Rattle.meaning.specs.Trees as tree
 use Rattle.objects.specs.declared.call.Call.{Call}

@@ -18,7 +18,8 @@ use Rattle.lang.specs.Pulled.{TestKey, abort_step, if_step}
 use Rattle.lang.specs.Pulled.TestKey.{word, least, entry}
 use Rattle.lang.specs.Scope.{Numbers, Scope, Setting, label_number, with_item}
 use Rattle.lang.specs.Spelled.{Spelling, abort_of, block_of_if, if_of, item_of, or_no_step, reason_of, spelled_map, step_of, test_of}
-use Rattle.lang.specs.Words.{fits_item, fits_number, fits_word, is_name, word_of}
+use Rattle.batch.specs.Names.{is_name}
+use Rattle.lang.specs.Words.{fits_item, fits_number, fits_word, word_of}
 use Rattle.lang.proofs.Checks.{check_met}
 
 -- ---- the test

@@ -18,7 +18,8 @@ use Rattle.lang.specs.declared.steps.Sort.TheVariants.{Operation as an_operation
 use Rattle.lang.specs.Demand.{Demand, holds, one_more_start, one_more_operation, one_more_node, in_transaction}
 use Rattle.lang.specs.Look.{has, has_only, text_member, text_item, whole_item, whole, whole_member, list_member, count, or_empty, within}
 use Rattle.lang.specs.Scope.{Table, Setting, Scope, is_listed, kind_named, named, is_named, with_label, with_labels, with_text}
-use Rattle.lang.specs.Words.{is_name, kind_of, verb_of, word_of, fits_word, fits_number, fits_item}
+use Rattle.batch.specs.Names.{is_name}
+use Rattle.lang.specs.Words.{kind_of, verb_of, word_of, fits_word, fits_number, fits_item}
 
 -- the member, or null
 abbrev pub part : List ℕ → Data → Data

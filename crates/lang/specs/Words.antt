@@ -1,6 +1,5 @@
--- Names, and the words of the language.
-use Rattle.std.specs.Prelude.{ℕ, ◌&&◌, ◌||◌, ◌==◌, Bool, false, List, length, codes, Option, Some, None, nat_lt, nat_le, if◌then◌else◌}
-use Rattle.std.specs.List.{list_all}
+-- The words of the language.
+use Rattle.std.specs.Prelude.{ℕ, Bool, false, List, codes, Option, Some, None, nat_le, if◌then◌else◌}
 use Rattle.std.specs.Str.{bytes_eq}
 use Rattle.atoms.specs.declared.item.Item.{Item}
 use Rattle.atoms.specs.declared.amount.Amount.{Amount}
@@ -30,17 +29,6 @@ use Rattle.lang.specs.declared.words.Verb.TheVariants.{OfAmount, OfItem, OfPair,
 use Rattle.lang.specs.declared.words.Subject.{Subject}
 use Rattle.lang.specs.declared.words.Subject.TheVariants.{Reply, Outcome}
 use Rattle.lang.specs.Amounts.{amount_of}
-
-abbrev pub is_between : ℕ → ℕ → ℕ → Bool
-is_between low high x = nat_le low x && nat_le x high
-
--- ASCII letters, digits, `_` and `-`
-abbrev pub is_name_byte : ℕ → Bool
-is_name_byte x = is_between 48 57 x || is_between 65 90 x || is_between 97 122 x || x == 95 || x == 45
-
--- 1 to 32 such bytes
-unfoldable pub is_name : List ℕ → Bool
-is_name s = nat_lt 0 (length s) && nat_le (length s) 32 && list_all is_name_byte s
 
 -- ---- kinds and calls
 

@@ -12,8 +12,8 @@ use crate::fault::{Code, Fault};
 use crate::look::{has, has_only, text_member, whole_member};
 use crate::operations::item_of;
 use crate::state::Numbering;
-use crate::words::{Subject, fits_item, fits_number, fits_word, is_name, word_of};
-use batch::{Test, Word};
+use crate::words::{Subject, fits_item, fits_number, fits_word, word_of};
+use batch::{Test, Word, is_name};
 use serde_json::Value;
 use std::alloc::Global;
 

@@ -30,8 +30,8 @@ use crate::pull::{
 };
 use crate::state::{Numbering, State, number_of};
 use crate::steps::{Sort, read_members, read_reason, read_step, taking};
-use crate::words::{Subject, fits_item, fits_number, fits_word, is_name, word_of};
-use batch::{Block, Handler, Step, Subaction, Test};
+use crate::words::{Subject, fits_item, fits_number, fits_word, word_of};
+use batch::{Block, Handler, Step, Subaction, Test, is_name};
 use indexmap::IndexMap;
 use json::{Reader, Token};
 use serde_json::Map;

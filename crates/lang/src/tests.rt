@@ -363,6 +363,21 @@ fn objects_are_refused(rt: HostRuntime) -> Result<(), Fail> {
         ),
         (2, "{\"name\":\"m\",\"kind\":\"max\",\"start\":5}", ""),
         (
+            2,
+            "{\"name\":\"m\",\"kind\":\"max\",\"start\":1000000000000000}",
+            "",
+        ),
+        (
+            2,
+            "{\"name\":\"m\",\"kind\":\"max\",\"start\":1000000000000001}",
+            "fault 13 transaction 0",
+        ),
+        (
+            1,
+            "{\"name\":\"\",\"kind\":\"account\",\"start\":0}",
+            "fault 3 transaction 0",
+        ),
+        (
             1,
             "{\"name\":\"a b\",\"kind\":\"account\",\"start\":-1}",
             "fault 3 transaction 0",

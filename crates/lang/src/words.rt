@@ -1,7 +1,6 @@
-//! Names, and the words of the language.
+//! The words of the language.
 ghost use Rattle.std.specs.Prelude.{◌≡◌};
-ghost use Rattle.std.specs.List.{list_all};
-ghost use Rattle.lang.specs.Words.{account_verb, counter_verb, directory_verb, fits_item, fits_number, fits_word, is_name, is_name_byte, kind_of, max_verb, queue_verb, set_verb, verb_of, word_of};
+ghost use Rattle.lang.specs.Words.{account_verb, counter_verb, directory_verb, fits_item, fits_number, fits_word, kind_of, max_verb, queue_verb, set_verb, verb_of, word_of};
 
 use batch::{Kind, Word};
 
@@ -58,26 +57,6 @@ pub(crate) enum Verb {
 pub(crate) enum Subject {
     Reply(Verb),
     Outcome,
-}
-
-pub(crate) fn is_name_byte(byte: u8) -> bool
-    ensures { result ≡ is_name_byte byte }
-{
-    matches!(byte, b'0'..=b'9' | b'A'..=b'Z' | b'a'..=b'z' | b'_' | b'-')
-}
-
-#[tactic(auto, unfolding(crate::specs::Words::is_name))]
-pub(crate) fn is_name(text: &str) -> bool
-    ensures { result ≡ is_name text.now }
-{
-    let bytes = text.as_bytes();
-    !bytes.is_empty() && bytes.len() <= 32 && has_name_bytes(bytes)
-}
-
-fn has_name_bytes(bytes: &[u8]) -> bool
-    ensures { result ≡ list_all is_name_byte bytes.now }
-{
-    bytes.iter().all(|byte| is_name_byte(*byte))
 }
 
 #[tactic(auto, unfolding(crate::specs::Words::kind_of))]

@@ -1,5 +1,5 @@
 -- What a run keeps: the kinds of the objects, and a bound on their numbers.
-use Rattle.std.proofs.Common.{◌≡◌, ℕ, zero, suc, ◌+◌, ◌≤◌, ◌<◌, ◌^◌, ℤ, pos, negsuc, ◌+ℤ◌, ◌-ℤ◌, ◌<ℤ◌, nat_abs, List, [], ◌∷◌, length, take, Bool, true, false, Option, Some, None, ◌++◌, ◌-◌, refl, sym, ap, ◌∙◌, subst, arith}
+use Rattle.std.proofs.Common.{◌≡◌, ℕ, zero, suc, ◌+◌, ◌≤◌, ◌<◌, ◌^◌, nat_le, cond, ℤ, pos, negsuc, ◌+ℤ◌, ◌-ℤ◌, ◌<ℤ◌, nat_abs, List, [], ◌∷◌, length, take, Bool, true, false, Option, Some, None, ◌++◌, ◌-◌, refl, sym, ap, ◌∙◌, subst, arith}
 use Rattle.std.proofs.lemmas.Bool.Decides.{nat_tests}
 use Rattle.std.proofs.lemmas.Int.{ints}
 use Rattle.std.specs.Prelude.{slice_index_or}
@@ -9,6 +9,9 @@ use Rattle.atoms.specs.declared.account.AccountCall.{AccountCall}
 use Rattle.atoms.specs.declared.account.AccountCall.TheVariants.{Deposit, Withdraw, Balance}
 use Rattle.atoms.specs.declared.counter.CounterCall.{CounterCall}
 use Rattle.atoms.specs.declared.counter.CounterCall.TheVariants.{Add, Sub, Read}
+use Rattle.atoms.specs.MaxRegister.{max_after}
+use Rattle.atoms.specs.declared.max_register.MaxCall.{MaxCall}
+use Rattle.atoms.specs.declared.max_register.MaxCall.TheVariants.{Raise, Top}
 use Rattle.objects.specs.Objects.{kind_of_value, value_after, Fits, ObjectHasRoom, HasRoom as ValueHasRoom}
 use Rattle.objects.specs.declared.value.Value.{Value}
 use Rattle.objects.specs.declared.value.Value.TheVariants.{Account, Counter, Set, Queue, Directory, Max}
@@ -47,13 +50,21 @@ counter_grows v (Add k) = omega (arith, sum_grows v k.value, k.in_range.1)
 counter_grows v (Sub k) = omega (arith, difference_grows v k.value, k.in_range.1)
 counter_grows v Read = omega arith
 
+register_grows : (v : ℕ) (c : MaxCall) → max_after v c ≤ v + largest_amount
+register_grows v (Raise k) = by (nat_le k.value v)
+  where
+    by : (b : Bool) → cond b v k.value ≤ v + largest_amount
+    by true = omega arith
+    by false = omega (arith, k.in_range.1)
+register_grows v Top = omega arith
+
 value_grows : (v : Value) (c : Call) → size_of (value_after v c) ≤ size_of v + largest_amount
 value_grows (Account v) (to.Account c) = account_grows v c
 value_grows (Counter v) (to.Counter c) = counter_grows v c
 value_grows (Set v) (to.Set c) = omega arith
 value_grows (Queue v) (to.Queue c) = omega arith
 value_grows (Directory v) (to.Directory c) = omega arith
-value_grows (Max v) (to.Max c) = omega arith
+value_grows (Max v) (to.Max c) = register_grows v c
 value_grows v c = omega arith
 
 same_kind : (v : Value) (c : Call) → kind_of_value (value_after v c) ≡ kind_of_value v

@@ -27,8 +27,7 @@ use Rattle.lang.proofs.PulledSubs.{label_anywhere, sub_label, sub_met, sub_sort,
 use Rattle.lang.specs.declared.words.Subject.TheVariants.{Outcome}
 use Rattle.std.proofs.lemmas.Option.{IfSome_then}
 use Rattle.batch.specs.declared.tree.Step.{If}
-use Rattle.batch.specs.Names.{texts_of}
-use Rattle.lang.specs.Words.{is_name}
+use Rattle.batch.specs.Names.{is_name, texts_of}
 use Rattle.lang.specs.declared.fault.Code.TheVariants.{Name}
 use Rattle.lang.proofs.PulledHandlers.{after_both, put_after}
 use Rattle.lang.proofs.PulledTests.{if_met, if_scope, if_spelled}

@@ -1,0 +1,77 @@
+-- What a batch names: each of its items and reasons has a text.
+use Rattle.std.specs.Prelude.{◌≡◌, ◌<◌, ℕ, true, List, [], ◌∷◌, length, Some, ⊤}
+use Rattle.std.specs.List.{All}
+use Rattle.std.specs.Option.{ForSome}
+use Rattle.std.specs.FinSet as finite_set
+use Rattle.std.specs.FinMap as finite_map
+use Rattle.atoms.specs.declared.item.Item.{Item}
+use Rattle.atoms.specs.declared.item_set.SetCall.TheVariants.{Insert, Remove, Has}
+use Rattle.atoms.specs.declared.queue.QueueCall.TheVariants.{Enq}
+use Rattle.atoms.specs.declared.directory.DirectoryCall.TheVariants.{Bind, Put, Unbind, Lookup}
+use Rattle.objects.specs.declared.call.Call.{Call}
+use Rattle.objects.specs.declared.call.Call.TheVariants as call
+use Rattle.objects.specs.declared.value.Value.{Value}
+use Rattle.objects.specs.declared.value.Value.TheVariants as value
+use Rattle.meaning.specs.declared.test.Test.{Test}
+use Rattle.meaning.specs.declared.test.Test.TheVariants.{IsItem}
+use Rattle.meaning.specs.Trees.{Block, NoStep, Steps, Step, Operation, If, Subaction, Abort, Parallel, Handlers, ForReason, Otherwise, GoOn, Pass, Children, NoChild, Child}
+use Rattle.batch.specs.Names.{Texts}
+
+abbrev pub HasText : Texts → Item → Type 0
+HasText texts item = item.0 < length texts.items
+
+abbrev pub HasReason : Texts → ℕ → Type 0
+HasReason texts reason = reason < length texts.reasons
+
+abbrev pub IsNamedCall : Texts → Call → Type 0
+IsNamedCall texts (call.Set (Insert x)) = HasText texts x
+IsNamedCall texts (call.Set (Remove x)) = HasText texts x
+IsNamedCall texts (call.Set (Has x)) = HasText texts x
+IsNamedCall texts (call.Queue (Enq x)) = HasText texts x
+IsNamedCall texts (call.Directory (Bind k v)) = HasText texts k × HasText texts v
+IsNamedCall texts (call.Directory (Put k v)) = HasText texts k × HasText texts v
+IsNamedCall texts (call.Directory (Unbind k)) = HasText texts k
+IsNamedCall texts (call.Directory (Lookup k)) = HasText texts k
+IsNamedCall texts c = ⊤
+
+abbrev pub IsNamedTest : Texts → Test → Type 0
+IsNamedTest texts (IsItem x) = HasText texts x
+IsNamedTest texts test = ⊤
+
+abbrev mutual
+  -- each item and each reason that it names has a text
+  pub IsNamed : Texts → Block → Type 0
+  IsNamed texts NoStep = ⊤
+  IsNamed texts (Steps step rest) = IsNamedStep texts step × IsNamed texts rest
+
+  pub IsNamedStep : Texts → Step → Type 0
+  IsNamedStep texts (Operation object call labelled) = IsNamedCall texts call
+  IsNamedStep texts (If label test then else) = IsNamedTest texts test × IsNamed texts then × IsNamed texts else
+  IsNamedStep texts (Subaction body handlers labelled) = IsNamed texts body × AreNamedHandlers texts handlers
+  IsNamedStep texts (Abort reason) = ForSome reason (HasReason texts)
+  IsNamedStep texts (Parallel children) = AreNamed texts children
+
+  pub AreNamedHandlers : Texts → Handlers → Type 0
+  AreNamedHandlers texts (ForReason reason handler others) = HasReason texts reason × IsNamed texts handler × AreNamedHandlers texts others
+  AreNamedHandlers texts (Otherwise handler) = IsNamed texts handler
+  AreNamedHandlers texts GoOn = ⊤
+  AreNamedHandlers texts Pass = ⊤
+
+  pub AreNamed : Texts → Children → Type 0
+  AreNamed texts NoChild = ⊤
+  AreNamed texts (Child body handlers labelled younger) = IsNamed texts body × AreNamedHandlers texts handlers × AreNamed texts younger
+
+abbrev pub AllNamed : Texts → List Block → Type 0
+AllNamed texts [] = ⊤
+AllNamed texts (block ∷ blocks) = IsNamed texts block × AllNamed texts blocks
+
+-- so has each item of a value
+abbrev pub IsNamedValue : Texts → Value → Type 0
+IsNamedValue texts (value.Set s) = (x : Item) → finite_set.contains s x ≡ true → HasText texts x
+IsNamedValue texts (value.Queue q) = All (HasText texts) q
+IsNamedValue texts (value.Directory d) = (k x : Item) → finite_map.get d k ≡ Some x → HasText texts k × HasText texts x
+IsNamedValue texts v = ⊤
+
+abbrev pub AllNamedValues : Texts → List Value → Type 0
+AllNamedValues texts [] = ⊤
+AllNamedValues texts (v ∷ values) = IsNamedValue texts v × AllNamedValues texts values

@@ -1,0 +1,82 @@
+-- What has its texts keeps them where there are more.
+use Rattle.std.proofs.Common.{◌≤◌, ℕ, List, [], ◌∷◌, length, arith}
+use Rattle.atoms.specs.declared.item.Item.{Item}
+use Rattle.atoms.specs.declared.item_set.SetCall.TheVariants.{Insert, Remove, Has, Size}
+use Rattle.atoms.specs.declared.queue.QueueCall.TheVariants.{Enq, Deq, Length}
+use Rattle.atoms.specs.declared.directory.DirectoryCall.TheVariants.{Bind, Put, Unbind, Lookup}
+use Rattle.objects.specs.declared.call.Call.{Call}
+use Rattle.objects.specs.declared.call.Call.TheVariants as call
+use Rattle.objects.specs.declared.value.Value.{Value}
+use Rattle.objects.specs.declared.value.Value.TheVariants as value
+use Rattle.meaning.specs.declared.test.Test.{Test}
+use Rattle.meaning.specs.declared.test.Test.TheVariants.{Is, AtLeast, IsItem}
+use Rattle.meaning.specs.Trees as tree
+use Rattle.meaning.specs.Trees.{NoStep, Steps, Step, Operation, If, Subaction, Abort, Parallel, Handlers, ForReason, Otherwise, GoOn, Pass, Children, NoChild, Child}
+use Rattle.batch.specs.Names.{Texts}
+use Rattle.batch.specs.Named.{HasText, HasReason, IsNamedCall, IsNamedTest, IsNamed, IsNamedStep, AreNamedHandlers, AreNamed, AllNamed, IsNamedValue, AllNamedValues}
+
+module _ (texts more : Texts) (items : length texts.items ≤ length more.items) (reasons : length texts.reasons ≤ length more.reasons) where
+  item_later : (x : Item) → HasText texts x → HasText more x
+  item_later x named = omega (arith, items, named)
+
+  reason_later : (reason : ℕ) → HasReason texts reason → HasReason more reason
+  reason_later reason named = omega (arith, reasons, named)
+
+  call_later : (c : Call) → IsNamedCall texts c → IsNamedCall more c
+  call_later (call.Account c) named = tt
+  call_later (call.Counter c) named = tt
+  call_later (call.Set (Insert x)) named = item_later x named
+  call_later (call.Set (Remove x)) named = item_later x named
+  call_later (call.Set (Has x)) named = item_later x named
+  call_later (call.Set Size) named = tt
+  call_later (call.Queue (Enq x)) named = item_later x named
+  call_later (call.Queue Deq) named = tt
+  call_later (call.Queue Length) named = tt
+  call_later (call.Directory (Bind k x)) named = (item_later k named.0, item_later x named.1)
+  call_later (call.Directory (Put k x)) named = (item_later k named.0, item_later x named.1)
+  call_later (call.Directory (Unbind k)) named = item_later k named
+  call_later (call.Directory (Lookup k)) named = item_later k named
+  call_later (call.Max c) named = tt
+
+  pub test_later : (test : Test) → IsNamedTest texts test → IsNamedTest more test
+  test_later (Is word) named = tt
+  test_later (AtLeast number) named = tt
+  test_later (IsItem x) named = item_later x named
+
+  mutual
+    pub block_later : (block : tree.Block) → IsNamed texts block → IsNamed more block
+    block_later NoStep named = tt
+    block_later (Steps step rest) named = (step_later step named.0, block_later rest named.1)
+
+    pub step_later : (step : Step) → IsNamedStep texts step → IsNamedStep more step
+    step_later (Operation object call labelled) named = call_later call named
+    step_later (If label test then else) named = (test_later test named.0, block_later then named.1, block_later else named.2)
+    step_later (Subaction body handlers labelled) named = (block_later body named.0, handlers_later handlers named.1)
+    step_later (Abort reason) named = λ r is. reason_later r (named r is)
+    step_later (Parallel children) named = children_later children named
+
+    pub handlers_later : (handlers : Handlers) → AreNamedHandlers texts handlers → AreNamedHandlers more handlers
+    handlers_later (ForReason reason handler others) named = (reason_later reason named.0, block_later handler named.1, handlers_later others named.2)
+    handlers_later (Otherwise handler) named = block_later handler named
+    handlers_later GoOn named = tt
+    handlers_later Pass named = tt
+
+    pub children_later : (children : Children) → AreNamed texts children → AreNamed more children
+    children_later NoChild named = tt
+    children_later (Child body handlers labelled younger) named = (block_later body named.0, handlers_later handlers named.1, children_later younger named.2)
+
+  pub blocks_later : (blocks : List tree.Block) → AllNamed texts blocks → AllNamed more blocks
+  blocks_later [] named = tt
+  blocks_later (block ∷ blocks) named = (block_later block named.0, blocks_later blocks named.1)
+
+  pub value_later : (v : Value) → IsNamedValue texts v → IsNamedValue more v
+  value_later (value.Account n) named = tt
+  value_later (value.Counter n) named = tt
+  value_later (value.Set s) named = λ x is. item_later x (named x is)
+  value_later (value.Queue q) named = λ k x lt. item_later _ (named k x lt)
+  value_later (value.Directory d) named = λ k x is. let both = named k x is in (item_later k both.0, item_later x both.1)
+  value_later (value.Max n) named = tt
+
+  pub values_later : (values : List Value) → AllNamedValues texts values → AllNamedValues more values
+  values_later [] named = tt
+  values_later (v ∷ values) named = (value_later v named.0, values_later values named.1)

@@ -1,0 +1,115 @@
+-- Tables of texts: each number has its text, tables only grow, and they keep to names.
+use Rattle.std.proofs.Common.{◌≡◌, ◌<◌, ◌≤◌, ◌+◌, ◌||◌, ℕ, Bool, true, false, not, cond, List, [], ◌∷◌, ◌++◌, length, refl, ◌∙◌, arith}
+use Rattle.std.specs.Prelude.{nat_lt}
+use Rattle.std.specs.List.{position_or_len}
+use Rattle.std.specs.Str.{bytes_eq}
+use Rattle.std.proofs.lemmas.Bool.{ltb-false}
+use Rattle.std.proofs.lemmas.List.{length-append}
+use Rattle.std.proofs.lemmas.List.Folds.{list_all-append}
+use Rattle.batch.specs.Names.{AreNames, Texts, is_name}
+use Rattle.lang.specs.Demand.{Demand}
+use Rattle.lang.specs.Scope.{Numbers, Table, fit, is_listed, number_of, with_item, with_reason, with_text}
+use Rattle.lang.proofs.MetLemmas.{AllMet, first_met, rest_met}
+
+first_below : (text : List ℕ) (table : Table) → is_listed text table ≡ true → position_or_len (bytes_eq text) table < length table
+first_below text [] h = cc
+first_below text (t ∷ table) h = by (bytes_eq text t) (first_below text table) h
+  where
+    by : (b : Bool) → (is_listed text table ≡ true → position_or_len (bytes_eq text) table < length table) → (b || is_listed text table) ≡ true → cond (not b) (1 + position_or_len (bytes_eq text) table) 0 < length (t ∷ table)
+    by true later h = omega arith
+    by false later h = omega (arith, later h)
+
+first_at_most : (text : List ℕ) (table : Table) → position_or_len (bytes_eq text) table ≤ length table
+first_at_most text [] = omega arith
+first_at_most text (t ∷ table) = by (bytes_eq text t) (first_at_most text table)
+  where
+    by : (b : Bool) → position_or_len (bytes_eq text) table ≤ length table → cond (not b) (1 + position_or_len (bytes_eq text) table) 0 ≤ length (t ∷ table)
+    by true later = omega arith
+    by false later = omega (arith, later)
+
+fit_at_most : (n : ℕ) → fit n ≤ n
+fit_at_most n = by (nat_lt n 4294967295) refl
+  where
+    by : (b : Bool) → nat_lt n 4294967295 ≡ b → cond b n 4294967295 ≤ n
+    by true e = omega arith
+    by false e = ltb-false n 4294967295 e
+
+-- the number of a text is below how many there are, once it is in
+pub number_below : (text : List ℕ) (table : Table) → number_of text table < length (with_text text table)
+number_below text table = by (is_listed text table) refl
+  where
+    by : (b : Bool) → is_listed text table ≡ b → number_of text table < length (cond b table (table ++ text ∷ []))
+    by true e = omega (arith, fit_at_most (position_or_len (bytes_eq text) table), first_below text table e)
+    by false e = omega (arith, fit_at_most (position_or_len (bytes_eq text) table), first_at_most text table, length-append table (text ∷ []))
+
+with_more : (text : List ℕ) (table : Table) → length table ≤ length (with_text text table)
+with_more text table = by (is_listed text table)
+  where
+    by : (b : Bool) → length table ≤ length (cond b table (table ++ text ∷ []))
+    by true = omega arith
+    by false = omega (arith, length-append table (text ∷ []))
+
+with_name : (text : List ℕ) (table : Table) → is_name text ≡ true → AreNames table → AreNames (with_text text table)
+with_name text table named are = by (is_listed text table)
+  where
+    by : (b : Bool) → AreNames (cond b table (table ++ text ∷ []))
+    by true = are
+    by false = list_all-append is_name table (text ∷ []) ∙ rw (are, named) refl
+
+-- the tables only grow, and where the demands are met they keep to names
+pub record Grows (before after : Numbers) (ds : List Demand) : Type 0 where
+  pub items : length before.items ≤ length after.items
+  pub reasons : length before.reasons ≤ length after.reasons
+  pub item_names : AllMet ds → AreNames before.items → AreNames after.items
+  pub reason_names : AllMet ds → AreNames before.reasons → AreNames after.reasons
+
+pub grows_none : (numbers : Numbers) (ds : List Demand) → Grows numbers numbers ds
+grows_none numbers ds = record { items = omega arith; reasons = omega arith; item_names = λ met are. are; reason_names = λ met are. are }
+
+pub grows_on : (a b c : Numbers) (xs ys : List Demand) → Grows a b xs → Grows b c ys → Grows a c (xs ++ ys)
+grows_on a b c xs ys g h = record {
+  items = omega (arith, g.items, h.items);
+  reasons = omega (arith, g.reasons, h.reasons);
+  item_names = λ met are. h.item_names (rest_met xs ys met) (g.item_names (first_met xs ys met) are);
+  reason_names = λ met are. h.reason_names (rest_met xs ys met) (g.reason_names (first_met xs ys met) are);
+}
+
+-- by the same demands
+pub grows_both : (a b c : Numbers) (ds : List Demand) → Grows a b ds → Grows b c ds → Grows a c ds
+grows_both a b c ds g h = record {
+  items = omega (arith, g.items, h.items);
+  reasons = omega (arith, g.reasons, h.reasons);
+  item_names = λ met are. h.item_names met (g.item_names met are);
+  reason_names = λ met are. h.reason_names met (g.reason_names met are);
+}
+
+pub grows_behind : (a b : Numbers) (xs ys : List Demand) → Grows a b ys → Grows a b (xs ++ ys)
+grows_behind a b xs ys g = grows_on a a b xs ys (grows_none a xs) g
+
+pub grows_before : (a b : Numbers) (xs ys : List Demand) → Grows a b xs → Grows a b (xs ++ ys)
+grows_before a b xs ys g = grows_on a b b xs ys g (grows_none b ys)
+
+pub grows_item : (text : List ℕ) (numbers : Numbers) (ds : List Demand) → (AllMet ds → is_name text ≡ true) → Grows numbers (with_item text numbers) ds
+grows_item text numbers ds named = record {
+  items = with_more text numbers.items;
+  reasons = omega arith;
+  item_names = λ met are. with_name text numbers.items (named met) are;
+  reason_names = λ met are. are;
+}
+
+pub grows_reason : (text : List ℕ) (numbers : Numbers) (ds : List Demand) → (AllMet ds → is_name text ≡ true) → Grows numbers (with_reason text numbers) ds
+grows_reason text numbers ds named = record {
+  items = omega arith;
+  reasons = with_more text numbers.reasons;
+  item_names = λ met are. are;
+  reason_names = λ met are. with_name text numbers.reasons (named met) are;
+}
+
+-- the texts that are numbered so far
+abbrev pub texts_in : Numbers → Texts
+texts_in numbers = record { objects = []; items = numbers.items; reasons = numbers.reasons }
+
+-- what is spelled has its texts, which the demands made names
+pub record Numbered {A : Type 0} (HasTexts : Texts → A → Type 0) (before : Numbers) (spelled : A × Numbers) (ds : List Demand) : Type 0 where
+  pub named : HasTexts (texts_in spelled.1) spelled.0
+  pub grows : Grows before spelled.1 ds
