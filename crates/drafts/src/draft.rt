@@ -1,6 +1,6 @@
 //! Drafts of values of any kind.
 ghost use Rattle.std.specs.Prelude.{◌≡◌, ◌↔◌, IsTrue, Some, IfOk, IfSome, IsSome, IsNone, OnOk, OnErr};
-ghost use Rattle.objects.specs.Objects.{kind_of_value, kind_of_call, one_value, HasRoom};
+ghost use Rattle.objects.specs.Objects.{kind_of_value, kind_of_call, one_value, HasRoom, KeepsItems};
 ghost use Rattle.objects.specs.Changes.{value_change};
 ghost use Rattle.atoms.specs.Account.{account};
 ghost use Rattle.atoms.specs.Counter.{counter};
@@ -156,7 +156,8 @@ impl<'s> Draft<'s> {
     }
 
     /// Performs a call that changes the value for good, and returns its reply: no change before it
-    /// can be taken back. This takes no memory for a number. On `NoMemory` the value is as before.
+    /// can be taken back. It is never refused memory for a number. On `NoMemory` the value is as
+    /// before.
     pub fn settle(&mut self, call: &Call) -> Result<Reply, NoMemory>
         requires fits { kind_of_value self.old.value ≡ kind_of_call call.now }
         requires room { HasRoom self.old.value call.now }
@@ -164,6 +165,7 @@ impl<'s> Draft<'s> {
         ensures reply { IfOk result (λ reply. one_value.reply self.old.value call.now ≡ Some reply) }
         ensures ok { OnOk result (self.new ≡ unchanged (one_value.after self.old.value call.now)) }
         ensures err { OnErr result (self.new ≡ self.old) }
+        ensures refused { OnErr result (KeepsItems self.old.value) }
     {
         match (&mut self.kept, call) {
             (Kept::Account(draft), Call::Account(call)) => {
@@ -211,9 +213,10 @@ impl<'s> Draft<'s> {
         }
     }
 
-    /// The value in memory of its own, or `NoMemory`.
+    /// The value in memory of its own, or `NoMemory`. A number is never refused memory.
     pub fn whole(&self, alloc: Global) -> Result<Value, NoMemory>
-        ensures { IfOk result (λ whole. whole ≡ self.now.value) }
+        ensures value { IfOk result (λ whole. whole ≡ self.now.value) }
+        ensures refused { OnErr result (KeepsItems self.now.value) }
     {
         match &self.kept {
             Kept::Account(draft) => Ok(Value::Account(draft.number)),

@@ -48,10 +48,11 @@ impl<T: Copy + Drop> NumberDraft<T> {
         ensures reply { IfOk result (λ reply. reply ≡ A.serial.reply self.old.number call.now) }
         ensures ok { OnOk result (number_history self.new ≡ unchanged (A.serial.after self.old.number call.now)) }
         ensures err { OnErr result (number_history self.new ≡ number_history self.old) }
+        ensures refused { OnErr result (A.MayGrow self.old.number call.now) }
     {
-        let reply = A::perform(&mut self.number, call)?;
+        let answer = A::perform(&mut self.number, call)?;
         self.before.truncate(0);
-        Ok(reply)
+        Ok(answer)
     }
 
     /// Takes the last change back, if there is one. It takes no memory.

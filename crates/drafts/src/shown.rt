@@ -1,6 +1,6 @@
 //! Values as a reader sees them: borrowed as they were, or as drafts.
-ghost use Rattle.std.specs.Prelude.{◌≡◌, ◌↔◌, IsTrue, Some, IfOk, IfSome, IsSome, IsNone};
-ghost use Rattle.objects.specs.Objects.{kind_of_value, kind_of_call, one_value, HasRoom};
+ghost use Rattle.std.specs.Prelude.{◌≡◌, ◌↔◌, IsTrue, Some, IfOk, IfSome, IsSome, IsNone, OnErr};
+ghost use Rattle.objects.specs.Objects.{kind_of_value, kind_of_call, one_value, HasRoom, KeepsItems};
 ghost use Rattle.objects.specs.Changes.{value_change};
 ghost use Rattle.drafts.specs.Shown.{shown_value};
 
@@ -52,9 +52,10 @@ impl<'a, 's> Shown<'a, 's> {
         }
     }
 
-    /// The value in memory of its own, or `NoMemory`.
+    /// The value in memory of its own, or `NoMemory`. A number is never refused memory.
     pub fn whole(&self, alloc: Global) -> Result<Value, NoMemory>
-        ensures { IfOk result (λ whole. whole ≡ shown_value self.now) }
+        ensures value { IfOk result (λ whole. whole ≡ shown_value self.now) }
+        ensures refused { OnErr result (KeepsItems (shown_value self.now)) }
     {
         match self {
             Shown::Lent(value) => value.copy(),
