@@ -10,18 +10,19 @@ use Rattle.committed.specs.declared.watch.Link.{Link}
 use Rattle.std.specs.Int.{bit_at}
 use Rattle.objects.specs.declared.entry.Entry.{Entry}
 use Rattle.committed.specs.declared.classes.Class.{Class}
-use Rattle.committed.specs.Classes.{class_of, number_of, always_commute}
+use Rattle.committed.specs.Classes.{class_of, number_of}
 use Rattle.objects.specs.Entries.{AllCommute, CommuteForward}
 use Rattle.committed.specs.Index.{key_of, key_against}
 use Rattle.committed.specs.Items.{is_compared}
 use Rattle.committed.specs.Marks.{mark_of}
 use Rattle.committed.specs.Summaries.{entries_of}
-use Rattle.committed.proofs.ClassesLemmas.{always_commutes, elsewhere}
-use Rattle.committed.proofs.FilterLemmas.{conflict_bit}
+use Rattle.committed.proofs.ClassesLemmas.{elsewhere}
 use Rattle.committed.proofs.StandsLemmas.{commute_turned, all_commute, key_is}
 use Rattle.committed.specs.NumberSets.{Has}
 use Rattle.committed.specs.Chains.{slot_at, before_at, run_at, slot_of, AreChains, HasLink}
-use Rattle.committed.specs.Watching.{HasMark}
+use Rattle.committed.specs.Watching.{HasMark, IsWatched}
+use Rattle.committed.specs.Filter.{IsMarked, Meets}
+use Rattle.committed.specs.declared.watch.Watch.{Watch}
 
 -- ---- one link more
 
@@ -215,9 +216,9 @@ all_found links slot from at count before found were done run late has =
 
 -- ---- the marks of a run
 
--- the mark of the entry at a place
-pub marked_at : (all : List MarkedEntry) (at : ℕ) (m : MarkedEntry) (e : Entry) → at < length all → m ≡ get_or all at m → m.mark ≡ mark_of (get_or (entries_of all) at e)
-marked_at all at m e within is = m.is_marked ∙ ap mark_of (ap (λ (k : MarkedEntry). k.entry) is ∙ sym (get_or-map (λ (k : MarkedEntry). k.entry) all at m e within))
+-- the entry at a place of a list of marked entries
+pub entry_at : (all : List MarkedEntry) (at : ℕ) (m : MarkedEntry) (e : Entry) → at < length all → m ≡ get_or all at m → m.entry ≡ get_or (entries_of all) at e
+entry_at all at m e within is = ap (λ (k : MarkedEntry). k.entry) is ∙ sym (get_or-map (λ (k : MarkedEntry). k.entry) all at m e within)
 
 -- a run keeps a mark's links where it keeps its links
 pub mark_kept : (size next : ℕ) (links more : List Link) (run : ℕ) (mark : Mark) → next ≡ size → ((slot : ℕ) → HasLink links run slot → HasLink more run slot)
@@ -227,12 +228,14 @@ mark_kept size next links more run mark same kept has = record {
   by_item = subst (λ n. HasLink more run (slot_of n (key_of mark.of_item mark.class))) (sym same) (kept (slot_of size (key_of mark.of_item mark.class)) has.by_item);
 }
 
--- a marked entry has its links where there is one in each of its mark's slots
-pub mark_put : (size : ℕ) (links : List Link) (run : ℕ) (all : List MarkedEntry) (at : ℕ) (m : MarkedEntry) (e : Entry) → at < length all → m ≡ get_or all at m
-    → HasLink links run (slot_of size (key_of m.mark.of_object m.mark.class)) → HasLink links run (slot_of size (key_of m.mark.of_item m.mark.class))
-    → HasMark size links run (mark_of (get_or (entries_of all) at e))
-mark_put size links run all at m e within is by_object by_item =
-    subst (HasMark size links run) (marked_at all at m e within is) (record { by_object = by_object; by_item = by_item })
+-- a run keeps what it is found by where it keeps its links and the filter keeps the entry
+pub watched_kept : (old new : Watch) (run : ℕ) (e : Entry) → length new.last.items ≡ length old.last.items
+    → ((slot : ℕ) → HasLink old.links.items run slot → HasLink new.links.items run slot) → (IsMarked old.filter e → IsMarked new.filter e)
+    → IsWatched old run e → IsWatched new run e
+watched_kept old new run e same kept stays watched = record {
+  links = mark_kept (length old.last.items) (length new.last.items) old.links.items new.links.items run (mark_of e) same kept watched.links;
+  marked = stays watched.marked;
+}
 
 -- ---- the runs that are sought
 
@@ -252,29 +255,31 @@ more_more from count before between found first second = record {
   only = λ run has. elim (second.only run has) [ inl was ↦ first.only run was | inr new ↦ inr new ];
 }
 
--- runs with a link where an entry of this mark looks for a class that it may conflict with are found
-pub record IsSought (links : List Link) (size from : ℕ) (found : List ℕ) (mark : Mark) (class : Class) : Type 0 where
-  pub all : bit_at mark.conflicts (number_of class) ≡ 1 → (run : ℕ) → from ≤ run → HasLink links run (slot_of size (key_against mark class)) → Has found run
+-- runs with a link where an entry of this mark looks for a class of the set are found
+pub record IsSought (links : List Link) (size from : ℕ) (found : List ℕ) (mark : Mark) (set : ℕ) (class : Class) : Type 0 where
+  pub all : bit_at set (number_of class) ≡ 1 → (run : ℕ) → from ≤ run → HasLink links run (slot_of size (key_against mark class)) → Has found run
 
 -- they stay found
-pub still_sought : (links : List Link) (slots from : ℕ) (found more : List ℕ) (mark : Mark) (class : Class) → ((run : ℕ) → Has found run → Has more run)
-    → IsSought links slots from found mark class → IsSought links slots from more mark class
-still_sought links slots from found more mark class kept sought = record { all = λ bit run late has. kept run (sought.all bit run late has) }
+pub still_sought : (links : List Link) (slots from : ℕ) (found more : List ℕ) (mark : Mark) (set : ℕ) (class : Class) → ((run : ℕ) → Has found run → Has more run)
+    → IsSought links slots from found mark set class → IsSought links slots from more mark set class
+still_sought links slots from found more mark set class kept sought = record { all = λ bit run late has. kept run (sought.all bit run late has) }
 
--- a run that is watched by the marks of its entries and isn't found has no entry that conflicts with those that were sought
-pub not_found_commutes : (links : List Link) (size from : ℕ) (found : List ℕ) (run : ℕ) (p q : Entry) → from ≤ run → ¬ Has found run → HasMark size links run (mark_of q)
-    → ((class : Class) → IsSought links size from found (mark_of p) class) → CommuteForward q p
-not_found_commutes links size from found run p q late none has sought = commute_turned p q (by_class (always_commute (class_of p.call p.reply) class) refl (is_compared p q) refl)
+-- a run that is found by an entry, but wasn't, has an entry that commutes with the one that was sought by
+pub not_found_commutes : (watch : Watch) (from : ℕ) (found : List ℕ) (run : ℕ) (p q : Entry) (set : ℕ) → from ≤ run → ¬ Has found run → IsWatched watch run q
+    → (IsMarked watch.filter q → Meets set p q)
+    → ((class : Class) → IsSought watch.links.items (length watch.last.items) from found (mark_of p) set class) → CommuteForward q p
+not_found_commutes watch from found run p q set late none watched meets sought = elim (meets watched.marked) [
+  | inl commute ↦ commute_turned p q commute
+  | inr bit ↦ commute_turned p q (by_place (is_compared p q) refl bit)
+]
   where
     class : Class
     class = class_of q.call q.reply
 
-    by_class : (b : Bool) → always_commute (class_of p.call p.reply) class ≡ b → (u : Bool) → is_compared p q ≡ u → CommuteForward p q
-    by_class true always u compared = always_commutes p q always
-    by_class false may false compared = elsewhere p q compared
-    by_class false may true compared =
-        absurd (none ((sought class).all (conflict_bit (class_of p.call p.reply) class may) run late
-        (key_is (λ key. HasLink links run (slot_of size key)) p q compared has.by_object has.by_item)))
+    by_place : (u : Bool) → is_compared p q ≡ u → bit_at set (number_of class) ≡ 1 → CommuteForward p q
+    by_place false compared bit = elsewhere p q compared
+    by_place true compared bit = absurd (none ((sought class).all bit run late
+        (key_is (λ key. HasLink watch.links.items run (slot_of (length watch.last.items) key)) p q compared watched.links.by_object watched.links.by_item)))
 
 -- lists commute where each two of their entries do
 pub all_stand : (ps qs : List Entry) → ((i j : ℕ) (d e : Entry) → i < length ps → j < length qs → CommuteForward (get_or ps i d) (get_or qs j e)) → AllCommute ps qs

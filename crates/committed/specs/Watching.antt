@@ -2,6 +2,7 @@
 use Rattle.std.specs.Prelude.{List, ℕ, ◌<◌, length, slice_index_or}
 use Rattle.objects.specs.declared.entry.Entry.{Entry}
 use Rattle.committed.specs.Chains.{slot_of, HasLink}
+use Rattle.committed.specs.Filter.{IsMarked}
 use Rattle.committed.specs.Index.{key_of}
 use Rattle.committed.specs.Marks.{mark_of}
 use Rattle.committed.specs.declared.marks.Mark.{Mark}
@@ -13,7 +14,11 @@ pub record HasMark (size : ℕ) (links : List Link) (run : ℕ) (mark : Mark) : 
   pub by_object : HasLink links run (slot_of size (key_of mark.of_object mark.class))
   pub by_item : HasLink links run (slot_of size (key_of mark.of_item mark.class))
 
--- the run has links for each of these entries
+-- a run is found by an entry: it has the entry's links, and the filter has the entry
+pub record IsWatched (watch : Watch) (run : ℕ) (e : Entry) : Type 0 where
+  pub links : HasMark (length watch.last.items) watch.links.items run (mark_of e)
+  pub marked : IsMarked watch.filter e
+
+-- it is found by each of these entries
 unfoldable pub Watches : Watch → ℕ → List Entry → Type 0
-Watches watch run entries =
-    (k : ℕ) (e : Entry) → k < length entries → HasMark (length watch.last.items) watch.links.items run (mark_of (slice_index_or entries k e))
+Watches watch run entries = (k : ℕ) (e : Entry) → k < length entries → IsWatched watch run (slice_index_or entries k e)

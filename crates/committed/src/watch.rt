@@ -3,6 +3,7 @@ ghost use Rattle.std.specs.Prelude.{◌≡◌, ◌↔◌, ◌<◌, ◌≤◌, �
 ghost use Rattle.committed.specs.Chains.{slot_of, AreChains, HasLink};
 ghost use Rattle.committed.specs.NumberSets.{Has};
 
+use crate::filter::Filter;
 use crate::number_set::NumberSet;
 use objects::NoMemory;
 use std::alloc::Global;
@@ -12,6 +13,10 @@ const FEWEST: usize = 1024;
 
 /// How many slots there are at most.
 const MOST: usize = 4194304;
+
+/// How many entries there are for each that the filter is told of. It has 32 sets or more for each
+/// of these, so two or more for each entry.
+const SHARE: usize = 16;
 
 /// A run has an entry under a heading.
 #[derive(Clone, Copy, Debug)]
@@ -24,7 +29,8 @@ struct Link {
 }
 
 /// The headings under which runs have entries. Of the runs that were put in, it finds those that
-/// have an entry that may conflict with one of some others, without a look at the rest.
+/// have an entry that may conflict with one of some others, without a look at the rest. A filter
+/// says of most entries that there is no such run.
 ///
 /// Nothing is removed. A run that is put in again is still found by what it had before.
 #[derive(Drop)]
@@ -36,6 +42,8 @@ pub struct Watch {
     count: usize,
     /// How many links it should have at most. With more, most of them are stale.
     limit: usize,
+    /// Has the entries of all runs. It clears most of those for which no run need be found.
+    pub(crate) filter: Filter,
     ghost chains: { AreChains last.items links.items count },
     ghost small: { (length last.items ≤ 2 ^ 32) × (count ≤ 2 ^ 32) },
 }
@@ -51,11 +59,14 @@ impl Watch {
         while size < MOST && size / 4 < entries {
             size *= 2;
         }
+        let mut filter = Filter::new(alloc);
+        filter.reserve(&[], entries / SHARE)?;
         Ok(Watch {
             last: vec![in alloc; 0usize; size]?,
             links: Vec::new(alloc),
             count,
             limit: entries.saturating_mul(3).saturating_add(FEWEST),
+            filter,
         })
     }
 
@@ -97,6 +108,7 @@ impl Watch {
         requires run { run < self.old.count }
         ensures count { self.new.count ≡ self.old.count }
         ensures size { length self.new.last.items ≡ length self.old.last.items }
+        ensures filter { self.new.filter ≡ self.old.filter }
         ensures own { OnOk result (HasLink self.new.links.items run slot) }
         ensures others { (other place : ℕ) → HasLink self.old.links.items other place → HasLink self.new.links.items other place }
     {

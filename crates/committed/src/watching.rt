@@ -1,10 +1,10 @@
 //! Putting runs into the watch, and finding those that may conflict with some entries.
 ghost use Rattle.std.specs.Prelude.{◌≡◌, ◌<◌, ◌≤◌, ◌⊎◌, ℕ, List, OnOk};
 ghost use Rattle.objects.specs.declared.entry.Entry.{Entry as OneEntry};
-ghost use Rattle.objects.specs.Entries.{AllCommute};
+ghost use Rattle.objects.specs.Entries.{AllCommute, CommuteForward};
 ghost use Rattle.committed.specs.NumberSets.{Has};
 ghost use Rattle.committed.specs.Summaries.{entries_of};
-ghost use Rattle.committed.specs.Watching.{Watches};
+ghost use Rattle.committed.specs.Watching.{IsWatched, Watches};
 
 use crate::classes::Class;
 use crate::index::{key_against, key_of};
@@ -22,13 +22,25 @@ impl Watch {
         ensures others { OnOk result ((other : ℕ) (kept : List OneEntry) → Watches self.old other kept → Watches self.new other kept) }
     {
         for marked in entries {
-            let mark = &marked.mark;
-            let by_object = self.slot(key_of(mark.of_object, mark.class));
-            self.link(by_object, run)?;
-            let by_item = self.slot(key_of(mark.of_item, mark.class));
-            if by_item != by_object {
-                self.link(by_item, run)?;
-            }
+            self.put_one(run, marked)?;
+        }
+        Ok(())
+    }
+
+    // Puts a run in by one of its entries.
+    fn put_one(&mut self, run: usize, marked: &MarkedEntry) -> Result<(), NoMemory>
+        requires { run < self.old.count }
+        ensures count { self.new.count ≡ self.old.count }
+        ensures own { OnOk result (IsWatched self.new run marked.now.entry) }
+        ensures others { OnOk result ((other : ℕ) (e : OneEntry) → IsWatched self.old other e → IsWatched self.new other e) }
+    {
+        let mark = &marked.mark;
+        self.filter.mark(mark);
+        let by_object = self.slot(key_of(mark.of_object, mark.class));
+        self.link(by_object, run)?;
+        let by_item = self.slot(key_of(mark.of_item, mark.class));
+        if by_item != by_object {
+            self.link(by_item, run)?;
         }
         Ok(())
     }
@@ -48,11 +60,27 @@ impl Watch {
         ensures stand { OnOk result ((run : ℕ) (others : List OneEntry) → from ≤ run → ¬ Has found.new run → Watches self.now run others → AllCommute others (entries_of entries.now)) }
     {
         for marked in entries {
-            for class in &Class::ALL {
-                if marked.mark.conflicts & class.bit() != 0 {
-                    let slot = self.slot(key_against(&marked.mark, *class));
-                    self.find_in(slot, from, found)?;
-                }
+            self.find_one(marked, from, found)?;
+        }
+        Ok(())
+    }
+
+    // Adds to the found runs all runs from the number `from` on that may conflict with this entry.
+    fn find_one(
+        &self,
+        marked: &MarkedEntry,
+        from: usize,
+        found: &mut NumberSet,
+    ) -> Result<(), NoMemory>
+        ensures more { OnOk result ((run : ℕ) → Has found.old run → Has found.new run) }
+        ensures only { OnOk result ((run : ℕ) → Has found.new run → Has found.old run ⊎ ((from ≤ run) × (run < self.now.count))) }
+        ensures stand { OnOk result ((run : ℕ) (other : OneEntry) → from ≤ run → ¬ Has found.new run → IsWatched self.now run other → CommuteForward other marked.now.entry) }
+    {
+        let met = self.filter.met(&marked.mark);
+        for class in &Class::ALL {
+            if met & class.bit() != 0 {
+                let slot = self.slot(key_against(&marked.mark, *class));
+                self.find_in(slot, from, found)?;
             }
         }
         Ok(())

@@ -1,7 +1,7 @@
 -- The first run that does not stand, and the nets that runs are checked against.
 use Rattle.std.proofs.Common.{◌≡◌, ℕ, ◌+◌, ◌<◌, ◌≤◌, List, [], ◌∷◌, ◌++◌, length, get_or, take, drop, ◌-◌, arith, refl, sym, ap, ◌∙◌, subst, append_assoc, append-nil}
 use Rattle.std.specs.Prelude.{IsTrue, ◌↔◌, Bool}
-use Rattle.std.proofs.lemmas.List.{take_more, get_or_default, take-append-drop, length-append, take-take, get_or-take, length-take-le, length_push, take_rest, take_all, get_or-drop, get_or_read}
+use Rattle.std.proofs.lemmas.List.{take_more, take-append-drop, length-append, take-take, get_or-take, length-take-le, length_push, take_rest, take_all, get_or-drop, get_or_read}
 use Rattle.std.proofs.Math.Seq.{take-append_seam, get_or-append_seam}
 use Rattle.std.proofs.Math.ListN.{get_or-append, length-drop}
 use native.Mathlib.Decide.{dec_le}

@@ -4,7 +4,6 @@ use Rattle.std.proofs.lemmas.List.{get_or_past, get_or-drop, take_all}
 use Rattle.std.proofs.Math.ListN.{length-drop}
 use native.Mathlib.Decide.{dec_le}
 use Rattle.objects.specs.Entries.{State, AreLegal}
-use Rattle.objects.specs.Entries as serial
 use Rattle.objects.specs.Entries.{after, kinds}
 use Rattle.std.specs.List.{All}
 use Rattle.intentions.specs.Levels.{AllHaveRoom}

@@ -1,6 +1,6 @@
 -- Pending runs that have the sums of runs conflict where these do.
 use Rattle.std.proofs.Common.{◌≡◌, ℕ, zero, suc, ◌+◌, ◌<◌, ◌≤◌, ◌↔◌, List, [], ◌∷◌, ◌++◌, length, get_or, take, true, refl, sym, ap, ◌∙◌, subst, arith}
-use Rattle.std.proofs.lemmas.List.{take_more, length_push, length-take-le, get_or-take, get_or_default}
+use Rattle.std.proofs.lemmas.List.{length_push, length-take-le, get_or-take, get_or_default}
 use Rattle.std.proofs.Math.Seq.{get_or-append_seam}
 use Rattle.std.proofs.Math.ListN.{get_or-append}
 use Rattle.std.proofs.lemmas.Bool.{and_parts}
@@ -9,13 +9,12 @@ use native.Mathlib.Decide.{dec_le}
 use Rattle.objects.specs.contracts.entry.EntryPartialEq.TheImpl as entry_eq
 use Rattle.objects.specs.declared.entry.Entry.{Entry}
 use Rattle.committed.proofs.SameLemmas.{same_entry}
-use Rattle.objects.specs.Entries.{AllCommute}
 use Rattle.committed.specs.Summaries.{entries_of, IsSummary}
 use Rattle.committed.proofs.SummaryLemmas.{stands-summary, past-summary, summary-append, summary-nil}
 use Rattle.speculate.specs.declared.speculated.Run.{Run}
 use Rattle.rounds.specs.declared.pending_run.PendingRun.{PendingRun}
-use Rattle.rounds.specs.Passes.{nets_of, StandsPast, StandsAt, IsFirstConflict}
-use Rattle.rounds.specs.PendingRuns.{left_by, AreSumsOf, AreSummed, all_left, HoldsPast, HoldsAt, IsFirstFrom}
+use Rattle.rounds.specs.Passes.{nets_of, StandsPast, IsFirstConflict}
+use Rattle.rounds.specs.PendingRuns.{left_by, AreSumsOf, AreSummed, all_left, HoldsPast, IsFirstFrom}
 use Rattle.rounds.proofs.Conflicts.{some_run}
 
 -- entries that `==` finds equal are the same

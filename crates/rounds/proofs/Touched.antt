@@ -9,7 +9,7 @@ use Rattle.objects.specs.declared.entry.Entry.{Entry}
 use Rattle.rounds.specs.declared.pending_run.PendingRun.{PendingRun}
 use Rattle.workers.specs.Working.{AreGivenOnce}
 use Rattle.workers.proofs.Once.{given_here, given_nowhere, few_given_once}
-use Rattle.rounds.specs.PendingRuns.{times, all_left, left_by, HoldsPast, Kept, IsDecided, AreRefuted, AreRefutedAmong, AreRenewed}
+use Rattle.rounds.specs.PendingRuns.{times, all_left, left_by, Kept, IsDecided, AreRefuted, AreRefutedAmong, AreRenewed}
 use Rattle.rounds.specs.Pending.{WatchesAll, Tells, ArePlaces, AreTouched, IsIn}
 use Rattle.rounds.specs.declared.pending.Pending.{Pending}
 use Rattle.batch.specs.declared.batch.Batch.{Batch}

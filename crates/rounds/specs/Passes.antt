@@ -1,5 +1,5 @@
 -- Which run of a list is the first that doesn't stand past what those before it leave.
-use Rattle.std.specs.Prelude.{◌≡◌, ℕ, ◌<◌, ◌≤◌, List, [], ◌∷◌, ◌++◌, length, take, slice_index_or}
+use Rattle.std.specs.Prelude.{ℕ, ◌<◌, ◌≤◌, List, [], ◌∷◌, ◌++◌, length, take, slice_index_or}
 use Rattle.objects.specs.Entries.{State, AllCommute}
 use Rattle.objects.specs.declared.entry.Entry.{Entry}
 use Rattle.rounds.specs.Views.{blocks_of}

@@ -1,6 +1,5 @@
 -- What is known of the pending runs, which are watched.
 use Rattle.std.specs.Prelude.{◌≡◌, ◌<◌, ◌≤◌, ℕ, List, length, slice_index_or}
-use Rattle.objects.specs.Entries.{AllCommute}
 use Rattle.committed.specs.NumberSets.{Has, AreDistinct}
 use Rattle.committed.specs.Summaries.{entries_of}
 use Rattle.committed.specs.Watching.{Watches}

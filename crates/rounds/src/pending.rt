@@ -62,7 +62,7 @@ impl Pending {
         ensures { IfOk result (λ pending. pending.watch.count ≡ count) }
     {
         Ok(Pending {
-            watch: Watch::new(alloc, count, count)?,
+            watch: Watch::new(alloc, count, 0)?,
             touched: NumberSet::new(alloc),
         })
     }
@@ -73,6 +73,33 @@ impl Pending {
         ensures distinct { AreDistinct result.now }
     {
         self.touched.members()
+    }
+
+    // Watches the runs from one place on, of which some were made since the last commit. Where those
+    // are as many as are watched, or most links are stale, it begins a new watch.
+    fn watch_made(
+        &mut self,
+        alloc: Global,
+        runs: &[PendingRun],
+        made: &[usize],
+        opened: usize,
+        from: usize,
+    ) -> Result<(), NoMemory>
+        requires few { length runs.now ≤ 10000 }
+        requires opened { opened ≤ from }
+        requires from { from ≤ length runs.now }
+        requires within { (k : ℕ) → k < length made.now → slice_index_or made.now k 0 < length runs.now }
+        requires tells { Tells self.old runs.now opened made.now }
+        ensures { OnOk result (WatchesAll self.new.watch runs.now from) }
+    {
+        if made.len() < runs.len() - from {
+            put_made(&mut self.watch, runs, made, from)?;
+            if !self.watch.is_stale() {
+                return Ok(());
+            }
+        }
+        self.watch = watch_from(alloc, runs, from)?;
+        Ok(())
     }
 
     /// Puts in the runs that were made since the last commit. Then finds those from one place on
@@ -95,10 +122,7 @@ impl Pending {
         ensures watches { OnOk result (WatchesAll self.new.watch runs.now from) }
         ensures touched { OnOk result (AreTouched self.new.touched runs.now from (all_left (slice_range runs.now opened from))) }
     {
-        put_made(&mut self.watch, runs, made, from)?;
-        if self.watch.is_stale() {
-            self.watch = watch_from(alloc, runs, from)?;
-        }
+        self.watch_made(alloc, runs, made, opened, from)?;
         self.touched.clear();
         for run in &runs[opened..from] {
             self.watch.find(from, run.sums.net(), &mut self.touched)?;

@@ -13,6 +13,7 @@ ghost use Rattle.speculate.specs.Running.{in_view};
 ghost use Rattle.speculate.specs.Ahead.{CanAllTry, IsRunAhead, AreRunAhead, IsRunBefore};
 
 use crate::gate::Gate;
+use crate::spare::{Spare, boxed, list_of, put_at, spare_at};
 use crate::worth::is_worth;
 use batch::{
     Block, Record, Step, Subaction, Taken, Tried, add_label, handled, taker, test_holds, untaken,
@@ -95,14 +96,15 @@ fn run_steps<T: Threads + Sync, G: Gate>(
     ensures labels { OnOk result (StillSeen labels.old.items labels.new.items) }
 {
     let mut taken = spare;
-    taken.clear();
-    taken.reserve_exact(steps.len())?;
-    for step in steps {
-        let (done, end) = run_step(making, step, labels, view, width)?;
-        taken.push(done)?;
+    taken.reserve_exact(steps.len().saturating_sub(taken.len()))?;
+    for (place, step) in steps.iter().enumerate() {
+        let mut spare = spare_at(&mut taken, place);
+        let (done, end) = run_step(making, step, labels, view, width, &mut spare)?;
+        put_at(&mut taken, place, done)?;
         match end {
             End::Ended => {}
             End::Aborted(_) => {
+                taken.truncate(place + 1);
                 return Ok(Record {
                     taken,
                     outcome: end,
@@ -110,6 +112,7 @@ fn run_steps<T: Threads + Sync, G: Gate>(
             }
         }
     }
+    taken.truncate(steps.len());
     Ok(Record {
         taken,
         outcome: End::Ended,
@@ -123,6 +126,7 @@ fn run_step<T: Threads + Sync, G: Gate>(
     labels: &mut Vec<Held>,
     view: &mut View<'_>,
     width: u32,
+    spare: &mut Spare,
 ) -> Result<(Taken, End), NoMemory>
     requires { CanStepHere (step_view step.now) labels.old.items (state_of_view view.old) }
     ensures shows { IfOk result
@@ -147,16 +151,19 @@ fn run_step<T: Threads + Sync, G: Gate>(
         } => {
             let holds = test_holds(test, &labels[*label as usize]);
             let branch = if holds { then } else { otherwise };
-            let spare = Vec::new(making.alloc);
-            let record = run_block(making, branch, labels, view, width, spare)?;
+            let list = list_of(making.alloc, &mut spare.body);
+            let record = run_block(making, branch, labels, view, width, list)?;
             let end = record.outcome;
-            Ok((Taken::If(holds, Box::new(making.alloc, record)?), end))
+            Ok((
+                Taken::If(holds, boxed(making.alloc, &mut spare.body, record)?),
+                end,
+            ))
         }
         Step::Sub(child) => {
-            let tried = run_subaction(making, child, labels, view, width)?;
+            let tried = run_subaction(making, child, labels, view, width, spare)?;
             add_label(labels, child.labelled, Held::Outcome(tried.body.outcome))?;
             let end = tried.end;
-            Ok((tried.into_taken(making.alloc)?, end))
+            Ok((spare.into_taken(making.alloc, tried)?, end))
         }
         Step::Abort(reason) => Ok((Taken::Abort, End::Aborted(*reason))),
         Step::Parallel(children) => {
@@ -176,6 +183,7 @@ fn run_subaction<T: Threads + Sync, G: Gate>(
     labels: &mut Vec<Held>,
     view: &mut View<'_>,
     width: u32,
+    spare: &mut Spare,
 ) -> Result<Tried, NoMemory>
     requires { CanTryHere (subaction_view child.now) labels.old.items (state_of_view view.old) }
     ensures shows { IfOk result
@@ -183,8 +191,8 @@ fn run_subaction<T: Threads + Sync, G: Gate>(
     ensures labels { OnOk result (labels.new.items ≡ labels.old.items) }
 {
     view.begin()?;
-    let spare = Vec::new(making.alloc);
-    let body = run_block(making, &child.body, labels, view, width, spare)?;
+    let list = list_of(making.alloc, &mut spare.body);
+    let body = run_block(making, &child.body, labels, view, width, list)?;
     match body.outcome {
         End::Ended => {
             view.commit()?;
@@ -196,7 +204,8 @@ fn run_subaction<T: Threads + Sync, G: Gate>(
         }
         End::Aborted(reason) => {
             view.abort();
-            let (handler, end) = run_handler(making, child, reason, labels, view, width)?;
+            let list = list_of(making.alloc, &mut spare.handler);
+            let (handler, end) = run_handler(making, child, reason, labels, view, width, list)?;
             Ok(Tried { body, handler, end })
         }
     }
@@ -212,6 +221,7 @@ fn run_handler<T: Threads + Sync, G: Gate>(
     labels: &mut Vec<Held>,
     view: &mut View<'_>,
     width: u32,
+    spare: Vec<Taken>,
 ) -> Result<(Option<Record>, End), NoMemory>
     requires { CanHandleHere (subaction_view child.now).handlers labels.old.items (state_of_view view.old) }
     ensures shows { IfOk result
@@ -220,7 +230,6 @@ fn run_handler<T: Threads + Sync, G: Gate>(
 {
     match taker(child, reason) {
         Some(block) => {
-            let spare = Vec::new(making.alloc);
             let record = run_block(making, block, labels, view, width, spare)?;
             Ok(handled(record))
         }
@@ -286,7 +295,7 @@ fn run_child<T: Threads + Sync, G: Gate>(
 {
     let Some(run) = ahead else {
         making.pass(place);
-        return run_subaction(making, child, labels, view, width);
+        return run_subaction(making, child, labels, view, width, &mut Spare::none());
     };
     if kept.stands(&run.summary, kept.len()) {
         view.absorb(&run.entries, &run.net)?;
@@ -295,7 +304,7 @@ fn run_child<T: Threads + Sync, G: Gate>(
     }
     let before = view.net().len();
     making.pass(place);
-    let tried = run_subaction(making, child, labels, view, 1)?;
+    let tried = run_subaction(making, child, labels, view, 1, &mut Spare::none())?;
     kept.append(&view.net()[before..])?;
     Ok(tried)
 }
@@ -422,7 +431,14 @@ fn run_alone<T: Threads + Sync, G: Gate>(
     making.pass(place);
     let mut labels = Vec::from_slice(making.alloc, &fork.labels)?;
     let mut view = View::open(making.alloc, &fork.state)?;
-    let tried = run_subaction(making, child, &mut labels, &mut view, width)?;
+    let tried = run_subaction(
+        making,
+        child,
+        &mut labels,
+        &mut view,
+        width,
+        &mut Spare::none(),
+    )?;
     let Lists { entries, net } = view.into_run();
     let summary = summary_of(making.alloc, &entries, Vec::new(making.alloc))?;
     Ok(Ahead {

@@ -5,6 +5,7 @@
 mod executor;
 mod gate;
 pub mod laws;
+mod spare;
 mod speculated;
 mod transaction;
 mod worth;

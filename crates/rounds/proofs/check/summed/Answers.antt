@@ -1,4 +1,4 @@
-use Rattle.std.proofs.Common.{◌≡◌, sym, ap, ◌∙◌, subst}
+use Rattle.std.proofs.Common.{subst}
 use Rattle.rounds.specs.PendingRuns.{AreSumsOf}
 use Rattle.rounds.proofs.Summed.{summed_more}
 use Rattle.rounds.proofs.check.summed.Goals as goal

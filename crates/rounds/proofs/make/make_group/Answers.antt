@@ -1,7 +1,6 @@
-use Rattle.std.proofs.Common.{◌≡◌, ◌+◌, get_or, refl, ap, ◌∙◌, subst, arith}
+use Rattle.std.proofs.Common.{◌≡◌, get_or, refl, ap, ◌∙◌, subst}
 use Rattle.intentions.specs.Levels.{Intentions as View}
 use Rattle.rounds.specs.Views.{meaning}
-use Rattle.rounds.specs.declared.make.Made.{Made}
 use Rattle.rounds.specs.PendingRuns.{IsMade, IsPendingOf}
 use Rattle.rounds.proofs.Making.{made_more}
 use Rattle.rounds.proofs.make.make_group.Goals as goal

@@ -1,4 +1,4 @@
-use Rattle.std.proofs.Common.{ℕ, ◌-◌, ◌<◌, ◌≤◌, length}
+use Rattle.std.proofs.Common.{◌-◌, ◌≤◌, length}
 use Rattle.rounds.specs.Pending.{Tells}
 use Rattle.rounds.proofs.Reached.{AtOpening}
 use Rattle.rounds.proofs.openings.execute.Given as goal

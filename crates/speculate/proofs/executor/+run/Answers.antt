@@ -1,4 +1,4 @@
-use Rattle.std.proofs.Common.{◌++◌, ◌∙◌, refl, sym, ap, rules, arith}
+use Rattle.std.proofs.Common.{◌≡◌, ◌++◌, ◌∷◌, [], ◌∙◌, length, take, refl, sym, ap, rules, arith}
 use Rattle.batch.proofs.Handling.{taker_can_run}
 use Rattle.batch.proofs.HandlerShows.{shows_taker, shows_none}
 use Rattle.meaning.specs.OneThread.{label_if}
@@ -17,19 +17,28 @@ use Rattle.speculate.proofs.executor.+run.Goals.{run_step-then-holds, run_step-e
 
 -- ---- steps one after the other
 
-pub run_steps-loop-step-init : goal.run_steps-loop-step-init
-run_steps-loop-step-init g t c = rw (c.in_ok-reserve_exact.ensures.items, c.clear.ensures.items) (part_run-start ground c.args.steps.now c.args.labels.now.items c.args.view.now c.requires)
+pub run_steps-loop-place-init : goal.run_steps-loop-place-init
+run_steps-loop-place-init g t c = record {
+  long = omega arith;
+  part = part_run-start ground c.args.steps.now c.args.labels.now.items c.args.view.now c.requires;
+}
 
 pub run_steps-returns-in-Aborted-clause-shows : goal.run_steps-returns-in-Aborted-clause-shows
 run_steps-returns-in-Aborted-clause-shows g t c =
-    part_run-aborted ground _ _ _ _ _ _ _ c.step-item.result c.in_ok-done.done c.in_ok-done.end _ _ c.in-Aborted.field-0 _ c.loop-step.invariant c.loop-step-test.true c.step-item.is c.in_ok-done.ensures.shows c.in-Aborted.is c.in_ok-push.ensures.items refl
+    part_run-aborted ground _ _ _ _ _ _ _ c.index-steps-place.result c.in_ok-done.done c.in_ok-done.end _ _ c.in-Aborted.field-0 _ c.loop-place.invariant.part c.loop-place-test.true c.index-steps-place.is c.in_ok-done.ensures.shows c.in-Aborted.is
+    (c.truncate.ensures.items ∙ c.in_ok-put_at.ensures.put ∙ ap (λ ts. ts ++ c.in_ok-done.done ∷ []) c.spare_at-spare.ensures.before) refl
 
-pub run_steps-loop-step-preserved : goal.run_steps-loop-step-preserved
-run_steps-loop-step-preserved g t c =
-    rw c.in_ok-push.ensures.items (part_run-more ground _ _ _ _ _ _ _ c.step-item.result c.in_ok-done.done c.in_ok-done.end _ _ c.loop-step.invariant c.loop-step-test.true c.step-item.is c.in_ok-done.ensures.shows c.in-Ended.is c.in_ok-done.ensures.labels)
+pub run_steps-loop-place-preserved : goal.run_steps-loop-place-preserved
+run_steps-loop-place-preserved g t c = record {
+  long = c.in_ok-put_at.ensures.long;
+  part = rw (c.in_ok-put_at.ensures.put, c.spare_at-spare.ensures.before)
+      (part_run-more ground _ _ _ _ _ _ _ c.index-steps-place.result c.in_ok-done.done c.in_ok-done.end _ _ c.loop-place.invariant.part c.loop-place-test.true c.index-steps-place.is c.in_ok-done.ensures.shows c.in-Ended.is c.in_ok-done.ensures.labels);
+}
 
 pub run_steps-returns-clause-shows : goal.run_steps-returns-clause-shows
-run_steps-returns-clause-shows g t c = part_run-ended ground _ _ _ _ _ _ _ _ c.loop-step.invariant c.loop-step-test.false refl refl
+run_steps-returns-clause-shows g t c =
+    let all : c.loop-place.place ≡ length c.args.steps.now = omega (arith, c.loop-place-test.false, c.loop-place.auto.place-end) in
+    part_run-ended ground _ _ _ _ _ _ _ _ c.loop-place.invariant.part c.loop-place-test.false (c.truncate-2.ensures.items ∙ ap (λ n. take n c.loop-place.taken.items) (sym all)) refl
 
 -- ---- one step
 
@@ -46,14 +55,14 @@ pub run_step-returns-in_ok-add_label-in-Op-clause-shows : goal.run_step-returns-
 run_step-returns-in_ok-add_label-in-Op-clause-shows g t c =
     op-shows ground c.args.step.now _ _ _ _ _ _ _ _ c.in-Op.is c.in_ok-reply-in-Op.ensures.reply c.in_ok-reply-in-Op.ensures.ok c.in_ok-add_label-in-Op.ensures.ok
 
-pub run_step-returns-in_ok-new-in-If-clause-shows : goal.run_step-returns-in_ok-new-in-If-clause-shows
-run_step-returns-in_ok-new-in-If-clause-shows g t c =
+pub run_step-returns-in_ok-boxed-in-If-clause-shows : goal.run_step-returns-in_ok-boxed-in-If-clause-shows
+run_step-returns-in_ok-boxed-in-If-clause-shows g t c =
     let ran = c.in_ok-record-in-If in
     elim c.if-holds.branch [
       | run_step-then-holds w ↦ if-shows_then ground c.args.step.now c.in-If.label c.in-If.test c.in-If.then c.in-If.otherwise c.args.labels.now.items _ c.args.view.now _ c.index.result.now c.test_holds-holds.result _ _ c.in-If.is c.requires c.index.ensures c.test_holds-holds.ensures w.if-holds.true
-          (rw (c.deref.ensures, w.branch'-is) at ran.ensures.shows) ran.ensures.labels c.in_ok-new-in-If.ensures.ok
+          (rw (c.deref.ensures, w.branch'-is) at ran.ensures.shows) ran.ensures.labels c.in_ok-boxed-in-If.ensures
       | run_step-else-holds w ↦ if-shows_else ground c.args.step.now c.in-If.label c.in-If.test c.in-If.then c.in-If.otherwise c.args.labels.now.items _ c.args.view.now _ c.index.result.now c.test_holds-holds.result _ _ c.in-If.is c.requires c.index.ensures c.test_holds-holds.ensures w.if-holds.false
-          (rw (c.deref.ensures, w.branch'-is) at ran.ensures.shows) ran.ensures.labels c.in_ok-new-in-If.ensures.ok
+          (rw (c.deref.ensures, w.branch'-is) at ran.ensures.shows) ran.ensures.labels c.in_ok-boxed-in-If.ensures
     ]
 
 pub run_step-returns-in_ok-into_taken-in-Sub-clause-shows : goal.run_step-returns-in_ok-into_taken-in-Sub-clause-shows

@@ -1,4 +1,4 @@
-use Rattle.std.proofs.Common.{◌≡◌, ◌+◌, ◌-◌, ◌*◌, ◌<◌, length, drop}
+use Rattle.std.proofs.Common.{◌≡◌, ◌+◌, ◌-◌, ◌*◌, ◌<◌, ◌≤◌, length, take, drop}
 use denote.Param.Weighed.{most}
 use Rattle.std.specs.List.{slice_range}
 use Rattle.std.specs.Vec.Iter.{into_iter_items, into_iter_len}
@@ -53,9 +53,11 @@ decreases-run_if_wide g l = deep (most size-Subaction l.children.now) beyond_wid
 abbrev pub decreases-run_children : goal.decreases-run_children
 decreases-run_children g l = deep (most size-Subaction l.children.now) (beyond_widths + 1)
 
-abbrev pub invariant-run_steps-loop-step : goal.invariant-run_steps-loop-step
-invariant-run_steps-loop-step g l =
-    IsPartRun in_view l.steps l.fn.labels.items l.fn.view l.step-index l.taken.items l.labels.items l.view
+abbrev pub invariant-run_steps-loop-place : goal.invariant-run_steps-loop-place
+invariant-run_steps-loop-place g l = record {
+  long : l.place ≤ length l.taken.items;
+  part : IsPartRun in_view l.steps l.fn.labels.items l.fn.view l.place (take l.place l.taken.items) l.labels.items l.view;
+}
 
 abbrev pub invariant-run_children-loop-place : goal.invariant-run_children-loop-place
 invariant-run_children-loop-place g l = record {
