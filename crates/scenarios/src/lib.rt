@@ -4,11 +4,15 @@
 
 mod child_counting;
 mod counting;
+mod crowd;
 mod meeting;
+mod tally;
 
 pub use child_counting::ChildCounting;
 pub use counting::Counting;
+pub use crowd::Crowd;
 pub use meeting::Meeting;
+pub use tally::Tally;
 
 #[cfg(test)]
 mod plain_tests;
@@ -16,3 +20,5 @@ mod plain_tests;
 mod rounds_tests;
 #[cfg(test)]
 mod sibling_tests;
+#[cfg(test)]
+mod workers_tests;

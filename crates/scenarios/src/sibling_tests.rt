@@ -1,7 +1,7 @@
 //! Tests of children of parallel steps that are run at once.
 ghost use Rattle.std.specs.Prelude.{◌≤◌};
 
-use crate::{ChildCounting, Meeting};
+use crate::{ChildCounting, Crowd, Meeting};
 use atoms::{CounterReply, Item, QueueReply};
 use lang::read;
 use objects::{Entry, Reply};
@@ -15,6 +15,9 @@ const WIDTHS: [u32; 4] = [1, 2, 5, 64];
 const ACCOUNT: &str = "{\"name\":\"a\",\"kind\":\"account\",\"start\":100}";
 
 const COUNTER: &str = "{\"name\":\"c\",\"kind\":\"counter\",\"start\":0}";
+
+const TWO_DEPOSITS: &str =
+    "[{\"parallel\":[{\"sub\":[{\"op\":[\"a\",\"deposit\",1]}]},{\"sub\":[{\"op\":[\"a\",\"deposit\",2]}]}]}]";
 
 const TWO_DEQUEUES: &str =
     "[{\"parallel\":[{\"sub\":[{\"op\":[\"q\",\"deq\"]}]},{\"sub\":[{\"op\":[\"q\",\"deq\"]}]}]}]";
@@ -62,11 +65,31 @@ fn replies(rt: &HostRuntime, entries: &[Entry]) -> Result<Vec<Reply>, Fail> {
 #[test]
 fn two_siblings_meet(rt: HostRuntime) -> Result<(), Fail> {
     let gate = Meeting::new((1, 1), (1, 2));
-    let block =
-        "[{\"parallel\":[{\"sub\":[{\"op\":[\"a\",\"deposit\",1]}]},{\"sub\":[{\"op\":[\"a\",\"deposit\",2]}]}]}]";
-    let made = run_block(&rt, rt.alloc(), ACCOUNT, block, 2, &gate)?;
+    let made = run_block(&rt, rt.alloc(), ACCOUNT, TWO_DEPOSITS, 2, &gate)?;
     assert!(rt; gate.has_met());
     assert_eq!(rt; made.net.len(), 2);
+    Ok(())
+}
+
+#[test]
+fn four_children_are_at_once_with_a_width_of_four(rt: HostRuntime) -> Result<(), Fail> {
+    let child = "{\"sub\":[{\"op\":[\"a\",\"deposit\",1]}]}";
+    let block = format!(in rt.alloc(); "[{{\"parallel\":[{child},{child},{child},{child}]}}]")?;
+    let gate = Crowd::new(4);
+    let _made = run_block(&rt, rt.alloc(), ACCOUNT, block.as_str(), 4, &gate)?;
+    assert_eq!(rt; gate.most(), 4);
+    Ok(())
+}
+
+#[test]
+fn children_that_stand_are_each_made_once(rt: HostRuntime) -> Result<(), Fail> {
+    for width in WIDTHS {
+        for child in [1, 2] {
+            let gate = ChildCounting::new((1, child));
+            let _made = run_block(&rt, rt.alloc(), ACCOUNT, TWO_DEPOSITS, width, &gate)?;
+            assert_eq!(rt; gate.count(), 1, "width {width} child {child}");
+        }
+    }
     Ok(())
 }
 
