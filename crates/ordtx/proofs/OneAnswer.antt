@@ -1,5 +1,5 @@
 -- What is written is one function of the bytes.
-use Rattle.std.proofs.Common.{◌≡◌, ℕ, ◌<◌, List, Result, Ok, Err, length, sym, ap, subst, ◌∙◌, arith}
+use Rattle.std.proofs.Common.{◌≡◌, ℕ, ◌<◌, List, Option, Some, None, Result, Ok, Err, inl, inr, length, sym, ap, subst, ◌∙◌, arith}
 use Rattle.std.specs.Prelude.{slice_index_or}
 use Rattle.std.proofs.lemmas.Grind.{same_number_lists}
 use Rattle.objects.specs.Entries.{State}
@@ -9,9 +9,12 @@ use Rattle.meaning.specs.Running.{all_operations}
 use Rattle.meaning.specs.Texts.{report, plain_report, audit_report, check_text}
 use Rattle.meaning.proofs.Openings.{one_number, one_count}
 use Rattle.batch.specs.Names.{names_of}
+use Rattle.carry.specs.Carried.{carried_text, first_unfit}
+use Rattle.carry.specs.declared.document.Unfit.{Unfit}
+use Rattle.lang.specs.Faults.{fault_outside}
 use Rattle.lang.specs.Reading.{Document, reading}
 use Rattle.lang.specs.declared.fault.Fault.{Fault}
-use Rattle.ordtx.specs.Answers.{IsReportOf, IsAuditOf, IsPlainReportOf, IsCheckOf}
+use Rattle.ordtx.specs.Answers.{IsReportOf, IsAuditOf, IsPlainReportOf, IsCheckOf, IsFaultOf, IsCarriedOf, IsUnfitOf, IsCarryFaultOf, end_of, unfit_code}
 use Rattle.ordtx.specs.Laws.{OneTextLaw, OneFaultLaw, FaultlessLaw}
 
 -- one document
@@ -60,6 +63,11 @@ one_plain bytes first second a b =
     let same : a.document ≡ b.document = documents_alike (reading bytes) a.document b.document a.reads b.reads in
     a.is ∙ ap (λ e. plain_report (names_of e.texts) e.start e.transactions) same ∙ sym b.is
 
+pub one_carried : OneTextLaw IsCarriedOf
+one_carried bytes first second a b =
+    let same : a.document ≡ b.document = documents_alike (reading bytes) a.document b.document a.reads b.reads in
+    a.is ∙ ap (λ e. carried_text (names_of e.texts) (end_of e)) same ∙ sym b.is
+
 pub one_check : OneTextLaw IsCheckOf
 one_check bytes first second a b =
     let same : a.document ≡ b.document = documents_alike (reading bytes) a.document b.document a.reads b.reads in
@@ -69,17 +77,42 @@ one_check bytes first second a b =
 faults_alike : (r : Result Document Fault) (f g : Fault) → r ≡ Err f → r ≡ Err g → f ≡ g
 faults_alike r f g is also = cc
 
-pub one_fault : OneFaultLaw
+pub one_fault : OneFaultLaw IsFaultOf
 one_fault bytes first second is also = faults_alike (reading bytes) first second is also
 
-pub report_faultless : FaultlessLaw IsReportOf
+pub report_faultless : FaultlessLaw IsReportOf IsFaultOf
 report_faultless bytes text fault a refused = read_no_fault (reading bytes) a.document fault a.reads refused
 
-pub audit_faultless : FaultlessLaw IsAuditOf
+pub audit_faultless : FaultlessLaw IsAuditOf IsFaultOf
 audit_faultless bytes text fault a refused = read_no_fault (reading bytes) a.document fault a.reads refused
 
-pub plain_faultless : FaultlessLaw IsPlainReportOf
+pub plain_faultless : FaultlessLaw IsPlainReportOf IsFaultOf
 plain_faultless bytes text fault a refused = read_no_fault (reading bytes) a.document fault a.reads refused
 
-pub check_faultless : FaultlessLaw IsCheckOf
+pub check_faultless : FaultlessLaw IsCheckOf IsFaultOf
 check_faultless bytes text fault a refused = read_no_fault (reading bytes) a.document fault a.reads refused
+
+-- one fault of the objects at the end
+unfits_alike : (o : Option Unfit) (u v : Unfit) → o ≡ Some u → o ≡ Some v → u ≡ v
+unfits_alike o u v is also = cc
+
+one_unfit : OneFaultLaw IsUnfitOf
+one_unfit bytes first second a b =
+    let same : b.document ≡ a.document = documents_alike (reading bytes) b.document a.document b.reads a.reads in
+    let found : first_unfit 0 (end_of a.document) ≡ Some b.unfit = ap (λ e. first_unfit 0 (end_of e)) (sym same) ∙ b.first in
+    a.is ∙ ap (λ unfit. fault_outside (unfit_code unfit)) (unfits_alike _ a.unfit b.unfit a.first found) ∙ sym b.is
+
+pub one_carry_fault : OneFaultLaw IsCarryFaultOf
+one_carry_fault bytes first second (inl a) (inl b) = one_fault bytes first second a b
+one_carry_fault bytes first second (inl a) (inr b) = absurd (read_no_fault (reading bytes) b.document first b.reads a)
+one_carry_fault bytes first second (inr a) (inl b) = absurd (read_no_fault (reading bytes) a.document second a.reads b)
+one_carry_fault bytes first second (inr a) (inr b) = one_unfit bytes first second a b
+
+fits_or_not : (o : Option Unfit) (unfit : Unfit) → o ≡ None → o ≡ Some unfit → ⊥
+fits_or_not o unfit is also = cc
+
+pub carried_faultless : FaultlessLaw IsCarriedOf IsCarryFaultOf
+carried_faultless bytes text fault a (inl refused) = read_no_fault (reading bytes) a.document fault a.reads refused
+carried_faultless bytes text fault a (inr b) =
+    let same : b.document ≡ a.document = documents_alike (reading bytes) b.document a.document b.reads a.reads in
+    fits_or_not (first_unfit 0 (end_of b.document)) b.unfit (ap (λ e. first_unfit 0 (end_of e)) same ∙ a.fits) b.first

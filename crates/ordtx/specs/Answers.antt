@@ -1,13 +1,20 @@
 -- What is written for a document, and its fault.
-use Rattle.std.specs.Prelude.{◌≡◌, ℕ, ◌<◌, ◌≤◌, ◌⊎◌, ◌++◌, List, [], codes, length, slice_index_or, string_bytes, Ok, Err}
+use Rattle.std.specs.Prelude.{◌≡◌, ℕ, ◌<◌, ◌≤◌, ◌⊎◌, ◌++◌, List, [], codes, length, slice_index_or, string_bytes, Ok, Err, Some, None}
 use Rattle.std.specs.Fmt.{decimal}
+use Rattle.objects.specs.Entries.{State}
+use Rattle.meaning.specs.Batch.{final_state}
 use Rattle.meaning.specs.Rounds.{Rounds, Count}
 use Rattle.meaning.specs.Running.{all_operations}
 use Rattle.meaning.specs.Texts.{report, plain_report, audit_report, check_text, line}
 use Rattle.batch.specs.Names.{names_of}
 use Rattle.lang.specs.Reading.{Document, reading}
-use Rattle.lang.specs.Faults.{number_of}
+use Rattle.carry.specs.Carried.{carried_text, first_unfit}
+use Rattle.carry.specs.declared.document.Unfit.{Unfit}
+use Rattle.carry.specs.declared.document.Unfit.TheVariants as unfit
+use Rattle.lang.specs.Faults.{fault_outside, number_of}
 use Rattle.lang.specs.Found.{IsPlaceOf}
+use Rattle.lang.specs.declared.fault.Code.{Code}
+use Rattle.lang.specs.declared.fault.Code.TheVariants as code
 use Rattle.lang.specs.declared.fault.Fault.{Fault}
 use Rattle.lang.specs.declared.places.Place.{Place}
 use Rattle.lang.specs.declared.places.Place.TheVariants.{Whole, Pointer, LineColumn}
@@ -46,9 +53,37 @@ pub record IsCheckOf (bytes text : List ℕ) : Type 0 where
   pub reads : reading bytes ≡ Ok document
   pub is : text ≡ check_text (length document.start) (length document.transactions) (all_operations document.transactions)
 
+-- the objects that running a document's transactions by number leaves
+abbrev pub end_of : Document → State
+end_of document = final_state document.start document.transactions
+
+-- The bytes spell a document whose objects end as they may start, and the text is the document of these, without a transaction.
+pub record IsCarriedOf (bytes text : List ℕ) : Type 0 where
+  pub document : Document
+  pub reads : reading bytes ≡ Ok document
+  pub fits : first_unfit 0 (end_of document) ≡ None
+  pub is : text ≡ carried_text (names_of document.texts) (end_of document)
+
 -- the first fault of what the bytes spell
 abbrev pub IsFaultOf : List ℕ → Fault → Type 0
 IsFaultOf bytes fault = reading bytes ≡ Err fault
+
+-- the code of what keeps objects from starting so
+abbrev pub unfit_code : Unfit → Code
+unfit_code unfit.Start = code.Start
+unfit_code unfit.TooMany = code.TooMany
+
+-- The bytes spell a document with an object that ends as none may start, and the fault is that of the first such object.
+pub record IsUnfitOf (bytes : List ℕ) (fault : Fault) : Type 0 where
+  pub document : Document
+  pub reads : reading bytes ≡ Ok document
+  pub unfit : Unfit
+  pub first : first_unfit 0 (end_of document) ≡ Some unfit
+  pub is : fault ≡ fault_outside (unfit_code unfit)
+
+-- the first fault of the bytes, or else of the objects at their end
+abbrev pub IsCarryFaultOf : List ℕ → Fault → Type 0
+IsCarryFaultOf bytes fault = IsFaultOf bytes fault ⊎ IsUnfitOf bytes fault
 
 -- where a fault stands, as it is written after `at`
 abbrev pub place_text : Place → List ℕ

@@ -10,6 +10,8 @@ pub enum Command {
     Run,
     /// Run them by number on one thread, and print the report without the number of rounds.
     Serial,
+    /// Run them so, and print the document of the objects at their end, without a transaction.
+    Carry,
     /// Read a document, and print how much it holds.
     Check,
     /// Read a document, and print where its first fault is, or how much it holds.

@@ -117,6 +117,7 @@ fn command_named(name: &str) -> Option<Command>
     match name {
         "run" => Some(Command::Run),
         "serial" => Some(Command::Serial),
+        "carry" => Some(Command::Carry),
         "check" => Some(Command::Check),
         "locate" => Some(Command::Locate),
         _ => None,
@@ -185,6 +186,11 @@ fn ordtx_command<'a>(alloc: Global) -> Result<clap::Command<'a>, AllocError>
         "serial",
         "Runs the transactions by number on one thread, and prints the report without the rounds",
     )?;
+    let carry = file_command(
+        alloc,
+        "carry",
+        "Runs the transactions by number on one thread, and prints a document of the objects as they end",
+    )?;
     let check = file_command(
         alloc,
         "check",
@@ -203,6 +209,7 @@ fn ordtx_command<'a>(alloc: Global) -> Result<clap::Command<'a>, AllocError>
         .subcommand_required(true)
         .subcommand(run)?
         .subcommand(serial)?
+        .subcommand(carry)?
         .subcommand(check)?
         .subcommand(locate)
 }

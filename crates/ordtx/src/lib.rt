@@ -23,7 +23,9 @@ pub use rounds::Plan;
 pub use sink::Sink;
 pub use source::{Failed, Source};
 pub use speculate::{Gate, NoGate};
-pub use streams::{audit_stream, check_stream, locate_stream, run_stream, serial_stream};
+pub use streams::{
+    audit_stream, carry_stream, check_stream, locate_stream, run_stream, serial_stream,
+};
 
 #[cfg(test)]
 mod tests;

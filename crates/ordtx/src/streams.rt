@@ -1,7 +1,7 @@
 //! Whole calls, from a source to a sink.
 ghost use Rattle.std.specs.Prelude.{◌≡◌, ◌≢◌, ◌↔◌, ◌⊎◌, true, false, Err, OnOk, IfErr};
 ghost use Rattle.lang.specs.Faults.{input_fault, memory_fault, output_fault};
-ghost use Rattle.ordtx.specs.Answers.{IsAuditOf, IsCheckOf, IsFaultOf, IsLocationOf, IsPlainReportOf, IsReportOf};
+ghost use Rattle.ordtx.specs.Answers.{IsAuditOf, IsCarriedOf, IsCarryFaultOf, IsCheckOf, IsFaultOf, IsLocationOf, IsPlainReportOf, IsReportOf};
 ghost use Rattle.ordtx.specs.Streams.{IsRead, WritesAnswer, WritesBeginning, ReadsFault};
 
 use crate::input::read_input;
@@ -9,7 +9,7 @@ use crate::location::location_of;
 use crate::output::write_text;
 use crate::sink::Sink;
 use crate::source::Source;
-use crate::texts::{audit_of, check_of, plain_report_of, report_of};
+use crate::texts::{audit_of, carried_of, check_of, plain_report_of, report_of};
 use lang::Fault;
 use rounds::Plan;
 use speculate::Gate;
@@ -113,6 +113,39 @@ pub fn serial_stream<R: Source, W: Sink>(
 {
     let document = read_input(alloc, source)?;
     let text = plain_report_of(alloc, document)?;
+    write_text(sink, text.as_bytes())
+}
+
+/// Does as [`serial_stream`], and writes a document of the objects at the end, without a transaction,
+/// in place of the report. A next batch can start with it.
+///
+/// `Start` is returned where an object's number is too large for a start, and `TooMany` where there
+/// are more entries than a document may start with. Nothing was written then. The other faults are
+/// those of [`run_stream`].
+pub fn carry_stream<R: Source, W: Sink>(
+    alloc: Global,
+    source: &mut R,
+    sink: &mut W,
+) -> Result<(), Fault>
+    requires unread { R.has_failed source.old ≡ false }
+    requires unwritten { W.has_failed sink.old ≡ false }
+    // All bytes are read, but at most 67,108,865.
+    ensures read { OnOk result (IsRead (R.remaining source.old) (R.remaining source.new)) }
+    // Exactly the document of the objects at the end of what was read was written.
+    ensures written { OnOk result (WritesAnswer IsCarriedOf (R.remaining source.old) (W.taken sink.old) (W.taken sink.new)) }
+    // A fault of the document, or of its objects at the end, is that of what was read.
+    ensures fault { IfErr result (λ fault. fault ≢ memory_fault → fault ≢ input_fault → fault ≢ output_fault
+        → ReadsFault IsCarryFaultOf (R.remaining source.old) fault) }
+    ensures input { R.has_failed source.new ≡ true ↔ result ≡ Err input_fault }
+    ensures output { W.has_failed sink.new ≡ true ↔ result ≡ Err output_fault }
+    // After any fault but that of the output nothing was written.
+    ensures untouched { IfErr result (λ fault. fault ≢ output_fault → sink.new ≡ sink.old) }
+    // After that of the output a beginning of it was written.
+    ensures beginning { result ≡ Err output_fault
+        → WritesBeginning IsCarriedOf (R.remaining source.old) (W.taken sink.old) (W.taken sink.new) }
+{
+    let document = read_input(alloc, source)?;
+    let text = carried_of(alloc, document)?;
     write_text(sink, text.as_bytes())
 }
 

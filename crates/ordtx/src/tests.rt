@@ -2,7 +2,7 @@
 //! line.
 use crate::{
     Code, Command, Marked, NoGate, Plan, Refused, Sink, Source, TestSink, TestSource, audit_stream,
-    check_stream, line, run_stream, serial_stream,
+    carry_stream, check_stream, line, run_stream, serial_stream,
 };
 use std::test::Fail;
 
@@ -19,6 +19,14 @@ const PLAIN: &[u8] =
     b"T 1 committed\nO 1.1 a withdraw 10 = ok\nT 2 committed\nO 2.1 a withdraw 95 = no\n= a account 90\n";
 
 const HELD: &[u8] = b"ok objects 1 transactions 2 operations 2\n";
+
+// What `carry` writes.
+const CARRIED: &[u8] =
+    b"{\"ordtx\": 4,\n\"objects\": [\n{\"name\": \"a\", \"kind\": \"account\", \"start\": 90}\n],\n\"transactions\": [\n]}\n";
+
+// An account that ends as none may start.
+const UNFIT: &[u8] =
+    b"{\"ordtx\":1,\"objects\":[{\"name\":\"a\",\"kind\":\"account\",\"start\":1000000000000000}],\"transactions\":[[{\"op\":[\"a\",\"deposit\",1]}]]}";
 
 const ALWAYS: usize = usize::MAX;
 
@@ -53,6 +61,18 @@ fn answers_on_one_thread(rt: HostRuntime) -> Result<(), Fail> {
     let mut sink = TestSink::new(Vec::with_capacity(rt.alloc(), 200)?, ALWAYS, ALWAYS);
     assert!(rt; check_stream(rt.alloc(), &mut Marked::new(DOCUMENT), &mut sink).is_ok());
     assert!(rt; sink.taken() == HELD);
+    Ok(())
+}
+
+#[test]
+fn carries_objects_over(rt: HostRuntime) -> Result<(), Fail> {
+    let mut sink = TestSink::new(Vec::with_capacity(rt.alloc(), 200)?, ALWAYS, ALWAYS);
+    assert!(rt; carry_stream(rt.alloc(), &mut Marked::new(DOCUMENT), &mut sink).is_ok());
+    assert!(rt; sink.taken() == CARRIED);
+    let mut sink = TestSink::new(Vec::with_capacity(rt.alloc(), 200)?, ALWAYS, ALWAYS);
+    let answer = carry_stream(rt.alloc(), &mut Marked::new(UNFIT), &mut sink);
+    assert!(rt; answer == Err(Code::Start.outside()));
+    assert!(rt; sink.taken().is_empty());
     Ok(())
 }
 

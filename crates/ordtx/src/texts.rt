@@ -2,10 +2,11 @@
 ghost use Rattle.std.specs.Prelude.{◌≡◌, ◌≢◌, ◌≤◌, IfErr, IfOk, Ok, string_bytes};
 ghost use Rattle.lang.specs.Faults.{memory_fault, number_of};
 ghost use Rattle.lang.specs.Reading.{document_of, reading};
-ghost use Rattle.ordtx.specs.Answers.{IsAuditOf, IsCheckOf, IsFaultOf, IsPlainReportOf, IsReportOf};
+ghost use Rattle.ordtx.specs.Answers.{IsAuditOf, IsCarriedOf, IsCarryFaultOf, IsCheckOf, IsFaultOf, IsPlainReportOf, IsReportOf, unfit_code};
 
 use batch::Batch;
-use lang::{Fault, read};
+use carry::{Unfit, carried, first_unfit};
+use lang::{Code, Fault, read};
 use report::{render, render_audit, render_check, render_plain};
 use rounds::{Plan, execute};
 use speculate::{Gate, plain};
@@ -67,6 +68,31 @@ pub(crate) fn plain_report_of(alloc: Global, document: Vec<u8>) -> Result<String
     let answer = plain(alloc, &batch)?;
     let text = render_plain(alloc, &batch, &answer)?;
     Ok(text)
+}
+
+// The document of the objects at the end.
+pub(crate) fn carried_of(alloc: Global, document: Vec<u8>) -> Result<String, Fault>
+    ensures text { IfOk result (λ text. IsCarriedOf document.items (string_bytes text)) }
+    ensures fault { IfErr result (λ fault. fault ≢ memory_fault → IsCarryFaultOf document.items fault) }
+    ensures code { IfErr result (λ fault. number_of fault.code ≤ 20) }
+{
+    let batch = batch_of(alloc, document)?;
+    let objects = plain(alloc, &batch)?.objects;
+    if let Some(unfit) = first_unfit(&objects) {
+        return Err(code_of(unfit).outside());
+    }
+    let text = carried(alloc, &batch.names, &objects)?;
+    Ok(text)
+}
+
+// The code of what keeps objects from starting so.
+fn code_of(unfit: Unfit) -> Code
+    ensures { result ≡ unfit_code unfit }
+{
+    match unfit {
+        Unfit::Start => Code::Start,
+        Unfit::TooMany => Code::TooMany,
+    }
 }
 
 // How much a document holds.

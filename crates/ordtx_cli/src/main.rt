@@ -1,5 +1,5 @@
-//! The program: `ordtx run`, `ordtx serial`, `ordtx check` and `ordtx locate`. It reads a document from a file or
-//! standard input, and writes the report to standard output.
+//! The program: `ordtx run`, `ordtx serial`, `ordtx carry`, `ordtx check` and `ordtx locate`. It reads a document
+//! from a file or standard input, and writes the report to standard output.
 #![tactic(auto)]
 
 mod program;

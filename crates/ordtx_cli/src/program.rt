@@ -2,8 +2,8 @@
 ghost use Rattle.std.specs.Prelude.{◌≡◌, false};
 
 use ordtx::{
-    Code, Command, Fault, Line, Marked, NoGate, Refused, Source, audit_stream, check_stream, line,
-    locate_stream, run_stream, serial_stream,
+    Code, Command, Fault, Line, Marked, NoGate, Refused, Source, audit_stream, carry_stream,
+    check_stream, line, locate_stream, run_stream, serial_stream,
 };
 use std::alloc::{AllocError, Global};
 use std::fs::File;
@@ -109,6 +109,7 @@ fn answer_source<T: Threads + Sync, R: Source>(
         }
         Command::Run => run_stream(threads, alloc, source, &mut sink, line.plan, &NoGate),
         Command::Serial => serial_stream(alloc, source, &mut sink),
+        Command::Carry => carry_stream(alloc, source, &mut sink),
         Command::Check => check_stream(alloc, source, &mut sink),
         Command::Locate => locate_stream(alloc, source, &mut sink),
     }

@@ -1,4 +1,4 @@
-use Rattle.ordtx.proofs.OneAnswer.{one_report, one_audit, one_plain, one_check}
+use Rattle.ordtx.proofs.OneAnswer.{one_report, one_audit, one_plain, one_carried, one_check}
 use Rattle.ordtx.proofs.laws.answers_are_determined.Goals as goal
 
 pub returns-clause-reports : goal.returns-clause-reports
@@ -9,6 +9,9 @@ returns-clause-audits c = one_audit
 
 pub returns-clause-plain : goal.returns-clause-plain
 returns-clause-plain c = one_plain
+
+pub returns-clause-carried : goal.returns-clause-carried
+returns-clause-carried c = one_carried
 
 pub returns-clause-checks : goal.returns-clause-checks
 returns-clause-checks c = one_check

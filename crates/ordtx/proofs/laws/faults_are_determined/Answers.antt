@@ -1,4 +1,4 @@
-use Rattle.ordtx.proofs.OneAnswer.{one_fault, report_faultless, audit_faultless, plain_faultless, check_faultless}
+use Rattle.ordtx.proofs.OneAnswer.{one_fault, report_faultless, audit_faultless, plain_faultless, check_faultless, one_carry_fault, carried_faultless}
 use Rattle.ordtx.proofs.laws.faults_are_determined.Goals as goal
 
 pub returns-clause-faults : goal.returns-clause-faults
@@ -15,3 +15,9 @@ returns-clause-plain c = plain_faultless
 
 pub returns-clause-checks : goal.returns-clause-checks
 returns-clause-checks c = check_faultless
+
+pub returns-clause-carry_faults : goal.returns-clause-carry_faults
+returns-clause-carry_faults c = one_carry_fault
+
+pub returns-clause-carried : goal.returns-clause-carried
+returns-clause-carried c = carried_faultless

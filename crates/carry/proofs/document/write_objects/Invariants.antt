@@ -1,0 +1,14 @@
+use Rattle.std.proofs.Common.{◌≡◌, ◌++◌, drop, string_bytes}
+use Rattle.std.specs.Prelude.{codes}
+use denote.Shadow.{shadow}
+use denote.Text.{Utf8}
+use Rattle.batch.specs.Names.{names_of}
+use Rattle.carry.specs.Carried.{joined, object_texts}
+use Rattle.carry.proofs.Joined.{joined_behind}
+use Rattle.carry.proofs.document.write_objects.Given as goal
+
+abbrev pub invariant-loop-object : goal.invariant-loop-object
+invariant-loop-object l =
+    shadow (Utf8 l.between)
+    × (string_bytes l.out ++ joined_behind (codes ",\n") l.between (object_texts (names_of l.names) l.object (drop l.object l.objects))
+    ≡ string_bytes l.fn.out ++ joined (codes ",\n") (object_texts (names_of l.fn.names) 0 l.fn.objects))

@@ -1,0 +1,72 @@
+-- The document of objects as they are, for the next batch to start with.
+use Rattle.std.specs.Prelude.{ℕ, ◌+◌, nat_abs, List, [], ◌∷◌, ◌++◌, map, codes, Option, Some, None, nat_lt, if◌then◌else◌}
+use Rattle.std.specs.Fmt.{decimal, signed_decimal}
+use Rattle.std.specs.FinMap as finite_map
+use Rattle.atoms.specs.declared.item.Item.{Item}
+use Rattle.objects.specs.Entries.{State}
+use Rattle.objects.specs.Objects.{kind_of_value}
+use Rattle.objects.specs.declared.value.Value.{Value}
+use Rattle.objects.specs.declared.value.Value.TheVariants as value
+use Rattle.meaning.specs.Words.{Names, kind_text, members}
+use Rattle.batch.specs.Limits.{entries_in}
+use Rattle.carry.specs.declared.document.Unfit.{Unfit}
+use Rattle.carry.specs.declared.document.Unfit.TheVariants.{Start, TooMany}
+
+-- how large the number of a value is
+abbrev pub magnitude : Value → ℕ
+magnitude (value.Account n) = n
+magnitude (value.Counter n) = nat_abs n
+magnitude (value.Max n) = n
+magnitude v = 0
+
+-- Why objects can't all start as they are, by the first that can't, where so many entries start before them.
+abbrev pub first_unfit : ℕ → State → Option Unfit
+first_unfit entries [] = None
+first_unfit entries (v ∷ values) =
+    if nat_lt 1_000_000_000_000_000 (magnitude v) then Some Start
+    else if nat_lt 100_000 (entries + entries_in v) then Some TooMany
+    else first_unfit (entries + entries_in v) values
+
+-- JSON texts and lists. Names have ASCII letters, digits, `_` and `-` alone, so that nothing is escaped.
+abbrev pub quoted : List ℕ → List ℕ
+quoted name = codes "\"" ++ name ++ codes "\""
+
+-- with this between each two
+abbrev pub joined : List ℕ → List (List ℕ) → List ℕ
+joined between [] = []
+joined between (first ∷ []) = first
+joined between (first ∷ second ∷ rest) = first ++ between ++ joined between (second ∷ rest)
+
+abbrev pub list_text : List (List ℕ) → List ℕ
+list_text texts = codes "[" ++ joined (codes ", ") texts ++ codes "]"
+
+abbrev pub item_text : Names → Item → List ℕ
+item_text names x = quoted (names.item x)
+
+abbrev pub pair_text : Names → Item × Item → List ℕ
+pair_text names pair = list_text (item_text names pair.0 ∷ item_text names pair.1 ∷ [])
+
+-- a value as a start: members and keys in the order of their numbers, a queue from its front
+abbrev pub start_text : Names → Value → List ℕ
+start_text names (value.Account n) = decimal n
+start_text names (value.Counter n) = signed_decimal n
+start_text names (value.Set s) = list_text (map (item_text names) (members s))
+start_text names (value.Queue q) = list_text (map (item_text names) q)
+start_text names (value.Directory d) = list_text (map (pair_text names) (finite_map.entries d))
+start_text names (value.Max n) = decimal n
+
+abbrev pub object_text : Names → ℕ → Value → List ℕ
+object_text names n v =
+    codes "{\"name\": " ++ quoted (names.object n) ++ codes ", \"kind\": " ++ quoted (kind_text (kind_of_value v)) ++ codes ", \"start\": "
+    ++ start_text names v ++ codes "}"
+
+-- the objects from place n on
+abbrev pub object_texts : Names → ℕ → State → List (List ℕ)
+object_texts names n [] = []
+object_texts names n (v ∷ values) = object_text names n v ∷ object_texts names (n + 1) values
+
+-- the document of these objects without a transaction, an object a line
+abbrev pub carried_text : Names → State → List ℕ
+carried_text names values =
+    codes "{\"ordtx\": 4,\n\"objects\": [\n" ++ joined (codes ",\n") (object_texts names 0 values)
+    ++ codes "\n],\n\"transactions\": [\n]}\n"

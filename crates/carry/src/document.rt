@@ -1,0 +1,212 @@
+//! The document of objects as they are.
+ghost use Rattle.std.specs.Prelude.{◌≡◌, ◌<◌, ◌^◌, ◌++◌, IfOk, OnOk, codes, length, map, string_bytes};
+ghost use Rattle.std.specs.FinMap as finite_map;
+ghost use Rattle.meaning.specs.Words.{kind_text, members};
+ghost use Rattle.batch.specs.Limits.{entries_in};
+ghost use Rattle.batch.specs.Names.{names_of};
+ghost use Rattle.carry.specs.Carried.{carried_text, first_unfit, item_text, joined, magnitude, object_text, object_texts, pair_text, start_text};
+
+use batch::Names;
+use objects::{Directory, Item, ItemSet, Kind, NoMemory, Objects, Queue, Value};
+use std::alloc::Global;
+
+/// Why objects can't all be the starts of a document.
+#[derive(Clone, Copy, Debug, Drop, PartialEq, Eq)]
+pub enum Unfit {
+    /// A number is too large for a start.
+    Start,
+    /// There are more entries than a document may start with.
+    TooMany,
+}
+
+/// The largest number that an object may start with.
+const MOST_NUMBER: u64 = 1_000_000_000_000_000;
+
+/// How many entries all objects may start with.
+const MOST_ENTRIES: usize = 100_000;
+
+/// Why the objects can't all start as they are, by the first that can't.
+pub fn first_unfit(objects: &Objects) -> Option<Unfit>
+    requires { length objects.now < 2 ^ 32 }
+    ensures { result ≡ first_unfit 0 objects.now }
+{
+    let mut entries = 0;
+    for place in 0..objects.len() as u32 {
+        let Some(value) = objects.value(place) else {
+            return None;
+        };
+        if magnitude(value) > MOST_NUMBER {
+            return Some(Unfit::Start);
+        }
+        let more = entries_in(value);
+        if more > MOST_ENTRIES - entries {
+            return Some(Unfit::TooMany);
+        }
+        entries += more;
+    }
+    None
+}
+
+// How large the number of a value is.
+fn magnitude(value: &Value) -> u64
+    ensures { result ≡ magnitude value.now }
+{
+    match value {
+        Value::Account(number) | Value::Max(number) => *number,
+        Value::Counter(number) => number.unsigned_abs(),
+        Value::Set(_) | Value::Queue(_) | Value::Directory(_) => 0,
+    }
+}
+
+// How many members, items or keys a value has.
+fn entries_in(value: &Value) -> usize
+    ensures { result ≡ entries_in value.now }
+{
+    match value {
+        Value::Account(_) | Value::Counter(_) | Value::Max(_) => 0,
+        Value::Set(set) => set.len(),
+        Value::Queue(queue) => queue.items().len(),
+        Value::Directory(directory) => directory.entries().len(),
+    }
+}
+
+/// The document of the objects as they are, without a transaction. It has a line for each object.
+///
+/// A number that has no name has the empty name. Where [`first_unfit`] is none, and each name is one,
+/// the document can be read. Returns `NoMemory` where a request for memory was refused.
+pub fn carried(alloc: Global, names: &Names, objects: &Objects) -> Result<String, NoMemory>
+    requires { length objects.now < 2 ^ 32 }
+    ensures { IfOk result (λ t. string_bytes t ≡ carried_text (names_of names.now) objects.now) }
+{
+    let mut out = String::new(alloc);
+    write!(&mut out, "{{\"ordtx\": 4,\n\"objects\": [\n")?;
+    write_objects(&mut out, names, objects)?;
+    write!(&mut out, "\n],\n\"transactions\": [\n]}}\n")?;
+    Ok(out)
+}
+
+fn write_objects(out: &mut String, names: &Names, objects: &Objects) -> Result<(), NoMemory>
+    requires { length objects.now < 2 ^ 32 }
+    ensures { OnOk result (string_bytes out.new ≡ string_bytes out.old ++ joined (codes ",\n") (object_texts (names_of names.now) 0 objects.now)) }
+{
+    let mut between = "";
+    for object in 0..objects.len() as u32 {
+        let Some(value) = objects.value(object) else {
+            return Ok(());
+        };
+        write!(out, "{between}")?;
+        write_object(out, names, object, value)?;
+        between = ",\n";
+    }
+    Ok(())
+}
+
+fn write_object(out: &mut String, names: &Names, object: u32, value: &Value) -> Result<(), NoMemory>
+    ensures { OnOk result (string_bytes out.new ≡ string_bytes out.old ++ object_text (names_of names.now) object value.now) }
+{
+    let name = object_name(names, object);
+    let kind = kind_word(value.kind());
+    write!(
+        out,
+        "{{\"name\": \"{name}\", \"kind\": \"{kind}\", \"start\": "
+    )?;
+    write_start(out, names, value)?;
+    write!(out, "}}")?;
+    Ok(())
+}
+
+fn kind_word(kind: Kind) -> &'static str
+    ensures { result.now ≡ kind_text kind }
+{
+    match kind {
+        Kind::Account => "account",
+        Kind::Counter => "counter",
+        Kind::Set => "set",
+        Kind::Queue => "queue",
+        Kind::Directory => "directory",
+        Kind::Max => "max",
+    }
+}
+
+fn write_start(out: &mut String, names: &Names, value: &Value) -> Result<(), NoMemory>
+    ensures { OnOk result (string_bytes out.new ≡ string_bytes out.old ++ start_text (names_of names.now) value.now) }
+{
+    match value {
+        Value::Account(number) | Value::Max(number) => write!(out, "{number}")?,
+        Value::Counter(number) => write!(out, "{number}")?,
+        Value::Set(set) => {
+            write!(out, "[")?;
+            write_members(out, names, set)?;
+            write!(out, "]")?;
+        }
+        Value::Queue(queue) => {
+            write!(out, "[")?;
+            write_queue(out, names, queue)?;
+            write!(out, "]")?;
+        }
+        Value::Directory(directory) => {
+            write!(out, "[")?;
+            write_pairs(out, names, directory)?;
+            write!(out, "]")?;
+        }
+    }
+    Ok(())
+}
+
+fn write_members(out: &mut String, names: &Names, set: &ItemSet) -> Result<(), NoMemory>
+    ensures { OnOk result (string_bytes out.new ≡ string_bytes out.old ++ joined (codes ", ") (map (item_text (names_of names.now)) (members set.now))) }
+{
+    let mut between = "";
+    for member in set.items().iter() {
+        let name = item_name(names, *member);
+        write!(out, "{between}\"{name}\"")?;
+        between = ", ";
+    }
+    Ok(())
+}
+
+fn write_queue(out: &mut String, names: &Names, queue: &Queue) -> Result<(), NoMemory>
+    ensures { OnOk result (string_bytes out.new ≡ string_bytes out.old ++ joined (codes ", ") (map (item_text (names_of names.now)) queue.now)) }
+{
+    let mut between = "";
+    for item in queue.items().iter() {
+        let name = item_name(names, *item);
+        write!(out, "{between}\"{name}\"")?;
+        between = ", ";
+    }
+    Ok(())
+}
+
+fn write_pairs(out: &mut String, names: &Names, directory: &Directory) -> Result<(), NoMemory>
+    ensures { OnOk result (string_bytes out.new ≡ string_bytes out.old ++ joined (codes ", ") (map (pair_text (names_of names.now)) (finite_map.entries directory.now))) }
+{
+    let mut between = "";
+    for (key, item) in directory.entries().iter() {
+        let key_name = item_name(names, *key);
+        let name = item_name(names, *item);
+        write!(out, "{between}[\"{key_name}\", \"{name}\"]")?;
+        between = ", ";
+    }
+    Ok(())
+}
+
+// The name of an object; the empty text where it has none.
+#[tactic(auto, using(report::proofs::NameLemmas::no_name))]
+fn object_name(names: &Names, object: u32) -> &str
+    ensures { result.now ≡ (names_of names.now).object object }
+{
+    match names.object(object) {
+        Some(name) => name,
+        None => "",
+    }
+}
+
+#[tactic(auto, using(report::proofs::NameLemmas::no_name))]
+fn item_name(names: &Names, item: Item) -> &str
+    ensures { result.now ≡ (names_of names.now).item item }
+{
+    match names.item(item) {
+        Some(name) => name,
+        None => "",
+    }
+}
