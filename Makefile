@@ -1,5 +1,6 @@
 # make          builds bin/ordtx (the first time it proves every crate that the program needs)
 # make run      runs the example of a day's ledger
+# make check    checks the crates that differ from the revision SINCE (HEAD), with their tests, and those that use them
 # make test     the gate: every proof from nothing, the must-fail edits, the tests, the programs; then `make try`
 # make try      tries the built program: documents, command lines, failing devices, refused memory
 # make bench    prints the figures of bench/
@@ -7,22 +8,26 @@
 #               and completions for bash, zsh and fish where these look for them below PREFIX/share
 RT ?= rt
 PREFIX ?= /usr/local
+SINCE ?= HEAD
 PROGRAM := crates/ordtx_cli
 SOURCES := crates.txt $(shell find crates \( -name '*.rt' -o -name '*.antt' \) -not -path '*/out/*')
 
-.PHONY: all run test try bench install clean
+.PHONY: all run check test try bench install clean
 
 all: bin/ordtx
 
-# `rt run` proves and builds the program, and has it print its version.
+# Crate by crate. The program that was built prints its version.
 bin/ordtx: $(SOURCES)
-	@echo "Proving and building ordtx: some minutes the first time, seconds after an edit."
-	cd $(PROGRAM) && $(RT) run -- --version > /dev/null
-	mkdir -p bin
+	@echo "Proving and building ordtx: some minutes the first time, fewer after an edit."
+	RT=$(RT) tools/prove ordtx_cli --version
 	cp $(PROGRAM)/out/ordtx_cli bin/ordtx
 
 run: bin/ordtx
 	bin/ordtx run examples/ledger.json
+
+# For the daily loop: nothing is proved that an edit can't have touched.
+check:
+	RT=$(RT) tools/prove --since $(SINCE)
 
 # `rt ci` leaves the programs that it proved and built: those are tried.
 test:
@@ -38,8 +43,7 @@ try: bin/ordtx bin/refusals
 	tests/run bin/ordtx bin/refusals
 
 bin/refusals: $(SOURCES)
-	cd crates/refusals && $(RT) run > /dev/null
-	mkdir -p bin
+	RT=$(RT) tools/prove refusals
 	cp crates/refusals/out/refusals bin/refusals
 
 bench: bin/ordtx
