@@ -20,10 +20,10 @@ _ordtx() {
 
     COMPREPLY=()
     case $command in
-        '') options='--help --version -h -V' words='run serial check locate help' ;;
+        '') options='--help --version -h -V' words='run serial carry check locate help' ;;
         run) options='--workers --cut --audit --help --version -h -V' ;;
-        serial | check | locate) options='--help --version -h -V' ;;
-        help) words='run serial check locate help' ;;
+        serial | carry | check | locate) options='--help --version -h -V' ;;
+        help) words='run serial carry check locate help' ;;
     esac
     if [[ $option == --workers ]]; then
         words='1 2 4 8 16 32 64'
@@ -33,7 +33,7 @@ _ordtx() {
         words=$options
     elif [[ -n $file ]]; then
         words=''
-    elif [[ $command == run || $command == serial || $command == check || $command == locate ]]; then
+    elif [[ $command == run || $command == serial || $command == carry || $command == check || $command == locate ]]; then
         compopt -o filenames 2> /dev/null
         mapfile -t COMPREPLY < <(compgen -f -- "$current")
         return

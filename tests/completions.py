@@ -47,7 +47,7 @@ def try_bash(program, commands, options):
     rows = [([""], commands), (["r"], ["run"]), (["help", "s"], ["serial"]), (["run", "day.json", ""], []),
             (["run", "--workers", "6"], ["64"]), (["run", "--cut", "=", "25"], ["256"]), (["--"], long(options[""])),
             (["run", "--cut", "1", "day.json", "--a"], ["--audit"])]
-    for command in ("run", "serial", "check", "locate"):
+    for command in ("run", "serial", "carry", "check", "locate"):
         rows += [([command, "--"], long(options[command])), ([command, ""], ["a day.json", "day.json", "days"]),
                  ([command, "day."], ["day.json"])]
     with tempfile.TemporaryDirectory() as folder:

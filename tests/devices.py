@@ -4,7 +4,7 @@ import os
 import subprocess
 import tempfile
 
-COMMANDS = ("run", "serial", "check", "locate")
+COMMANDS = ("run", "serial", "carry", "check", "locate")
 NO_INPUT = b"fault 21 transaction 0\n"
 NO_OUTPUT = b"fault 22 transaction 0\n"
 

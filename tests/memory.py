@@ -69,6 +69,11 @@ def try_places(program, library, case):
                  case.with_suffix(".check").read_bytes())
 
 
+def try_carry(program, library, case):
+    document = case.with_suffix(".json").read_bytes()
+    try_document(program, library, ["carry"], case.name, document, program.run(["carry"], document)[0])
+
+
 def try_reasons(program, library):
     """Handlers whose reasons ascend, and others, for which the document is begun again."""
     for order in ("abc", "acb"):
@@ -80,6 +85,8 @@ def try_all(program, library, loops, cases):
     try_loops(program, library, loops)
     try_reasons(program, library)
     try_places(program, library, cases[0])
+    for case in cases:
+        try_carry(program, library, case)
     for case in cases:
         for workers in ("1", "4"):
             words = ["run", "--workers", workers, "--cut", "1"]

@@ -17,6 +17,8 @@ REFUSED = (
     ["run", "--fast"],
     ["serial", "--workers", "1"],
     ["serial", "--audit"],
+    ["carry", "--workers", "1"],
+    ["carry", "a", "b"],
     ["check", "--cut", "1"],
     ["locate", "--workers", "1"],
     ["locate", "a", "b"],
@@ -64,7 +66,7 @@ def try_help(program):
         program.expect("help on help", ["help", flag], b"", help_of_help)
     for flag in ("-V", "--version"):
         program.expect("the version", [flag], b"", b"ordtx 0.1.0\n")
-        for command in ("run", "serial", "check", "locate"):
+        for command in ("run", "serial", "carry", "check", "locate"):
             program.expect("the version", [command, flag], b"",
                            b"ordtx-%s 0.1.0\n" % command.encode())
 
