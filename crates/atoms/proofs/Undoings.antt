@@ -1,5 +1,6 @@
 -- Each type's changes take its calls back, and so do changes at places of a list.
-use Rattle.std.proofs.Common.{◌≡◌, ℕ, zero, suc, ◌-◌, Bool, true, false, cond, nat_le, List, [], ◌∷◌, ◌++◌, length, take, length-append, Option, Some, None, refl, sym, ap, ◌∙◌, arith}
+use Rattle.std.proofs.Common.{◌≡◌, ℕ, zero, suc, ◌-◌, Bool, true, false, cond, nat_le, List, [], ◌∷◌, ◌++◌, length, take, length-append}
+use Rattle.std.proofs.Common.{Option, Some, None, refl, sym, ap, ◌∙◌, arith}
 use Rattle.std.specs.Prelude.{option_map, option_and_then, slice_get, slice_set, is_some}
 use Rattle.std.specs.FinSet as set
 use Rattle.std.specs.FinMap as map
@@ -39,7 +40,8 @@ changes_unless u false now before change h k = k refl
 
 pub account_takes_back : TakesBack account account_undoing
 account_takes_back v (Deposit a) = refl
-account_takes_back v (Withdraw a) = changes_if account_undoing (nat_le a.value v) _ v v (λ _. refl) (λ e. ap (λ b. cond b (v - a.value) v) e)
+account_takes_back v (Withdraw a) = changes_if account_undoing (nat_le a.value v) _ v v (λ _. refl)
+    (λ e. ap (λ b. cond b (v - a.value) v) e)
 account_takes_back v Balance = refl
 
 pub counter_takes_back : TakesBack counter counter_undoing
@@ -52,8 +54,10 @@ max_takes_back v (Raise k) = changes_unless max_undoing (nat_le k.value v) _ v v
 max_takes_back v Top = refl
 
 pub set_takes_back : TakesBack item_set set_undoing
-set_takes_back s (Insert x) = changes_unless set_undoing (set.contains s x) (set.insert s x) s (Added x) (insert_present s x) (remove_inserted s x)
-set_takes_back s (Remove x) = changes_if set_undoing (set.contains s x) (set.remove s x) s (Removed x) (insert_removed s x) (remove_absent s x)
+set_takes_back s (Insert x) = changes_unless set_undoing (set.contains s x) (set.insert s x) s (Added x) (insert_present s x)
+    (remove_inserted s x)
+set_takes_back s (Remove x) = changes_if set_undoing (set.contains s x) (set.remove s x) s (Removed x) (insert_removed s x)
+    (remove_absent s x)
 set_takes_back s (Has x) = refl
 set_takes_back s Size = refl
 
@@ -75,7 +79,8 @@ directory_takes_back m (Bind k v) =
     (λ e. ap (λ b. cond b m (map.insert m k v)) e)
     (λ e. ap (λ b. put_at (cond b m (map.insert m k v)) k (map.get m k)) e ∙ put_before m k (Some v))
 directory_takes_back m (Put k v) = put_before m k (Some v)
-directory_takes_back m (Unbind k) = changes_if directory_undoing (is_some (map.get m k)) (map.remove m k) m (before_at m k) (λ _. put_before m k None) (remove_missing m k)
+directory_takes_back m (Unbind k) = changes_if directory_undoing (is_some (map.get m k)) (map.remove m k) m (before_at m k)
+    (λ _. put_before m k None) (remove_missing m k)
 directory_takes_back m (Lookup k) = refl
 
 -- ---- places of a list
@@ -90,16 +95,21 @@ set_itself [] o v e = cc
 set_itself (x ∷ vs) zero v e = let same : x ≡ v = cc in ap (λ y. y ∷ vs) (sym same)
 set_itself (x ∷ vs) (suc o) v e = ap (λ ys. x ∷ ys) (set_itself vs o v e)
 
-taken_back_at : {V C D : Type 0} (u : Undoing V C D) (vs : List V) (o : ℕ) (v w : V) (change : Option D) → slice_get vs o ≡ Some v → undone_if u w change ≡ v
+taken_back_at : {V C D : Type 0} (u : Undoing V C D) (vs : List V) (o : ℕ) (v w : V) (change : Option D) → slice_get vs o ≡ Some v
+    → undone_if u w change ≡ v
     → undone_if (undoing_at_places u) (slice_set vs o w) (option_map (λ d. (o, d)) change) ≡ vs
 taken_back_at u vs o v w None e back = ap (slice_set vs o) back ∙ set_itself vs o v e
 taken_back_at u vs o v w (Some change) e back =
-    ap (undone_found u (slice_set vs o w) o change) (get_set vs o v w e) ∙ set-set vs o w (u.undone w change) ∙ ap (slice_set vs o) back ∙ set_itself vs o v e
+    ap (undone_found u (slice_set vs o w) o change) (get_set vs o v w e) ∙ set-set vs o w (u.undone w change) ∙ ap (slice_set vs o) back
+    ∙ set_itself vs o v e
 
-taken_back_found : {V C R D : Type 0} (s : Serial V C (Option R)) (u : Undoing V C D) → TakesBack s u → (vs : List V) (o : ℕ) (call : C) (found : Option V) → slice_get vs o ≡ found
-    → undone_if (undoing_at_places u) (after_found s vs o call found) (option_map (λ d. (o, d)) (option_and_then (λ value. u.change value call) found)) ≡ vs
+taken_back_found : {V C R D : Type 0} (s : Serial V C (Option R)) (u : Undoing V C D) → TakesBack s u → (vs : List V) (o : ℕ) (call : C)
+    (found : Option V) → slice_get vs o ≡ found
+    → undone_if (undoing_at_places u) (after_found s vs o call found)
+    (option_map (λ d. (o, d)) (option_and_then (λ value. u.change value call) found)) ≡ vs
 taken_back_found s u h vs o call None e = refl
 taken_back_found s u h vs o call (Some v) e = taken_back_at u vs o v (s.after v call) (u.change v call) e (h v call)
 
-pub places_take_back : {V C R D : Type 0} (s : Serial V C (Option R)) (u : Undoing V C D) → TakesBack s u → TakesBack (at_places s) (undoing_at_places u)
+pub places_take_back : {V C R D : Type 0} (s : Serial V C (Option R)) (u : Undoing V C D) → TakesBack s u
+    → TakesBack (at_places s) (undoing_at_places u)
 places_take_back s u h vs at = taken_back_found s u h vs at.0 at.1 (slice_get vs at.0) refl

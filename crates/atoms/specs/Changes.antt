@@ -1,5 +1,6 @@
 -- What the calls of each type change, and how it is taken back.
-use Rattle.std.specs.Prelude.{◌≡◌, ⊤, ℕ, ◌-◌, nat_le, ℤ, List, ◌∷◌, length, take, slice_get, Option, Some, None, IsNone, option_map, is_some, IsSome, false, if◌then◌else◌}
+use Rattle.std.specs.Prelude.{◌≡◌, ⊤, ℕ, ◌-◌, nat_le, ℤ, List, ◌∷◌, length, take, slice_get, Option, Some, None, IsNone, option_map}
+use Rattle.std.specs.Prelude.{is_some, IsSome, false, if◌then◌else◌}
 use Rattle.std.specs.FinSet as set
 use Rattle.std.specs.FinMap as map
 use Rattle.atoms.specs.Undo.{Undoing}

@@ -1,5 +1,6 @@
 -- Taking calls back: what each call changes, and how the value before it is restored.
-use Rattle.std.specs.Prelude.{◌≡◌, ℕ, List, [], ◌∷◌, ◌++◌, length, drop, take, Option, Some, None, option_map, option_and_then, option_to_list, slice_get, slice_set}
+use Rattle.std.specs.Prelude.{◌≡◌, ℕ, List, [], ◌∷◌, ◌++◌, length, drop, take, Option, Some, None, option_map, option_and_then}
+use Rattle.std.specs.Prelude.{option_to_list, slice_get, slice_set}
 use Rattle.serial.specs.Serial.{Serial}
 
 -- what a call changes at a value, seen before the call, or none where it changes nothing; and the value that is left after a change is

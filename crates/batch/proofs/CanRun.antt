@@ -1,5 +1,6 @@
 -- Where the parts of a tree can be run, so can theirs.
-use Rattle.std.proofs.Common.{◌≡◌, ℕ, ◌+◌, ◌<◌, ◌≤◌, Bool, List, [], ◌∷◌, ◌++◌, map, length, get_or, take, sym, ap, subst, ◌∙◌, arith, append_assoc, zero, suc, Box, Global}
+use Rattle.std.proofs.Common.{◌≡◌, ℕ, ◌+◌, ◌<◌, ◌≤◌, Bool, List, [], ◌∷◌, ◌++◌, map, length, get_or, take, sym, ap, subst, ◌∙◌, arith}
+use Rattle.std.proofs.Common.{append_assoc, zero, suc, Box, Global}
 use Rattle.std.proofs.lemmas.List.{append-nil, get_or-map}
 use Rattle.std.proofs.lemmas.Option.{slice_get_within, get_or_from_slice_get}
 use Rattle.objects.specs.declared.call.Call.{Call}
@@ -28,11 +29,20 @@ use Rattle.batch.proofs.ViewLemmas.{step_view-Op, step_view-If}
 -- ---- steps one after the other
 
 -- the first step can be taken, and the others after it
-pub can_step : (step : meant.Step) (rest : meant.Block) (held : List Held) (state : State) → CanRunHere (meant.Steps step rest) held state → CanStepHere step held state
-can_step step rest held state h = record { labels = h.labels; held_by = h.held_by; well_formed = h.well_formed.0; room = omega (arith, h.room) }
+pub can_step : (step : meant.Step) (rest : meant.Block) (held : List Held) (state : State) → CanRunHere (meant.Steps step rest) held state
+    → CanStepHere step held state
+can_step step rest held state h = record {
+  labels = h.labels;
+  held_by = h.held_by;
+  well_formed = h.well_formed.0;
+  room =
+      omega (arith, h.room);
+}
 
-pub can_run_rest : (step : meant.Step) (rest : meant.Block) (held : List Held) (state : State) → CanRunHere (meant.Steps step rest) held state
-    → outcome_of (one_step step held state) ≡ Ended → CanRunHere rest (held ++ labels_of (one_step step held state)) (state_of (one_step step held state))
+pub can_run_rest : (step : meant.Step) (rest : meant.Block) (held : List Held) (state : State)
+    → CanRunHere (meant.Steps step rest) held state
+    → outcome_of (one_step step held state) ≡ Ended → CanRunHere rest (held ++ labels_of (one_step step held state))
+    (state_of (one_step step held state))
 can_run_rest step rest held state h ended =
     let keeps = step_keeps step held state in
     record {
@@ -52,26 +62,32 @@ still_then first second third h k = (h.0 ++ k.0, k.1 ∙ ap (λ x. x ++ k.0) h.1
 
 -- ---- steps, kind by kind
 
-can_as : (step : Step) (tree : meant.Step) (held : List Held) (state : State) → step_view step ≡ tree → CanStepHere (step_view step) held state → CanStepHere tree held state
+can_as : (step : Step) (tree : meant.Step) (held : List Held) (state : State) → step_view step ≡ tree
+    → CanStepHere (step_view step) held state → CanStepHere tree held state
 can_as step tree held state is h = subst (λ s. CanStepHere s held state) is h
 
-pub op-can : (step : Step) (object : ℕ) (call : Call) (labelled : Bool) (held : List Held) (state : State) → step ≡ Op object call labelled → CanStepHere (step_view step) held state → CanPerform state object call
+pub op-can : (step : Step) (object : ℕ) (call : Call) (labelled : Bool) (held : List Held) (state : State) → step ≡ Op object call labelled
+    → CanStepHere (step_view step) held state → CanPerform state object call
 op-can step object call labelled held state is h =
     let here = can_as step (meant.Operation object call labelled) held state (ap step_view is ∙ step_view-Op object call labelled) h in
     perform state object call here.well_formed here.room
 
 -- the label of an if
-bound : (step : Step) (label : ℕ) (t : Test) (then otherwise : Box Block Global) (held : List Held) (state : State) → step ≡ If label t then otherwise → CanStepHere (step_view step) held state → IsBound held label t
+bound : (step : Step) (label : ℕ) (t : Test) (then otherwise : Box Block Global) (held : List Held) (state : State)
+    → step ≡ If label t then otherwise → CanStepHere (step_view step) held state → IsBound held label t
 bound step label t then otherwise held state is h =
-    let here = can_as step (meant.If label t (block_view then.value) (block_view otherwise.value)) held state (ap step_view is ∙ step_view-If label t then otherwise) h in
+    let here = can_as step (meant.If label t (block_view then.value) (block_view otherwise.value)) held state (ap step_view is
+    ∙ step_view-If label t then otherwise) h in
     test held here.labels label t here.held_by here.well_formed.0
 
-pub if-bound : (step : Step) (label : ℕ) (t : Test) (then otherwise : Box Block Global) (held : List Held) (state : State) → step ≡ If label t then otherwise → CanStepHere (step_view step) held state → label < length held
+pub if-bound : (step : Step) (label : ℕ) (t : Test) (then otherwise : Box Block Global) (held : List Held) (state : State)
+    → step ≡ If label t then otherwise → CanStepHere (step_view step) held state → label < length held
 if-bound step label t then otherwise held state is h =
     let b = bound step label t then otherwise held state is h in slice_get_within held label b.found b.is
 
 -- the test of what was read is that of the label
-pub if-holds : (step : Step) (label : ℕ) (t : Test) (then otherwise : Box Block Global) (held : List Held) (state : State) (read : Held) → step ≡ If label t then otherwise → CanStepHere (step_view step) held state → read ≡ get_or held label read
+pub if-holds : (step : Step) (label : ℕ) (t : Test) (then otherwise : Box Block Global) (held : List Held) (state : State) (read : Held)
+    → step ≡ If label t then otherwise → CanStepHere (step_view step) held state → read ≡ get_or held label read
     → holds held label t ≡ holds_of t read
 if-holds step label t then otherwise held state read is h reads =
     let b = bound step label t then otherwise held state is h in
@@ -80,7 +96,8 @@ if-holds step label t then otherwise held state read is h reads =
 -- ---- children
 
 -- the first child can be tried, and the others run after it
-pub can_try : (child : Tried) (younger : Children) (held : List Held) (state : State) → CanRunAllHere (Child child.body child.handlers child.labelled younger) held state → CanTryHere child held state
+pub can_try : (child : Tried) (younger : Children) (held : List Held) (state : State)
+    → CanRunAllHere (Child child.body child.handlers child.labelled younger) held state → CanTryHere child held state
 can_try child younger held state h =
     record {
       body = record { labels = h.labels; held_by = h.held_by; well_formed = h.well_formed.0; room = omega (arith, h.room) };
@@ -88,11 +105,16 @@ can_try child younger held state h =
     }
 
 -- what a subaction keeps
-acted_keeps : (child : Tried) (held : List Held) (state : State) → Keeps (operations child.body + operations_of_handlers child.handlers) state (state_of (acted child held state))
+acted_keeps : (child : Tried) (held : List Held) (state : State) → Keeps (operations child.body + operations_of_handlers child.handlers)
+    state (state_of (acted child held state))
 acted_keeps child held state =
-    act_keeps child.labelled (one child.body held state) (one_handler child.handlers held) state (operations child.body) (operations_of_handlers child.handlers) (block_keeps child.body held state) (λ reason. handlers_keep child.handlers held reason state)
+    act_keeps child.labelled (one child.body held state) (one_handler child.handlers held) state (operations child.body)
+    (operations_of_handlers child.handlers) (block_keeps child.body held state)
+    (λ reason. handlers_keep child.handlers held reason state)
 
-pub can_run_younger : (child : Tried) (younger : Children) (held : List Held) (state : State) → CanRunAllHere (Child child.body child.handlers child.labelled younger) held state → CanRunAllHere younger held (state_of (acted child held state))
+pub can_run_younger : (child : Tried) (younger : Children) (held : List Held) (state : State)
+    → CanRunAllHere (Child child.body child.handlers child.labelled younger) held state
+    → CanRunAllHere younger held (state_of (acted child held state))
 can_run_younger child younger held state h =
     let keeps = acted_keeps child held state in
     record {
@@ -104,30 +126,36 @@ can_run_younger child younger held state h =
 
 -- ---- transactions
 
-pub well_formed_at : (blocks : List meant.Block) (ks : List Kind) (i : ℕ) → AllWellFormed blocks ks → i < length blocks → IsWellFormed (block_at blocks i) [] ks
+pub well_formed_at : (blocks : List meant.Block) (ks : List Kind) (i : ℕ) → AllWellFormed blocks ks → i < length blocks
+    → IsWellFormed (block_at blocks i) [] ks
 well_formed_at [] ks i h lt = absurd (omega arith)
 well_formed_at (block ∷ blocks) ks zero h lt = h.0
 well_formed_at (block ∷ blocks) ks (suc i) h lt = well_formed_at blocks ks i h.1 (omega arith)
 
 -- the block at a place, seen as a tree
-pub block_at_view : (blocks : List Block) (i : ℕ) (x : Block) → i < length blocks → x ≡ get_or blocks i x → block_view x ≡ block_at (map block_view blocks) i
+pub block_at_view : (blocks : List Block) (i : ℕ) (x : Block) → i < length blocks → x ≡ get_or blocks i x
+    → block_view x ≡ block_at (map block_view blocks) i
 block_at_view blocks i x lt is = ap block_view is ∙ sym (get_or-map block_view blocks i x NoStep lt)
 
 -- a transaction and those before it have no more operations than all
-operations_upto : (blocks : List meant.Block) (i : ℕ) → all_operations (take i blocks) + operations (block_at blocks i) ≤ all_operations blocks
+operations_upto : (blocks : List meant.Block) (i : ℕ) → all_operations (take i blocks) + operations (block_at blocks i) ≤ all_operations
+    blocks
 operations_upto [] zero = omega arith
 operations_upto [] (suc i) = omega arith
 operations_upto (block ∷ blocks) zero = omega arith
 operations_upto (block ∷ blocks) (suc i) = let rest = operations_upto blocks i in omega arith
 
 -- each transaction can be run where those before it led
-pub transaction_can_run : (start : State) (texts : Texts) (blocks : List meant.Block) (i : ℕ) → IsBatch start texts blocks → i < length blocks → CanRunHere (block_at blocks i) [] (state_at start blocks i)
+pub transaction_can_run : (start : State) (texts : Texts) (blocks : List meant.Block) (i : ℕ) → IsBatch start texts blocks
+    → i < length blocks → CanRunHere (block_at blocks i) [] (state_at start blocks i)
 transaction_can_run start texts blocks i is lt =
     let keeps = batch_keeps start blocks i (omega arith) in
     let few = operations_upto blocks i in
     record {
       labels = [];
       held_by = tt;
-      well_formed = subst (IsWellFormed (block_at blocks i) []) (sym keeps.same_kinds) (well_formed_at blocks (kinds start) i is.well_formed lt);
-      room = limit (state_at start blocks i) (all_operations (take i blocks)) (operations (block_at blocks i)) (omega (arith, keeps.growth, is.small)) (omega (arith, is.few_operations));
+      well_formed = subst (IsWellFormed (block_at blocks i) []) (sym keeps.same_kinds)
+          (well_formed_at blocks (kinds start) i is.well_formed lt);
+      room = limit (state_at start blocks i) (all_operations (take i blocks)) (operations (block_at blocks i))
+          (omega (arith, keeps.growth, is.small)) (omega (arith, is.few_operations));
     }

@@ -28,7 +28,8 @@ pub rest_of_blocks-start : (blocks : List Block) → rest_of_blocks 0 blocks ≡
 unfolding rest_of_blocks
 rest_of_blocks-start blocks = refl
 
-pub rest_of_blocks-more : (i : ℕ) (blocks : List Block) (x : Block) → i < length blocks → x ≡ get_or blocks i x → rest_of_blocks i blocks ≡ operations (block_view x) + rest_of_blocks (i + 1) blocks
+pub rest_of_blocks-more : (i : ℕ) (blocks : List Block) (x : Block) → i < length blocks → x ≡ get_or blocks i x
+    → rest_of_blocks i blocks ≡ operations (block_view x) + rest_of_blocks (i + 1) blocks
 unfolding rest_of_blocks
 rest_of_blocks-more i blocks x lt is = ap (λ bs. all_operations (map block_view bs)) (left blocks i x lt is)
 
@@ -44,7 +45,8 @@ pub rest_of_steps-start : (steps : List Step) → rest_of_steps 0 steps ≡ oper
 unfolding rest_of_steps
 rest_of_steps-start steps = refl
 
-pub rest_of_steps-more : (i : ℕ) (steps : List Step) (x : Step) → i < length steps → x ≡ get_or steps i x → rest_of_steps i steps ≡ operations_of_step (step_view x) + rest_of_steps (i + 1) steps
+pub rest_of_steps-more : (i : ℕ) (steps : List Step) (x : Step) → i < length steps → x ≡ get_or steps i x
+    → rest_of_steps i steps ≡ operations_of_step (step_view x) + rest_of_steps (i + 1) steps
 unfolding rest_of_steps
 rest_of_steps-more i steps x lt is = ap (λ ss. operations (steps_view ss)) (left steps i x lt is)
 
@@ -60,7 +62,8 @@ pub rest_of_children-start : (children : List Subaction) → rest_of_children 0 
 unfolding rest_of_children
 rest_of_children-start children = refl
 
-pub rest_of_children-more : (i : ℕ) (children : List Subaction) (x : Subaction) → i < length children → x ≡ get_or children i x → rest_of_children i children ≡ operations_of (subaction_view x) + rest_of_children (i + 1) children
+pub rest_of_children-more : (i : ℕ) (children : List Subaction) (x : Subaction) → i < length children → x ≡ get_or children i x
+    → rest_of_children i children ≡ operations_of (subaction_view x) + rest_of_children (i + 1) children
 unfolding rest_of_children
 rest_of_children-more i children x lt is = ap (λ cs. operations_of_children (children_view cs)) (left children i x lt is)
 
@@ -72,11 +75,13 @@ rest_of_children-end i children le = ap (λ cs. operations_of_children (children
 pub rest_of_handlers : ℕ → List Handler → ℕ
 rest_of_handlers i handlers = operations_of_handlers (for_reasons (map handler_view (drop i handlers)) Pass)
 
-pub rest_of_handlers-start : (handlers : List Handler) → rest_of_handlers 0 handlers ≡ operations_of_handlers (for_reasons (map handler_view handlers) Pass)
+pub rest_of_handlers-start : (handlers : List Handler) → rest_of_handlers 0 handlers ≡ operations_of_handlers
+    (for_reasons (map handler_view handlers) Pass)
 unfolding rest_of_handlers
 rest_of_handlers-start handlers = refl
 
-pub rest_of_handlers-more : (i : ℕ) (handlers : List Handler) (x : Handler) → i < length handlers → x ≡ get_or handlers i x → rest_of_handlers i handlers ≡ operations (block_view x.block) + rest_of_handlers (i + 1) handlers
+pub rest_of_handlers-more : (i : ℕ) (handlers : List Handler) (x : Handler) → i < length handlers → x ≡ get_or handlers i x
+    → rest_of_handlers i handlers ≡ operations (block_view x.block) + rest_of_handlers (i + 1) handlers
 unfolding rest_of_handlers
 rest_of_handlers-more i handlers x lt is =
     ap (λ hs. operations_of_handlers (for_reasons (map handler_view hs) Pass)) (left handlers i x lt is)
@@ -84,10 +89,12 @@ rest_of_handlers-more i handlers x lt is =
 
 pub rest_of_handlers-end : (i : ℕ) (handlers : List Handler) → length handlers ≤ i → rest_of_handlers i handlers ≡ 0
 unfolding rest_of_handlers
-rest_of_handlers-end i handlers le = ap (λ hs. operations_of_handlers (for_reasons (map handler_view hs) Pass)) (drop_of_length-le handlers le)
+rest_of_handlers-end i handlers le = ap (λ hs. operations_of_handlers (for_reasons (map handler_view hs) Pass))
+    (drop_of_length-le handlers le)
 
 -- handlers by reason, and then others
-before_others : (by_reason : List (ℕ × meant.Block)) (others : Handlers) → operations_of_handlers (for_reasons by_reason others) ≡ operations_of_handlers (for_reasons by_reason Pass) + operations_of_handlers others
+before_others : (by_reason : List (ℕ × meant.Block)) (others : Handlers) → operations_of_handlers (for_reasons by_reason others)
+    ≡ operations_of_handlers (for_reasons by_reason Pass) + operations_of_handlers others
 before_others [] others = omega arith
 before_others (first ∷ by_reason) others = let rest = before_others by_reason others in omega (arith, rest)
 
@@ -97,7 +104,8 @@ pub operations_of-parts : (child : Subaction) → operations_of (subaction_view 
     + operations_of_handlers (for_reasons (map handler_view (out-Subaction child).handlers.items) Pass)
     + operations_of_handlers (otherwise_view (out-Subaction child).otherwise)
 operations_of-parts child =
-    let by_reason = before_others (map handler_view (out-Subaction child).handlers.items) (otherwise_view (out-Subaction child).otherwise) in
+    let by_reason = before_others (map handler_view (out-Subaction child).handlers.items)
+    (otherwise_view (out-Subaction child).otherwise) in
     let handlers = ap operations_of_handlers (subaction_view-handlers child) ∙ by_reason in
     let body = ap operations (subaction_view-body child) in
     omega (arith, handlers, body)

@@ -1,5 +1,6 @@
 -- What the steps of a block show, kind by kind.
-use Rattle.std.proofs.Common.{◌≡◌, ℕ, Bool, true, false, List, [], ◌∷◌, ◌++◌, get_or, refl, sym, ap, subst, ◌∙◌, Option, Some, Vec, Box, Global}
+use Rattle.std.proofs.Common.{◌≡◌, ℕ, Bool, true, false, List, [], ◌∷◌, ◌++◌, get_or, refl, sym, ap, subst, ◌∙◌, Option, Some, Vec, Box}
+use Rattle.std.proofs.Common.{Global}
 use Rattle.std.proofs.lemmas.List.{append-nil}
 use Rattle.objects.specs.declared.call.Call.{Call}
 use Rattle.objects.specs.declared.entry.Entry.{Entry}
@@ -30,43 +31,61 @@ module _ {V : Type 0} {g : Ground V} (on : IsGround g) where
   -- ---- operations
 
   pub op-shows : (step : Step) (object : ℕ) (call : Call) (labelled : Bool) (held seen : List Held) (before now : V) (reply : Reply)
-      → step ≡ Op object call labelled → reply_at (g.state before) object call ≡ Some reply → (let entry : Entry = record { object = object; call = call; reply = reply } in g.Took before (entry ∷ []) (entry ∷ []) now) → seen ≡ held ++ label_if labelled (Replied reply)
+      → step ≡ Op object call labelled → reply_at (g.state before) object call ≡ Some reply
+      → (let entry : Entry = record { object = object; call = call; reply = reply } in g.Took before (entry ∷ []) (entry ∷ []) now)
+      → seen ≡ held ++ label_if labelled (Replied reply)
       → ShowsStep g (one_step (step_view step) held (g.state before)) (taken.Op reply) Ended held seen before now
   op-shows step object call labelled held seen before now reply is replies took labels =
       let run = op-runs step object call labelled held (g.state before) reply is replies in
-      subst (λ r. ShowsStep g r (taken.Op reply) Ended held seen before now) run (record { tree = taken_view-Op reply; end = refl; labels = λ _. labels; took = took })
+      subst (λ r. ShowsStep g r (taken.Op reply) Ended held seen before now) run
+      (record { tree = taken_view-Op reply; end = refl; labels = λ _. labels; took = took })
 
   -- ---- ifs
 
-  branch_shows : (chosen : Bool) (run : Run _) (held seen : List Held) (before now : V) (done : Record) (branch : Box Record Global) → branch.value ≡ done → ShowsRun g run done before now → seen ≡ held
+  branch_shows : (chosen : Bool) (run : Run _) (held seen : List Held) (before now : V) (done : Record) (branch : Box Record Global)
+      → branch.value ≡ done → ShowsRun g run done before now → seen ≡ held
       → ShowsStep g (as_branch chosen run) (taken.If chosen branch) done.outcome held seen before now
   branch_shows chosen run held seen before now done branch boxes shows labels =
-      record { tree = taken_view-If chosen branch ∙ ap (λ r. ShownStep.Branched chosen (record_view r)) boxes ∙ ap (ShownStep.Branched chosen) shows.tree; end = shows.end; labels = λ _. labels ∙ sym (append-nil held); took = shows.took }
+      record {
+        tree = taken_view-If chosen branch ∙ ap (λ r. ShownStep.Branched chosen (record_view r)) boxes
+            ∙ ap (ShownStep.Branched chosen) shows.tree;
+        end = shows.end;
+        labels = λ _. labels ∙ sym (append-nil held);
+        took = shows.took;
+      }
 
-  pub if-shows_then : (step : Step) (label : ℕ) (t : Test) (then otherwise : Box Block Global) (held seen : List Held) (before now : V) (read : Held) (chosen : Bool) (done : Record) (branch : Box Record Global)
-      → step ≡ If label t then otherwise → CanStepHere (step_view step) held (g.state before) → read ≡ get_or held label read → chosen ≡ holds_of t read → chosen ≡ true
+  pub if-shows_then : (step : Step) (label : ℕ) (t : Test) (then otherwise : Box Block Global) (held seen : List Held) (before now : V)
+      (read : Held) (chosen : Bool) (done : Record) (branch : Box Record Global)
+      → step ≡ If label t then otherwise → CanStepHere (step_view step) held (g.state before) → read ≡ get_or held label read
+      → chosen ≡ holds_of t read → chosen ≡ true
       → ShowsRun g (one (block_view then.value) held (g.state before)) done before now → seen ≡ held → branch.value ≡ done
       → ShowsStep g (one_step (step_view step) held (g.state before)) (taken.If chosen branch) done.outcome held seen before now
   if-shows_then step label t then otherwise held seen before now read chosen done branch is h reads tests yes_it_is shows labels boxes =
       let state = g.state before in
       let run = if-runs step label t then otherwise held state read true is h reads (sym tests ∙ yes_it_is) in
       subst (λ r. ShowsStep g r (taken.If chosen branch) done.outcome held seen before now) run
-      (subst (λ b. ShowsStep g (as_branch true (one (block_view then.value) held state)) (taken.If b branch) done.outcome held seen before now) (sym yes_it_is) (branch_shows true _ held seen before now done branch boxes shows labels))
+      (subst (λ b. ShowsStep g (as_branch true (one (block_view then.value) held state)) (taken.If b branch) done.outcome held seen before
+      now) (sym yes_it_is) (branch_shows true _ held seen before now done branch boxes shows labels))
 
-  pub if-shows_else : (step : Step) (label : ℕ) (t : Test) (then otherwise : Box Block Global) (held seen : List Held) (before now : V) (read : Held) (chosen : Bool) (done : Record) (branch : Box Record Global)
-      → step ≡ If label t then otherwise → CanStepHere (step_view step) held (g.state before) → read ≡ get_or held label read → chosen ≡ holds_of t read → chosen ≡ false
+  pub if-shows_else : (step : Step) (label : ℕ) (t : Test) (then otherwise : Box Block Global) (held seen : List Held) (before now : V)
+      (read : Held) (chosen : Bool) (done : Record) (branch : Box Record Global)
+      → step ≡ If label t then otherwise → CanStepHere (step_view step) held (g.state before) → read ≡ get_or held label read
+      → chosen ≡ holds_of t read → chosen ≡ false
       → ShowsRun g (one (block_view otherwise.value) held (g.state before)) done before now → seen ≡ held → branch.value ≡ done
       → ShowsStep g (one_step (step_view step) held (g.state before)) (taken.If chosen branch) done.outcome held seen before now
   if-shows_else step label t then otherwise held seen before now read chosen done branch is h reads tests no_it_is shows labels boxes =
       let state = g.state before in
       let run = if-runs step label t then otherwise held state read false is h reads (sym tests ∙ no_it_is) in
       subst (λ r. ShowsStep g r (taken.If chosen branch) done.outcome held seen before now) run
-      (subst (λ b. ShowsStep g (as_branch false (one (block_view otherwise.value) held state)) (taken.If b branch) done.outcome held seen before now) (sym no_it_is) (branch_shows false _ held seen before now done branch boxes shows labels))
+      (subst (λ b. ShowsStep g (as_branch false (one (block_view otherwise.value) held state)) (taken.If b branch) done.outcome held seen
+      before now) (sym no_it_is) (branch_shows false _ held seen before now done branch boxes shows labels))
 
   -- ---- subactions
 
-  pub sub-shows : (step : Step) (child : Box Subaction Global) (held seen : List Held) (before now : V) (done : executed.Tried) (as_taken : taken.Taken)
-      → step ≡ Sub child → ShowsTried g (subaction_view child.value) (acted (subaction_view child.value) held (g.state before)) done before now
+  pub sub-shows : (step : Step) (child : Box Subaction Global) (held seen : List Held) (before now : V) (done : executed.Tried)
+      (as_taken : taken.Taken)
+      → step ≡ Sub child → ShowsTried g (subaction_view child.value) (acted (subaction_view child.value) held (g.state before)) done before
+      now
       → seen ≡ held ++ label_if (subaction_view child.value).labelled (Outcome done.body.outcome)
       → taken_view as_taken ≡ ShownStep.Acted (tried_view (done.body, done.handler))
       → ShowsStep g (one_step (step_view step) held (g.state before)) as_taken done.end held seen before now
@@ -81,15 +100,19 @@ module _ {V : Type 0} {g : Ground V} (on : IsGround g) where
 
   -- ---- aborts
 
-  pub abort-shows : (step : Step) (reason : Option ℕ) (held : List Held) (before : V) → step ≡ Abort reason → ShowsStep g (one_step (step_view step) held (g.state before)) taken.Abort (Aborted reason) held held before before
+  pub abort-shows : (step : Step) (reason : Option ℕ) (held : List Held) (before : V) → step ≡ Abort reason
+      → ShowsStep g (one_step (step_view step) held (g.state before)) taken.Abort (Aborted reason) held held before before
   abort-shows step reason held before is =
       let run = abort-runs step reason held (g.state before) is in
-      subst (λ r. ShowsStep g r taken.Abort (Aborted reason) held held before before) run (record { tree = taken_view-Abort; end = refl; labels = λ _. sym (append-nil held); took = on.none before })
+      subst (λ r. ShowsStep g r taken.Abort (Aborted reason) held held before before) run
+      (record { tree = taken_view-Abort; end = refl; labels = λ _. sym (append-nil held); took = on.none before })
 
   -- ---- parallel steps
 
-  pub parallel-shows : (step : Step) (children : Vec Subaction Global) (held seen outcomes : List Held) (before now : V) (done : Vec (Record × Option Record) Global) (how : End)
-      → step ≡ Parallel children → ShowsChildren g (one_children (children_view children.items) held (g.state before)) done.items how outcomes before now → seen ≡ held ++ outcomes
+  pub parallel-shows : (step : Step) (children : Vec Subaction Global) (held seen outcomes : List Held) (before now : V)
+      (done : Vec (Record × Option Record) Global) (how : End)
+      → step ≡ Parallel children → ShowsChildren g (one_children (children_view children.items) held (g.state before)) done.items how
+      outcomes before now → seen ≡ held ++ outcomes
       → ShowsStep g (one_step (step_view step) held (g.state before)) (taken.Parallel done) how held seen before now
   parallel-shows step children held seen outcomes before now done how is shows labels =
       let run = parallel-runs step children held (g.state before) is in

@@ -25,10 +25,12 @@ handler_view-is handler = search (rules, the_lemmas)
 pub step_view-Op : (object : ℕ) (call : Call) (labelled : Bool) → step_view (Op object call labelled) ≡ Operation object call labelled
 step_view-Op object call labelled = search (rules, the_lemmas)
 
-pub step_view-If : (label : ℕ) (test : Test) (then otherwise : Box Block Global) → step_view (if_variant label test then otherwise) ≡ If label test (block_view then.value) (block_view otherwise.value)
+pub step_view-If : (label : ℕ) (test : Test) (then otherwise : Box Block Global) → step_view (if_variant label test then otherwise)
+    ≡ If label test (block_view then.value) (block_view otherwise.value)
 step_view-If label test then otherwise = search (rules, the_lemmas)
 
-pub step_view-Sub : (child : Box Subaction Global) → step_view (Sub child) ≡ subaction_step (subaction_view child.value).body (subaction_view child.value).handlers (subaction_view child.value).labelled
+pub step_view-Sub : (child : Box Subaction Global) → step_view (Sub child) ≡ subaction_step (subaction_view child.value).body
+    (subaction_view child.value).handlers (subaction_view child.value).labelled
 step_view-Sub child = search (rules, the_lemmas)
 
 pub step_view-Abort : (reason : Option ℕ) → step_view (Abort reason) ≡ abort_step reason
@@ -43,23 +45,28 @@ record_view-is done = search (rules, taken.the_lemmas)
 pub taken_view-Op : (reply : Reply) → taken_view (taken.Op reply) ≡ Replied reply
 taken_view-Op reply = search (rules, taken.the_lemmas)
 
-pub taken_view-If : (then : Bool) (branch : Box Record Global) → taken_view (taken.If then branch) ≡ Branched then (record_view branch.value)
+pub taken_view-If : (then : Bool) (branch : Box Record Global) → taken_view (taken.If then branch) ≡ Branched then
+    (record_view branch.value)
 taken_view-If then branch = search (rules, taken.the_lemmas)
 
 pub taken_view-Abort : taken_view taken.Abort ≡ ShownStep.Abort
 taken_view-Abort = search (rules, taken.the_lemmas)
 
 -- a child, seen part by part
-tried_parts : (tried : Record × Option Record) → shown_child (taken.TheShapes.former-Taken-Parallel-0-at-3.map Record Shown record_view tried) ≡ tried_view tried
+tried_parts : (tried : Record × Option Record)
+    → shown_child (taken.TheShapes.former-Taken-Parallel-0-at-3.map Record Shown record_view tried) ≡ tried_view tried
 tried_parts (body, None) = refl
 tried_parts (body, Some handler) = refl
 
-all_tried_parts : (tried : List (Record × Option Record)) → map shown_child (map (taken.TheShapes.former-Taken-Parallel-0-at-3.map Record Shown record_view) tried) ≡ map tried_view tried
+all_tried_parts : (tried : List (Record × Option Record))
+    → map shown_child (map (taken.TheShapes.former-Taken-Parallel-0-at-3.map Record Shown record_view) tried) ≡ map tried_view tried
 all_tried_parts [] = refl
 all_tried_parts (first ∷ others) = let one = tried_parts first in let rest = all_tried_parts others in cc
 
-pub taken_view-Parallel : (children : Vec (Record × Option Record) Global) → taken_view (taken.Parallel children) ≡ InParallel (all_tried_view children.items)
-taken_view-Parallel children = simp taken.the_lemmas (ap (λ tried. InParallel (before_younger tried NoChild)) (all_tried_parts children.items))
+pub taken_view-Parallel : (children : Vec (Record × Option Record) Global) → taken_view (taken.Parallel children) ≡ InParallel
+    (all_tried_view children.items)
+taken_view-Parallel children = simp taken.the_lemmas (ap (λ tried. InParallel (before_younger tried NoChild))
+    (all_tried_parts children.items))
 
 pub subaction_view-body : (child : Subaction) → (subaction_view child).body ≡ block_view (out-Subaction child).body
 subaction_view-body child = search (rules, the_lemmas)

@@ -6,7 +6,8 @@ use Rattle.objects.specs.declared.kind.Kind.{Kind}
 use Rattle.objects.specs.declared.value.Value.{Value}
 use Rattle.objects.specs.declared.value.Value.TheVariants as value
 use Rattle.objects.specs.Entries.{State, kinds}
-use Rattle.meaning.specs.Trees.{Block, NoStep, Steps, Step, Operation, If, Subaction, Abort, Parallel, Handlers, ForReason, Otherwise, GoOn, Pass, Children, NoChild, Child}
+use Rattle.meaning.specs.Trees.{Block, NoStep, Steps, Step, Operation, If, Subaction, Abort, Parallel, Handlers, ForReason, Otherwise, GoOn}
+use Rattle.meaning.specs.Trees.{Pass, Children, NoChild, Child}
 use Rattle.meaning.specs.WellFormed.{IsWellFormed, largest}
 use Rattle.meaning.specs.Running.{all_operations}
 use Rattle.batch.specs.Names.{AreNames, Texts}

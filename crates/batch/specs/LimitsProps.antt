@@ -18,4 +18,10 @@ AllShallow-prop [] = hlevel props
 AllShallow-prop (block ∷ blocks) = hlevel (props, AllShallow-prop blocks)
 
 pub IsBatch-prop : (start : State) (texts : Texts) (transactions : List Block) → IsProp (IsBatch start texts transactions)
-IsBatch-prop start texts transactions = hlevel (props, AllWellFormed-prop transactions (kinds start), AllShallow-prop transactions, AllNamedValues-prop texts start, AllNamed-prop texts transactions)
+IsBatch-prop start texts transactions = hlevel (
+  props,
+  AllWellFormed-prop transactions (kinds start),
+  AllShallow-prop transactions,
+  AllNamedValues-prop texts start,
+  AllNamed-prop texts transactions,
+)

@@ -10,9 +10,11 @@ use Rattle.objects.specs.declared.value.Value.{Value}
 use Rattle.objects.specs.declared.value.Value.TheVariants as value
 use Rattle.meaning.specs.declared.test.Test.{Test}
 use Rattle.meaning.specs.declared.test.Test.TheVariants.{Is, AtLeast, IsItem}
-use Rattle.meaning.specs.Trees.{Block, NoStep, Steps, Step, Operation, If, Subaction, Abort, Parallel, Handlers, ForReason, Otherwise, GoOn, Pass, Children, NoChild, Child}
+use Rattle.meaning.specs.Trees.{Block, NoStep, Steps, Step, Operation, If, Subaction, Abort, Parallel, Handlers, ForReason, Otherwise, GoOn}
+use Rattle.meaning.specs.Trees.{Pass, Children, NoChild, Child}
 use Rattle.batch.specs.Names.{Texts}
-use Rattle.batch.specs.Named.{IsNamedCall, IsNamedTest, IsNamed, IsNamedStep, AreNamedHandlers, AreNamed, AllNamed, IsNamedValue, AllNamedValues}
+use Rattle.batch.specs.Named.{IsNamedCall, IsNamedTest, IsNamed, IsNamedStep, AreNamedHandlers, AreNamed, AllNamed, IsNamedValue}
+use Rattle.batch.specs.Named.{AllNamedValues}
 
 IsNamedCall-prop : (texts : Texts) (c : Call) → IsProp (IsNamedCall texts c)
 IsNamedCall-prop texts (call.Account c) = hlevel props
@@ -42,20 +44,27 @@ mutual
 
   IsNamedStep-prop : (texts : Texts) (step : Step) → IsProp (IsNamedStep texts step)
   IsNamedStep-prop texts (Operation object call labelled) = IsNamedCall-prop texts call
-  IsNamedStep-prop texts (If label test then else) = hlevel (props, IsNamedTest-prop texts test, IsNamed-prop texts then, IsNamed-prop texts else)
+  IsNamedStep-prop texts (If label test then else) = hlevel (
+    props,
+    IsNamedTest-prop texts test,
+    IsNamed-prop texts then,
+    IsNamed-prop texts else,
+  )
   IsNamedStep-prop texts (Subaction body handlers labelled) = hlevel (props, IsNamed-prop texts body, AreNamedHandlers-prop texts handlers)
   IsNamedStep-prop texts (Abort reason) = hlevel props
   IsNamedStep-prop texts (Parallel children) = AreNamed-prop texts children
 
   AreNamedHandlers-prop : (texts : Texts) (handlers : Handlers) → IsProp (AreNamedHandlers texts handlers)
-  AreNamedHandlers-prop texts (ForReason reason handler others) = hlevel (props, IsNamed-prop texts handler, AreNamedHandlers-prop texts others)
+  AreNamedHandlers-prop texts (ForReason reason handler others) =
+      hlevel (props, IsNamed-prop texts handler, AreNamedHandlers-prop texts others)
   AreNamedHandlers-prop texts (Otherwise handler) = IsNamed-prop texts handler
   AreNamedHandlers-prop texts GoOn = hlevel props
   AreNamedHandlers-prop texts Pass = hlevel props
 
   AreNamed-prop : (texts : Texts) (children : Children) → IsProp (AreNamed texts children)
   AreNamed-prop texts NoChild = hlevel props
-  AreNamed-prop texts (Child body handlers labelled younger) = hlevel (props, IsNamed-prop texts body, AreNamedHandlers-prop texts handlers, AreNamed-prop texts younger)
+  AreNamed-prop texts (Child body handlers labelled younger) =
+      hlevel (props, IsNamed-prop texts body, AreNamedHandlers-prop texts handlers, AreNamed-prop texts younger)
 
 pub AllNamed-prop : (texts : Texts) (blocks : List Block) → IsProp (AllNamed texts blocks)
 AllNamed-prop texts [] = hlevel props

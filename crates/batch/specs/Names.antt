@@ -1,5 +1,6 @@
 -- Names, and the texts of a batch's numbers: of each object, item and reason by its number.
-use Rattle.std.specs.Prelude.{ℕ, ◌&&◌, ◌||◌, ◌==◌, Bool, IsTrue, List, [], length, map, nat_lt, nat_le, slice_index_or, string_bytes, String}
+use Rattle.std.specs.Prelude.{ℕ, ◌&&◌, ◌||◌, ◌==◌, Bool, IsTrue, List, [], length, map, nat_lt, nat_le, slice_index_or, string_bytes}
+use Rattle.std.specs.Prelude.{String}
 use Rattle.std.specs.List.{list_all}
 use Rattle.std.specs.declared.alloc.Global.{Global}
 use Rattle.meaning.specs.Words.{Names}

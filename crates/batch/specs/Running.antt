@@ -6,7 +6,8 @@ use Rattle.meaning.specs.Trees.{Block, Step, Handlers, Children}
 use Rattle.meaning.specs.Records.{TakenChild, TakenHandler, NoHandler, Handled}
 use Rattle.meaning.specs.Shown.{Shown, shown}
 use Rattle.meaning.specs.OneThread.{Run, act, one, one_handler}
-use Rattle.meaning.specs.WellFormed.{Label, IsWellFormed, IsWellFormedStep, AreWellFormedHandlers, AreWellFormed, operations, operations_of_step, operations_of_handlers, operations_of_children, HasRoom}
+use Rattle.meaning.specs.WellFormed.{Label, IsWellFormed, IsWellFormedStep, AreWellFormedHandlers, AreWellFormed, operations}
+use Rattle.meaning.specs.WellFormed.{operations_of_step, operations_of_handlers, operations_of_children, HasRoom}
 use Rattle.meaning.specs.Running.{AreHeldBy}
 use Rattle.batch.specs.Views.{Tried}
 

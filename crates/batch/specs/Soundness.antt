@@ -3,7 +3,8 @@ use Rattle.std.specs.Prelude.{◌≡◌, ◌<◌, ℕ, List, [], ◌++◌, lengt
 use Rattle.meaning.specs.declared.end.End.TheVariants.{Ended}
 use Rattle.meaning.specs.declared.held.Held.{Held}
 use Rattle.objects.specs.Entries.{State}
-use Rattle.meaning.specs.Trees.{Block, NoStep, Steps, Step, Operation, If, Subaction, Abort, Parallel, Handlers, ForReason, Otherwise, GoOn, Pass, Children, NoChild, Child}
+use Rattle.meaning.specs.Trees.{Block, NoStep, Steps, Step, Operation, If, Subaction, Abort, Parallel, Handlers, ForReason, Otherwise, GoOn}
+use Rattle.meaning.specs.Trees.{Pass, Children, NoChild, Child}
 use Rattle.meaning.specs.OneThread.{outcome_of, labels_of, state_of, act, one, one_step, one_handler}
 use Rattle.meaning.specs.Batch.{block_at, state_at}
 use Rattle.meaning.specs.Running.{CanPerform, IsBound}
@@ -17,7 +18,8 @@ abbrev mutual
   IsSound NoStep held state = ⊤
   IsSound (Steps step rest) held state =
       IsSoundStep step held state
-      × (outcome_of (one_step step held state) ≡ Ended → IsSound rest (held ++ labels_of (one_step step held state)) (state_of (one_step step held state)))
+      × (outcome_of (one_step step held state) ≡ Ended → IsSound rest (held ++ labels_of (one_step step held state))
+      (state_of (one_step step held state)))
 
   pub IsSoundStep : Step → List Held → State → Type 0
   IsSoundStep (Operation object call labelled) held state = CanPerform state object call

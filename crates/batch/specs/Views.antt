@@ -56,19 +56,24 @@ subaction_layer child = record {
 
 -- the tree of a block, of a step, and of a subaction
 abbrev pub block_view : Block → meant.Block
-block_view = fold-Block Handlers meant.Step meant.Block (ℕ × meant.Block) Tried otherwise_layer step_layer block_layer handler_layer subaction_layer
+block_view = fold-Block Handlers meant.Step meant.Block (ℕ × meant.Block) Tried otherwise_layer step_layer block_layer handler_layer
+    subaction_layer
 
 abbrev pub step_view : Step → meant.Step
-step_view = fold-Step Handlers meant.Step meant.Block (ℕ × meant.Block) Tried otherwise_layer step_layer block_layer handler_layer subaction_layer
+step_view = fold-Step Handlers meant.Step meant.Block (ℕ × meant.Block) Tried otherwise_layer step_layer block_layer handler_layer
+    subaction_layer
 
 abbrev pub handler_view : Handler → ℕ × meant.Block
-handler_view = fold-Handler Handlers meant.Step meant.Block (ℕ × meant.Block) Tried otherwise_layer step_layer block_layer handler_layer subaction_layer
+handler_view = fold-Handler Handlers meant.Step meant.Block (ℕ × meant.Block) Tried otherwise_layer step_layer block_layer handler_layer
+    subaction_layer
 
 abbrev pub otherwise_view : declared_otherwise.Otherwise → Handlers
-otherwise_view = fold-Otherwise Handlers meant.Step meant.Block (ℕ × meant.Block) Tried otherwise_layer step_layer block_layer handler_layer subaction_layer
+otherwise_view = fold-Otherwise Handlers meant.Step meant.Block (ℕ × meant.Block) Tried otherwise_layer step_layer block_layer
+    handler_layer subaction_layer
 
 abbrev pub subaction_view : Subaction → Tried
-subaction_view = fold-Subaction Handlers meant.Step meant.Block (ℕ × meant.Block) Tried otherwise_layer step_layer block_layer handler_layer subaction_layer
+subaction_view = fold-Subaction Handlers meant.Step meant.Block (ℕ × meant.Block) Tried otherwise_layer step_layer block_layer
+    handler_layer subaction_layer
 
 abbrev pub steps_view : List Step → meant.Block
 steps_view steps = steps_of (map step_view steps)

@@ -16,5 +16,13 @@ past-le [] k below = omega arith
 past-le (x ∷ xs) k below = omega (arith, below 0 0 (omega arith), past-le xs k (λ i d lt. below (suc i) d (omega arith)))
 
 -- a piece above those that the seat has leaves it a claim less, at least
-pub claims_left_falls : (pieces k : ℕ) (v w : View) → k < pieces → All (λ j. j < k) v.drawn → w ≡ with_piece v k → claims_left pieces w < claims_left pieces v
-claims_left_falls pieces k v w left below is = omega (arith, left, past-le v.drawn k below, ap (λ u. past u.drawn) is, past-push v.drawn k, ap {B = ℕ} (λ u. cond (is_over u) 0 1) is)
+pub claims_left_falls : (pieces k : ℕ) (v w : View) → k < pieces → All (λ j. j < k) v.drawn → w ≡ with_piece v k
+    → claims_left pieces w < claims_left pieces v
+claims_left_falls pieces k v w left below is = omega (
+  arith,
+  left,
+  past-le v.drawn k below,
+  ap (λ u. past u.drawn) is,
+  past-push v.drawn k,
+  ap {B = ℕ} (λ u. cond (is_over u) 0 1) is,
+)

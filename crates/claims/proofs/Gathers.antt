@@ -1,5 +1,6 @@
 -- Seats that are joined, one after the other, and what is known once all are.
-use Rattle.std.proofs.Common.{◌≡◌, ◌≢◌, ℕ, zero, suc, ◌<◌, ◌≤◌, min, true, ◌||◌, List, [], ◌∷◌, ◌++◌, length, get_or, set, sym, refl, ap, ◌∙◌, subst, ⊎_elim, arith}
+use Rattle.std.proofs.Common.{◌≡◌, ◌≢◌, ℕ, zero, suc, ◌<◌, ◌≤◌, min, true, ◌||◌, List, [], ◌∷◌, ◌++◌, length, get_or, set, sym, refl, ap}
+use Rattle.std.proofs.Common.{◌∙◌, subst, ⊎_elim, arith}
 use Rattle.std.proofs.Math.Bool.{or-false}
 use Rattle.std.proofs.lemmas.Bool.{or_left, or_right}
 use Rattle.std.proofs.lemmas.List.{append-nil}
@@ -37,24 +38,28 @@ alone pieces v share = record {
 }
 
 -- one seat more
-pub with_one : (pieces : ℕ) (views : List View) (v w : View) → v.shares ≡ 1 → Together pieces views w → Together pieces (v ∷ views) (joined v w)
+pub with_one : (pieces : ℕ) (views : List View) (v w : View) → v.shares ≡ 1 → Together pieces views w
+    → Together pieces (v ∷ views) (joined v w)
 with_one pieces views v w share t = record {
   shares = omega (arith, t.shares, share);
   drawn = ap (λ l. v.drawn ++ l) t.drawn;
   raised = ap (λ b. v.raised || b) t.raised;
   low = omega (arith, t.low);
   each = All-cons (Covers (joined v w)) v views (omega arith, or_left v.stopped w.stopped, omega arith)
-      (all_map (Covers w) (Covers (joined v w)) views (λ u h. (omega (arith, h.0), (λ s. or_right v.stopped w.stopped (h.1 s)), omega (arith, h.2))) t.each);
+      (all_map (Covers w) (Covers (joined v w)) views
+      (λ u h. (omega (arith, h.0), (λ s. or_right v.stopped w.stopped (h.1 s)), omega (arith, h.2))) t.each);
 }
 
 -- seats that are taken off the end of a list, one after the other
-pub popped_views : (seats : List Seated) (seat : Seated) (tail : List View) → views_of (seats ++ seat ∷ []) ++ tail ≡ views_of seats ++ seat.view ∷ tail
+pub popped_views : (seats : List Seated) (seat : Seated) (tail : List View) → views_of (seats ++ seat ∷ []) ++ tail ≡ views_of seats
+    ++ seat.view ∷ tail
 popped_views [] seat tail = refl
 popped_views (s ∷ seats) seat tail = ap (λ l. s.view ∷ l) (popped_views seats seat tail)
 
 pub popped_all : (P : Seated → Type 0) (seats : List Seated) (seat : Seated) → All P (seats ++ seat ∷ []) → All P seats × P seat
 popped_all P [] seat h = ((λ k d lt. absurd (omega arith)), h 0 seat (omega arith))
-popped_all P (s ∷ seats) seat h = let r = popped_all P seats seat (λ k d lt. h (suc k) d (omega arith)) in (All-cons P s seats (h 0 s (omega arith)) r.0, r.1)
+popped_all P (s ∷ seats) seat h = let r = popped_all P seats seat (λ k d lt. h (suc k) d (omega arith)) in
+    (All-cons P s seats (h 0 s (omega arith)) r.0, r.1)
 
 -- a fact of each view is one of each seat
 pub all_views : (P : View → Type 0) (seats : List Seated) → All P (views_of seats) → All (λ s. P s.view) seats
@@ -68,7 +73,8 @@ length_views [] = refl
 length_views (s ∷ seats) = ap suc (length_views seats)
 
 -- a view that has taken in those of all seats is the only one that is not spent
-module _ (size : Size) (words : List ℕ) (views : List View) (rule : Kept size words views) (id : ℕ) (v : View) (at : get_elem? views id ≡ some v) (joined : List View) (t : Together size.pieces joined v)
+module _ (size : Size) (words : List ℕ) (views : List View) (rule : Kept size words views) (id : ℕ) (v : View)
+    (at : get_elem? views id ≡ some v) (joined : List View) (t : Together size.pieces joined v)
     (all : length joined ≡ size.seats) where
   k : Counted size words views
   k = counted size words views rule
@@ -76,20 +82,37 @@ module _ (size : Size) (words : List ℕ) (views : List View) (rule : Kept size 
   -- each other view is spent
   idle : (i : ℕ) (u : View) → get_elem? (set views id spent) i ≡ some u → u ≡ spent
   idle i u there =
-      let none : total (λ w. w.shares) (set views id spent) ≡ 0 = omega (arith, total_set (λ w. w.shares) views id v spent at, k.shares, t.shares, all) in
+      let none : total (λ w. w.shares) (set views id spent) ≡ 0 = omega (
+        arith,
+        total_set (λ w. w.shares) views id v spent at,
+        k.shares,
+        t.shares,
+        all,
+      ) in
       ⊎_elim (λ (e : (i ≡ id) × (spent ≡ u)). sym e.1)
-      (λ (e : (i ≢ id) × (get_elem? views i ≡ some u)). (k.each i u e.1).idle (omega (arith, total_ge (λ w. w.shares) (set views id spent) i u there, none)))
+      (λ (e : (i ≢ id) × (get_elem? views i ≡ some u)). (k.each i u e.1).idle
+      (omega (arith, total_ge (λ w. w.shares) (set views id spent) i u there, none)))
       (at_set views id i spent u there)
 
   -- so a total, the greatest and the least are those of this view alone
   total_alone : (f : View → ℕ) → f spent ≡ 0 → total f views ≡ f v
-  total_alone f e = omega (arith, total_set f views id v spent at, total_idle f (set views id spent) (λ i u there. ap f (idle i u there) ∙ e))
+  total_alone f e = omega (
+    arith,
+    total_set f views id v spent at,
+    total_idle f (set views id spent) (λ i u there. ap f (idle i u there)
+        ∙ e),
+  )
 
   most_alone : (f : View → ℕ) → f spent ≡ 0 → most f views ≡ f v
   most_alone f e = omega (arith, most_at f views id v spent at e, most_idle f (set views id spent) (λ i u there. ap f (idle i u there) ∙ e))
 
   least_alone : (f : View → ℕ) (n : ℕ) → n ≤ f spent → least f n views ≡ min (f v) n
-  least_alone f n e = omega (arith, least_at f n views id v spent at e, least_idle f n (set views id spent) (λ i u there. let same = ap f (idle i u there) in omega arith))
+  least_alone f n e = omega (
+    arith,
+    least_at f n views id v spent at e,
+    least_idle f n (set views id spent)
+        (λ i u there. let same = ap f (idle i u there) in omega arith),
+  )
 
   -- the three words, by their places
   next_is : get_or words 0 0 ≡ k.next
@@ -103,7 +126,8 @@ module _ (size : Size) (words : List ℕ) (views : List View) (rule : Kept size 
 
   -- what the words say of all seats, clause by clause of `gather`
   pub gathers_once : HoldsEachBelow (min (get_or words 0 0) size.pieces) (all_drawn joined)
-  gathers_once x = ap (times x) (sym t.drawn) ∙ sym (total_alone (λ u. times x u.drawn) refl) ∙ k.once x ∙ ap (λ n. once_below x (min n size.pieces)) (sym next_is)
+  gathers_once x = ap (times x) (sym t.drawn) ∙ sym (total_alone (λ u. times x u.drawn) refl) ∙ k.once x
+      ∙ ap (λ n. once_below x (min n size.pieces)) (sym next_is)
 
   pub gathers_done : All (λ u. 0 < u.done → min (get_or words 0 0) size.pieces ≡ size.pieces) joined
   gathers_done = all_map (Covers v) (λ u. 0 < u.done → min (get_or words 0 0) size.pieces ≡ size.pieces) joined
@@ -113,13 +137,15 @@ module _ (size : Size) (words : List ℕ) (views : List View) (rule : Kept size 
   gathers_raised = stop_is ∙ k.raised ∙ most_alone (λ u. bit u.raised) refl ∙ ap bit t.raised
 
   pub gathers_stopped : All (λ u. u.stopped ≡ true → get_or words 1 0 ≡ 1) joined
-  gathers_stopped = all_map (Covers v) (λ u. u.stopped ≡ true → get_or words 1 0 ≡ 1) joined (λ u h was. stop_is ∙ (k.each id v at).stopped (h.1 was)) t.each
+  gathers_stopped = all_map (Covers v) (λ u. u.stopped ≡ true → get_or words 1 0 ≡ 1) joined (λ u h was. stop_is
+      ∙ (k.each id v at).stopped (h.1 was)) t.each
 
   pub gathers_first : get_or words 2 0 ≡ least (λ u. u.low) size.pieces joined
   gathers_first = omega (arith, first_is, k.lowest, least_alone (λ u. u.low) size.pieces k.small.0, t.low)
 
   pub gathers_told : All (λ u. get_or words 2 0 ≤ u.told) joined
-  gathers_told = all_map (Covers v) (λ u. get_or words 2 0 ≤ u.told) joined (λ u h. omega (arith, first_is, (k.each id v at).told, h.2)) t.each
+  gathers_told = all_map (Covers v) (λ u. get_or words 2 0 ≤ u.told) joined (λ u h. omega (arith, first_is, (k.each id v at).told, h.2))
+      t.each
 
 module _ (seats rest : List Seated) (seat : Seated) (popped : seats ≡ rest ++ seat ∷ []) where
   -- what a pop leaves

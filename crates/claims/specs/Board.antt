@@ -7,7 +7,8 @@ use Rattle.claims.specs.declared.claim.Claim.TheVariants.{Piece, Done, Stopped}
 use Rattle.claims.specs.Views.{all_drawn, least}
 use Rattle.claims.specs.Steps.{with_piece, told_done, told_stopped}
 
--- what the answer to a claim says of the seat before and after: a piece is there, is above each that the seat had, and joins its list. Nothing else changes
+-- what the answer to a claim says of the seat before and after: a piece is there, is above each that the seat had, and
+-- joins its list. Nothing else changes
 abbrev pub Answers : ℕ → View → Claim → View → Type 0
 Answers pieces v (Piece k) w = (k < pieces) × All (λ j. j < k) v.drawn × (w ≡ with_piece v k)
 Answers pieces v Done w = w ≡ told_done v

@@ -12,9 +12,19 @@ most_seats = 64
 
 -- the view of a seat with so many shares that has taken no step, on a board of so many pieces
 abbrev pub fresh : ℕ → ℕ → View
-fresh shares pieces = record { shares = shares; pieces = pieces; drawn = []; done = 0; stopped = false; raised = false; low = pieces; told = pieces }
+fresh shares pieces = record {
+  shares = shares;
+  pieces = pieces;
+  drawn = [];
+  done = 0;
+  stopped = false;
+  raised = false;
+  low = pieces;
+  told = pieces;
+}
 
--- the view that a join leaves behind. It has drawn nothing and done nothing, and its low and told are below no number of pieces, so it counts in nothing
+-- the view that a join leaves behind. It has drawn nothing and done nothing, and its low and told are below no number
+-- of pieces, so it counts in nothing
 abbrev pub spent : View
 spent = record { shares = 0; pieces = 0; drawn = []; done = 0; stopped = false; raised = false; low = most_pieces; told = most_pieces }
 

@@ -29,7 +29,8 @@ use Rattle.objects.specs.declared.call.Reply.TheVariants as reply
 use Rattle.objects.specs.declared.entry.Entry.{Entry}
 use Rattle.objects.proofs.CommuteLemmas.{entries_exact}
 use Rattle.committed.specs.declared.classes.Class.{Class}
-use Rattle.committed.specs.Classes.{account_class, counter_class, set_class, queue_class, key_class, max_class, class_of, always_commute, is_by_item}
+use Rattle.committed.specs.Classes.{account_class, counter_class, set_class, queue_class, key_class, max_class, class_of, always_commute}
+use Rattle.committed.specs.Classes.{is_by_item}
 use Rattle.committed.specs.Items.{set_item, taken_item, item_of, has_item, is_compared}
 use Rattle.objects.specs.Entries.{CommuteForward}
 
@@ -107,14 +108,18 @@ at_keys : (b c : Bool) → c ≡ true → (if b then c else true) ≡ true
 at_keys true c h = h
 at_keys false c h = refl
 
-operations : (c : Call) (r : Reply) (d : Call) (s : Reply) → always_commute (class_of c r) (class_of d s) ≡ true → operations_commute c r d s ≡ true
-operations (call.Account c) (reply.Account r) (call.Account d) (reply.Account s) h = account_table (account_effect (c, r)) (account_effect (d, s)) h
-operations (call.Counter c) (reply.Counter r) (call.Counter d) (reply.Counter s) h = counter_table (counter_effect (c, r)) (counter_effect (d, s)) h
+operations : (c : Call) (r : Reply) (d : Call) (s : Reply) → always_commute (class_of c r) (class_of d s) ≡ true
+    → operations_commute c r d s ≡ true
+operations (call.Account c) (reply.Account r) (call.Account d) (reply.Account s) h = account_table (account_effect (c, r))
+    (account_effect (d, s)) h
+operations (call.Counter c) (reply.Counter r) (call.Counter d) (reply.Counter s) h = counter_table (counter_effect (c, r))
+    (counter_effect (d, s)) h
 operations (call.Set c) (reply.Set r) (call.Set d) (reply.Set s) h = set_table (set_effect (c, r)) (set_effect (d, s)) h
 operations (call.Queue c) (reply.Queue r) (call.Queue d) (reply.Queue s) h = queue_table (queue_effect (c, r)) (queue_effect (d, s)) h
 operations (call.Max c) (reply.Max r) (call.Max d) (reply.Max s) h = max_table (max_effect (c, r)) (max_effect (d, s)) h
 operations (call.Directory c) (reply.Directory r) (call.Directory d) (reply.Directory s) h =
-    at_keys (nat_eq (key_of c).0 (key_of d).0) (key_effects_commute (key_effect (c, r)) (key_effect (d, s))) (key_table (key_effect (c, r)) (key_effect (d, s)) h)
+    at_keys (nat_eq (key_of c).0 (key_of d).0) (key_effects_commute (key_effect (c, r)) (key_effect (d, s)))
+    (key_table (key_effect (c, r)) (key_effect (d, s)) h)
 operations c r d s h = refl
 
 -- entries whose operations the table lets commute where they are on one object
@@ -135,7 +140,8 @@ always_commutes p q h = by_table p q (λ _. operations p.call p.reply q.call q.r
 differ : (a b x y : Item) → a ≡ x → b ≡ y → nat_eq x.0 y.0 ≡ false → not (nat_eq a.0 b.0) ≡ true
 differ a b x y e f h = ap not (ap (λ z. nat_eq z.0 b.0) e ∙ ap (λ z. nat_eq x.0 z.0) f ∙ h)
 
-set_apart : (e f : SetEffect) (x y : Item) → set_item e ≡ Some x → set_item f ≡ Some y → nat_eq x.0 y.0 ≡ false → set_effects_commute e f ≡ true
+set_apart : (e f : SetEffect) (x y : Item) → set_item e ≡ Some x → set_item f ≡ Some y → nat_eq x.0 y.0 ≡ false
+    → set_effects_commute e f ≡ true
 set_apart (set.WasAdded a) (set.WasAdded b) x y of_e of_f h = differ a b x y (cc) (cc) h
 set_apart (set.WasAdded a) (set.WasOutside b) x y of_e of_f h = differ a b x y (cc) (cc) h
 set_apart (set.WasOutside a) (set.WasAdded b) x y of_e of_f h = differ a b x y (cc) (cc) h
@@ -146,7 +152,8 @@ set_apart (set.WasCounted n) f x y of_e of_f h = absurd cc
 set_apart e (set.WasCounted n) x y of_e of_f h = absurd cc
 set_apart e f x y of_e of_f h = refl
 
-queue_apart : (e f : QueueEffect) (x y : Item) → taken_item e ≡ Some x → taken_item f ≡ Some y → nat_eq x.0 y.0 ≡ false → queue_effects_commute e f ≡ true
+queue_apart : (e f : QueueEffect) (x y : Item) → taken_item e ≡ Some x → taken_item f ≡ Some y → nat_eq x.0 y.0 ≡ false
+    → queue_effects_commute e f ≡ true
 queue_apart (queue.Dequeued a) (queue.Dequeued b) x y of_e of_f h = differ a b x y (cc) (cc) h
 queue_apart e f x y of_e of_f h = absurd cc
 
@@ -156,8 +163,10 @@ keys_apart false c h = refl
 
 apart : (c : Call) (r : Reply) (d : Call) (s : Reply) (x y : Item) → item_of c r ≡ Some x → item_of d s ≡ Some y → nat_eq x.0 y.0 ≡ false
     → operations_commute c r d s ≡ true
-apart (call.Set c) (reply.Set r) (call.Set d) (reply.Set s) x y of_c of_d h = set_apart (set_effect (c, r)) (set_effect (d, s)) x y of_c of_d h
-apart (call.Queue c) (reply.Queue r) (call.Queue d) (reply.Queue s) x y of_c of_d h = queue_apart (queue_effect (c, r)) (queue_effect (d, s)) x y of_c of_d h
+apart (call.Set c) (reply.Set r) (call.Set d) (reply.Set s) x y of_c of_d h = set_apart (set_effect (c, r))
+    (set_effect (d, s)) x y of_c of_d h
+apart (call.Queue c) (reply.Queue r) (call.Queue d) (reply.Queue s) x y of_c of_d h = queue_apart (queue_effect (c, r))
+    (queue_effect (d, s)) x y of_c of_d h
 apart (call.Directory c) (reply.Directory r) (call.Directory d) (reply.Directory s) x y of_c of_d h =
     let key_c : key_of c ≡ x = cc in
     let key_d : key_of d ≡ y = cc in
@@ -188,10 +197,12 @@ queue_itemless queue.Impossible queue.Impossible of_f h = refl
 queue_itemless e f of_f h = absurd cc
 
 -- of a class whose entries stand by item, an entry without one
-no_item : (c : Call) (r : Reply) (d : Call) (s : Reply) (x : Item) → item_of c r ≡ Some x → item_of d s ≡ None → is_by_item (class_of d s) ≡ true
+no_item : (c : Call) (r : Reply) (d : Call) (s : Reply) (x : Item) → item_of c r ≡ Some x → item_of d s ≡ None
+    → is_by_item (class_of d s) ≡ true
     → operations_commute c r d s ≡ true
 no_item (call.Set c) (reply.Set r) (call.Set d) (reply.Set s) x of_c of_d h = set_itemless (set_effect (c, r)) (set_effect (d, s)) of_d h
-no_item (call.Queue c) (reply.Queue r) (call.Queue d) (reply.Queue s) x of_c of_d h = queue_itemless (queue_effect (c, r)) (queue_effect (d, s)) of_d h
+no_item (call.Queue c) (reply.Queue r) (call.Queue d) (reply.Queue s) x of_c of_d h = queue_itemless (queue_effect (c, r))
+    (queue_effect (d, s)) of_d h
 no_item (call.Directory c) (reply.Directory r) (call.Directory d) (reply.Directory s) x of_c of_d h = absurd cc
 no_item (call.Account c) (reply.Account r) (call.Account d) (reply.Account s) x of_c of_d h = absurd cc
 no_item (call.Counter c) (reply.Counter r) (call.Counter d) (reply.Counter s) x of_c of_d h = absurd cc
@@ -199,7 +210,8 @@ no_item (call.Max c) (reply.Max r) (call.Max d) (reply.Max s) x of_c of_d h = ab
 no_item c r d s x of_c of_d h = refl
 
 -- two entries where the second is of a class that stands by item, and hasn't the first one's item
-other_item : (c : Call) (r : Reply) (d : Call) (s : Reply) (b : Bool) (i j : Option Item) → is_by_item (class_of d s) ≡ b → item_of c r ≡ i → item_of d s ≡ j
+other_item : (c : Call) (r : Reply) (d : Call) (s : Reply) (b : Bool) (i j : Option Item) → is_by_item (class_of d s) ≡ b → item_of c r ≡ i
+    → item_of d s ≡ j
     → has_item (if b then i else None) j ≡ false → operations_commute c r d s ≡ true
 other_item c r d s true (Some x) (Some y) by_item of_c of_d h = apart c r d s x y of_c of_d h
 other_item c r d s true (Some x) None by_item of_c of_d h = no_item c r d s x of_c of_d by_item
@@ -208,7 +220,8 @@ other_item c r d s false i j by_item of_c of_d h = cc
 
 -- an entry that isn't compared with another commutes with it
 pub elsewhere : (p q : Entry) → is_compared p q ≡ false → CommuteForward p q
-elsewhere p q h = by_table p q (λ same. other_item p.call p.reply q.call q.reply (is_by_item class) (item_of p.call p.reply) (item_of q.call q.reply)
+elsewhere p q h = by_table p q (λ same. other_item p.call p.reply q.call q.reply (is_by_item class) (item_of p.call p.reply)
+    (item_of q.call q.reply)
     refl refl refl (sym (one_object (nat_eq q.object p.object) (has_item wanted (item_of q.call q.reply))
     (eq-eqb q.object p.object (sym (eqb-true p.object q.object same)))) ∙ h))
   where

@@ -1,12 +1,14 @@
 -- Chains of links, and what is found along them.
-use Rattle.std.proofs.Common.{◌≡◌, ◌≢◌, ℕ, Vec, Global, ◌+◌, ◌-◌, ◌*◌, ◌<◌, ◌≤◌, arith, List, [], ◌∷◌, ◌++◌, length, get_or, set, refl, sym, ap, ◌∙◌, subst, inl, inr}
+use Rattle.std.proofs.Common.{◌≡◌, ◌≢◌, ℕ, Vec, Global, ◌+◌, ◌-◌, ◌*◌, ◌<◌, ◌≤◌, arith, List, [], ◌∷◌, ◌++◌, length, get_or, set, refl, sym}
+use Rattle.std.proofs.Common.{ap, ◌∙◌, subst, inl, inr}
 use Rattle.std.proofs.lemmas.Bool.{cases_eq, cases_lt}
 use Rattle.std.proofs.lemmas.List.{length-append, length-set, get_or-set_same, get_or-set_other, get_or_append_left, get_or-append_right}
 use Rattle.objects.specs.declared.entry.Entry.{Entry}
 use Rattle.objects.specs.Entries.{CommuteForward}
 use Rattle.committed.specs.declared.index.Index.{Index}
 use Rattle.committed.specs.declared.index.Link.{Link}
-use Rattle.committed.specs.Index.{slot_of, slot_in, no_link, link_at, key_at, place_at, IsEnd, IsLink, IsSpan, AreChained, AreSpanned, IsListed, IsIndexOf}
+use Rattle.committed.specs.Index.{slot_of, slot_in, no_link, link_at, key_at, place_at, IsEnd, IsLink, IsSpan, AreChained, AreSpanned}
+use Rattle.committed.specs.Index.{IsListed, IsIndexOf}
 use Rattle.committed.specs.Strictness.{IsAsStrict}
 
 -- ---- one more link
@@ -141,7 +143,8 @@ span_joined es slot links last x some within same after was span_is place strict
   place = place;
   strictest = strictest;
   own = own;
-  others = λ m from l one d e commutes. (let found : CommuteForward e (get_or es (link_at links (last - 1)).strictest d) = stricter d e commutes in
+  others = λ m from l one d e commutes. (let found : CommuteForward e (get_or es (link_at links (last - 1)).strictest d) =
+      stricter d e commutes in
       elim (cases_lt m (last - 1)) [
         | inl before ↦ was.others m (subst (λ n. n ≤ m) span_is from) before (one ∙ sym same) d e found
         | inr late ↦ (elim (cases_lt m last) [

@@ -1,7 +1,8 @@
 -- What lists are of.
 use Rattle.std.proofs.Common.{◌≡◌, ◌<◌, ◌∙◌, arith, get_or, Result, Ok, Err, OnErr, refl, sym, ap}
 use Rattle.committed.specs.declared.classes.Class.{Class}
-use Rattle.committed.specs.declared.classes.Class.TheVariants.{Deposit, Withdrawal, Refusal, Balance, Count, Raise, Change, Put, Enqueue, Dequeue, Size, Look, Taken}
+use Rattle.committed.specs.declared.classes.Class.TheVariants.{Deposit, Withdrawal, Refusal, Balance, Count, Raise, Change, Put, Enqueue}
+use Rattle.committed.specs.declared.classes.Class.TheVariants.{Dequeue, Size, Look, Taken}
 use Rattle.committed.specs.Classes.{number_of, classes}
 
 -- a class stands at its number among all

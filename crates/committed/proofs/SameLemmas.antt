@@ -169,5 +169,6 @@ same_entry p q h =
     let object : p.object ≡ q.object = eqb-true p.object q.object parts.0 in
     let call : p.call ≡ q.call = same_call p.call q.call rest.0 in
     let reply : p.reply ≡ q.reply = same_reply p.reply q.reply rest.1 in
-    ap (λ (o : ℕ). let made : Entry = record { object = o; call = p.call; reply = p.reply } in made) object ∙ ap (λ (c : Call). let made : Entry = record { object = q.object; call = c; reply = p.reply } in made) call
+    ap (λ (o : ℕ). let made : Entry = record { object = o; call = p.call; reply = p.reply } in made) object
+    ∙ ap (λ (c : Call). let made : Entry = record { object = q.object; call = c; reply = p.reply } in made) call
     ∙ ap (λ (r : Reply). let made : Entry = record { object = q.object; call = q.call; reply = r } in made) reply

@@ -1,5 +1,6 @@
 -- Which entries stand past a part of a list.
-use Rattle.std.proofs.Common.{◌≡◌, ◌≢◌, ℕ, suc, zero, ◌-◌, ◌<◌, ◌≤◌, ◌^◌, arith, Bool, true, false, None, List, [], ◌∷◌, length, drop, take, get_or, refl, sym, ap, ◌∙◌, subst, bit_and, inl, inr}
+use Rattle.std.proofs.Common.{◌≡◌, ◌≢◌, ℕ, suc, zero, ◌-◌, ◌<◌, ◌≤◌, ◌^◌, arith, Bool, true, false, None, List, [], ◌∷◌, length, drop, take}
+use Rattle.std.proofs.Common.{get_or, refl, sym, ap, ◌∙◌, subst, bit_and, inl, inr}
 use Rattle.std.proofs.lemmas.List.{get_or-take, length-take, length-drop}
 use Rattle.std.specs.Prelude.{slice_range, if◌then◌else◌}
 use Rattle.std.specs.Int.{bit_at}
@@ -16,7 +17,8 @@ use Rattle.committed.proofs.FilterLemmas.{same_hash, same_object}
 
 -- of two entries that commute one after the other, each does
 pub commute_turned : (p q : Entry) → CommuteForward p q → CommuteForward q p
-commute_turned p q h v legal_q legal_p = let both = h v legal_p legal_q in record { first = both.second; second = both.first; same = sym both.same }
+commute_turned p q h v legal_q legal_p = let both = h v legal_p legal_q in
+    record { first = both.second; second = both.first; same = sym both.same }
 
 -- an entry that commutes with each one of a list
 pub all_commute : (e : Entry) (xs : List Entry) → ((n : ℕ) → n < length xs → CommuteForward e (get_or xs n e)) → CommutesWith e xs
@@ -54,7 +56,8 @@ key_is P p q compared by_object by_item = by_class (is_by_item class) refl
     class : Class
     class = class_of q.call q.reply
 
-    by_class : (b : Bool) → is_by_item class ≡ b → P (key_of (if b then (mark_of p).of_item else (mark_of p).of_object) (2 ^ number_of class))
+    by_class : (b : Bool) → is_by_item class ≡ b
+        → P (key_of (if b then (mark_of p).of_item else (mark_of p).of_object) (2 ^ number_of class))
     by_class true of_item = elim (same_hash p q compared of_item) [
       | inl same ↦ subst (λ h. P (key_of h (2 ^ number_of class))) (sym same) by_object
       | inr same ↦ subst (λ h. P (key_of h (2 ^ number_of class))) (sym same) by_item

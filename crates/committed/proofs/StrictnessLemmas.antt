@@ -28,10 +28,12 @@ use Rattle.objects.specs.declared.call.Reply.TheVariants as reply
 use Rattle.objects.specs.declared.entry.Entry.{Entry}
 use Rattle.objects.specs.Entries.{CommuteForward}
 use Rattle.objects.proofs.CommuteLemmas.{entries_exact}
-use Rattle.committed.specs.Strictness.{IsAsStrict, AreAsStrict, EffectsAreAsStrict, is_strict_by_number, account_is_as_strict, counter_is_as_strict, max_is_as_strict}
+use Rattle.committed.specs.Strictness.{IsAsStrict, AreAsStrict, EffectsAreAsStrict, is_strict_by_number, account_is_as_strict}
+use Rattle.committed.specs.Strictness.{counter_is_as_strict, max_is_as_strict}
 
 -- a smaller withdrawal commutes with fewer balances, a larger balance with fewer withdrawals; other amounts make no difference
-account_strict : (e p q : AccountEffect) → account_is_as_strict p q ≡ true → account_effects_commute e p ≡ true → account_effects_commute e q ≡ true
+account_strict : (e p q : AccountEffect) → account_is_as_strict p q ≡ true → account_effects_commute e p ≡ true
+    → account_effects_commute e q ≡ true
 account_strict (account.Counted n) (account.Withdrew a) (account.Withdrew b) h commutes =
     lt-ltb n b.value (omega (arith, leb-true a.value b.value h, ltb-true n a.value commutes))
 account_strict (account.Withdrew a) (account.Counted m) (account.Counted n) h commutes =
@@ -57,7 +59,8 @@ account_strict account.Impossible (account.Counted m) (account.Counted n) h comm
 account_strict e p q h commutes = absurd cc
 
 -- numbers make no difference to a counter's operations, nor whether a change adds or subtracts
-counter_strict : (e p q : CounterEffect) → counter_is_as_strict p q ≡ true → counter_effects_commute e p ≡ true → counter_effects_commute e q ≡ true
+counter_strict : (e p q : CounterEffect) → counter_is_as_strict p q ≡ true → counter_effects_commute e p ≡ true
+    → counter_effects_commute e q ≡ true
 counter_strict (counter.Added c) (counter.Added a) (counter.Added b) h commutes = commutes
 counter_strict (counter.Added c) (counter.Added a) (counter.Subtracted b) h commutes = commutes
 counter_strict (counter.Added c) (counter.Subtracted a) (counter.Added b) h commutes = commutes
@@ -82,8 +85,10 @@ counter_strict e p q h commutes = absurd cc
 
 -- a larger raise commutes with fewer tops, a smaller top with fewer raises
 max_strict : (e p q : MaxEffect) → max_is_as_strict p q ≡ true → max_effects_commute e p ≡ true → max_effects_commute e q ≡ true
-max_strict (max.Counted n) (max.Raised a) (max.Raised b) h commutes = le-leb b.value n (omega (arith, leb-true b.value a.value h, leb-true a.value n commutes))
-max_strict (max.Raised a) (max.Counted m) (max.Counted n) h commutes = le-leb a.value n (omega (arith, leb-true m n h, leb-true a.value m commutes))
+max_strict (max.Counted n) (max.Raised a) (max.Raised b) h commutes = le-leb b.value n
+    (omega (arith, leb-true b.value a.value h, leb-true a.value n commutes))
+max_strict (max.Raised a) (max.Counted m) (max.Counted n) h commutes = le-leb a.value n
+    (omega (arith, leb-true m n h, leb-true a.value m commutes))
 max_strict (max.Raised c) (max.Raised a) (max.Raised b) h commutes = commutes
 max_strict max.Impossible (max.Raised a) (max.Raised b) h commutes = commutes
 max_strict (max.Counted c) (max.Counted m) (max.Counted n) h commutes = commutes
@@ -91,10 +96,14 @@ max_strict max.Impossible (max.Counted m) (max.Counted n) h commutes = commutes
 max_strict e p q h commutes = absurd cc
 
 -- operations of one kind go by their effects; those of different kinds commute
-operations : (k : Call) (t : Reply) (c : Call) (r : Reply) (d : Call) (s : Reply) → is_strict_by_number c r d s ≡ true → operations_commute k t c r ≡ true → operations_commute k t d s ≡ true
-operations (call.Account k) (reply.Account t) (call.Account c) (reply.Account r) (call.Account d) (reply.Account s) h commutes = account_strict (account_effect (k, t)) (account_effect (c, r)) (account_effect (d, s)) h commutes
-operations (call.Counter k) (reply.Counter t) (call.Counter c) (reply.Counter r) (call.Counter d) (reply.Counter s) h commutes = counter_strict (counter_effect (k, t)) (counter_effect (c, r)) (counter_effect (d, s)) h commutes
-operations (call.Max k) (reply.Max t) (call.Max c) (reply.Max r) (call.Max d) (reply.Max s) h commutes = max_strict (max_effect (k, t)) (max_effect (c, r)) (max_effect (d, s)) h commutes
+operations : (k : Call) (t : Reply) (c : Call) (r : Reply) (d : Call) (s : Reply) → is_strict_by_number c r d s ≡ true
+    → operations_commute k t c r ≡ true → operations_commute k t d s ≡ true
+operations (call.Account k) (reply.Account t) (call.Account c) (reply.Account r) (call.Account d) (reply.Account s) h commutes =
+    account_strict (account_effect (k, t)) (account_effect (c, r)) (account_effect (d, s)) h commutes
+operations (call.Counter k) (reply.Counter t) (call.Counter c) (reply.Counter r) (call.Counter d) (reply.Counter s) h commutes =
+    counter_strict (counter_effect (k, t)) (counter_effect (c, r)) (counter_effect (d, s)) h commutes
+operations (call.Max k) (reply.Max t) (call.Max c) (reply.Max r) (call.Max d) (reply.Max s) h commutes = max_strict (max_effect (k, t))
+    (max_effect (c, r)) (max_effect (d, s)) h commutes
 operations (call.Counter k) (reply.Counter t) (call.Account c) (reply.Account r) (call.Account d) (reply.Account s) h commutes = refl
 operations (call.Set k) (reply.Set t) (call.Account c) (reply.Account r) (call.Account d) (reply.Account s) h commutes = refl
 operations (call.Queue k) (reply.Queue t) (call.Account c) (reply.Account r) (call.Account d) (reply.Account s) h commutes = refl
@@ -117,10 +126,12 @@ operations k t c r d s h commutes = absurd cc
 
 -- what commutes with two operations commutes with a third
 abbrev pub OperationsAreAsStrict : Call → Reply → Call → Reply → Call → Reply → Type 0
-OperationsAreAsStrict c r d s f t = (k : Call) (u : Reply) → operations_commute k u c r ≡ true → operations_commute k u d s ≡ true → operations_commute k u f t ≡ true
+OperationsAreAsStrict c r d s f t = (k : Call) (u : Reply) → operations_commute k u c r ≡ true → operations_commute k u d s ≡ true
+    → operations_commute k u f t ≡ true
 
 -- three operations of a set
-pub sets_strict : (c : SetCall) (r : SetReply) (d : SetCall) (s : SetReply) (f : SetCall) (t : SetReply) → EffectsAreAsStrict set_effects_commute (set_effect (c, r)) (set_effect (d, s)) (set_effect (f, t))
+pub sets_strict : (c : SetCall) (r : SetReply) (d : SetCall) (s : SetReply) (f : SetCall) (t : SetReply)
+    → EffectsAreAsStrict set_effects_commute (set_effect (c, r)) (set_effect (d, s)) (set_effect (f, t))
     → OperationsAreAsStrict (call.Set c) (reply.Set r) (call.Set d) (reply.Set s) (call.Set f) (reply.Set t)
 sets_strict c r d s f t strict (call.Set k) (reply.Set u) first second = strict (set_effect (k, u)) first second
 sets_strict c r d s f t strict (call.Account k) (reply.Account u) first second = refl
@@ -131,7 +142,8 @@ sets_strict c r d s f t strict (call.Max k) (reply.Max u) first second = refl
 sets_strict c r d s f t strict k u first second = refl
 
 -- three operations of a queue
-pub queues_strict : (c : QueueCall) (r : QueueReply) (d : QueueCall) (s : QueueReply) (f : QueueCall) (t : QueueReply) → EffectsAreAsStrict queue_effects_commute (queue_effect (c, r)) (queue_effect (d, s)) (queue_effect (f, t))
+pub queues_strict : (c : QueueCall) (r : QueueReply) (d : QueueCall) (s : QueueReply) (f : QueueCall) (t : QueueReply)
+    → EffectsAreAsStrict queue_effects_commute (queue_effect (c, r)) (queue_effect (d, s)) (queue_effect (f, t))
     → OperationsAreAsStrict (call.Queue c) (reply.Queue r) (call.Queue d) (reply.Queue s) (call.Queue f) (reply.Queue t)
 queues_strict c r d s f t strict (call.Queue k) (reply.Queue u) first second = strict (queue_effect (k, u)) first second
 queues_strict c r d s f t strict (call.Account k) (reply.Account u) first second = refl
@@ -142,8 +154,11 @@ queues_strict c r d s f t strict (call.Max k) (reply.Max u) first second = refl
 queues_strict c r d s f t strict k u first second = refl
 
 -- three operations of a directory
-pub directories_strict : (c : DirectoryCall) (r : DirectoryReply) (d : DirectoryCall) (s : DirectoryReply) (f : DirectoryCall) (t : DirectoryReply) → EffectsAreAsStrict directory_effects_commute (directory_effect (c, r)) (directory_effect (d, s)) (directory_effect (f, t))
-    → OperationsAreAsStrict (call.Directory c) (reply.Directory r) (call.Directory d) (reply.Directory s) (call.Directory f) (reply.Directory t)
+pub directories_strict : (c : DirectoryCall) (r : DirectoryReply) (d : DirectoryCall) (s : DirectoryReply) (f : DirectoryCall)
+    (t : DirectoryReply) → EffectsAreAsStrict directory_effects_commute (directory_effect (c, r)) (directory_effect (d, s))
+    (directory_effect (f, t))
+    → OperationsAreAsStrict (call.Directory c) (reply.Directory r) (call.Directory d) (reply.Directory s) (call.Directory f)
+    (reply.Directory t)
 directories_strict c r d s f t strict (call.Directory k) (reply.Directory u) first second = strict (directory_effect (k, u)) first second
 directories_strict c r d s f t strict (call.Account k) (reply.Account u) first second = refl
 directories_strict c r d s f t strict (call.Counter k) (reply.Counter u) first second = refl
@@ -156,13 +171,17 @@ ap_two : {A B C : Type 0} (f : A → B → C) {a a2 : A} {b b2 : B} → a ≡ a2
 ap_two f {a} {a2} {b} {b2} first second = ap (λ x. f x b) first ∙ ap (f a2) second
 
 -- of equal calls and replies the same holds
-pub as_those : {c d f c2 d2 f2 : Call} {r s t r2 s2 t2 : Reply} → c ≡ c2 → r ≡ r2 → d ≡ d2 → s ≡ s2 → f ≡ f2 → t ≡ t2 → OperationsAreAsStrict c2 r2 d2 s2 f2 t2 → OperationsAreAsStrict c r d s f t
+pub as_those : {c d f c2 d2 f2 : Call} {r s t r2 s2 t2 : Reply} → c ≡ c2 → r ≡ r2 → d ≡ d2 → s ≡ s2 → f ≡ f2 → t ≡ t2
+    → OperationsAreAsStrict c2 r2 d2 s2 f2 t2 → OperationsAreAsStrict c r d s f t
 as_those c-is r-is d-is s-is f-is t-is strict k u first second =
-    ap_two (operations_commute k u) f-is t-is ∙ strict k u (sym (ap_two (operations_commute k u) c-is r-is) ∙ first) (sym (ap_two (operations_commute k u) d-is s-is) ∙ second)
+    ap_two (operations_commute k u) f-is t-is ∙ strict k u (sym (ap_two (operations_commute k u) c-is r-is) ∙ first)
+    (sym (ap_two (operations_commute k u) d-is s-is) ∙ second)
 
 -- and of equal effects
-pub as_effects : {E : Type 0} (commute : E → E → Bool) {e f g e2 f2 g2 : E} → e ≡ e2 → f ≡ f2 → g ≡ g2 → EffectsAreAsStrict commute e f g → EffectsAreAsStrict commute e2 f2 g2
-as_effects commute e-is f-is g-is strict x first second = sym (ap (commute x) g-is) ∙ strict x (ap (commute x) e-is ∙ first) (ap (commute x) f-is ∙ second)
+pub as_effects : {E : Type 0} (commute : E → E → Bool) {e f g e2 f2 g2 : E} → e ≡ e2 → f ≡ f2 → g ≡ g2 → EffectsAreAsStrict commute e f g
+    → EffectsAreAsStrict commute e2 f2 g2
+as_effects commute e-is f-is g-is strict x first second = sym (ap (commute x) g-is) ∙ strict x (ap (commute x) e-is ∙ first)
+    (ap (commute x) f-is ∙ second)
 
 -- on one object, entries commute where their operations do
 as_told : (here told : Bool) → here ≡ true → IsTrue (if here then told else true) → told ≡ true
@@ -174,16 +193,21 @@ pub strict_by_number : (p q : Entry) → p.object ≡ q.object → is_strict_by_
 strict_by_number p q same h e commutes = (entries_exact e q).0 (at_object (nat_eq e.object q.object) refl)
   where
     at_object : (b : Bool) → nat_eq e.object q.object ≡ b → IsTrue (if b then operations_commute e.call e.reply q.call q.reply else true)
-    at_object true is = operations e.call e.reply p.call p.reply q.call q.reply h (as_told (nat_eq e.object p.object) (operations_commute e.call e.reply p.call p.reply) (ap (nat_eq e.object) same ∙ is) ((entries_exact e p).1 commutes))
+    at_object true is = operations e.call e.reply p.call p.reply q.call q.reply h
+        (as_told (nat_eq e.object p.object) (operations_commute e.call e.reply p.call p.reply) (ap (nat_eq e.object) same ∙ is)
+        ((entries_exact e p).1 commutes))
     at_object false is = refl
 
 -- entries on one object whose operations are
-pub strict_together : (p q t : Entry) → p.object ≡ t.object → q.object ≡ t.object → OperationsAreAsStrict p.call p.reply q.call q.reply t.call t.reply → AreAsStrict p q t
+pub strict_together : (p q t : Entry) → p.object ≡ t.object → q.object ≡ t.object
+    → OperationsAreAsStrict p.call p.reply q.call q.reply t.call t.reply → AreAsStrict p q t
 strict_together p q t first second strict e with_first with_second = (entries_exact e t).0 (at_object (nat_eq e.object t.object) refl)
   where
-    commute : (x : Entry) → x.object ≡ t.object → nat_eq e.object t.object ≡ true → CommuteForward e x → operations_commute e.call e.reply x.call x.reply ≡ true
+    commute : (x : Entry) → x.object ≡ t.object → nat_eq e.object t.object ≡ true → CommuteForward e x
+        → operations_commute e.call e.reply x.call x.reply ≡ true
     commute x same is commutes =
-        as_told (nat_eq e.object x.object) (operations_commute e.call e.reply x.call x.reply) (ap (nat_eq e.object) same ∙ is) ((entries_exact e x).1 commutes)
+        as_told (nat_eq e.object x.object) (operations_commute e.call e.reply x.call x.reply) (ap (nat_eq e.object) same ∙ is)
+        ((entries_exact e x).1 commutes)
 
     at_object : (b : Bool) → nat_eq e.object t.object ≡ b → IsTrue (if b then operations_commute e.call e.reply t.call t.reply else true)
     at_object true is = strict e.call e.reply (commute p first is with_first) (commute q second is with_second)

@@ -41,7 +41,8 @@ turned [] qs all = all_past_none qs
 turned (p ∷ ps) qs all = past_one p ps qs all.0 (turned ps qs all.1)
 
 -- where what stands past one list stands past another
-past_other : (entries listed others : List Entry) → ((e : Entry) → CommutesWith e listed → CommutesWith e others) → AllCommute entries listed → AllCommute entries others
+past_other : (entries listed others : List Entry) → ((e : Entry) → CommutesWith e listed → CommutesWith e others)
+    → AllCommute entries listed → AllCommute entries others
 past_other [] listed others passes all = tt
 past_other (e ∷ entries) listed others passes all = (passes e all.0, past_other entries listed others passes all.1)
 
@@ -51,7 +52,8 @@ past-summary entries summary listed is =
     (past_other entries summary listed (λ e. (is.same e).0), past_other entries listed summary (λ e. (is.same e).1))
 
 -- a summary stands past a list where all that it sums up does, and the other way round
-pub stands-summary : (summary entries listed : List Entry) → IsSummary summary entries → AllCommute summary listed ↔ AllCommute entries listed
+pub stands-summary : (summary entries listed : List Entry) → IsSummary summary entries → AllCommute summary listed
+    ↔ AllCommute entries listed
 stands-summary summary entries listed is = (
   λ all. turned listed entries ((past-summary listed summary entries is).0 (turned summary listed all)),
   λ all. turned listed summary ((past-summary listed summary entries is).1 (turned entries listed all)),
@@ -71,37 +73,45 @@ summary-nil = summary-refl []
 pub summary-append : (s es t fs : List Entry) → IsSummary s es → IsSummary t fs → IsSummary (s ++ t) (es ++ fs)
 summary-append s es t fs first second = record {
   same = λ other. (
-    λ h. commutes_both other es fs ((first.same other).0 (commutes_first other s t h)) ((second.same other).0 (commutes_second other s t h)),
-    λ h. commutes_both other s t ((first.same other).1 (commutes_first other es fs h)) ((second.same other).1 (commutes_second other es fs h)),
+    λ h. commutes_both other es fs ((first.same other).0 (commutes_first other s t h))
+        ((second.same other).0 (commutes_second other s t h)),
+    λ h. commutes_both other s t ((first.same other).1 (commutes_first other es fs h))
+        ((second.same other).1 (commutes_second other es fs h)),
   );
 }
 
 -- ---- one entry more
 
 -- what commutes with a list and an entry commutes with the list where it stands for another
-commutes_set : (other : Entry) (xs : List Entry) (n : ℕ) (e : Entry) → CommutesWith other xs → CommuteForward other e → CommutesWith other (set xs n e)
+commutes_set : (other : Entry) (xs : List Entry) (n : ℕ) (e : Entry) → CommutesWith other xs → CommuteForward other e
+    → CommutesWith other (set xs n e)
 commutes_set other [] n e all own = tt
 commutes_set other (x ∷ xs) zero e all own = (own, all.1)
 commutes_set other (x ∷ xs) (suc n) e all own = (all.0, commutes_set other xs n e all.1 own)
 
 -- it commutes with that entry
-commutes_own : (other : Entry) (xs : List Entry) (n : ℕ) (e : Entry) → n < length xs → CommutesWith other (set xs n e) → CommuteForward other e
+commutes_own : (other : Entry) (xs : List Entry) (n : ℕ) (e : Entry) → n < length xs → CommutesWith other (set xs n e)
+    → CommuteForward other e
 commutes_own other [] n e low all = absurd (omega arith)
 commutes_own other (x ∷ xs) zero e low all = all.0
 commutes_own other (x ∷ xs) (suc n) e low all = commutes_own other xs n e (omega arith) all.1
 
 -- and with the list as it was, where it commutes with what stood there
-commutes_unset : (other : Entry) (xs : List Entry) (n : ℕ) (e : Entry) → CommuteForward other (get_or xs n other) → CommutesWith other (set xs n e) → CommutesWith other xs
+commutes_unset : (other : Entry) (xs : List Entry) (n : ℕ) (e : Entry) → CommuteForward other (get_or xs n other)
+    → CommutesWith other (set xs n e) → CommutesWith other xs
 commutes_unset other [] n e old all = tt
 commutes_unset other (x ∷ xs) zero e old all = (old, all.1)
 commutes_unset other (x ∷ xs) (suc n) e old all = (all.0, commutes_unset other xs n e old all.1)
 
 -- the entry at a place of marked ones
-entry_at : (marked : List MarkedEntry) (at : ℕ) (m : MarkedEntry) (e : Entry) → at < length marked → m ≡ get_or marked at m → get_or (entries_of marked) at e ≡ m.entry
-entry_at marked at m e within is = get_or-map (λ (k : MarkedEntry). k.entry) marked at m e within ∙ sym (ap (λ (k : MarkedEntry). k.entry) is)
+entry_at : (marked : List MarkedEntry) (at : ℕ) (m : MarkedEntry) (e : Entry) → at < length marked → m ≡ get_or marked at m
+    → get_or (entries_of marked) at e ≡ m.entry
+entry_at marked at m e within is = get_or-map (λ (k : MarkedEntry). k.entry) marked at m e within
+    ∙ sym (ap (λ (k : MarkedEntry). k.entry) is)
 
 module _ (marked : List MarkedEntry) (before last : ℕ) (earlier later : MarkedEntry) (e : Entry) (entries : List Entry)
-    (ordered : before ≤ last) (within : last < length marked) (first : earlier ≡ get_or marked before earlier) (second : later ≡ get_or marked last later)
+    (ordered : before ≤ last) (within : last < length marked) (first : earlier ≡ get_or marked before earlier)
+    (second : later ≡ get_or marked last later)
     (summary : IsSummary (entries_of marked) entries) where
   low_first : before < length (entries_of marked)
   low_first = omega (arith, length-map marked (λ (k : MarkedEntry). k.entry), within, ordered)
@@ -120,8 +130,10 @@ module _ (marked : List MarkedEntry) (before last : ℕ) (earlier later : Marked
   summary_left strict = record {
     same = λ other. (
       λ h. (
-          let with_earlier : CommuteForward other earlier.entry = subst (CommuteForward other) (is_earlier other) (one_commutes other (entries_of marked) before low_first h) in
-          let with_later : CommuteForward other later.entry = subst (CommuteForward other) (is_later other) (one_commutes other (entries_of marked) last low h) in
+          let with_earlier : CommuteForward other earlier.entry = subst (CommuteForward other) (is_earlier other)
+          (one_commutes other (entries_of marked) before low_first h) in
+          let with_later : CommuteForward other later.entry = subst (CommuteForward other) (is_later other)
+          (one_commutes other (entries_of marked) last low h) in
           commutes_both other entries (e ∷ []) ((summary.same other).0 h) (strict other with_earlier with_later, tt)
           ),
       λ h. (summary.same other).1 (commutes_first other entries (e ∷ []) h),
@@ -129,8 +141,10 @@ module _ (marked : List MarkedEntry) (before last : ℕ) (earlier later : Marked
   }
 
   -- what commutes with the summary where it stands for the later one commutes with the earlier
-  with_earlier_set : (other : Entry) → before < last → CommutesWith other (set (entries_of marked) last e) → CommuteForward other earlier.entry
-  with_earlier_set other less h = subst (CommuteForward other) (get_or-set_other (entries_of marked) last before e other (λ same. absurd (omega (arith, same, less))) ∙ is_earlier other)
+  with_earlier_set : (other : Entry) → before < last → CommutesWith other (set (entries_of marked) last e)
+      → CommuteForward other earlier.entry
+  with_earlier_set other less h = subst (CommuteForward other) (get_or-set_other (entries_of marked) last before e other
+      (λ same. absurd (omega (arith, same, less))) ∙ is_earlier other)
       (one_commutes other (set (entries_of marked) last e) before (omega (arith, length-set (entries_of marked) last e, low_first)) h)
 
   -- it takes the place of the later where it is as strict with the earlier
@@ -139,7 +153,8 @@ module _ (marked : List MarkedEntry) (before last : ℕ) (earlier later : Marked
     same = λ other. (
       λ h. (
           let own : CommuteForward other e = commutes_own other (entries_of marked) last e low h in
-          let was : CommuteForward other (get_or (entries_of marked) last other) = subst (CommuteForward other) (sym (is_later other)) (strict other (with_earlier_set other less h) own) in
+          let was : CommuteForward other (get_or (entries_of marked) last other) = subst (CommuteForward other) (sym (is_later other))
+          (strict other (with_earlier_set other less h) own) in
           commutes_both other entries (e ∷ []) ((summary.same other).0 (commutes_unset other (entries_of marked) last e was h)) (own, tt)
           ),
       λ h. commutes_set other (entries_of marked) last e ((summary.same other).1 (commutes_first other entries (e ∷ []) h))
@@ -148,13 +163,17 @@ module _ (marked : List MarkedEntry) (before last : ℕ) (earlier later : Marked
   }
 
   -- with its mark
-  pub summary_set : (next : MarkedEntry) → next.entry ≡ e → before < last → AreAsStrict earlier.entry e later.entry → IsSummary (entries_of (set marked last next)) (entries ++ e ∷ [])
+  pub summary_set : (next : MarkedEntry) → next.entry ≡ e → before < last → AreAsStrict earlier.entry e later.entry
+      → IsSummary (entries_of (set marked last next)) (entries ++ e ∷ [])
   summary_set next own less strict =
-      subst (λ xs. IsSummary xs (entries ++ e ∷ [])) (sym (map-set (λ (k : MarkedEntry). k.entry) marked last next ∙ ap (set (entries_of marked) last) own)) (set_there less strict)
+      subst (λ xs. IsSummary xs (entries ++ e ∷ []))
+      (sym (map-set (λ (k : MarkedEntry). k.entry) marked last next ∙ ap (set (entries_of marked) last) own)) (set_there less strict)
 
 -- an entry is put at the end
-pub summary_pushed : (marked : List MarkedEntry) (next : MarkedEntry) (e : Entry) (entries : List Entry) → next.entry ≡ e → IsSummary (entries_of marked) entries
+pub summary_pushed : (marked : List MarkedEntry) (next : MarkedEntry) (e : Entry) (entries : List Entry) → next.entry ≡ e
+    → IsSummary (entries_of marked) entries
     → IsSummary (entries_of (marked ++ next ∷ [])) (entries ++ e ∷ [])
 summary_pushed marked next e entries own summary =
-    subst (λ xs. IsSummary xs (entries ++ e ∷ [])) (sym (map-append (λ (k : MarkedEntry). k.entry) marked (next ∷ []) ∙ ap (λ x. entries_of marked ++ x ∷ []) own))
+    subst (λ xs. IsSummary xs (entries ++ e ∷ [])) (sym (map-append (λ (k : MarkedEntry). k.entry) marked (next ∷ [])
+    ∙ ap (λ x. entries_of marked ++ x ∷ []) own))
     (summary-append (entries_of marked) entries (e ∷ []) (e ∷ []) summary (summary-refl (e ∷ [])))

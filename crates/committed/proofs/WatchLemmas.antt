@@ -1,8 +1,10 @@
 -- Chains of links: one link more, and the runs of a slot's links found.
-use Rattle.std.proofs.Common.{◌≡◌, ◌≢◌, ◌⊎◌, ℕ, suc, ◌+◌, ◌-◌, ◌<◌, ◌≤◌, arith, Bool, true, false, List, [], ◌∷◌, ◌++◌, length, map, set, get_or, refl, sym, ap, ◌∙◌, subst, inl, inr, length-append}
+use Rattle.std.proofs.Common.{◌≡◌, ◌≢◌, ◌⊎◌, ℕ, suc, ◌+◌, ◌-◌, ◌<◌, ◌≤◌, arith, Bool, true, false, List, [], ◌∷◌, ◌++◌, length, map, set}
+use Rattle.std.proofs.Common.{get_or, refl, sym, ap, ◌∙◌, subst, inl, inr, length-append}
 use native.Mathlib.Decide.{ℕ_discrete}
 use Rattle.std.proofs.lemmas.Bool.{cases_lt}
-use Rattle.std.proofs.lemmas.List.{get_or_append_left, get_or_default, get_or-set_same, get_or-set_other, get_or-map, length-set, length-map, map-append}
+use Rattle.std.proofs.lemmas.List.{get_or_append_left, get_or_default, get_or-set_same, get_or-set_other, get_or-map, length-set}
+use Rattle.std.proofs.lemmas.List.{length-map, map-append}
 use Rattle.std.proofs.Math.Seq.{get_or-append_seam}
 use Rattle.committed.specs.declared.marks.Mark.{Mark}
 use Rattle.committed.specs.declared.marks.MarkedEntry.{MarkedEntry}
@@ -27,19 +29,22 @@ use Rattle.committed.specs.declared.watch.Watch.{Watch}
 -- ---- one link more
 
 -- what is read of the links before the last
-kept_at : {A : Type 0} (f : Link → A) (links : List Link) (link : Link) (n : ℕ) (d : A) → n < length links → get_or (map f (links ++ link ∷ [])) n d ≡ get_or (map f links) n d
+kept_at : {A : Type 0} (f : Link → A) (links : List Link) (link : Link) (n : ℕ) (d : A) → n < length links
+    → get_or (map f (links ++ link ∷ [])) n d ≡ get_or (map f links) n d
 kept_at f links link n d within =
     ap (λ xs. get_or xs n d) (map-append f links (link ∷ []))
     ∙ get_or_append_left (map f links) (f link ∷ []) d n (omega (arith, length-map links f, within))
 
 -- what is read of the last
-last_at : {A : Type 0} (f : Link → A) (links : List Link) (link : Link) (n : ℕ) (d : A) → n ≡ length links → get_or (map f (links ++ link ∷ [])) n d ≡ f link
+last_at : {A : Type 0} (f : Link → A) (links : List Link) (link : Link) (n : ℕ) (d : A) → n ≡ length links
+    → get_or (map f (links ++ link ∷ [])) n d ≡ f link
 last_at f links link n d is =
     ap (λ xs. get_or xs n d) (map-append f links (link ∷ []))
     ∙ ap (λ k. get_or (map f links ++ f link ∷ []) k d) (is ∙ sym (length-map links f))
     ∙ get_or-append_seam (map f links) (f link) [] d
 
-module _ (last : List ℕ) (links : List Link) (count slot run before number : ℕ) (chains : AreChains last links count) (inside : slot < length last) (known : run < count)
+module _ (last : List ℕ) (links : List Link) (count slot run before number : ℕ) (chains : AreChains last links count)
+    (inside : slot < length last) (known : run < count)
     (read : before ≡ get_or last slot before) (number_is : number ≡ length links + 1) where
   abbrev pub link : Link
   link = record { slot = slot; run = run; before = before }
@@ -131,8 +136,10 @@ module _ (last : List ℕ) (links : List Link) (count slot run before number : �
       | inr new ↦ subst (λ k. k < count) (sym (last_at (λ l. l.run) links link n 0 (omega (arith, new, to, size)))) known
     ];
     heads = λ s low. elim (ℕ_discrete s slot) [
-      | yes own ↦ (let is : get_or (set last slot number) s 0 ≡ number = ap (λ k. get_or (set last slot number) k 0) own ∙ own_last in omega (arith, is, number_is, size))
-      | no other ↦ (let is = other_last s other in let h = chains.heads s (subst (λ k. s < k) (length-set last slot number) low) in omega (arith, is, h, size))
+      | yes own ↦ (let is : get_or (set last slot number) s 0 ≡ number = ap (λ k. get_or (set last slot number) k 0) own ∙ own_last in
+          omega (arith, is, number_is, size))
+      | no other ↦ (let is = other_last s other in let h = chains.heads s (subst (λ k. s < k) (length-set last slot number) low) in
+          omega (arith, is, h, size))
     ];
     head = λ s low. head_of s (subst (λ k. s < k) (length-set last slot number) low);
     after = λ s n low. after_of s n (subst (λ k. s < k) (length-set last slot number) low);
@@ -166,7 +173,8 @@ module _ (last : List ℕ) (links : List Link) (count slot run before number : �
   }
 
 -- what is read of a link
-pub read_at : (f : Link → ℕ) (links : List Link) (at : ℕ) (link : Link) → at < length links → link ≡ get_or links at link → get_or (map f links) at 0 ≡ f link
+pub read_at : (f : Link → ℕ) (links : List Link) (at : ℕ) (link : Link) → at < length links → link ≡ get_or links at link
+    → get_or (map f links) at 0 ≡ f link
 read_at f links at link within is = get_or-map f links at link 0 within ∙ sym (ap f is)
 
 -- ---- the runs of a slot's links found, from the last link on down to number `at`
@@ -179,8 +187,10 @@ pub record AreFound (links : List Link) (slot from at count : ℕ) (before found
   pub only : (run : ℕ) → Has found run → Has before run ⊎ ((from ≤ run) × (run < count))
 
 -- one link more, whose run is found if it isn't before `from`
-pub found_more : (last : List ℕ) (links : List Link) (link : Link) (slot from at count : ℕ) (before found next : List ℕ) → AreChains last links count → AreFound links slot from at count before found → 0 < at
-    → link ≡ get_or links (at - 1) link → ((run : ℕ) → Has found run → Has next run) → (from ≤ link.run → Has next link.run) → ((run : ℕ) → Has next run → Has found run ⊎ ((run ≡ link.run) × (from ≤ link.run)))
+pub found_more : (last : List ℕ) (links : List Link) (link : Link) (slot from at count : ℕ) (before found next : List ℕ)
+    → AreChains last links count → AreFound links slot from at count before found → 0 < at
+    → link ≡ get_or links (at - 1) link → ((run : ℕ) → Has found run → Has next run) → (from ≤ link.run → Has next link.run)
+    → ((run : ℕ) → Has next run → Has found run ⊎ ((run ≡ link.run) × (from ≤ link.run)))
     → AreFound links slot from link.before count before next
 found_more last links link slot from at count before found next chains were some is kept has only =
     let low : at - 1 < length links = omega (arith, some, were.within) in
@@ -189,11 +199,14 @@ found_more last links link slot from at count before found next chains were some
     let own_run : run_at links (at - 1) ≡ link.run = read_at (λ l. l.run) links (at - 1) link low is in
     record {
       within = omega (arith, back, low);
-      own = λ more. ap (λ k. slot_at links (k - 1)) (sym before_is) ∙ chains.same (at - 1) low (subst (λ k. 0 < k) (sym before_is) more) ∙ were.own some;
+      own = λ more. ap (λ k. slot_at links (k - 1)) (sym before_is) ∙ chains.same (at - 1) low (subst (λ k. 0 < k) (sym before_is) more)
+          ∙ were.own some;
       all = λ m from_before to in_slot late. elim (cases_lt m (at - 1)) [
-        | inl below ↦ absurd (chains.between (at - 1) m low (subst (λ k. k ≤ m) (sym before_is) from_before) below (in_slot ∙ sym (were.own some)))
+        | inl below ↦ absurd (chains.between (at - 1) m low (subst (λ k. k ≤ m) (sym before_is) from_before) below
+            (in_slot ∙ sym (were.own some)))
         | inr above ↦ elim (ℕ_discrete m (at - 1)) [
-          | yes own ↦ subst (Has next) (sym (ap (run_at links) own ∙ own_run)) (has (subst (λ r. from ≤ r) (ap (run_at links) own ∙ own_run) late))
+          | yes own ↦ subst (Has next) (sym (ap (run_at links) own ∙ own_run))
+              (has (subst (λ r. from ≤ r) (ap (run_at links) own ∙ own_run) late))
           | no other ↦
               let beyond : at ≤ m = omega (arith, above, other, some) in
               kept (run_at links m) (were.all m beyond to in_slot late)
@@ -209,23 +222,29 @@ found_more last links link slot from at count before found next chains were some
     }
 
 -- and at the chain's end each run with a link in the slot was found
-pub all_found : (links : List Link) (slot from at count : ℕ) (before found : List ℕ) → AreFound links slot from at count before found → at ≡ 0
+pub all_found : (links : List Link) (slot from at count : ℕ) (before found : List ℕ) → AreFound links slot from at count before found
+    → at ≡ 0
     → (run : ℕ) → from ≤ run → HasLink links run slot → Has found run
 all_found links slot from at count before found were done run late has =
-    subst (Has found) has.of_run (were.all has.at (omega (arith, done)) has.within has.in_slot (subst (λ r. from ≤ r) (sym has.of_run) late))
+    subst (Has found) has.of_run (were.all has.at (omega (arith, done)) has.within has.in_slot
+    (subst (λ r. from ≤ r) (sym has.of_run) late))
 
 -- ---- the marks of a run
 
 -- the entry at a place of a list of marked entries
-pub entry_at : (all : List MarkedEntry) (at : ℕ) (m : MarkedEntry) (e : Entry) → at < length all → m ≡ get_or all at m → m.entry ≡ get_or (entries_of all) at e
+pub entry_at : (all : List MarkedEntry) (at : ℕ) (m : MarkedEntry) (e : Entry) → at < length all → m ≡ get_or all at m
+    → m.entry ≡ get_or (entries_of all) at e
 entry_at all at m e within is = ap (λ (k : MarkedEntry). k.entry) is ∙ sym (get_or-map (λ (k : MarkedEntry). k.entry) all at m e within)
 
 -- a run keeps a mark's links where it keeps its links
-pub mark_kept : (size next : ℕ) (links more : List Link) (run : ℕ) (mark : Mark) → next ≡ size → ((slot : ℕ) → HasLink links run slot → HasLink more run slot)
+pub mark_kept : (size next : ℕ) (links more : List Link) (run : ℕ) (mark : Mark) → next ≡ size
+    → ((slot : ℕ) → HasLink links run slot → HasLink more run slot)
     → HasMark size links run mark → HasMark next more run mark
 mark_kept size next links more run mark same kept has = record {
-  by_object = subst (λ n. HasLink more run (slot_of n (key_of mark.of_object mark.class))) (sym same) (kept (slot_of size (key_of mark.of_object mark.class)) has.by_object);
-  by_item = subst (λ n. HasLink more run (slot_of n (key_of mark.of_item mark.class))) (sym same) (kept (slot_of size (key_of mark.of_item mark.class)) has.by_item);
+  by_object = subst (λ n. HasLink more run (slot_of n (key_of mark.of_object mark.class))) (sym same)
+      (kept (slot_of size (key_of mark.of_object mark.class)) has.by_object);
+  by_item = subst (λ n. HasLink more run (slot_of n (key_of mark.of_item mark.class))) (sym same)
+      (kept (slot_of size (key_of mark.of_item mark.class)) has.by_item);
 }
 
 -- a run keeps what it is found by where it keeps its links and the filter keeps the entry
@@ -249,7 +268,8 @@ pub none_more : (from count : ℕ) (found : List ℕ) → IsMore from count foun
 none_more from count found = record { more = λ run has. has; only = λ run has. inl has }
 
 -- one after the other
-pub more_more : (from count : ℕ) (before between found : List ℕ) → IsMore from count before between → IsMore from count between found → IsMore from count before found
+pub more_more : (from count : ℕ) (before between found : List ℕ) → IsMore from count before between → IsMore from count between found
+    → IsMore from count before found
 more_more from count before between found first second = record {
   more = λ run has. second.more run (first.more run has);
   only = λ run has. elim (second.only run has) [ inl was ↦ first.only run was | inr new ↦ inr new ];
@@ -257,15 +277,19 @@ more_more from count before between found first second = record {
 
 -- runs with a link where an entry of this mark looks for a class of the set are found
 pub record IsSought (links : List Link) (size from : ℕ) (found : List ℕ) (mark : Mark) (set : ℕ) (class : Class) : Type 0 where
-  pub all : bit_at set (number_of class) ≡ 1 → (run : ℕ) → from ≤ run → HasLink links run (slot_of size (key_against mark class)) → Has found run
+  pub all : bit_at set (number_of class) ≡ 1 → (run : ℕ) → from ≤ run → HasLink links run (slot_of size (key_against mark class))
+      → Has found run
 
 -- they stay found
-pub still_sought : (links : List Link) (slots from : ℕ) (found more : List ℕ) (mark : Mark) (set : ℕ) (class : Class) → ((run : ℕ) → Has found run → Has more run)
+pub still_sought : (links : List Link) (slots from : ℕ) (found more : List ℕ) (mark : Mark) (set : ℕ) (class : Class)
+    → ((run : ℕ) → Has found run → Has more run)
     → IsSought links slots from found mark set class → IsSought links slots from more mark set class
-still_sought links slots from found more mark set class kept sought = record { all = λ bit run late has. kept run (sought.all bit run late has) }
+still_sought links slots from found more mark set class kept sought =
+    record { all = λ bit run late has. kept run (sought.all bit run late has) }
 
 -- a run that is found by an entry, but wasn't, has an entry that commutes with the one that was sought by
-pub not_found_commutes : (watch : Watch) (from : ℕ) (found : List ℕ) (run : ℕ) (p q : Entry) (set : ℕ) → from ≤ run → ¬ Has found run → IsWatched watch run q
+pub not_found_commutes : (watch : Watch) (from : ℕ) (found : List ℕ) (run : ℕ) (p q : Entry) (set : ℕ) → from ≤ run → ¬ Has found run
+    → IsWatched watch run q
     → (IsMarked watch.filter q → Meets set p q)
     → ((class : Class) → IsSought watch.links.items (length watch.last.items) from found (mark_of p) set class) → CommuteForward q p
 not_found_commutes watch from found run p q set late none watched meets sought = elim (meets watched.marked) [
@@ -279,9 +303,14 @@ not_found_commutes watch from found run p q set late none watched meets sought =
     by_place : (u : Bool) → is_compared p q ≡ u → bit_at set (number_of class) ≡ 1 → CommuteForward p q
     by_place false compared bit = elsewhere p q compared
     by_place true compared bit = absurd (none ((sought class).all bit run late
-        (key_is (λ key. HasLink watch.links.items run (slot_of (length watch.last.items) key)) p q compared watched.links.by_object watched.links.by_item)))
+        (key_is (λ key. HasLink watch.links.items run (slot_of (length watch.last.items) key)) p q compared watched.links.by_object
+        watched.links.by_item)))
 
 -- lists commute where each two of their entries do
-pub all_stand : (ps qs : List Entry) → ((i j : ℕ) (d e : Entry) → i < length ps → j < length qs → CommuteForward (get_or ps i d) (get_or qs j e)) → AllCommute ps qs
+pub all_stand : (ps qs : List Entry) → ((i j : ℕ) (d e : Entry) → i < length ps → j < length qs
+    → CommuteForward (get_or ps i d) (get_or qs j e)) → AllCommute ps qs
 all_stand [] qs h = tt
-all_stand (p ∷ ps) qs h = (all_commute p qs (λ j l. h 0 j p p (omega arith) l), all_stand ps qs (λ i j d e low high. h (suc i) j d e (omega arith) high))
+all_stand (p ∷ ps) qs h = (
+  all_commute p qs (λ j l. h 0 j p p (omega arith) l),
+  all_stand ps qs (λ i j d e low high. h (suc i) j d e (omega arith) high),
+)

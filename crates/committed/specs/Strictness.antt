@@ -26,7 +26,8 @@ AreAsStrict first second third = (e : Entry) → CommuteForward e first → Comm
 
 -- the same of effects, by their table
 abbrev pub EffectsAreAsStrict : {Effect : Type 0} → (Effect → Effect → Bool) → Effect → Effect → Effect → Type 0
-EffectsAreAsStrict {Effect} commute first second third = (e : Effect) → IsTrue (commute e first) → IsTrue (commute e second) → IsTrue (commute e third)
+EffectsAreAsStrict {Effect} commute first second third = (e : Effect) → IsTrue (commute e first) → IsTrue (commute e second)
+    → IsTrue (commute e third)
 
 -- deposits conflict with refusals and balances, and refusals with deposits, whatever their amounts
 abbrev pub account_is_as_strict : AccountEffect → AccountEffect → Bool
@@ -52,7 +53,9 @@ max_is_as_strict e f = false
 
 -- of two operations on one object, the numbers tell that the first is as strict
 abbrev pub is_strict_by_number : Call → Reply → Call → Reply → Bool
-is_strict_by_number (call.Account c) (reply.Account r) (call.Account d) (reply.Account s) = account_is_as_strict (account_effect (c, r)) (account_effect (d, s))
-is_strict_by_number (call.Counter c) (reply.Counter r) (call.Counter d) (reply.Counter s) = counter_is_as_strict (counter_effect (c, r)) (counter_effect (d, s))
+is_strict_by_number (call.Account c) (reply.Account r) (call.Account d) (reply.Account s) = account_is_as_strict (account_effect (c, r))
+    (account_effect (d, s))
+is_strict_by_number (call.Counter c) (reply.Counter r) (call.Counter d) (reply.Counter s) = counter_is_as_strict (counter_effect (c, r))
+    (counter_effect (d, s))
 is_strict_by_number (call.Max c) (reply.Max r) (call.Max d) (reply.Max s) = max_is_as_strict (max_effect (c, r)) (max_effect (d, s))
 is_strict_by_number c r d s = false

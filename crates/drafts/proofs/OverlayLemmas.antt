@@ -1,5 +1,6 @@
 -- What is found in a set or a directory over a lent one.
-use Rattle.std.specs.Prelude.{◌≡◌, ℕ, ◌+◌, ◌-◌, ◌≤◌, Bool, true, false, cond, not, ◌&&◌, ◌||◌, List, [], ◌∷◌, ◌++◌, length, Option, Some, None}
+use Rattle.std.specs.Prelude.{◌≡◌, ℕ, ◌+◌, ◌-◌, ◌≤◌, Bool, true, false, cond, not, ◌&&◌, ◌||◌, List, [], ◌∷◌, ◌++◌, length, Option, Some}
+use Rattle.std.specs.Prelude.{None}
 use Rattle.std.proofs.Common.{refl, sym, ap, ◌∙◌, arith, suc, zero}
 use Rattle.std.specs.BTreeMap.{is_at}
 use Rattle.std.specs.Cmp.{eq_by_cmp_equiv}
@@ -20,7 +21,8 @@ abbrev pub slot_or : {B : Type 0} → Option B → B → B
 slot_or None lent = lent
 slot_or (Some now) lent = now
 
-slot_or-cond : {B : Type 0} (b : Bool) (now : B) (slot : Option B) (lent : B) → slot_or (cond b (Some now) slot) lent ≡ cond b now (slot_or slot lent)
+slot_or-cond : {B : Type 0} (b : Bool) (now : B) (slot : Option B) (lent : B) → slot_or (cond b (Some now) slot) lent ≡ cond b now
+    (slot_or slot lent)
 slot_or-cond true now slot lent = refl
 slot_or-cond false now slot lent = refl
 
@@ -34,11 +36,13 @@ and_is false x = refl
 
 -- ---- sets
 
-contains-put : (s : Sets) (k : Item) (inside : Bool) (q : Item) → set.contains (put_item s k inside) q ≡ cond (eq_by_cmp item_cmp q k) inside (set.contains s q)
+contains-put : (s : Sets) (k : Item) (inside : Bool) (q : Item) → set.contains (put_item s k inside) q ≡ cond
+    (eq_by_cmp item_cmp q k) inside (set.contains s q)
 contains-put s k true q = set.contains-insert items_total s k q ∙ or_is (eq_by_cmp item_cmp q k) (set.contains s q)
 contains-put s k false q = set.contains-remove items_total s k q ∙ and_is (eq_by_cmp item_cmp q k) (set.contains s q)
 
-pub contains-over : (s : Sets) (slots : List (Item × Bool)) (q : Item) → set.contains (over_set s slots) q ≡ slot_or (slot_at slots q) (set.contains s q)
+pub contains-over : (s : Sets) (slots : List (Item × Bool)) (q : Item) → set.contains (over_set s slots) q ≡ slot_or (slot_at slots q)
+    (set.contains s q)
 contains-over s [] q = refl
 contains-over s (e ∷ slots) q =
     contains-put (over_set s slots) e.0 e.1 q ∙ ap (cond (eq_by_cmp item_cmp q e.0) e.1) (contains-over s slots q)
@@ -46,7 +50,8 @@ contains-over s (e ∷ slots) q =
 
 -- one slot written
 pub over_set-write : (s : Sets) (slots written : List (Item × Bool)) (k : Item) (inside : Bool)
-    → ((q : Item) → slot_at written q ≡ cond (is_at (item_cmp k) q) (Some inside) (slot_at slots q)) → over_set s written ≡ put_item (over_set s slots) k inside
+    → ((q : Item) → slot_at written q ≡ cond (is_at (item_cmp k) q) (Some inside) (slot_at slots q))
+    → over_set s written ≡ put_item (over_set s slots) k inside
 over_set-write s slots written k inside h = set.same_set items_total items_antisymmetric _ _ (λ q.
     contains-over s written q ∙ ap (λ o. slot_or o (set.contains s q)) (h q)
     ∙ slot_or-cond (is_at (item_cmp k) q) inside (slot_at slots q) (set.contains s q)
@@ -54,31 +59,36 @@ over_set-write s slots written k inside h = set.same_set items_total items_antis
     ∙ sym (contains-put (over_set s slots) k inside q ∙ ap (cond (eq_by_cmp item_cmp q k) inside) (contains-over s slots q)))
 
 -- slots written from the last one on
-pub over_set-append : (s : Sets) (slots : List (Item × Bool)) (e : Item × Bool) → over_set s (slots ++ e ∷ []) ≡ over_set (put_item s e.0 e.1) slots
+pub over_set-append : (s : Sets) (slots : List (Item × Bool)) (e : Item × Bool) → over_set s (slots ++ e ∷ []) ≡ over_set
+    (put_item s e.0 e.1) slots
 over_set-append s [] e = refl
 over_set-append s (d ∷ slots) e = ap (λ t. put_item t d.0 d.1) (over_set-append s slots e)
 
 -- ---- directories
 
-get-put : (m : Directories) (k : Item) (bound : Option Item) (q : Item) → map.get (put_at m k bound) q ≡ cond (eq_by_cmp item_cmp q k) bound (map.get m q)
+get-put : (m : Directories) (k : Item) (bound : Option Item) (q : Item) → map.get (put_at m k bound) q ≡ cond
+    (eq_by_cmp item_cmp q k) bound (map.get m q)
 get-put m k None q = map.get-remove items_total m k q
 get-put m k (Some v) q = map.get-insert items_total m k v q
 
-pub get-over : (m : Directories) (slots : List (Item × Option Item)) (q : Item) → map.get (over_directory m slots) q ≡ slot_or (slot_at slots q) (map.get m q)
+pub get-over : (m : Directories) (slots : List (Item × Option Item)) (q : Item) → map.get (over_directory m slots) q ≡ slot_or
+    (slot_at slots q) (map.get m q)
 get-over m [] q = refl
 get-over m (e ∷ slots) q =
     get-put (over_directory m slots) e.0 e.1 q ∙ ap (cond (eq_by_cmp item_cmp q e.0) e.1) (get-over m slots q)
     ∙ sym (slot_or-cond (eq_by_cmp item_cmp q e.0) e.1 (slot_at slots q) (map.get m q))
 
 pub over_directory-write : (m : Directories) (slots written : List (Item × Option Item)) (k : Item) (bound : Option Item)
-    → ((q : Item) → slot_at written q ≡ cond (is_at (item_cmp k) q) (Some bound) (slot_at slots q)) → over_directory m written ≡ put_at (over_directory m slots) k bound
+    → ((q : Item) → slot_at written q ≡ cond (is_at (item_cmp k) q) (Some bound) (slot_at slots q)) → over_directory m written ≡ put_at
+    (over_directory m slots) k bound
 over_directory-write m slots written k bound h = map.same_map items_total items_antisymmetric _ _ (λ q.
     get-over m written q ∙ ap (λ o. slot_or o (map.get m q)) (h q)
     ∙ slot_or-cond (is_at (item_cmp k) q) bound (slot_at slots q) (map.get m q)
     ∙ ap (λ b. cond b bound (slot_or (slot_at slots q) (map.get m q))) ((eq_by_cmp_equiv items_total).symm k q)
     ∙ sym (get-put (over_directory m slots) k bound q ∙ ap (cond (eq_by_cmp item_cmp q k) bound) (get-over m slots q)))
 
-pub over_directory-append : (m : Directories) (slots : List (Item × Option Item)) (e : Item × Option Item) → over_directory m (slots ++ e ∷ []) ≡ over_directory (put_at m e.0 e.1) slots
+pub over_directory-append : (m : Directories) (slots : List (Item × Option Item)) (e : Item × Option Item)
+    → over_directory m (slots ++ e ∷ []) ≡ over_directory (put_at m e.0 e.1) slots
 over_directory-append m [] e = refl
 over_directory-append m (d ∷ slots) e = ap (λ t. put_at t d.0 d.1) (over_directory-append m slots e)
 
@@ -104,11 +114,13 @@ len-over s (e ∷ slots) =
     omega arith
 
 -- an item more, and one less
-pub size-inserted : (s : Sets) (slots written : List (Item × Bool)) (k : Item) (size : ℕ) → size ≡ set.len (over_set s slots) → set.contains (over_set s slots) k ≡ false
+pub size-inserted : (s : Sets) (slots written : List (Item × Bool)) (k : Item) (size : ℕ) → size ≡ set.len (over_set s slots)
+    → set.contains (over_set s slots) k ≡ false
     → over_set s written ≡ set.insert (over_set s slots) k → size + 1 ≡ set.len (over_set s written)
 size-inserted s slots written k size is new now = ap (λ n. n + 1) is ∙ sym (len_inserted (over_set s slots) k new) ∙ sym (ap set.len now)
 
-pub size-removed : (s : Sets) (slots written : List (Item × Bool)) (k : Item) (size : ℕ) → size ≡ set.len (over_set s slots) → set.contains (over_set s slots) k ≡ true
+pub size-removed : (s : Sets) (slots written : List (Item × Bool)) (k : Item) (size : ℕ) → size ≡ set.len (over_set s slots)
+    → set.contains (over_set s slots) k ≡ true
     → over_set s written ≡ set.remove (over_set s slots) k → size - 1 ≡ set.len (over_set s written)
 size-removed s slots written k size is there now = ap (λ n. n - 1) is ∙ sym (len_removed (over_set s slots) k there) ∙ sym (ap set.len now)
 

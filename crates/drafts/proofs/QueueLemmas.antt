@@ -1,5 +1,6 @@
 -- Queues that differ from a lent one at their ends: one more change.
-use Rattle.std.proofs.Common.{◌≡◌, ℕ, zero, suc, ◌+◌, ◌-◌, ◌<◌, ◌≤◌, arith, List, [], ◌∷◌, ◌++◌, length, drop, refl, sym, ap, ◌∙◌, subst, length-append, append_assoc, add-one}
+use Rattle.std.proofs.Common.{◌≡◌, ℕ, zero, suc, ◌+◌, ◌-◌, ◌<◌, ◌≤◌, arith, List, [], ◌∷◌, ◌++◌, length, drop, refl, sym, ap, ◌∙◌, subst}
+use Rattle.std.proofs.Common.{length-append, append_assoc, add-one}
 use Rattle.std.proofs.Math.Nat.{zero-sub, sub-zero}
 use Rattle.std.specs.Prelude.{slice_get, IsSome}
 use Rattle.std.proofs.lemmas.List.{drop-append-le}
@@ -16,12 +17,14 @@ use Rattle.drafts.proofs.HistoryLemmas.{journaled_more}
 abbrev pub ends_at : ℕ → List Item → Ends
 ends_at taken added = record { taken = taken; added = added }
 
-pub within_now : (lent : List Item) (ends : Ends) (journal : List QueueChange) → AreWithin lent ends journal → ends.taken ≤ length lent + length ends.added
+pub within_now : (lent : List Item) (ends : Ends) (journal : List QueueChange) → AreWithin lent ends journal
+    → ends.taken ≤ length lent + length ends.added
 within_now lent ends [] h = h
 within_now lent ends (change ∷ journal) h = h.0
 
 -- an item more at the end
-pub within_enqueued : (lent added pushed : List Item) (taken : ℕ) (x : Item) (journal grown : List QueueChange) → AreWithin lent (ends_at taken added) journal
+pub within_enqueued : (lent added pushed : List Item) (taken : ℕ) (x : Item) (journal grown : List QueueChange)
+    → AreWithin lent (ends_at taken added) journal
     → pushed ≡ added ++ x ∷ [] → grown ≡ Enqueued ∷ journal → AreWithin lent (ends_at taken pushed) grown
 within_enqueued lent added pushed taken x journal grown h is more =
     let now = within_now lent (ends_at taken added) journal h in
@@ -30,7 +33,8 @@ within_enqueued lent added pushed taken x journal grown h is more =
     (omega arith, subst (λ xs. AreWithin lent (ends_at taken xs) journal) (sym (queue_takes_back added (Enq x))) h) in
     subst (λ xs. AreWithin lent (ends_at taken xs) grown) (sym is) (subst (AreWithin lent (ends_at taken (added ++ x ∷ []))) (sym more) all)
 
-pub history_enqueued : (lent added pushed : List Item) (taken : ℕ) (x : Item) (journal grown : List QueueChange) → AreWithin lent (ends_at taken added) journal
+pub history_enqueued : (lent added pushed : List Item) (taken : ℕ) (x : Item) (journal grown : List QueueChange)
+    → AreWithin lent (ends_at taken added) journal
     → pushed ≡ added ++ x ∷ [] → grown ≡ Enqueued ∷ journal
     → seen_as (between lent) (journaled queue_back (ends_at taken pushed) grown)
     ≡ changed (seen_as (between lent) (journaled queue_back (ends_at taken added) journal)) (between lent (ends_at taken added) ++ x ∷ [])
@@ -42,7 +46,8 @@ history_enqueued lent added pushed taken x journal grown h is more =
     ap (drop taken) (sym (append_assoc lent added (x ∷ []))) ∙ drop-append-le taken (lent ++ added) (x ∷ []) within in
     ap (λ xs. seen_as (between lent) (journaled queue_back (ends_at taken xs) grown)) is
     ∙ ap (λ js. seen_as (between lent) (journaled queue_back (ends_at taken (added ++ x ∷ [])) js)) more
-    ∙ ap (seen_as (between lent)) (journaled_more queue_back (ends_at taken added) (ends_at taken (added ++ x ∷ [])) Enqueued journal (ap (ends_at taken) (queue_takes_back added (Enq x))))
+    ∙ ap (seen_as (between lent)) (journaled_more queue_back (ends_at taken added) (ends_at taken (added ++ x ∷ [])) Enqueued journal
+    (ap (ends_at taken) (queue_takes_back added (Enq x))))
     ∙ ap (changed (seen_as (between lent) old)) end
 
 -- an item less at the front
@@ -61,7 +66,8 @@ drop_one_more n xs = rw add-one (step n xs)
     step (suc m) (y ∷ ys) = step m ys
 
 pub within_dequeued : (lent added : List Item) (taken : ℕ) (journal grown : List QueueChange) → AreWithin lent (ends_at taken added) journal
-    → IsSome (slice_get (between lent (ends_at taken added)) 0) → grown ≡ Dequeued taken ∷ journal → AreWithin lent (ends_at (taken + 1) added) grown
+    → IsSome (slice_get (between lent (ends_at taken added)) 0) → grown ≡ Dequeued taken ∷ journal
+    → AreWithin lent (ends_at (taken + 1) added) grown
 within_dequeued lent added taken journal grown h some more =
     let left = some_left (lent ++ added) taken some in
     let all : AreWithin lent (ends_at (taken + 1) added) (Dequeued taken ∷ journal) = (omega (arith, length-append lent added), h) in
@@ -76,7 +82,8 @@ history_dequeued lent added taken journal grown more =
     ∙ ap (changed (seen_as (between lent) old)) (drop_one_more taken (lent ++ added))
 
 -- what is left of the lent items and of those that came
-pub between_parts : (lent added : List Item) (taken : ℕ) → between lent (ends_at taken added) ≡ drop taken lent ++ drop (taken - length lent) added
+pub between_parts : (lent added : List Item) (taken : ℕ) → between lent (ends_at taken added) ≡ drop taken lent ++ drop
+    (taken - length lent) added
 between_parts lent added zero = rw zero-sub refl
 between_parts [] added (suc n) = rw sub-zero refl
 between_parts (x ∷ lent) added (suc n) = between_parts lent added n ∙ ap (λ m. drop n lent ++ drop m added) (omega arith)

@@ -1,5 +1,6 @@
 -- Drafts in a table whose places may be stale.
-use Rattle.std.proofs.Common.{◌≡◌, ◌≢◌, ℕ, zero, suc, ◌<◌, List, [], ◌∷◌, ◌++◌, Some, None, Option, length, Bool, true, false, cond, refl, sym, ap, ◌∙◌, subst}
+use Rattle.std.proofs.Common.{◌≡◌, ◌≢◌, ℕ, zero, suc, ◌<◌, List, [], ◌∷◌, ◌++◌, Some, None, Option, length, Bool, true, false, cond, refl}
+use Rattle.std.proofs.Common.{sym, ap, ◌∙◌, subst}
 use Rattle.std.specs.Prelude.{nat_eq, slice_get, slice_set, option_map, option_and_then, IsSomeAnd, get_or}
 use Rattle.std.proofs.lemmas.Bool.{eqb-true, eqb-false, eq-eqb}
 use Rattle.std.proofs.lemmas.Option.{slice_get-get_or}
@@ -69,12 +70,14 @@ pub put-last : (places : List ℕ) (drafts : List Drafted) (object : ℕ) (h : H
 put-last places drafts object h long q = by_test (nat_eq object q) refl
   where
     by_place : nat_eq object q ≡ false → (o : Option ℕ)
-        → option_and_then (draft_of q) (option_and_then (slice_get (drafts ++ drafted object h ∷ [])) o) ≡ option_and_then (draft_of q) (option_and_then (slice_get drafts) o)
+        → option_and_then (draft_of q) (option_and_then (slice_get (drafts ++ drafted object h ∷ [])) o) ≡ option_and_then (draft_of q)
+        (option_and_then (slice_get drafts) o)
     by_place e None = refl
     by_place e (Some p) = other-last drafts object q p h e
 
     by_test : (b : Bool) → nat_eq object q ≡ b
-        → drafts_in (slice_set places object (length drafts)) (drafts ++ drafted object h ∷ []) q ≡ cond b (Some h) (drafts_in places drafts q)
+        → drafts_in (slice_set places object (length drafts)) (drafts ++ drafted object h ∷ []) q ≡ cond b (Some h)
+        (drafts_in places drafts q)
     by_test true e =
         let at : slice_get (slice_set places object (length drafts)) object ≡ Some (length drafts) =
         get_set_same places object (length drafts) ∙ ap (option_map (λ _. length drafts)) (slice_get-get_or places object 0 long) in
@@ -97,7 +100,8 @@ found-at places drafts object place d placed there named =
 -- another draft of an object at its place is none of another object's
 other-set : (drafts : List Drafted) (q place p : ℕ) (d : Drafted) (h : History Value) → nat_eq d.object q ≡ false
     → slice_get drafts place ≡ Some d
-    → option_and_then (draft_of q) (slice_get (slice_set drafts place (drafted d.object h)) p) ≡ option_and_then (draft_of q) (slice_get drafts p)
+    → option_and_then (draft_of q) (slice_get (slice_set drafts place (drafted d.object h)) p) ≡ option_and_then (draft_of q)
+    (slice_get drafts p)
 other-set [] q place p d h e there = refl
 other-set (x ∷ drafts) q zero zero d h e there =
     let same : x ≡ d = cc in
@@ -116,7 +120,8 @@ put-at places drafts object place d h placed there named q = by_test (nat_eq obj
     new = slice_set drafts place (drafted d.object h)
 
     by_place : nat_eq object q ≡ false → (o : Option ℕ)
-        → option_and_then (draft_of q) (option_and_then (slice_get new) o) ≡ option_and_then (draft_of q) (option_and_then (slice_get drafts) o)
+        → option_and_then (draft_of q) (option_and_then (slice_get new) o) ≡ option_and_then (draft_of q)
+        (option_and_then (slice_get drafts) o)
     by_place e None = refl
     by_place e (Some p) = other-set drafts q place p d h (ap (λ o. nat_eq o q) named ∙ e) there
 

@@ -1,13 +1,16 @@
 -- Lists of entries: what they leave, which are legal and which have room.
-use Rattle.std.proofs.Common.{◌≡◌, ℕ, zero, suc, ◌+◌, ◌<◌, arith, List, [], ◌∷◌, ◌++◌, length, take, drop, refl, sym, ap, ◌∙◌, subst, Option, Some, None, get_or}
+use Rattle.std.proofs.Common.{◌≡◌, ℕ, zero, suc, ◌+◌, ◌<◌, arith, List, [], ◌∷◌, ◌++◌, length, take, drop, refl, sym, ap, ◌∙◌, subst}
+use Rattle.std.proofs.Common.{Option, Some, None, get_or}
 use Rattle.std.proofs.lemmas.List.{length-set, drop_more}
 use Rattle.std.specs.Prelude.{slice_get}
 use Rattle.objects.specs.Objects.{objects, one_value, kind_of_value, kind_of_call, Fits, ObjectHasRoom}
 use Rattle.serial.specs.Places.{after_found}
 use Rattle.objects.specs.declared.value.Value.{Value}
-use Rattle.objects.specs.declared.value.Value.TheVariants.{Account as account_value, Counter as counter_value, Set as set_value, Queue as queue_value, Directory as directory_value, Max as max_value}
+use Rattle.objects.specs.declared.value.Value.TheVariants.{Account as account_value, Counter as counter_value, Set as set_value}
+use Rattle.objects.specs.declared.value.Value.TheVariants.{Queue as queue_value, Directory as directory_value, Max as max_value}
 use Rattle.objects.specs.declared.call.Call.{Call}
-use Rattle.objects.specs.declared.call.Call.TheVariants.{Account as account_call, Counter as counter_call, Set as set_call, Queue as queue_call, Directory as directory_call, Max as max_call}
+use Rattle.objects.specs.declared.call.Call.TheVariants.{Account as account_call, Counter as counter_call, Set as set_call}
+use Rattle.objects.specs.declared.call.Call.TheVariants.{Queue as queue_call, Directory as directory_call, Max as max_call}
 use Rattle.objects.specs.declared.call.Reply.{Reply}
 use Rattle.objects.specs.declared.entry.Entry.{Entry}
 use Rattle.objects.specs.Entries.{after, AreLegal}
@@ -17,11 +20,13 @@ pub after-append : (values : List Value) (xs ys : List Entry) → after values (
 after-append values [] ys = refl
 after-append values (x ∷ xs) ys = after-append (objects.after values (x.object, x.call)) xs ys
 
-pub legal-append : (values : List Value) (xs ys : List Entry) → AreLegal values xs → AreLegal (after values xs) ys → AreLegal values (xs ++ ys)
+pub legal-append : (values : List Value) (xs ys : List Entry) → AreLegal values xs → AreLegal (after values xs) ys
+    → AreLegal values (xs ++ ys)
 legal-append values [] ys h k = k
 legal-append values (x ∷ xs) ys h k = (h.0, legal-append (objects.after values (x.object, x.call)) xs ys h.1 k)
 
-pub room-append : (values : List Value) (xs ys : List Entry) → AllHaveRoom values xs → AllHaveRoom (after values xs) ys → AllHaveRoom values (xs ++ ys)
+pub room-append : (values : List Value) (xs ys : List Entry) → AllHaveRoom values xs → AllHaveRoom (after values xs) ys
+    → AllHaveRoom values (xs ++ ys)
 room-append values [] ys h k = k
 room-append values (x ∷ xs) ys h k = (h.0, room-append (objects.after values (x.object, x.call)) xs ys h.1 k)
 
@@ -45,12 +50,14 @@ kinds_agree (directory_value v) (directory_call c) r h = refl
 kinds_agree (max_value v) (max_call c) r h = refl
 kinds_agree v c r h = cc
 
-pub legal-fits : (values : List Value) (object : ℕ) (c : Call) (r : Reply) → objects.reply values (object, c) ≡ Some r → Fits values object c
+pub legal-fits : (values : List Value) (object : ℕ) (c : Call) (r : Reply) → objects.reply values (object, c) ≡ Some r
+    → Fits values object c
 legal-fits [] object c r h = cc
 legal-fits (v ∷ values) zero c r h = kinds_agree v c r h
 legal-fits (v ∷ values) (suc object) c r h = legal-fits values object c r h
 
-length-after_found : (values : List Value) (object : ℕ) (c : Call) (o : Option Value) → length (after_found one_value values object c o) ≡ length values
+length-after_found : (values : List Value) (object : ℕ) (c : Call) (o : Option Value) → length (after_found one_value values object c o)
+    ≡ length values
 length-after_found values object c None = refl
 length-after_found values object c (Some v) = length-set values object (one_value.after v c)
 

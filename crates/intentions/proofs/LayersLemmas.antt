@@ -1,5 +1,6 @@
 -- What drafts over a snapshot show, and what they showed before changes that are taken back.
-use Rattle.std.proofs.Common.{◌≡◌, ℕ, zero, suc, ◌<◌, ◌≤◌, arith, List, [], ◌∷◌, ◌++◌, Some, None, Option, length, length-append, ◌+◌, reverse, take, drop, Bool, true, false, cond, refl, sym, ap, ◌∙◌, subst}
+use Rattle.std.proofs.Common.{◌≡◌, ℕ, zero, suc, ◌<◌, ◌≤◌, arith, List, [], ◌∷◌, ◌++◌, Some, None, Option, length, length-append, ◌+◌}
+use Rattle.std.proofs.Common.{reverse, take, drop, Bool, true, false, cond, refl, sym, ap, ◌∙◌, subst}
 use Rattle.std.specs.Prelude.{nat_eq, slice_get, slice_set, option_map, option_and_then, unwrap_or, IsSome, IsSomeAnd, IfSome}
 use Rattle.std.proofs.lemmas.List.{take-append-le, drop-append-le, take-take, reverse-append}
 use Rattle.std.proofs.Math.ListN.{drop_of_length-le}
@@ -22,7 +23,8 @@ use Rattle.intentions.proofs.DraftTableLemmas.{same_list, get_set_same, get_set_
 abbrev pub states : List Value → List (List Value) → States
 states shown begun = record { shown = shown; begun = begun }
 
-pub states_of : {shown shown' : List Value} {begun begun' : List (List Value)} → shown ≡ shown' → begun ≡ begun' → states shown begun ≡ states shown' begun'
+pub states_of : {shown shown' : List Value} {begun begun' : List (List Value)} → shown ≡ shown' → begun ≡ begun'
+    → states shown begun ≡ states shown' begun'
 states_of p q = cc
 
 -- ---- what each object became
@@ -31,26 +33,34 @@ states_of p q = cc
 abbrev draft_or : Option (History Value) → Value → History Value
 draft_or draft lent = unwrap_or draft (unchanged lent)
 
-pub get-histories : (snapshot : List Value) (drafts : Drafts) (object : ℕ) → slice_get (histories snapshot drafts) object ≡ option_map (draft_or (drafts object)) (slice_get snapshot object)
+pub get-histories : (snapshot : List Value) (drafts : Drafts) (object : ℕ) → slice_get (histories snapshot drafts) object ≡ option_map
+    (draft_or (drafts object)) (slice_get snapshot object)
 get-histories [] drafts object = refl
 get-histories (lent ∷ snapshot) drafts zero = refl
 get-histories (lent ∷ snapshot) drafts (suc object) = get-histories snapshot (λ o. drafts (suc o)) object
 
 -- what is shown of an object
-get-values_now : (snapshot : List Value) (drafts : Drafts) (object : ℕ) → slice_get (values_now (histories snapshot drafts)) object ≡ option_map (λ lent. (draft_or (drafts object) lent).value) (slice_get snapshot object)
+get-values_now : (snapshot : List Value) (drafts : Drafts) (object : ℕ) → slice_get (values_now (histories snapshot drafts)) object
+    ≡ option_map (λ lent. (draft_or (drafts object) lent).value) (slice_get snapshot object)
 get-values_now [] drafts object = refl
 get-values_now (lent ∷ snapshot) drafts zero = refl
 get-values_now (lent ∷ snapshot) drafts (suc object) = get-values_now snapshot (λ o. drafts (suc o)) object
 
 -- an object with a draft, one without, and none
-pub found_draft : (snapshot : List Value) (drafts : Drafts) (object : ℕ) (lent : Value) (h : History Value) → slice_get snapshot object ≡ Some lent → drafts object ≡ Some h → slice_get (histories snapshot drafts) object ≡ Some h
-found_draft snapshot drafts object lent h e d = get-histories snapshot drafts object ∙ ap (option_map (draft_or (drafts object))) e ∙ ap (λ o. Some (draft_or o lent)) d
+pub found_draft : (snapshot : List Value) (drafts : Drafts) (object : ℕ) (lent : Value) (h : History Value)
+    → slice_get snapshot object ≡ Some lent → drafts object ≡ Some h → slice_get (histories snapshot drafts) object ≡ Some h
+found_draft snapshot drafts object lent h e d = get-histories snapshot drafts object ∙ ap (option_map (draft_or (drafts object))) e
+    ∙ ap (λ o. Some (draft_or o lent)) d
 
-pub found_lent : (snapshot : List Value) (drafts : Drafts) (object : ℕ) (lent : Value) → slice_get snapshot object ≡ Some lent → drafts object ≡ None → slice_get (histories snapshot drafts) object ≡ Some (unchanged lent)
-found_lent snapshot drafts object lent e d = get-histories snapshot drafts object ∙ ap (option_map (draft_or (drafts object))) e ∙ ap (λ o. Some (draft_or o lent)) d
+pub found_lent : (snapshot : List Value) (drafts : Drafts) (object : ℕ) (lent : Value) → slice_get snapshot object ≡ Some lent
+    → drafts object ≡ None → slice_get (histories snapshot drafts) object ≡ Some (unchanged lent)
+found_lent snapshot drafts object lent e d = get-histories snapshot drafts object ∙ ap (option_map (draft_or (drafts object))) e
+    ∙ ap (λ o. Some (draft_or o lent)) d
 
-pub found_none : (snapshot : List Value) (drafts : Drafts) (object : ℕ) → slice_get snapshot object ≡ None → slice_get (values_now (histories snapshot drafts)) object ≡ None
-found_none snapshot drafts object e = get-values_now snapshot drafts object ∙ ap (option_map (λ lent. (draft_or (drafts object) lent).value)) e
+pub found_none : (snapshot : List Value) (drafts : Drafts) (object : ℕ) → slice_get snapshot object ≡ None
+    → slice_get (values_now (histories snapshot drafts)) object ≡ None
+found_none snapshot drafts object e = get-values_now snapshot drafts object
+    ∙ ap (option_map (λ lent. (draft_or (drafts object) lent).value)) e
 
 -- no drafts
 pub now-none : (snapshot : List Value) → values_now (histories snapshot (λ object. None)) ≡ snapshot
@@ -61,12 +71,14 @@ map_twice : {A B C : Type 0} (f : A → B) (c : C) (o : Option A) → option_map
 map_twice f c None = refl
 map_twice f c (Some a) = refl
 
-pub histories-put : (snapshot : List Value) (drafts put : Drafts) (object : ℕ) (h : History Value) → IsPut drafts put object h → histories snapshot put ≡ slice_set (histories snapshot drafts) object h
+pub histories-put : (snapshot : List Value) (drafts put : Drafts) (object : ℕ) (h : History Value) → IsPut drafts put object h
+    → histories snapshot put ≡ slice_set (histories snapshot drafts) object h
 histories-put snapshot drafts put object h is = same_list _ _ (λ q.
     get-histories snapshot put q ∙ ap (λ d. option_map (draft_or d) (slice_get snapshot q)) (is q) ∙ by_test q (nat_eq object q) refl)
   where
     by_test : (q : ℕ) (b : Bool) → nat_eq object q ≡ b
-        → option_map (draft_or (cond b (Some h) (drafts q))) (slice_get snapshot q) ≡ slice_get (slice_set (histories snapshot drafts) object h) q
+        → option_map (draft_or (cond b (Some h) (drafts q))) (slice_get snapshot q) ≡ slice_get
+        (slice_set (histories snapshot drafts) object h) q
     by_test q true e =
         let hs = histories snapshot drafts in
         let here : slice_get (slice_set hs object h) object ≡ option_map (λ _. h) (slice_get hs object) = get_set_same hs object h in
@@ -84,7 +96,8 @@ histories-same (lent ∷ snapshot) drafts drafts' same =
     let rest = histories-same snapshot (λ o. drafts (suc o)) (λ o. drafts' (suc o)) (λ q. same (suc q)) in
     cc (here, rest)
 
-pub get-now : (hs : List (History Value)) (object : ℕ) (h : History Value) → slice_get hs object ≡ Some h → slice_get (values_now hs) object ≡ Some h.value
+pub get-now : (hs : List (History Value)) (object : ℕ) (h : History Value) → slice_get hs object ≡ Some h
+    → slice_get (values_now hs) object ≡ Some h.value
 get-now [] object h e = cc
 get-now (g ∷ hs) zero h e = let same : g ≡ h = cc in ap (λ (f : History Value). Some f.value) same
 get-now (g ∷ hs) (suc object) h e = get-now hs object h e
@@ -117,12 +130,14 @@ added snapshot drafts put starts journal state object lent is e put_is =
 
 -- ---- changes, and changes that are taken back
 
-now-set : (hs : List (History Value)) (object : ℕ) (h : History Value) → values_now (slice_set hs object h) ≡ slice_set (values_now hs) object h.value
+now-set : (hs : List (History Value)) (object : ℕ) (h : History Value) → values_now (slice_set hs object h) ≡ slice_set
+    (values_now hs) object h.value
 now-set [] object h = refl
 now-set (g ∷ hs) zero h = refl
 now-set (g ∷ hs) (suc object) h = ap (λ vs. g.value ∷ vs) (now-set hs object h)
 
-undo-changed : (hs : List (History Value)) (object : ℕ) (h : History Value) (v : Value) → slice_get hs object ≡ Some h → undo_at (slice_set hs object (changed h v)) object ≡ hs
+undo-changed : (hs : List (History Value)) (object : ℕ) (h : History Value) (v : Value) → slice_get hs object ≡ Some h
+    → undo_at (slice_set hs object (changed h v)) object ≡ hs
 undo-changed [] object h v e = refl
 undo-changed (g ∷ hs) zero h v e = let same : g ≡ h = cc in ap (λ f. f ∷ hs) (sym same)
 undo-changed (g ∷ hs) (suc object) h v e = ap (λ fs. g ∷ fs) (undo-changed hs object h v e)
@@ -140,28 +155,36 @@ some_change f None h = h
 some_change f (Some d) h = refl
 
 -- what is asked of a call holds of the value that is shown
-pub fits_found : (values : List Value) (object : ℕ) (call : Call) (v : Value) → slice_get values object ≡ Some v → Fits values object call → kind_of_value v ≡ kind_of_call call
+pub fits_found : (values : List Value) (object : ℕ) (call : Call) (v : Value) → slice_get values object ≡ Some v → Fits values object call
+    → kind_of_value v ≡ kind_of_call call
 fits_found values object call v found fits = subst (λ o. IsSomeAnd o (λ w. kind_of_value w ≡ kind_of_call call)) found fits
 
-pub room_found : (values : List Value) (object : ℕ) (call : Call) (v : Value) → slice_get values object ≡ Some v → ObjectHasRoom values object call → HasRoom v call
+pub room_found : (values : List Value) (object : ℕ) (call : Call) (v : Value) → slice_get values object ≡ Some v
+    → ObjectHasRoom values object call → HasRoom v call
 room_found values object call v found room = subst (λ o. IfSome o (λ w. HasRoom w call)) found room
 
-pub change_found : (values : List Value) (object : ℕ) (call : Call) (v : Value) → slice_get values object ≡ Some v → IsSome (objects_undoing.change values (object, call)) → IsSome (value_change v call)
+pub change_found : (values : List Value) (object : ℕ) (call : Call) (v : Value) → slice_get values object ≡ Some v
+    → IsSome (objects_undoing.change values (object, call)) → IsSome (value_change v call)
 change_found values object call v found some =
-    some_change (at_object object) (value_change v call) (subst (λ o. IsSome (option_map (at_object object) (option_and_then (λ w. value_change w call) o))) found some)
+    some_change (at_object object) (value_change v call)
+    (subst (λ o. IsSome (option_map (at_object object) (option_and_then (λ w. value_change w call) o))) found some)
 
 -- one more change leaves what was shown at the begin of each level
-values_at-changed : (hs : List (History Value)) (object : ℕ) (h : History Value) (v : Value) (starts journal : List ℕ) → slice_get hs object ≡ Some h → IsNested starts (length journal)
+values_at-changed : (hs : List (History Value)) (object : ℕ) (h : History Value) (v : Value) (starts journal : List ℕ)
+    → slice_get hs object ≡ Some h → IsNested starts (length journal)
     → values_at (slice_set hs object (changed h v)) starts (journal ++ object ∷ []) ≡ values_at hs starts journal
 values_at-changed hs object h v [] journal e nested = refl
 values_at-changed hs object h v (start ∷ starts) journal e nested =
     let later : reverse (drop start (journal ++ object ∷ [])) ≡ object ∷ reverse (drop start journal) =
     ap reverse (drop-append-le start journal (object ∷ []) nested.0) ∙ reverse-append (drop start journal) (object ∷ []) in
-    let before : rewound (slice_set hs object (changed h v)) (reverse (drop start (journal ++ object ∷ []))) ≡ rewound hs (reverse (drop start journal)) =
-    ap (rewound (slice_set hs object (changed h v))) later ∙ ap (λ gs. rewound gs (reverse (drop start journal))) (undo-changed hs object h v e) in
+    let before : rewound (slice_set hs object (changed h v)) (reverse (drop start (journal ++ object ∷ []))) ≡ rewound hs
+    (reverse (drop start journal)) =
+    ap (rewound (slice_set hs object (changed h v))) later ∙ ap (λ gs. rewound gs (reverse (drop start journal)))
+    (undo-changed hs object h v e) in
     let earlier : take start (journal ++ object ∷ []) ≡ take start journal = take-append-le start journal (object ∷ []) nested.0 in
     ap (λ gs. values_now gs ∷ values_at gs starts (take start (journal ++ object ∷ []))) before
-    ∙ ap (λ js. values_now (rewound hs (reverse (drop start journal))) ∷ values_at (rewound hs (reverse (drop start journal))) starts js) earlier
+    ∙ ap (λ js. values_now (rewound hs (reverse (drop start journal))) ∷ values_at (rewound hs (reverse (drop start journal))) starts js)
+    earlier
 
 -- what is shown where an object that became this becomes what a call leaves
 now-after : (hs : List (History Value)) (shown : List Value) (object : ℕ) (call : Call) (h new : History Value)
@@ -173,7 +196,8 @@ now-after hs shown object call h new is found value =
     ∙ sym (ap (after_found one_value shown object call) there)
 
 -- a call on an object that became this
-pub performed : (hs new : List (History Value)) (starts journal pushed : List ℕ) (state : States) (object : ℕ) (call : Call) (h : History Value)
+pub performed : (hs new : List (History Value)) (starts journal pushed : List ℕ) (state : States) (object : ℕ) (call : Call)
+    (h : History Value)
     → layered hs starts journal ≡ state → IsNested starts (length journal) → slice_get hs object ≡ Some h
     → new ≡ slice_set hs object (changed h (one_value.after h.value call)) → pushed ≡ journal ++ object ∷ []
     → layered new starts pushed ≡ states (objects.after state.shown (object, call)) state.begun
@@ -211,57 +235,73 @@ values_at-joined hs start [] journal nested = refl
 values_at-joined hs start (outer ∷ starts) journal nested =
     let inside = rewound hs (reverse (drop start journal)) in
     let parts : reverse (drop outer journal) ≡ reverse (drop start journal) ++ reverse (drop outer (take start journal)) =
-    sym (ap reverse (innermost_joined start (outer ∷ starts) journal nested)) ∙ reverse-append (drop outer (take start journal)) (drop start journal) in
+    sym (ap reverse (innermost_joined start (outer ∷ starts) journal nested)) ∙ reverse-append (drop outer (take start journal))
+    (drop start journal) in
     let before : rewound inside (reverse (drop outer (take start journal))) ≡ rewound hs (reverse (drop outer journal)) =
     sym (ap (rewound hs) parts ∙ rewound-append hs (reverse (drop start journal)) (reverse (drop outer (take start journal)))) in
     let earlier : take outer (take start journal) ≡ take outer journal = take-take outer start journal nested.1.0 in
     ap (λ gs. values_now gs ∷ values_at gs starts (take outer (take start journal))) before
-    ∙ ap (λ js. values_now (rewound hs (reverse (drop outer journal))) ∷ values_at (rewound hs (reverse (drop outer journal))) starts js) earlier
+    ∙ ap (λ js. values_now (rewound hs (reverse (drop outer journal))) ∷ values_at (rewound hs (reverse (drop outer journal))) starts js)
+    earlier
 
 pub committed_level : (hs : List (History Value)) (start : ℕ) (starts journal : List ℕ) (state : States)
-    → layered hs (start ∷ starts) journal ≡ state → IsNested (start ∷ starts) (length journal) → layered hs starts journal ≡ states state.shown (drop 1 state.begun)
+    → layered hs (start ∷ starts) journal ≡ state → IsNested (start ∷ starts) (length journal)
+    → layered hs starts journal ≡ states state.shown (drop 1 state.begun)
 committed_level hs start starts journal state is nested =
-    states_of (ap (λ (s : States). s.shown) is) (sym (values_at-joined hs start starts journal nested) ∙ ap (λ (s : States). drop 1 s.begun) is)
+    states_of (ap (λ (s : States). s.shown) is) (sym (values_at-joined hs start starts journal nested)
+    ∙ ap (λ (s : States). drop 1 s.begun) is)
 
 -- ---- the journal taken back
 
-set_undone : (snapshot : List Value) (drafts : Drafts) (object : ℕ) (h : History Value) → drafts object ≡ Some h → slice_set (histories snapshot drafts) object (undone h) ≡ undo_at (histories snapshot drafts) object
+set_undone : (snapshot : List Value) (drafts : Drafts) (object : ℕ) (h : History Value) → drafts object ≡ Some h
+    → slice_set (histories snapshot drafts) object (undone h) ≡ undo_at (histories snapshot drafts) object
 set_undone [] drafts object h e = refl
 set_undone (lent ∷ snapshot) drafts zero h e = ap (λ d. undone (draft_or d lent) ∷ histories snapshot (λ o. drafts (suc o))) (sym e)
-set_undone (lent ∷ snapshot) drafts (suc object) h e = ap (λ hs. draft_or (drafts 0) lent ∷ hs) (set_undone snapshot (λ o. drafts (suc o)) object h e)
+set_undone (lent ∷ snapshot) drafts (suc object) h e = ap (λ hs. draft_or (drafts 0) lent ∷ hs)
+    (set_undone snapshot (λ o. drafts (suc o)) object h e)
 
 -- a draft whose last change is taken back
-pub undo-put : (snapshot : List Value) (drafts put : Drafts) (object : ℕ) (h new : History Value) → drafts object ≡ Some h → new ≡ undone h → IsPut drafts put object new → histories snapshot put ≡ undo_at (histories snapshot drafts) object
-undo-put snapshot drafts put object h new e new_is is = histories-put snapshot drafts put object new is ∙ ap (slice_set (histories snapshot drafts) object) new_is ∙ set_undone snapshot drafts object h e
+pub undo-put : (snapshot : List Value) (drafts put : Drafts) (object : ℕ) (h new : History Value) → drafts object ≡ Some h → new ≡ undone h
+    → IsPut drafts put object new → histories snapshot put ≡ undo_at (histories snapshot drafts) object
+undo-put snapshot drafts put object h new e new_is is = histories-put snapshot drafts put object new is
+    ∙ ap (slice_set (histories snapshot drafts) object) new_is ∙ set_undone snapshot drafts object h e
 
 -- where there is no draft
-pub undo_none : (snapshot : List Value) (drafts : Drafts) (object : ℕ) → drafts object ≡ None → histories snapshot drafts ≡ undo_at (histories snapshot drafts) object
+pub undo_none : (snapshot : List Value) (drafts : Drafts) (object : ℕ) → drafts object ≡ None → histories snapshot drafts ≡ undo_at
+    (histories snapshot drafts) object
 undo_none [] drafts object e = refl
 undo_none (lent ∷ snapshot) drafts zero e =
     let rest = histories snapshot (λ o. drafts (suc o)) in
     ap (λ d. draft_or d lent ∷ rest) e ∙ sym (ap (λ d. undone (draft_or d lent) ∷ rest) e)
-undo_none (lent ∷ snapshot) drafts (suc object) e = ap (λ hs. draft_or (drafts 0) lent ∷ hs) (undo_none snapshot (λ o. drafts (suc o)) object e)
+undo_none (lent ∷ snapshot) drafts (suc object) e = ap (λ hs. draft_or (drafts 0) lent ∷ hs)
+    (undo_none snapshot (λ o. drafts (suc o)) object e)
 
 -- a part of the changes from a place of the journal on is taken back
 pub record IsPartUndone (was : Drafts) (journal : List ℕ) (start : ℕ) (drafts : Drafts) (left : List ℕ) : Type 0 where
   pub within : start ≤ length left
   pub keeps : take start left ≡ take start journal
-  pub rewinds : (snapshot : List Value) → rewound (histories snapshot drafts) (reverse (drop start left)) ≡ rewound (histories snapshot was) (reverse (drop start journal))
+  pub rewinds : (snapshot : List Value) → rewound (histories snapshot drafts) (reverse (drop start left)) ≡ rewound
+      (histories snapshot was) (reverse (drop start journal))
 
-pub undone_more : (was drafts now : Drafts) (journal left rest : List ℕ) (start object : ℕ) → IsPartUndone was journal start drafts left → start < length left → left ≡ rest ++ object ∷ []
-    → ((snapshot : List Value) → histories snapshot now ≡ undo_at (histories snapshot drafts) object) → IsPartUndone was journal start now rest
+pub undone_more : (was drafts now : Drafts) (journal left rest : List ℕ) (start object : ℕ) → IsPartUndone was journal start drafts left
+    → start < length left → left ≡ rest ++ object ∷ []
+    → ((snapshot : List Value) → histories snapshot now ≡ undo_at (histories snapshot drafts) object)
+    → IsPartUndone was journal start now rest
 undone_more was drafts now journal left rest start object part more is back =
     let size : length left ≡ length rest + 1 = ap length is ∙ length-append rest (object ∷ []) in
     let within : start ≤ length rest = omega arith in
     let later : reverse (drop start left) ≡ object ∷ reverse (drop start rest) =
-    ap (λ js. reverse (drop start js)) is ∙ ap reverse (drop-append-le start rest (object ∷ []) within) ∙ reverse-append (drop start rest) (object ∷ []) in
+    ap (λ js. reverse (drop start js)) is ∙ ap reverse (drop-append-le start rest (object ∷ []) within) ∙ reverse-append (drop start rest)
+    (object ∷ []) in
     record {
       within = within;
       keeps = sym (take-append-le start rest (object ∷ []) within) ∙ sym (ap (take start) is) ∙ part.keeps;
-      rewinds = λ snapshot. ap (λ hs. rewound hs (reverse (drop start rest))) (back snapshot) ∙ sym (ap (rewound (histories snapshot drafts)) later) ∙ part.rewinds snapshot;
+      rewinds = λ snapshot. ap (λ hs. rewound hs (reverse (drop start rest))) (back snapshot)
+          ∙ sym (ap (rewound (histories snapshot drafts)) later) ∙ part.rewinds snapshot;
     }
 
-pub undone_all : (was drafts : Drafts) (journal left : List ℕ) (start : ℕ) (snapshot : List Value) → IsPartUndone was journal start drafts left → length left ≤ start
+pub undone_all : (was drafts : Drafts) (journal left : List ℕ) (start : ℕ) (snapshot : List Value)
+    → IsPartUndone was journal start drafts left → length left ≤ start
     → histories snapshot drafts ≡ rewound (histories snapshot was) (reverse (drop start journal))
 undone_all was drafts journal left start snapshot part all =
     sym (ap (λ js. rewound (histories snapshot drafts) (reverse js)) (drop_of_length-le left all)) ∙ part.rewinds snapshot

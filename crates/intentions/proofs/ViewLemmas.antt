@@ -14,7 +14,13 @@ use Rattle.intentions.proofs.StartsLemmas.{nested_more, at_starts-append, innerm
 
 -- what is seen of a view with these parts
 abbrev pub view_parts : List Value → List Entry → List Entry → List ℕ → Intentions
-view_parts snapshot entries net starts = record { snapshot = snapshot; entries = entries; net = innermost starts net; outer = around starts net }
+view_parts snapshot entries net starts = record {
+  snapshot = snapshot;
+  entries = entries;
+  net = innermost starts net;
+  outer =
+      around starts net;
+}
 
 -- the parts of all levels, the outermost first, are the whole list
 joined_around : (starts : List ℕ) (xs : List Entry) → joined (around starts xs) ++ innermost starts xs ≡ xs
@@ -30,14 +36,17 @@ view_of v = view_parts v.snapshot.now v.entries.items v.net.items (reverse v.mar
 -- a view shows what its layers show
 pub same_shown : (inside : Inside) (v : Intentions) → view_of inside ≡ v → KeptView inside → shown v ≡ inside.layers.shown
 same_shown inside v is kept =
-    sym (ap shown is) ∙ ap (after inside.snapshot.now) (joined_around (reverse inside.marks.items) inside.net.items) ∙ sym (ap (λ (s : States). s.shown) kept.shows)
+    sym (ap shown is) ∙ ap (after inside.snapshot.now) (joined_around (reverse inside.marks.items) inside.net.items)
+    ∙ sym (ap (λ (s : States). s.shown) kept.shows)
 
 pub committed_view : (snapshot : List Value) (entries net : List Entry) (start : ℕ) (starts : List ℕ) (v : Intentions)
-    → view_parts snapshot entries net (start ∷ starts) ≡ v → IsNested (start ∷ starts) (length net) → view_parts snapshot entries net starts ≡ committed v
+    → view_parts snapshot entries net (start ∷ starts) ≡ v → IsNested (start ∷ starts) (length net)
+    → view_parts snapshot entries net starts ≡ committed v
 committed_view snapshot entries net start starts v is nested =
     let same_net = innermost_joined start starts net nested in
     let same_outer = around-take start starts net nested.1 in
-    let here : view_parts snapshot entries net starts ≡ committed (view_parts snapshot entries net (start ∷ starts)) = cc (same_net, same_outer) in
+    let here : view_parts snapshot entries net starts ≡ committed (view_parts snapshot entries net (start ∷ starts)) =
+    cc (same_net, same_outer) in
     here ∙ ap committed is
 
 -- more entries in the innermost level, each legal and with room
@@ -49,18 +58,22 @@ kept_absorbing snapshot net more new_net starts layers new kept legal room shown
     let shown_after : new.shown ≡ after snapshot new_net =
     shown_is ∙ ap (λ ws. after ws more) shows ∙ sym (after-append snapshot net more) ∙ ap (after snapshot) (sym net_is) in
     let begun_after : new.begun ≡ at_starts (after snapshot) starts new_net =
-    begun_is ∙ ap (λ (s : States). s.begun) kept.shows ∙ sym (at_starts-append (after snapshot) starts net more kept.nested) ∙ ap (at_starts (after snapshot) starts) (sym net_is) in
+    begun_is ∙ ap (λ (s : States). s.begun) kept.shows ∙ sym (at_starts-append (after snapshot) starts net more kept.nested)
+    ∙ ap (at_starts (after snapshot) starts) (sym net_is) in
     let longer : length net ≤ length new_net = omega (arith, ap length net_is, length-append net more) in
     record {
       shows = states_of shown_after begun_after;
       nested = nested_more starts (length net) (length new_net) kept.nested longer;
-      legal = subst (AreLegal snapshot) (sym net_is) (legal-append snapshot net more kept.legal (subst (λ ws. AreLegal ws more) shows legal));
-      room = subst (AllHaveRoom snapshot) (sym net_is) (room-append snapshot net more kept.room (subst (λ ws. AllHaveRoom ws more) shows room));
+      legal = subst (AreLegal snapshot) (sym net_is)
+          (legal-append snapshot net more kept.legal (subst (λ ws. AreLegal ws more) shows legal));
+      room = subst (AllHaveRoom snapshot) (sym net_is)
+          (room-append snapshot net more kept.room (subst (λ ws. AllHaveRoom ws more) shows room));
     }
 
 -- the innermost level taken back
 pub kept_aborting : (snapshot : List Value) (net new_net : List Entry) (start : ℕ) (starts : List ℕ) (layers new : States)
-    → IsKept snapshot net (start ∷ starts) layers → layers.begun ≡ new.shown ∷ new.begun → new_net ≡ take start net → IsKept snapshot new_net starts new
+    → IsKept snapshot net (start ∷ starts) layers → layers.begun ≡ new.shown ∷ new.begun → new_net ≡ take start net
+    → IsKept snapshot new_net starts new
 kept_aborting snapshot net new_net start starts layers new kept back net_is =
     let begun_is : new.shown ∷ new.begun ≡ after snapshot (take start net) ∷ at_starts (after snapshot) starts (take start net) =
     sym back ∙ ap (λ (s : States). s.begun) kept.shows in

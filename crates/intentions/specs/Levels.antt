@@ -58,4 +58,5 @@ absorbed v entries net = record v { entries = v.entries ++ entries; net = v.net 
 -- each entry finds room at the values that those before it leave
 abbrev pub AllHaveRoom : List Value → List Entry → Type 0
 AllHaveRoom values [] = Unit {0}
-AllHaveRoom values (entry ∷ entries) = ObjectHasRoom values entry.object entry.call × AllHaveRoom (objects.after values (entry.object, entry.call)) entries
+AllHaveRoom values (entry ∷ entries) = ObjectHasRoom values entry.object entry.call
+    × AllHaveRoom (objects.after values (entry.object, entry.call)) entries

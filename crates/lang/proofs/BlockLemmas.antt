@@ -16,15 +16,18 @@ module _ (setting : Setting) (scope : Scope) (d : Data) where
   no_array zero c none = rw none refl
   no_array (suc n) c none = rw none refl
 
-  pub too_deep : (n : ℕ) (c : Counts) (ds : Items) → n ≡ 0 → Some ds ≡ as_array d → check c (block_asked setting n scope d) ≡ Err (fault_at Depth c)
+  pub too_deep : (n : ℕ) (c : Counts) (ds : Items) → n ≡ 0 → Some ds ≡ as_array d → check c (block_asked setting n scope d) ≡ Err
+      (fault_at Depth c)
   unfolding block_asked
   too_deep zero c ds e is = rw (← is) refl
   too_deep (suc n) c ds e is = absurd (omega arith)
 
-  pub block_asks : (m n : ℕ) (ds : Items) → n ≡ suc m → Some ds ≡ as_array d → block_asked setting n scope d ≡ steps_asked (block_asked setting m) setting scope ds
+  pub block_asks : (m n : ℕ) (ds : Items) → n ≡ suc m → Some ds ≡ as_array d → block_asked setting n scope d ≡ steps_asked
+      (block_asked setting m) setting scope ds
   unfolding block_asked
   block_asks m n ds e is = rw (e, ← is) refl
 
-  pub block_spells : (m n : ℕ) (numbers : Numbers) (ds : Items) → n ≡ suc m → Some ds ≡ as_array d → block_of setting n scope numbers d ≡ spelled_map steps_of (steps_spelled (block_of setting m) setting scope numbers ds)
+  pub block_spells : (m n : ℕ) (numbers : Numbers) (ds : Items) → n ≡ suc m → Some ds ≡ as_array d → block_of setting n scope numbers d
+      ≡ spelled_map steps_of (steps_spelled (block_of setting m) setting scope numbers ds)
   unfolding block_of
   block_spells m n numbers ds e is = rw (e, ← is) refl

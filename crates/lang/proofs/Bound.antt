@@ -1,5 +1,6 @@
 -- Calls that fit, and labels that are bound.
-use Rattle.std.proofs.Common.{◌≡◌, ℕ, zero, suc, ◌+◌, ◌≤◌, ◌<◌, Bool, true, false, cond, not, ◌||◌, List, [], ◌∷◌, length, map, Option, None, Some, refl, sym, ap, subst, ◌∙◌, arith}
+use Rattle.std.proofs.Common.{◌≡◌, ℕ, zero, suc, ◌+◌, ◌≤◌, ◌<◌, Bool, true, false, cond, not, ◌||◌, List, [], ◌∷◌, length, map, Option}
+use Rattle.std.proofs.Common.{None, Some, refl, sym, ap, subst, ◌∙◌, arith}
 use Rattle.std.specs.Prelude.{codes, is_some, unwrap_or, option_and_then, slice_get, nat_le, IsTrue, IsSomeAnd}
 use Rattle.std.specs.List.{position_or_len}
 use Rattle.std.specs.Map.{keys_of}
@@ -43,12 +44,15 @@ pub within : (text : List ℕ) (table : Table) → is_listed text table ≡ true
 within text [] listed = cc
 within text (t ∷ table) listed = by (bytes_eq text t) (λ h. within text table h) listed
   where
-    by : (b : Bool) → (is_listed text table ≡ true → position_or_len (bytes_eq text) table + 1 ≤ length table) → (b || is_listed text table) ≡ true → cond (not b) (1 + position_or_len (bytes_eq text) table) 0 + 1 ≤ length (t ∷ table)
+    by : (b : Bool) → (is_listed text table ≡ true → position_or_len (bytes_eq text) table + 1 ≤ length table)
+        → (b || is_listed text table) ≡ true → cond (not b) (1 + position_or_len (bytes_eq text) table) 0 + 1 ≤ length (t ∷ table)
     by true later h = omega arith
     by false later h = omega (arith, later h)
 
-pub found : (text : List ℕ) (table : Table) → is_listed text table ≡ true → place_of text table ≡ Some (position_or_len (bytes_eq text) table)
-found text table listed = ap (λ b. cond b (Some (position_or_len (bytes_eq text) table)) None) (lt-ltb (position_or_len (bytes_eq text) table) (length table) (omega (arith, within text table listed)))
+pub found : (text : List ℕ) (table : Table) → is_listed text table ≡ true
+    → place_of text table ≡ Some (position_or_len (bytes_eq text) table)
+found text table listed = ap (λ b. cond b (Some (position_or_len (bytes_eq text) table)) None)
+    (lt-ltb (position_or_len (bytes_eq text) table) (length table) (omega (arith, within text table listed)))
 
 -- a place within a list has an element
 pub there : {A : Type 0} (xs : List A) (i : ℕ) → i + 1 ≤ length xs → (x : A) × (slice_get xs i ≡ Some x)
@@ -125,7 +129,8 @@ kind_is (OfPair Put) numbers op = refl
 kind_is (Alone v) numbers op = refl
 
 -- a choice of two, and what either may be
-either : {A : Type 0} (P : A → Type 0) (b : Bool) (x y : Option A) (v : A) → (x ≡ Some v → P v) → (y ≡ Some v → P v) → cond b x y ≡ Some v → P v
+either : {A : Type 0} (P : A → Type 0) (b : Bool) (x y : Option A) (v : A) → (x ≡ Some v → P v) → (y ≡ Some v → P v) → cond b x y ≡ Some v
+    → P v
 either P true x y v first second e = first e
 either P false x y v first second e = second e
 
@@ -143,26 +148,34 @@ word_is_of : (version : ℕ) (k : Kind) (word : List ℕ) (v : Verb) → verb_of
 unfolding verb_of
 word_is_of version kind.Account word v e =
     let P = IsOf kind.Account in
-    either P _ _ _ v (only P (OfAmount Deposit) v refl) (either P _ _ _ v (only P (OfAmount Withdraw) v refl) (either P _ _ _ v (only P (Alone Balance) v refl) (never P v))) e
+    either P _ _ _ v (only P (OfAmount Deposit) v refl) (either P _ _ _ v (only P (OfAmount Withdraw) v refl)
+    (either P _ _ _ v (only P (Alone Balance) v refl) (never P v))) e
 word_is_of version kind.Counter word v e =
     let P = IsOf kind.Counter in
-    either P _ _ _ v (only P (OfAmount Add) v refl) (either P _ _ _ v (only P (OfAmount Sub) v refl) (either P _ _ _ v (only P (Alone Read) v refl) (never P v))) e
+    either P _ _ _ v (only P (OfAmount Add) v refl)
+    (either P _ _ _ v (only P (OfAmount Sub) v refl) (either P _ _ _ v (only P (Alone Read) v refl) (never P v))) e
 word_is_of version kind.Set word v e =
     let P = IsOf kind.Set in
-    either P _ _ _ v (only P (OfItem Insert) v refl) (either P _ _ _ v (only P (OfItem Remove) v refl) (either P _ _ _ v (only P (OfItem Has) v refl) (either P _ _ _ v (only P (Alone Size) v refl) (never P v)))) e
+    either P _ _ _ v (only P (OfItem Insert) v refl)
+    (either P _ _ _ v (only P (OfItem Remove) v refl)
+    (either P _ _ _ v (only P (OfItem Has) v refl) (either P _ _ _ v (only P (Alone Size) v refl) (never P v)))) e
 word_is_of version kind.Queue word v e =
     let P = IsOf kind.Queue in
     either P (bytes_eq word (codes "enq")) _ _ v (only P (OfItem Enq) v refl)
     (either P (bytes_eq word (codes "deq")) _ _ v (only P (Alone Deq) v refl)
-    (either P (bytes_eq word (codes "length")) _ _ v (either P (nat_le 2 version) _ _ v (only P (Alone Length) v refl) (never P v)) (never P v))) e
+    (either P (bytes_eq word (codes "length")) _ _ v (either P (nat_le 2 version) _ _ v (only P (Alone Length) v refl) (never P v))
+    (never P v))) e
 word_is_of version kind.Directory word v e =
     let P = IsOf kind.Directory in
-    either P _ _ _ v (only P (OfPair Bind) v refl) (either P _ _ _ v (only P (OfPair Put) v refl) (either P _ _ _ v (only P (OfItem Unbind) v refl) (either P _ _ _ v (only P (OfItem Lookup) v refl) (never P v)))) e
+    either P _ _ _ v (only P (OfPair Bind) v refl)
+    (either P _ _ _ v (only P (OfPair Put) v refl)
+    (either P _ _ _ v (only P (OfItem Unbind) v refl) (either P _ _ _ v (only P (OfItem Lookup) v refl) (never P v)))) e
 word_is_of version kind.Max word v e =
     let P = IsOf kind.Max in
     either P _ _ _ v (only P (OfAmount Raise) v refl) (either P _ _ _ v (only P (Alone Top) v refl) (never P v)) e
 
-pub call_fits : (setting : Setting) (numbers : Numbers) (op : Data) → length setting.names ≡ length setting.kinds → AllMet (target_asked setting (object_of op) (call_named op))
+pub call_fits : (setting : Setting) (numbers : Numbers) (op : Data) → length setting.names ≡ length setting.kinds
+    → AllMet (target_asked setting (object_of op) (call_named op))
     → CallFits setting.kinds (target_of setting (object_of op)) (call_of (verb_in setting op) numbers op).0
 unfolding target_asked
 call_fits setting numbers op paired met =
@@ -172,10 +185,12 @@ call_fits setting numbers op paired met =
     let k = there setting.kinds i (omega (arith, within object setting.names met.0)) in
     let named_here : kind_named object setting ≡ Some k.0 = ap (option_and_then (slice_get setting.kinds)) place ∙ k.1 in
     let v = some_of (verb_at setting object (call_named op)) met.1.0 in
-    let at_kind : verb_of setting.version k.0 (call_named op) ≡ Some v.0 = sym (ap (option_and_then (λ x. verb_of setting.version x (call_named op))) named_here) ∙ v.1 in
+    let at_kind : verb_of setting.version k.0 (call_named op) ≡ Some v.0 =
+    sym (ap (option_and_then (λ x. verb_of setting.version x (call_named op))) named_here) ∙ v.1 in
     let is_verb : verb_in setting op ≡ v.0 = ap (λ o. unwrap_or o (Alone Balance)) v.1 in
     let target : target_of setting object ≡ i = ap or_zero place in
-    rw (target, is_verb) (k.1 ∙ ap (λ x. Some x) (sym (kind_is v.0 numbers op ∙ word_is_of setting.version k.0 (call_named op) v.0 at_kind)))
+    rw (target, is_verb)
+    (k.1 ∙ ap (λ x. Some x) (sym (kind_is v.0 numbers op ∙ word_is_of setting.version k.0 (call_named op) v.0 at_kind)))
 
 -- ---- labels
 
@@ -275,16 +290,20 @@ suc_is : (n : ℕ) → suc n ≡ 1 + n
 suc_is n = omega arith
 
 -- what a label is of stands at its place
-named_at : (name : List ℕ) (scope : Scope) (subject : Subject) → named name scope ≡ Some subject → slice_get (subjects scope) (position_or_len (bytes_eq name) (keys_of scope)) ≡ Some subject
+named_at : (name : List ℕ) (scope : Scope) (subject : Subject) → named name scope ≡ Some subject
+    → slice_get (subjects scope) (position_or_len (bytes_eq name) (keys_of scope)) ≡ Some subject
 named_at name [] subject e = cc
 named_at name (label ∷ scope) subject e = by (bytes_eq name label.0) (named_at name scope subject) e
   where
-    by : (b : Bool) → (named name scope ≡ Some subject → slice_get (subjects scope) (position_or_len (bytes_eq name) (keys_of scope)) ≡ Some subject) → cond b (Some label.1) (named name scope) ≡ Some subject
+    by : (b : Bool) → (named name scope ≡ Some subject → slice_get (subjects scope) (position_or_len (bytes_eq name) (keys_of scope))
+        ≡ Some subject) → cond b (Some label.1) (named name scope) ≡ Some subject
         → slice_get (subjects (label ∷ scope)) (cond (not b) (1 + position_or_len (bytes_eq name) (keys_of scope)) 0) ≡ Some subject
     by true later h = h
-    by false later h = subst (λ i. slice_get (subjects (label ∷ scope)) i ≡ Some subject) (suc_is (position_or_len (bytes_eq name) (keys_of scope))) (later h)
+    by false later h = subst (λ i. slice_get (subjects (label ∷ scope)) i ≡ Some subject)
+        (suc_is (position_or_len (bytes_eq name) (keys_of scope))) (later h)
 
-of_label : (labels : List Label) (i : ℕ) (subject : Subject) → slice_get (map subject_of_label labels) i ≡ Some subject → (label : Label) × (slice_get labels i ≡ Some label) × (subject_of_label label ≡ subject)
+of_label : (labels : List Label) (i : ℕ) (subject : Subject) → slice_get (map subject_of_label labels) i ≡ Some subject → (label : Label)
+    × (slice_get labels i ≡ Some label) × (subject_of_label label ≡ subject)
 of_label [] i subject e = cc
 of_label (label ∷ labels) zero subject e = (label, refl, cc)
 of_label (label ∷ labels) (suc i) subject e = of_label labels i subject e
@@ -294,12 +313,14 @@ pub fit_same : (n : ℕ) → n < 4294967295 → fit n ≡ n
 fit_same n h = ap (λ b. cond b n 4294967295) (lt-ltb n 4294967295 h)
 
 -- a label that is seen is bound, where few are
-pub bound : (name : List ℕ) (scope : Scope) (labels : List Label) (test : Test) (subject : Subject) → AreSeen scope labels → length scope < 4294967295 → named name scope ≡ Some subject → fits test subject ≡ true
+pub bound : (name : List ℕ) (scope : Scope) (labels : List Label) (test : Test) (subject : Subject) → AreSeen scope labels
+    → length scope < 4294967295 → named name scope ≡ Some subject → fits test subject ≡ true
     → IsSomeAnd (slice_get labels (label_number name scope)) (λ seen. IsTrue (test_fits test seen))
 bound name scope labels test subject seen few is fitting =
     let i = position_or_len (bytes_eq name) (keys_of scope) in
     let here = named_at name scope subject is in
-    let short : i < length scope = subst (λ n. i < n) (length-map scope (λ label. label.1)) (slice_get_within (subjects scope) i subject here) in
+    let short : i < length scope = subst (λ n. i < n) (length-map scope (λ label. label.1))
+    (slice_get_within (subjects scope) i subject here) in
     let label = of_label labels i subject (ap (λ xs. slice_get xs i) (sym seen) ∙ here) in
     let number : label_number name scope ≡ i = fit_same i (omega arith) in
     let fits_here : test_fits test label.0 ≡ true = test_fits_label test label.0 ∙ ap (fits test) label.2 ∙ fitting in

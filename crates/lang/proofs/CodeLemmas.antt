@@ -1,6 +1,7 @@
 -- A document's faults have the codes of documents, or the memory's: none is of the input or the output.
 use Rattle.std.proofs.lemmas.Bool.{cases_lt}
-use Rattle.std.proofs.Common.{◌≡◌, ◌≢◌, ◌⊎◌, inl, inr, ◌<◌, ℕ, zero, suc, ◌+◌, ◌≤◌, Bool, true, false, List, [], ◌∷◌, ◌++◌, Option, None, Some, Result, Ok, Err, ap, subst, cond, arith}
+use Rattle.std.proofs.Common.{◌≡◌, ◌≢◌, ◌⊎◌, inl, inr, ◌<◌, ℕ, zero, suc, ◌+◌, ◌≤◌, Bool, true, false, List, [], ◌∷◌, ◌++◌, Option, None}
+use Rattle.std.proofs.Common.{Some, Result, Ok, Err, ap, subst, cond, arith}
 use Rattle.std.specs.Prelude.{⊤, codes, IfErr, IfSome, nat_lt}
 use Rattle.serde_json.specs.Data.{Data, Items, no_items, item, Members, no_members, member}
 use Rattle.serde_json.specs.Find.{as_array, as_str, get}
@@ -16,9 +17,18 @@ use Rattle.lang.specs.declared.words.Subject.TheVariants.{Outcome}
 use Rattle.lang.specs.declared.steps.Sort.{Sort}
 use Rattle.lang.specs.declared.steps.Sort.TheVariants as sort
 use Rattle.lang.specs.Faults.{memory_fault, number_of}
-use Rattle.lang.specs.Demand.{Demand, holds, one_more_start, one_more_operation, one_more_node, in_transaction, and_then, check, check_one, fault_of, first_fault, most_operations, no_counts}
+use Rattle.lang.specs.Demand.{Demand, holds, one_more_start, one_more_operation, one_more_node, in_transaction, and_then, check, check_one}
+use Rattle.lang.specs.Demand.{fault_of, first_fault, most_operations, no_counts}
 use Rattle.lang.specs.Scope.{Table, Setting, Scope, with_label, with_text}
-use Rattle.lang.specs.Asked.{Asks, abort_asked, abort_shape_asked, amount_asked, arguments_asked, array_asked, array_start_asked, asked, block_asked, block_asked_if, call_named, children_asked, children_in, document_shape_asked, element_asked, elements_asked, entries_asked, entry_asked, handlers_asked, handlers_in, holds_item, holds_number, holds_word, if_asked, if_label, if_shape_asked, item_asked, key_of, kind_in, label_asked, label_in, members_asked, object_asked, object_name, object_name_asked, object_of, object_shape_asked, objects_asked, objects_in, operation_asked, operation_shape_asked, pair_asked, pairs_asked, parallel_asked, parallel_shape_asked, part, reason_asked, scope_after, seen_asked, setting_in, sort_of, start_asked, step_asked, step_asked_by, steps_asked, sub_asked, sub_shape_asked, subject_of, target_asked, test_asked, text_of, transactions_asked, transactions_in, verb_in, version_in}
+use Rattle.lang.specs.Asked.{Asks, abort_asked, abort_shape_asked, amount_asked, arguments_asked, array_asked, array_start_asked, asked}
+use Rattle.lang.specs.Asked.{block_asked, block_asked_if, call_named, children_asked, children_in, document_shape_asked, element_asked}
+use Rattle.lang.specs.Asked.{elements_asked, entries_asked, entry_asked, handlers_asked, handlers_in, holds_item, holds_number, holds_word}
+use Rattle.lang.specs.Asked.{if_asked, if_label, if_shape_asked, item_asked, key_of, kind_in, label_asked, label_in, members_asked}
+use Rattle.lang.specs.Asked.{object_asked, object_name, object_name_asked, object_of, object_shape_asked, objects_asked, objects_in}
+use Rattle.lang.specs.Asked.{operation_asked, operation_shape_asked, pair_asked, pairs_asked, parallel_asked, parallel_shape_asked, part}
+use Rattle.lang.specs.Asked.{reason_asked, scope_after, seen_asked, setting_in, sort_of, start_asked, step_asked, step_asked_by}
+use Rattle.lang.specs.Asked.{steps_asked, sub_asked, sub_shape_asked, subject_of, target_asked, test_asked, text_of, transactions_asked}
+use Rattle.lang.specs.Asked.{transactions_in, verb_in, version_in}
 
 -- the demand fails with a code of documents
 HasCode : Demand → Type 0
@@ -91,7 +101,8 @@ operation_has : (setting : Setting) (scope : Scope) (d : Data) → HaveCodes (op
 unfolding operation_asked
 operation_has setting scope d =
     let op = part (codes "op") d in
-    append _ _ (append _ _ (append _ _ (append _ _ (operation_shape_has d) (operation_counted setting.version)) (target_has setting (object_of op) (call_named op))) (arguments_have (verb_in setting op) op)) (label_has scope [] (label_in d))
+    append _ _ (append _ _ (append _ _ (append _ _ (operation_shape_has d) (operation_counted setting.version))
+    (target_has setting (object_of op) (call_named op))) (arguments_have (verb_in setting op) op)) (label_has scope [] (label_in d))
 
 word_has : (subject : Subject) (d : Data) → HaveCodes (holds_word subject d)
 unfolding HaveCodes HasCode
@@ -162,7 +173,8 @@ module _ (asks : Asks) (have : (scope : Scope) (d : Data) → HaveCodes (asks sc
   if_has : (scope : Scope) (d : Data) → HaveCodes (if_asked asks scope d)
   unfolding if_asked
   if_has scope d =
-      append _ _ (append _ _ (append _ _ (append _ _ (append _ _ (if_shape_has d) counted) (seen_has scope (if_label d))) (test_has (subject_of (if_label d) scope) d)) (have scope (part (codes "then") d))) (maybe_has scope (get (codes "else") d))
+      append _ _ (append _ _ (append _ _ (append _ _ (append _ _ (if_shape_has d) counted) (seen_has scope (if_label d)))
+      (test_has (subject_of (if_label d) scope) d)) (have scope (part (codes "then") d))) (maybe_has scope (get (codes "else") d))
 
   members_have : (scope : Scope) (ds : Members) → HaveCodes (members_asked asks scope ds)
   members_have scope no_members = none_has
@@ -176,7 +188,8 @@ module _ (asks : Asks) (have : (scope : Scope) (d : Data) → HaveCodes (asks sc
   sub_has : (version : ℕ) (scope elder : Scope) (d : Data) → HaveCodes (sub_asked version asks scope elder d)
   unfolding sub_asked
   sub_has version scope elder d =
-      append _ _ (append _ _ (append _ _ (append _ _ (append _ _ (sub_shape_has version d) counted) (label_has scope elder (label_in d))) (have scope (part (codes "sub") d))) (handlers_have scope (handlers_in d))) (maybe_has scope (get (codes "handler") d))
+      append _ _ (append _ _ (append _ _ (append _ _ (append _ _ (sub_shape_has version d) counted) (label_has scope elder (label_in d)))
+      (have scope (part (codes "sub") d))) (handlers_have scope (handlers_in d))) (maybe_has scope (get (codes "handler") d))
 
   children_have : (version : ℕ) (scope elder : Scope) (ds : Items) → HaveCodes (children_asked version asks scope elder ds)
   children_have version scope elder no_items = none_has
@@ -209,7 +222,8 @@ too_deep : HaveCodes (holds false Depth ∷ [])
 unfolding HaveCodes HasCode
 too_deep = (omega arith, tt)
 
-array_has : (asks : Items → List Demand) → ((ds : Items) → HaveCodes (asks ds)) → (items : Option Items) → HaveCodes (array_asked asks items)
+array_has : (asks : Items → List Demand) → ((ds : Items) → HaveCodes (asks ds)) → (items : Option Items)
+    → HaveCodes (array_asked asks items)
 array_has asks have None = refused
 array_has asks have (Some ds) = have ds
 
@@ -248,7 +262,8 @@ start_fails : (b : Bool) → HaveCodes (holds b Start ∷ [])
 unfolding HaveCodes HasCode
 start_fails b = (omega arith, tt)
 
-array_start_has : (asks : Items → List Demand) → ((ds : Items) → HaveCodes (asks ds)) → (items : Option Items) → HaveCodes (array_start_asked asks items)
+array_start_has : (asks : Items → List Demand) → ((ds : Items) → HaveCodes (asks ds)) → (items : Option Items)
+    → HaveCodes (array_start_asked asks items)
 unfolding array_start_asked
 array_start_has asks have None = start_fails false
 array_start_has asks have (Some ds) = have ds
@@ -273,7 +288,8 @@ object_name_has names name = (omega arith, (omega arith, tt))
 object_has : (version : ℕ) (names : Table) (d : Data) → HaveCodes (object_asked version names d)
 unfolding object_asked
 object_has version names d =
-    append _ _ (append _ _ (object_shape_has version d) (object_name_has names (object_name d))) (start_has (kind_in version d) (part (codes "start") d))
+    append _ _ (append _ _ (object_shape_has version d) (object_name_has names (object_name d)))
+    (start_has (kind_in version d) (part (codes "start") d))
 
 objects_have : (version : ℕ) (names : Table) (ds : Items) → HaveCodes (objects_asked version names ds)
 objects_have version names no_items = none_has
@@ -291,7 +307,8 @@ document_shape_has d = (omega arith, (omega arith, (omega arith, (omega arith, (
 document_has : (d : Data) → HaveCodes (asked d)
 unfolding asked
 document_has d =
-    append _ _ (append _ _ (document_shape_has d) (objects_have (version_in d) [] (objects_in d))) (transactions_have 1 (setting_in d) (transactions_in d))
+    append _ _ (append _ _ (document_shape_has d) (objects_have (version_in d) [] (objects_in d)))
+    (transactions_have 1 (setting_in d) (transactions_in d))
 
 -- ---- their first fault
 

@@ -10,8 +10,10 @@ use Rattle.lang.specs.Demand.{Demand, check, fault_of, first_fault, no_counts}
 use Rattle.lang.specs.Scope.{Numbers, Setting, Table, no_numbers}
 use Rattle.lang.specs.Spelled.{Document, blocks_of, document_in, parts_in, spelled, starts_of}
 
-pub same_parts : (d : Data) (numbers mid last : Numbers) (version : ℕ) (os ts : Items) (setting : Setting) (start : State) (blocks : List tree.Block) → version ≡ version_in d → os ≡ objects_in d → ts ≡ transactions_in d
-    → setting ≡ declared_by version os → (start, mid) ≡ starts_of version numbers os → (blocks, last) ≡ blocks_of setting mid ts → spelled start blocks last ≡ parts_in numbers d
+pub same_parts : (d : Data) (numbers mid last : Numbers) (version : ℕ) (os ts : Items) (setting : Setting) (start : State)
+    (blocks : List tree.Block) → version ≡ version_in d → os ≡ objects_in d → ts ≡ transactions_in d
+    → setting ≡ declared_by version os → (start, mid) ≡ starts_of version numbers os → (blocks, last) ≡ blocks_of setting mid ts
+    → spelled start blocks last ≡ parts_in numbers d
 unfolding parts_in
 same_parts d numbers mid last version os ts setting start blocks v o t s started read =
     let started_here : (start, mid) ≡ starts_of (version_in d) numbers (objects_in d) = rw (v, o) at started in
@@ -20,8 +22,13 @@ same_parts d numbers mid last version os ts setting start blocks v o t s started
     rw (← started_here, ← read_here) refl
 
 -- the same, as a document
-pub same_document : (d : Data) (start : State) (blocks : List tree.Block) (last : Numbers) (objects : Table) (numbers : Numbers) → numbers ≡ no_numbers → objects ≡ names_of (objects_in d) → spelled start blocks last ≡ parts_in numbers d
-    → (let read : Document = record { start = start; texts = record { objects = objects; items = last.items; reasons = last.reasons }; transactions = blocks } in read ≡ document_in d)
+pub same_document : (d : Data) (start : State) (blocks : List tree.Block) (last : Numbers) (objects : Table) (numbers : Numbers)
+    → numbers ≡ no_numbers → objects ≡ names_of (objects_in d) → spelled start blocks last ≡ parts_in numbers d
+    → (let read : Document = record {
+      start = start;
+      texts = record { objects = objects; items = last.items; reasons = last.reasons };
+      transactions = blocks;
+    } in read ≡ document_in d)
 unfolding document_in
 same_document d start blocks last objects numbers none names parts =
     let parts_here : spelled start blocks last ≡ parts_in no_numbers d = rw none at parts in
@@ -32,5 +39,6 @@ pub met_first : (start next : Counts) (ds : List Demand) → start ≡ no_counts
 met_first start next ds begun met = ap (λ c. fault_of (check c ds)) (sym begun) ∙ ap fault_of met
 
 -- what fails before anything is read is the first fault
-pub failed_first : (start : Counts) (ds : List Demand) (fault : Fault) → start ≡ no_counts → check start ds ≡ Err fault → first_fault ds ≡ Some fault
+pub failed_first : (start : Counts) (ds : List Demand) (fault : Fault) → start ≡ no_counts → check start ds ≡ Err fault
+    → first_fault ds ≡ Some fault
 failed_first start ds fault begun failed = ap (λ c. fault_of (check c ds)) (sym begun) ∙ ap fault_of failed

@@ -1,5 +1,6 @@
 -- What a document with no fault spells can be run: labels are bound, tests and calls fit, and what is counted is what is spelled.
-use Rattle.std.proofs.Common.{◌≡◌, ℕ, zero, suc, ◌+◌, ◌≤◌, ◌<◌, Bool, true, false, cond, ◌||◌, List, [], ◌∷◌, ◌++◌, length, map, Option, None, Some, refl, sym, ap, subst, ◌∙◌, arith}
+use Rattle.std.proofs.Common.{◌≡◌, ℕ, zero, suc, ◌+◌, ◌≤◌, ◌<◌, Bool, true, false, cond, ◌||◌, List, [], ◌∷◌, ◌++◌, length, map, Option}
+use Rattle.std.proofs.Common.{None, Some, refl, sym, ap, subst, ◌∙◌, arith}
 use Rattle.std.proofs.lemmas.Bool.{not-true, or_parts, or_from}
 use Rattle.std.specs.Prelude.{codes, is_some, unwrap_or, option_and_then}
 use Rattle.std.specs.Str.{bytes_eq}
@@ -12,7 +13,8 @@ use Rattle.meaning.specs.declared.test.Word.{Word}
 use Rattle.meaning.specs.Trees as tree
 use Rattle.meaning.specs.Trees.{Handlers, Children, for_reasons, handlers_of}
 use Rattle.meaning.specs.WellFormed as well
-use Rattle.meaning.specs.WellFormed.{Label, OfCall, OfSubaction, IsWellFormed, IsWellFormedStep, AreWellFormed, AreWellFormedHandlers, added_by, added_if, added_by_children}
+use Rattle.meaning.specs.WellFormed.{Label, OfCall, OfSubaction, IsWellFormed, IsWellFormedStep, AreWellFormed, AreWellFormedHandlers}
+use Rattle.meaning.specs.WellFormed.{added_by, added_if, added_by_children}
 use Rattle.batch.specs.Limits as limits
 use Rattle.batch.specs.Views.{Tried, steps_of, children_of}
 use Rattle.lang.specs.declared.words.Verb.{Verb}
@@ -25,16 +27,23 @@ use Rattle.lang.specs.Look.{has, text_member}
 use Rattle.lang.specs.Scope.{Numbers, Scope, Setting, is_named, named, with_label, with_labels, with_reason}
 use Rattle.lang.specs.Words.{fits_word, word_of}
 use Rattle.lang.specs.Asked
-use Rattle.lang.specs.Asked.{part, label_in, object_of, call_named, verb_in, target_asked, operation_asked, operation_shape_asked, arguments_asked, amount_asked, item_asked, label_asked}
+use Rattle.lang.specs.Asked.{part, label_in, object_of, call_named, verb_in, target_asked, operation_asked, operation_shape_asked}
+use Rattle.lang.specs.Asked.{arguments_asked, amount_asked, item_asked, label_asked}
 use Rattle.lang.specs.Spelled.{call_of, operation_of}
 use Rattle.lang.proofs.MetLemmas.{AllMet, What, count, count-append, first_met, rest_met}
 use Rattle.std.proofs.lemmas.List.{append-nil, map-append, length-append}
 use Rattle.std.proofs.Common.{append_assoc}
 use Rattle.meaning.specs.Trees.{NoStep, Steps}
 use Rattle.lang.specs.declared.steps.Sort.{Sort}
-use Rattle.lang.specs.declared.steps.Sort.TheVariants.{Operation as an_operation, If as an_if, Sub as a_sub, Abort as an_abort, Parallel as a_parallel}
-use Rattle.lang.specs.Asked.{abort_asked, abort_shape_asked, array_asked, block_asked, block_asked_if, children_asked, children_in, handlers_asked, handlers_in, holds_item, holds_number, holds_word, if_asked, if_label, if_shape_asked, labels_of, member_asked, members_asked, or_no_items, parallel_asked, parallel_shape_asked, reason_asked, scope_after, scope_after_by, seen_asked, sort_of, step_asked, step_asked_by, steps_asked, sub_asked, sub_shape_asked, subject_of, test_asked, tested_word}
-use Rattle.lang.specs.Spelled.{abort_of, block_of, block_of_if, children_spelled, handlers_spelled, if_of, member_of, members_of, or_no_step, parallel_of, step_of, step_of_by, steps_spelled, sub_of, test_of}
+use Rattle.lang.specs.declared.steps.Sort.TheVariants.{Operation as an_operation, If as an_if, Sub as a_sub, Abort as an_abort}
+use Rattle.lang.specs.declared.steps.Sort.TheVariants.{Parallel as a_parallel}
+use Rattle.lang.specs.Asked.{abort_asked, abort_shape_asked, array_asked, block_asked, block_asked_if, children_asked, children_in}
+use Rattle.lang.specs.Asked.{handlers_asked, handlers_in, holds_item, holds_number, holds_word, if_asked, if_label, if_shape_asked}
+use Rattle.lang.specs.Asked.{labels_of, member_asked, members_asked, or_no_items, parallel_asked, parallel_shape_asked, reason_asked}
+use Rattle.lang.specs.Asked.{scope_after, scope_after_by, seen_asked, sort_of, step_asked, step_asked_by, steps_asked, sub_asked}
+use Rattle.lang.specs.Asked.{sub_shape_asked, subject_of, test_asked, tested_word}
+use Rattle.lang.specs.Spelled.{abort_of, block_of, block_of_if, children_spelled, handlers_spelled, if_of, member_of, members_of}
+use Rattle.lang.specs.Spelled.{or_no_step, parallel_of, step_of, step_of_by, steps_spelled, sub_of, test_of}
 use Rattle.lang.proofs.Bound.{AreSeen, bound, call_fits, fits, some_of, subject_of_label, subjects, verb_is}
 
 -- ---- what is known of a part: over objects of these kinds, with these labels, within so many levels, and what it counts
@@ -83,10 +92,12 @@ most_labels = 4_000_000_000
 count_three : (x : What) (A B C : List Demand) → count x (A ++ B ++ C) ≡ count x A + count x B + count x C
 count_three x A B C = simp count-append
 
-count_five : (x : What) (A B C D E : List Demand) → count x (A ++ B ++ C ++ D ++ E) ≡ count x A + count x B + count x C + count x D + count x E
+count_five : (x : What) (A B C D E : List Demand) → count x (A ++ B ++ C ++ D ++ E) ≡ count x A + count x B + count x C + count x D + count
+    x E
 count_five x A B C D E = simp count-append
 
-count_six : (x : What) (A B C D E F : List Demand) → count x (A ++ B ++ C ++ D ++ E ++ F) ≡ count x A + count x B + count x C + count x D + count x E + count x F
+count_six : (x : What) (A B C D E F : List Demand) → count x (A ++ B ++ C ++ D ++ E ++ F) ≡ count x A + count x B + count x C + count x D
+    + count x E + count x F
 count_six x A B C D E F = simp count-append
 
 -- ---- parts that count nothing
@@ -99,14 +110,16 @@ seen_counts : (x : What) (scope : Scope) (name : List ℕ) → count x (seen_ask
 unfolding seen_asked
 seen_counts x scope name = refl
 
-one_of_three : (x : What) (a b : Bool) (A B C : List Demand) → count x A ≡ 0 → count x B ≡ 0 → count x C ≡ 0 → count x (cond a A (cond b B C)) ≡ 0
+one_of_three : (x : What) (a b : Bool) (A B C : List Demand) → count x A ≡ 0 → count x B ≡ 0 → count x C ≡ 0
+    → count x (cond a A (cond b B C)) ≡ 0
 one_of_three x true b A B C p q r = p
 one_of_three x false true A B C p q r = q
 one_of_three x false false A B C p q r = r
 
 test_counts : (x : What) (subject : Subject) (d : Data) → count x (test_asked subject d) ≡ 0
 unfolding test_asked
-test_counts x subject d = one_of_three x (has (codes "is") d) (has (codes "atleast") d) (holds_word subject d) (holds_number subject d) (holds_item subject d) refl refl refl
+test_counts x subject d = one_of_three x (has (codes "is") d) (has (codes "atleast") d) (holds_word subject d) (holds_number subject d)
+    (holds_item subject d) refl refl refl
 
 sub_shape_counts : (x : What) (version : ℕ) (d : Data) → count x (sub_shape_asked version d) ≡ 0
 unfolding sub_shape_asked
@@ -144,19 +157,25 @@ reason_counts x (Some reason) = refl
 -- ---- labels behind a step
 
 -- a checked label is seen neither here nor among the elder
-label_is_new : (scope elder : Scope) (name : List ℕ) → AllMet (label_asked scope elder (Some name)) → (is_named name scope ≡ false) × (is_named name elder ≡ false)
+label_is_new : (scope elder : Scope) (name : List ℕ) → AllMet (label_asked scope elder (Some name)) → (is_named name scope ≡ false)
+    × (is_named name elder ≡ false)
 unfolding label_asked
-label_is_new scope elder name met = or_parts (is_named name scope) (is_named name elder) (not-true (is_named name scope || is_named name elder) met.1.0)
+label_is_new scope elder name met = or_parts (is_named name scope) (is_named name elder)
+    (not-true (is_named name scope || is_named name elder) met.1.0)
 
-with_new : (name : List ℕ) (subject : Subject) (scope : Scope) → is_named name scope ≡ false → with_label (Some name) subject scope ≡ scope ++ (name, subject) ∷ []
+with_new : (name : List ℕ) (subject : Subject) (scope : Scope) → is_named name scope ≡ false → with_label (Some name) subject scope ≡ scope
+    ++ (name, subject) ∷ []
 with_new name subject scope new = ap (λ b. cond b scope (scope ++ (name, subject) ∷ [])) new
 
-seen_more : (scope : Scope) (labels : List Label) (name : List ℕ) (subject : Subject) (label : Label) → subject_of_label label ≡ subject → AreSeen scope labels → AreSeen (scope ++ (name, subject) ∷ []) (labels ++ label ∷ [])
+seen_more : (scope : Scope) (labels : List Label) (name : List ℕ) (subject : Subject) (label : Label) → subject_of_label label ≡ subject
+    → AreSeen scope labels → AreSeen (scope ++ (name, subject) ∷ []) (labels ++ label ∷ [])
 seen_more scope labels name subject label is seen =
-    map-append (λ (l : List ℕ × Subject). l.1) scope ((name, subject) ∷ []) ∙ ap (λ xs. xs ++ subject ∷ []) seen ∙ ap (λ s. map subject_of_label labels ++ s ∷ []) (sym is)
+    map-append (λ (l : List ℕ × Subject). l.1) scope ((name, subject) ∷ []) ∙ ap (λ xs. xs ++ subject ∷ []) seen
+    ∙ ap (λ s. map subject_of_label labels ++ s ∷ []) (sym is)
     ∙ sym (map-append subject_of_label labels (label ∷ []))
 
-label_seen : (scope elder : Scope) (labels : List Label) (o : Option (List ℕ)) (subject : Subject) (label : Label) → subject_of_label label ≡ subject → AllMet (label_asked scope elder o) → AreSeen scope labels
+label_seen : (scope elder : Scope) (labels : List Label) (o : Option (List ℕ)) (subject : Subject) (label : Label)
+    → subject_of_label label ≡ subject → AllMet (label_asked scope elder o) → AreSeen scope labels
     → AreSeen (with_label o subject scope) (labels ++ added_if (is_some o) label)
 label_seen scope elder labels None subject label is met seen = seen ∙ ap (map subject_of_label) (sym (append-nil labels))
 label_seen scope elder labels (Some name) subject label is met seen =
@@ -174,7 +193,8 @@ is_named-append : (name : List ℕ) (xs ys : Scope) → is_named name (xs ++ ys)
 is_named-append name [] ys = refl
 is_named-append name (x ∷ xs) ys = by (bytes_eq name x.0) (is_named-append name xs ys)
   where
-    by : (b : Bool) → is_named name (xs ++ ys) ≡ (is_named name xs || is_named name ys) → is_some (cond b (Some x.1) (named name (xs ++ ys))) ≡ (is_some (cond b (Some x.1) (named name xs)) || is_named name ys)
+    by : (b : Bool) → is_named name (xs ++ ys) ≡ (is_named name xs || is_named name ys)
+        → is_some (cond b (Some x.1) (named name (xs ++ ys))) ≡ (is_some (cond b (Some x.1) (named name xs)) || is_named name ys)
     by true later = refl
     by false later = later
 
@@ -187,19 +207,25 @@ abbrev AreNew : Scope → Scope → Type 0
 AreNew scope elder = with_labels elder scope ≡ scope ++ elder
 
 -- a child's label joins its elder siblings'
-new_label : (scope elder : Scope) (o : Option (List ℕ)) → AllMet (label_asked scope elder o) → AreNew scope elder → AreNew scope (with_label o Outcome elder)
+new_label : (scope elder : Scope) (o : Option (List ℕ)) → AllMet (label_asked scope elder o) → AreNew scope elder
+    → AreNew scope (with_label o Outcome elder)
 new_label scope elder None met new = new
 new_label scope elder (Some name) met new =
     let fresh = label_is_new scope elder name met in
     let here = is_named-append name scope elder ∙ or_from (is_named name scope) (is_named name elder) fresh.0 fresh.1 in
-    ap (λ xs. with_labels xs scope) (with_new name Outcome elder fresh.1) ∙ with_labels-append elder ((name, Outcome) ∷ []) scope ∙ ap (with_label (Some name) Outcome) new
-    ∙ with_new name Outcome (scope ++ elder) here ∙ append_assoc scope elder ((name, Outcome) ∷ []) ∙ ap (λ xs. scope ++ xs) (sym (with_new name Outcome elder fresh.1))
+    ap (λ xs. with_labels xs scope) (with_new name Outcome elder fresh.1) ∙ with_labels-append elder ((name, Outcome) ∷ []) scope
+    ∙ ap (with_label (Some name) Outcome) new
+    ∙ with_new name Outcome (scope ++ elder) here ∙ append_assoc scope elder ((name, Outcome) ∷ [])
+    ∙ ap (λ xs. scope ++ xs) (sym (with_new name Outcome elder fresh.1))
 
-elder_subjects : (scope elder : Scope) (o : Option (List ℕ)) (labels : List Label) → AllMet (label_asked scope elder o) → subjects elder ≡ map subject_of_label labels → subjects (with_label o Outcome elder) ≡ map subject_of_label (labels ++ added_if (is_some o) OfSubaction)
+elder_subjects : (scope elder : Scope) (o : Option (List ℕ)) (labels : List Label) → AllMet (label_asked scope elder o)
+    → subjects elder ≡ map subject_of_label labels → subjects (with_label o Outcome elder) ≡ map subject_of_label
+    (labels ++ added_if (is_some o) OfSubaction)
 unfolding subject_of_label
 elder_subjects scope elder None labels met seen = seen ∙ ap (map subject_of_label) (sym (append-nil labels))
 elder_subjects scope elder (Some name) labels met seen =
-    ap subjects (with_new name Outcome elder (label_is_new scope elder name met).1) ∙ seen_more elder labels name Outcome OfSubaction refl seen
+    ap subjects (with_new name Outcome elder (label_is_new scope elder name met).1)
+    ∙ seen_more elder labels name Outcome OfSubaction refl seen
 
 depth_is_positive : (block : tree.Block) → 1 ≤ limits.depth block
 depth_is_positive NoStep = omega arith
@@ -211,7 +237,8 @@ GoodIf ks None labels levels operations nodes = (operations ≡ 0) × (nodes ≡
 GoodIf ks (Some block) labels levels operations nodes = GoodBlock ks block labels levels operations nodes
 
 -- one of three tests, by what is asked of it
-pick_test : (P : Test → Type 0) (a b : Bool) (x y z : Test × Numbers) (X Y Z : List Demand) → (AllMet X → P x.0) → (AllMet Y → P y.0) → (AllMet Z → P z.0) → AllMet (cond a X (cond b Y Z)) → P (cond a x (cond b y z)).0
+pick_test : (P : Test → Type 0) (a b : Bool) (x y z : Test × Numbers) (X Y Z : List Demand) → (AllMet X → P x.0) → (AllMet Y → P y.0)
+    → (AllMet Z → P z.0) → AllMet (cond a X (cond b Y Z)) → P (cond a x (cond b y z)).0
 pick_test P true b x y z X Y Z first second third met = first met
 pick_test P false true x y z X Y Z first second third met = second met
 pick_test P false false x y z X Y Z first second third met = third met
@@ -227,348 +254,510 @@ fitted subject (Some v) w e = by (fits_word subject v) refl e
 
 -- ---- the steps that hold blocks, over blocks that are good
 
-module _ (setting : Setting) (paired : length setting.names ≡ length setting.kinds) (n : ℕ) (asks : Scope → Data → List Demand) (block : Scope → Numbers → Data → tree.Block × Numbers)
-    (inner : (scope : Scope) (numbers : Numbers) (d : Data) (labels : List Label) → AreSeen scope labels → length scope + counted (asks scope d) < most_labels → AllMet (asks scope d)
-    → GoodBlock setting.kinds (block scope numbers d).0 labels n (count What.operations (asks scope d)) (count What.nodes (asks scope d))) where
-  block_if_good : (scope : Scope) (numbers : Numbers) (o : Option Data) (labels : List Label) → AreSeen scope labels → length scope + counted (block_asked_if asks scope o) < most_labels → AllMet (block_asked_if asks scope o)
-      → GoodIf setting.kinds (block_of_if block scope numbers o).0 labels n (count What.operations (block_asked_if asks scope o)) (count What.nodes (block_asked_if asks scope o))
-  unfolding block_asked_if block_of_if GoodIf
-  block_if_good scope numbers None labels seen few met = (refl, refl)
-  block_if_good scope numbers (Some d) labels seen few met = inner scope numbers d labels seen few met
+module _ (setting : Setting) (paired : length setting.names ≡ length setting.kinds) (n : ℕ) (asks : Scope → Data → List Demand)
+    (block : Scope → Numbers → Data → tree.Block × Numbers)
+    (inner : (scope : Scope) (numbers : Numbers) (d : Data) (labels : List Label) → AreSeen scope labels
+    → length scope + counted (asks scope d) < most_labels → AllMet (asks scope d)
+    → GoodBlock setting.kinds (block scope numbers d).0 labels n (count What.operations (asks scope d)) (count What.nodes (asks scope d)))
+  where
+    block_if_good : (scope : Scope) (numbers : Numbers) (o : Option Data) (labels : List Label) → AreSeen scope labels
+        → length scope + counted (block_asked_if asks scope o) < most_labels → AllMet (block_asked_if asks scope o)
+        → GoodIf setting.kinds (block_of_if block scope numbers o).0 labels n (count What.operations (block_asked_if asks scope o))
+        (count What.nodes (block_asked_if asks scope o))
+    unfolding block_asked_if block_of_if GoodIf
+    block_if_good scope numbers None labels seen few met = (refl, refl)
+    block_if_good scope numbers (Some d) labels seen few met = inner scope numbers d labels seen few met
 
-  else_good : (o : Option tree.Block) (labels : List Label) (operations nodes : ℕ) → 1 ≤ n → GoodIf setting.kinds o labels n operations nodes → GoodBlock setting.kinds (or_no_step o) labels n operations nodes
-  unfolding GoodIf
-  else_good None labels operations nodes deep good = record { fits = tt; operations_are = sym good.0; nodes_are = sym good.1; shallow = deep }
-  else_good (Some b) labels operations nodes deep good = good
+    else_good : (o : Option tree.Block) (labels : List Label) (operations nodes : ℕ) → 1 ≤ n
+        → GoodIf setting.kinds o labels n operations nodes → GoodBlock setting.kinds (or_no_step o) labels n operations nodes
+    unfolding GoodIf
+    else_good None labels operations nodes deep good = record {
+      fits = tt;
+      operations_are = sym good.0;
+      nodes_are = sym good.1;
+      shallow =
+          deep;
+    }
+    else_good (Some b) labels operations nodes deep good = good
 
-  test_fits_here : (subject : Subject) (numbers : Numbers) (d : Data) → AllMet (test_asked subject d) → fits (test_of subject numbers d).0 subject ≡ true
-  unfolding test_asked test_of
-  test_fits_here subject numbers d met =
-      pick_test (λ test. fits test subject ≡ true) (has (codes "is") d) (has (codes "atleast") d) _ _ _ (holds_word subject d) (holds_number subject d) (holds_item subject d)
-      (λ (m : AllMet (holds_word subject d)). let w = some_of (tested_word subject d) m.0 in let is = fitted subject (option_and_then word_of (text_member (codes "is") d)) w.0 w.1 in rw w.1 is) (λ (m : AllMet (holds_number subject d)). m.0) (λ (m : AllMet (holds_item subject d)). m.0) met
+    test_fits_here : (subject : Subject) (numbers : Numbers) (d : Data) → AllMet (test_asked subject d)
+        → fits (test_of subject numbers d).0 subject ≡ true
+    unfolding test_asked test_of
+    test_fits_here subject numbers d met =
+        pick_test (λ test. fits test subject ≡ true) (has (codes "is") d) (has (codes "atleast") d) _ _ _ (holds_word subject d)
+        (holds_number subject d) (holds_item subject d)
+        (λ (m : AllMet (holds_word subject d)). let w = some_of (tested_word subject d) m.0 in
+        let is = fitted subject (option_and_then word_of (text_member (codes "is") d)) w.0 w.1 in rw w.1 is)
+        (λ (m : AllMet (holds_number subject d)). m.0) (λ (m : AllMet (holds_item subject d)). m.0) met
 
-  if_good : (scope : Scope) (numbers : Numbers) (d : Data) (labels : List Label) → AreSeen scope labels → length scope + counted (if_asked asks scope d) < most_labels → AllMet (if_asked asks scope d)
-      → GoodStep setting.kinds (if_of block scope numbers d).0 labels n (count What.operations (if_asked asks scope d)) (count What.nodes (if_asked asks scope d))
-  unfolding if_asked if_of seen_asked
-  if_good scope numbers d labels seen few met =
-      let subject = subject_of (if_label d) scope in
-      let test = test_of subject numbers d in
-      let first = part (codes "then") d in
-      let second = get (codes "else") d in
-      let A = if_shape_asked d in
-      let B = one_more_node ∷ [] in
-      let C = seen_asked scope (if_label d) in
-      let D = test_asked subject d in
-      let E = asks scope first in
-      let F = block_asked_if asks scope second in
-      let ops = count_six What.operations A B C D E F in
-      let nds = count_six What.nodes A B C D E F in
-      let a1 = if_shape_counts What.operations d in let a2 = if_shape_counts What.nodes d in
-      let c1 = seen_counts What.operations scope (if_label d) in let c2 = seen_counts What.nodes scope (if_label d) in
-      let d1 = test_counts What.operations subject d in let d2 = test_counts What.nodes subject d in
-      let metE = rest_met (A ++ B ++ C ++ D) E (first_met (A ++ B ++ C ++ D ++ E) F met) in
-      let metF = rest_met (A ++ B ++ C ++ D ++ E) F met in
-      let metD = rest_met (A ++ B ++ C) D (first_met (A ++ B ++ C ++ D) E (first_met (A ++ B ++ C ++ D ++ E) F met)) in
-      let metC = rest_met (A ++ B) C (first_met (A ++ B ++ C) D (first_met (A ++ B ++ C ++ D) E (first_met (A ++ B ++ C ++ D ++ E) F met))) in
-      let here = some_of (named (if_label d) scope) metC.0 in
-      let is_subject : named (if_label d) scope ≡ Some subject = here.1 ∙ ap (λ s. Some s) (sym (ap (λ o. unwrap_or o Outcome) here.1)) in
-      let good = inner scope test.1 first labels seen (omega (arith, few, ops, nds)) metE in
-      let other = block_if_good scope (block scope test.1 first).1 second labels seen (omega (arith, few, ops, nds)) metF in
-      let deep = depth_is_positive (block scope test.1 first).0 in
-      let good2 = else_good (block_of_if block scope (block scope test.1 first).1 second).0 labels (count What.operations F) (count What.nodes F) (omega (arith, deep, good.shallow)) other in
-      record {
-        fits = (bound (if_label d) scope labels test.0 subject seen (omega (arith, few)) is_subject (test_fits_here subject numbers d metD), good.fits, good2.fits);
-        operations_are = omega (arith, ops, a1, c1, d1, good.operations_are, good2.operations_are);
-        nodes_are = omega (arith, nds, a2, c2, d2, good.nodes_are, good2.nodes_are);
-        shallow = max-le good.shallow good2.shallow;
-      }
+    if_good : (scope : Scope) (numbers : Numbers) (d : Data) (labels : List Label) → AreSeen scope labels
+        → length scope + counted (if_asked asks scope d) < most_labels → AllMet (if_asked asks scope d)
+        → GoodStep setting.kinds (if_of block scope numbers d).0 labels n (count What.operations (if_asked asks scope d))
+        (count What.nodes (if_asked asks scope d))
+    unfolding if_asked if_of seen_asked
+    if_good scope numbers d labels seen few met =
+        let subject = subject_of (if_label d) scope in
+        let test = test_of subject numbers d in
+        let first = part (codes "then") d in
+        let second = get (codes "else") d in
+        let A = if_shape_asked d in
+        let B = one_more_node ∷ [] in
+        let C = seen_asked scope (if_label d) in
+        let D = test_asked subject d in
+        let E = asks scope first in
+        let F = block_asked_if asks scope second in
+        let ops = count_six What.operations A B C D E F in
+        let nds = count_six What.nodes A B C D E F in
+        let a1 = if_shape_counts What.operations d in let a2 = if_shape_counts What.nodes d in
+        let c1 = seen_counts What.operations scope (if_label d) in let c2 = seen_counts What.nodes scope (if_label d) in
+        let d1 = test_counts What.operations subject d in let d2 = test_counts What.nodes subject d in
+        let metE = rest_met (A ++ B ++ C ++ D) E (first_met (A ++ B ++ C ++ D ++ E) F met) in
+        let metF = rest_met (A ++ B ++ C ++ D ++ E) F met in
+        let metD = rest_met (A ++ B ++ C) D (first_met (A ++ B ++ C ++ D) E (first_met (A ++ B ++ C ++ D ++ E) F met)) in
+        let metC = rest_met (A ++ B) C
+        (first_met (A ++ B ++ C) D (first_met (A ++ B ++ C ++ D) E (first_met (A ++ B ++ C ++ D ++ E) F met))) in
+        let here = some_of (named (if_label d) scope) metC.0 in
+        let is_subject : named (if_label d) scope ≡ Some subject = here.1 ∙ ap (λ s. Some s) (sym (ap (λ o. unwrap_or o Outcome) here.1)) in
+        let good = inner scope test.1 first labels seen (omega (arith, few, ops, nds)) metE in
+        let other = block_if_good scope (block scope test.1 first).1 second labels seen (omega (arith, few, ops, nds)) metF in
+        let deep = depth_is_positive (block scope test.1 first).0 in
+        let good2 = else_good (block_of_if block scope (block scope test.1 first).1 second).0 labels (count What.operations F)
+        (count What.nodes F) (omega (arith, deep, good.shallow)) other in
+        record {
+          fits = (
+            bound (if_label d) scope labels test.0 subject seen (omega (arith, few)) is_subject
+                (test_fits_here subject numbers d metD),
+            good.fits,
+            good2.fits,
+          );
+          operations_are = omega (arith, ops, a1, c1, d1, good.operations_are, good2.operations_are);
+          nodes_are = omega (arith, nds, a2, c2, d2, good.nodes_are, good2.nodes_are);
+          shallow = max-le good.shallow good2.shallow;
+        }
 
-  members_good : (scope : Scope) (numbers : Numbers) (ds : Members) (others : Handlers) (labels : List Label) (operations nodes : ℕ) → AreSeen scope labels → length scope + counted (members_asked asks scope ds) < most_labels → AllMet (members_asked asks scope ds)
-      → GoodHandlers setting.kinds others labels n operations nodes
-      → GoodHandlers setting.kinds (for_reasons (members_of block scope numbers ds).0 others) labels n (count What.operations (members_asked asks scope ds) + operations) (count What.nodes (members_asked asks scope ds) + nodes)
-  members_good scope numbers no_members others labels operations nodes seen few met good =
-      record { fits = good.fits; operations_are = omega (arith, good.operations_are); nodes_are = omega (arith, good.nodes_are); shallow = good.shallow }
-  members_good scope numbers (member reason d ds) others labels operations nodes seen few met good =
-      let A = member_asked asks scope reason d in
-      let B = members_asked asks scope ds in
-      let ops = count-append What.operations A B in
-      let nds = count-append What.nodes A B in
-      let here = inner scope (with_reason reason numbers) d labels seen (omega (arith, few, ops, nds)) (first_met A B met).1 in
-      let rest = members_good scope (member_of block scope numbers reason d).1 ds others labels operations nodes seen (omega (arith, few, ops, nds)) (rest_met A B met) good in
-      record {
-        fits = (here.fits, rest.fits);
-        operations_are = omega (arith, ops, here.operations_are, rest.operations_are);
-        nodes_are = omega (arith, nds, here.nodes_are, rest.nodes_are);
-        shallow = max-le here.shallow rest.shallow;
-      }
+    members_good : (scope : Scope) (numbers : Numbers) (ds : Members) (others : Handlers) (labels : List Label) (operations nodes : ℕ)
+        → AreSeen scope labels → length scope + counted (members_asked asks scope ds) < most_labels → AllMet (members_asked asks scope ds)
+        → GoodHandlers setting.kinds others labels n operations nodes
+        → GoodHandlers setting.kinds (for_reasons (members_of block scope numbers ds).0 others) labels n
+        (count What.operations (members_asked asks scope ds) + operations) (count What.nodes (members_asked asks scope ds) + nodes)
+    members_good scope numbers no_members others labels operations nodes seen few met good =
+        record {
+          fits = good.fits;
+          operations_are = omega (arith, good.operations_are);
+          nodes_are = omega (arith, good.nodes_are);
+          shallow =
+              good.shallow;
+        }
+    members_good scope numbers (member reason d ds) others labels operations nodes seen few met good =
+        let A = member_asked asks scope reason d in
+        let B = members_asked asks scope ds in
+        let ops = count-append What.operations A B in
+        let nds = count-append What.nodes A B in
+        let here = inner scope (with_reason reason numbers) d labels seen (omega (arith, few, ops, nds)) (first_met A B met).1 in
+        let rest = members_good scope (member_of block scope numbers reason d).1 ds others labels operations nodes seen
+        (omega (arith, few, ops, nds)) (rest_met A B met) good in
+        record {
+          fits = (here.fits, rest.fits);
+          operations_are = omega (arith, ops, here.operations_are, rest.operations_are);
+          nodes_are = omega (arith, nds, here.nodes_are, rest.nodes_are);
+          shallow = max-le here.shallow rest.shallow;
+        }
 
-  last_good : (h : Option tree.Block) (labels : List Label) (operations nodes : ℕ) → GoodIf setting.kinds h labels n operations nodes → GoodHandlers setting.kinds (handlers_of None h) labels n operations nodes
-  unfolding GoodIf
-  last_good None labels operations nodes good = record { fits = tt; operations_are = sym good.0; nodes_are = sym good.1; shallow = omega arith }
-  last_good (Some b) labels operations nodes good = record { fits = good.fits; operations_are = good.operations_are; nodes_are = good.nodes_are; shallow = good.shallow }
+    last_good : (h : Option tree.Block) (labels : List Label) (operations nodes : ℕ) → GoodIf setting.kinds h labels n operations nodes
+        → GoodHandlers setting.kinds (handlers_of None h) labels n operations nodes
+    unfolding GoodIf
+    last_good None labels operations nodes good = record {
+      fits = tt;
+      operations_are = sym good.0;
+      nodes_are = sym good.1;
+      shallow =
+          omega arith;
+    }
+    last_good (Some b) labels operations nodes good = record {
+      fits = good.fits;
+      operations_are = good.operations_are;
+      nodes_are =
+          good.nodes_are;
+      shallow = good.shallow;
+    }
 
-  pass_good : (h : Option tree.Block) (labels : List Label) (operations nodes : ℕ) → GoodIf setting.kinds h labels n operations nodes → GoodHandlers setting.kinds (handlers_of (Some []) h) labels n operations nodes
-  unfolding GoodIf
-  pass_good None labels operations nodes good = record { fits = tt; operations_are = sym good.0; nodes_are = sym good.1; shallow = omega arith }
-  pass_good (Some b) labels operations nodes good = record { fits = good.fits; operations_are = good.operations_are; nodes_are = good.nodes_are; shallow = good.shallow }
+    pass_good : (h : Option tree.Block) (labels : List Label) (operations nodes : ℕ) → GoodIf setting.kinds h labels n operations nodes
+        → GoodHandlers setting.kinds (handlers_of (Some []) h) labels n operations nodes
+    unfolding GoodIf
+    pass_good None labels operations nodes good = record {
+      fits = tt;
+      operations_are = sym good.0;
+      nodes_are = sym good.1;
+      shallow =
+          omega arith;
+    }
+    pass_good (Some b) labels operations nodes good = record {
+      fits = good.fits;
+      operations_are = good.operations_are;
+      nodes_are =
+          good.nodes_are;
+      shallow = good.shallow;
+    }
 
-  by_reason : (list : List (ℕ × tree.Block)) (h : Option tree.Block) → handlers_of (Some list) h ≡ for_reasons list (handlers_of (Some []) h)
-  by_reason list None = refl
-  by_reason list (Some b) = refl
+    by_reason : (list : List (ℕ × tree.Block)) (h : Option tree.Block) → handlers_of (Some list) h ≡ for_reasons list
+        (handlers_of (Some []) h)
+    by_reason list None = refl
+    by_reason list (Some b) = refl
 
-  handlers_good : (scope : Scope) (numbers : Numbers) (o : Option Members) (h : Option tree.Block) (labels : List Label) (operations nodes : ℕ) → AreSeen scope labels → length scope + counted (handlers_asked asks scope o) < most_labels → AllMet (handlers_asked asks scope o)
-      → GoodIf setting.kinds h labels n operations nodes
-      → GoodHandlers setting.kinds (handlers_of (handlers_spelled block scope numbers o).0 h) labels n (count What.operations (handlers_asked asks scope o) + operations) (count What.nodes (handlers_asked asks scope o) + nodes)
-  unfolding handlers_asked handlers_spelled
-  handlers_good scope numbers None h labels operations nodes seen few met good =
-      let last = last_good h labels operations nodes good in
-      record { fits = last.fits; operations_are = omega (arith, last.operations_are); nodes_are = omega (arith, last.nodes_are); shallow = last.shallow }
-  handlers_good scope numbers (Some ds) h labels operations nodes seen few met good =
-      rw (by_reason (members_of block scope numbers ds).0 h) (members_good scope numbers ds (handlers_of (Some []) h) labels operations nodes seen few met (pass_good h labels operations nodes good))
+    handlers_good : (scope : Scope) (numbers : Numbers) (o : Option Members) (h : Option tree.Block) (labels : List Label)
+        (operations nodes : ℕ) → AreSeen scope labels → length scope + counted (handlers_asked asks scope o) < most_labels
+        → AllMet (handlers_asked asks scope o)
+        → GoodIf setting.kinds h labels n operations nodes
+        → GoodHandlers setting.kinds (handlers_of (handlers_spelled block scope numbers o).0 h) labels n
+        (count What.operations (handlers_asked asks scope o) + operations) (count What.nodes (handlers_asked asks scope o) + nodes)
+    unfolding handlers_asked handlers_spelled
+    handlers_good scope numbers None h labels operations nodes seen few met good =
+        let last = last_good h labels operations nodes good in
+        record {
+          fits = last.fits;
+          operations_are = omega (arith, last.operations_are);
+          nodes_are = omega (arith, last.nodes_are);
+          shallow =
+              last.shallow;
+        }
+    handlers_good scope numbers (Some ds) h labels operations nodes seen few met good =
+        rw (by_reason (members_of block scope numbers ds).0 h)
+        (members_good scope numbers ds (handlers_of (Some []) h) labels operations nodes seen few met
+        (pass_good h labels operations nodes good))
 
-  sub_good : (scope elder : Scope) (numbers : Numbers) (d : Data) (labels : List Label) → AreSeen scope labels → length scope + counted (sub_asked setting.version asks scope elder d) < most_labels → AllMet (sub_asked setting.version asks scope elder d)
-      → GoodTried setting.kinds (sub_of block scope numbers d).0 labels n (count What.operations (sub_asked setting.version asks scope elder d)) (count What.nodes (sub_asked setting.version asks scope elder d))
-  unfolding sub_asked sub_of
-  sub_good scope elder numbers d labels seen few met =
-      let body = part (codes "sub") d in
-      let by_reasons = handlers_in d in
-      let last = get (codes "handler") d in
-      let A = sub_shape_asked setting.version d in
-      let B = one_more_node ∷ [] in
-      let C = label_asked scope elder (label_in d) in
-      let D = asks scope body in
-      let E = handlers_asked asks scope by_reasons in
-      let F = block_asked_if asks scope last in
-      let ops = count_six What.operations A B C D E F in
-      let nds = count_six What.nodes A B C D E F in
-      let a1 = sub_shape_counts What.operations setting.version d in let a2 = sub_shape_counts What.nodes setting.version d in
-      let c1 = label_counts What.operations scope elder (label_in d) in let c2 = label_counts What.nodes scope elder (label_in d) in
-      let metF = rest_met (A ++ B ++ C ++ D ++ E) F met in
-      let metE = rest_met (A ++ B ++ C ++ D) E (first_met (A ++ B ++ C ++ D ++ E) F met) in
-      let metD = rest_met (A ++ B ++ C) D (first_met (A ++ B ++ C ++ D) E (first_met (A ++ B ++ C ++ D ++ E) F met)) in
-      let after = (block scope numbers body).1 in
-      let later = (handlers_spelled block scope after by_reasons).1 in
-      let good = inner scope numbers body labels seen (omega (arith, few, ops, nds)) metD in
-      let other = block_if_good scope later last labels seen (omega (arith, few, ops, nds)) metF in
-      let handlers = handlers_good scope after by_reasons (block_of_if block scope later last).0 labels (count What.operations F) (count What.nodes F) seen (omega (arith, few, ops, nds)) metE other in
-      record {
-        body_fits = good.fits;
-        handlers_fit = handlers.fits;
-        operations_are = omega (arith, ops, a1, c1, good.operations_are, handlers.operations_are);
-        nodes_are = omega (arith, nds, a2, c2, good.nodes_are, handlers.nodes_are);
-        body_shallow = good.shallow;
-        handlers_shallow = handlers.shallow;
-      }
+    sub_good : (scope elder : Scope) (numbers : Numbers) (d : Data) (labels : List Label) → AreSeen scope labels
+        → length scope + counted (sub_asked setting.version asks scope elder d) < most_labels
+        → AllMet (sub_asked setting.version asks scope elder d)
+        → GoodTried setting.kinds (sub_of block scope numbers d).0 labels n
+        (count What.operations (sub_asked setting.version asks scope elder d))
+        (count What.nodes (sub_asked setting.version asks scope elder d))
+    unfolding sub_asked sub_of
+    sub_good scope elder numbers d labels seen few met =
+        let body = part (codes "sub") d in
+        let by_reasons = handlers_in d in
+        let last = get (codes "handler") d in
+        let A = sub_shape_asked setting.version d in
+        let B = one_more_node ∷ [] in
+        let C = label_asked scope elder (label_in d) in
+        let D = asks scope body in
+        let E = handlers_asked asks scope by_reasons in
+        let F = block_asked_if asks scope last in
+        let ops = count_six What.operations A B C D E F in
+        let nds = count_six What.nodes A B C D E F in
+        let a1 = sub_shape_counts What.operations setting.version d in let a2 = sub_shape_counts What.nodes setting.version d in
+        let c1 = label_counts What.operations scope elder (label_in d) in let c2 = label_counts What.nodes scope elder (label_in d) in
+        let metF = rest_met (A ++ B ++ C ++ D ++ E) F met in
+        let metE = rest_met (A ++ B ++ C ++ D) E (first_met (A ++ B ++ C ++ D ++ E) F met) in
+        let metD = rest_met (A ++ B ++ C) D (first_met (A ++ B ++ C ++ D) E (first_met (A ++ B ++ C ++ D ++ E) F met)) in
+        let after = (block scope numbers body).1 in
+        let later = (handlers_spelled block scope after by_reasons).1 in
+        let good = inner scope numbers body labels seen (omega (arith, few, ops, nds)) metD in
+        let other = block_if_good scope later last labels seen (omega (arith, few, ops, nds)) metF in
+        let handlers = handlers_good scope after by_reasons (block_of_if block scope later last).0 labels (count What.operations F)
+        (count What.nodes F) seen (omega (arith, few, ops, nds)) metE other in
+        record {
+          body_fits = good.fits;
+          handlers_fit = handlers.fits;
+          operations_are = omega (arith, ops, a1, c1, good.operations_are, handlers.operations_are);
+          nodes_are = omega (arith, nds, a2, c2, good.nodes_are, handlers.nodes_are);
+          body_shallow = good.shallow;
+          handlers_shallow = handlers.shallow;
+        }
 
-  -- the label of a subaction was checked, and it counts for one node at least
-  sub_label : (scope elder : Scope) (d : Data) → AllMet (sub_asked setting.version asks scope elder d) → AllMet (label_asked scope elder (label_in d))
-  unfolding sub_asked
-  sub_label scope elder d met =
-      let A = sub_shape_asked setting.version d in
-      let B = one_more_node ∷ [] in
-      let C = label_asked scope elder (label_in d) in
-      let D = asks scope (part (codes "sub") d) in
-      let E = handlers_asked asks scope (handlers_in d) in
-      let F = block_asked_if asks scope (get (codes "handler") d) in
-      rest_met (A ++ B) C (first_met (A ++ B ++ C) D (first_met (A ++ B ++ C ++ D) E (first_met (A ++ B ++ C ++ D ++ E) F met)))
+    -- the label of a subaction was checked, and it counts for one node at least
+    sub_label : (scope elder : Scope) (d : Data) → AllMet (sub_asked setting.version asks scope elder d)
+        → AllMet (label_asked scope elder (label_in d))
+    unfolding sub_asked
+    sub_label scope elder d met =
+        let A = sub_shape_asked setting.version d in
+        let B = one_more_node ∷ [] in
+        let C = label_asked scope elder (label_in d) in
+        let D = asks scope (part (codes "sub") d) in
+        let E = handlers_asked asks scope (handlers_in d) in
+        let F = block_asked_if asks scope (get (codes "handler") d) in
+        rest_met (A ++ B) C (first_met (A ++ B ++ C) D (first_met (A ++ B ++ C ++ D) E (first_met (A ++ B ++ C ++ D ++ E) F met)))
 
-  sub_is_node : (scope elder : Scope) (d : Data) → 1 ≤ count What.nodes (sub_asked setting.version asks scope elder d)
-  unfolding sub_asked
-  sub_is_node scope elder d =
-      omega (arith, count_six What.nodes (sub_shape_asked setting.version d) (one_more_node ∷ []) (label_asked scope elder (label_in d)) (asks scope (part (codes "sub") d)) (handlers_asked asks scope (handlers_in d)) (block_asked_if asks scope (get (codes "handler") d)))
+    sub_is_node : (scope elder : Scope) (d : Data) → 1 ≤ count What.nodes (sub_asked setting.version asks scope elder d)
+    unfolding sub_asked
+    sub_is_node scope elder d =
+        omega (
+          arith,
+          count_six What.nodes (sub_shape_asked setting.version d) (one_more_node ∷ []) (label_asked scope elder (label_in d))
+              (asks scope (part (codes "sub") d)) (handlers_asked asks scope (handlers_in d))
+              (block_asked_if asks scope (get (codes "handler") d)),
+        )
 
-  sub_labelled : (scope : Scope) (numbers : Numbers) (d : Data) → (sub_of block scope numbers d).0.labelled ≡ is_some (label_in d)
-  unfolding sub_of
-  sub_labelled scope numbers d = refl
+    sub_labelled : (scope : Scope) (numbers : Numbers) (d : Data) → (sub_of block scope numbers d).0.labelled ≡ is_some (label_in d)
+    unfolding sub_of
+    sub_labelled scope numbers d = refl
 
-  children_good : (scope elder : Scope) (numbers : Numbers) (ds : Items) (labels : List Label) → AreSeen scope labels → length scope + counted (children_asked setting.version asks scope elder ds) < most_labels → AllMet (children_asked setting.version asks scope elder ds)
-      → GoodChildren setting.kinds (children_of (children_spelled block scope numbers ds).0) labels n (count What.operations (children_asked setting.version asks scope elder ds)) (count What.nodes (children_asked setting.version asks scope elder ds))
-  children_good scope elder numbers no_items labels seen few met = record { fits = tt; operations_are = refl; nodes_are = refl; shallow = omega arith }
-  children_good scope elder numbers (item d ds) labels seen few met =
-      let A = sub_asked setting.version asks scope elder d in
-      let next = with_label (label_in d) Outcome elder in
-      let B = children_asked setting.version asks scope next ds in
-      let ops = count-append What.operations A B in
-      let nds = count-append What.nodes A B in
-      let here = sub_good scope elder numbers d labels seen (omega (arith, few, ops, nds)) (first_met A B met) in
-      let rest = children_good scope next (sub_of block scope numbers d).1 ds labels seen (omega (arith, few, ops, nds)) (rest_met A B met) in
-      record {
-        fits = (here.body_fits, here.handlers_fit, rest.fits);
-        operations_are = omega (arith, ops, here.operations_are, rest.operations_are);
-        nodes_are = omega (arith, nds, here.nodes_are, rest.nodes_are);
-        shallow = max-le (max-le here.body_shallow here.handlers_shallow) rest.shallow;
-      }
+    children_good : (scope elder : Scope) (numbers : Numbers) (ds : Items) (labels : List Label) → AreSeen scope labels
+        → length scope + counted (children_asked setting.version asks scope elder ds) < most_labels
+        → AllMet (children_asked setting.version asks scope elder ds)
+        → GoodChildren setting.kinds (children_of (children_spelled block scope numbers ds).0) labels n
+        (count What.operations (children_asked setting.version asks scope elder ds))
+        (count What.nodes (children_asked setting.version asks scope elder ds))
+    children_good scope elder numbers no_items labels seen few met = record {
+      fits = tt;
+      operations_are = refl;
+      nodes_are = refl;
+      shallow =
+          omega arith;
+    }
+    children_good scope elder numbers (item d ds) labels seen few met =
+        let A = sub_asked setting.version asks scope elder d in
+        let next = with_label (label_in d) Outcome elder in
+        let B = children_asked setting.version asks scope next ds in
+        let ops = count-append What.operations A B in
+        let nds = count-append What.nodes A B in
+        let here = sub_good scope elder numbers d labels seen (omega (arith, few, ops, nds)) (first_met A B met) in
+        let rest = children_good scope next (sub_of block scope numbers d).1 ds labels seen (omega (arith, few, ops, nds))
+        (rest_met A B met) in
+        record {
+          fits = (here.body_fits, here.handlers_fit, rest.fits);
+          operations_are = omega (arith, ops, here.operations_are, rest.operations_are);
+          nodes_are = omega (arith, nds, here.nodes_are, rest.nodes_are);
+          shallow = max-le (max-le here.body_shallow here.handlers_shallow) rest.shallow;
+        }
 
-  -- the children's labels: new, those of the spelled children, and not more than the children
-  children_labels : (scope elder : Scope) (numbers : Numbers) (ds : Items) (labels : List Label) → AllMet (children_asked setting.version asks scope elder ds) → AreNew scope elder → subjects elder ≡ map subject_of_label labels
-      → AreNew scope (labels_of elder ds) × (subjects (labels_of elder ds) ≡ map subject_of_label (labels ++ added_by_children (children_of (children_spelled block scope numbers ds).0)))
-      × (length (labels_of elder ds) ≤ length elder + count What.nodes (children_asked setting.version asks scope elder ds))
-  children_labels scope elder numbers no_items labels met new seen = (new, seen ∙ ap (map subject_of_label) (sym (append-nil labels)), omega arith)
-  children_labels scope elder numbers (item d ds) labels met new seen =
-      let A = sub_asked setting.version asks scope elder d in
-      let next = with_label (label_in d) Outcome elder in
-      let B = children_asked setting.version asks scope next ds in
-      let checked = sub_label scope elder d (first_met A B met) in
-      let one = added_if (is_some (label_in d)) OfSubaction in
-      let rest = children_labels scope next (sub_of block scope numbers d).1 ds (labels ++ one) (rest_met A B met) (new_label scope elder (label_in d) checked new) (elder_subjects scope elder (label_in d) labels checked seen) in
-      let later = added_by_children (children_of (children_spelled block scope (sub_of block scope numbers d).1 ds).0) in (
-        rest.0,
-        rest.1 ∙ ap (map subject_of_label) (append_assoc labels one later ∙ ap (λ b. labels ++ (added_if b OfSubaction ++ later)) (sym (sub_labelled scope numbers d))),
-        omega (arith, rest.2, grows_by (label_in d) Outcome elder, count-append What.nodes A B, sub_is_node scope elder d),
-      )
+    -- the children's labels: new, those of the spelled children, and not more than the children
+    children_labels : (scope elder : Scope) (numbers : Numbers) (ds : Items) (labels : List Label)
+        → AllMet (children_asked setting.version asks scope elder ds) → AreNew scope elder → subjects elder ≡ map subject_of_label labels
+        → AreNew scope (labels_of elder ds)
+        × (subjects (labels_of elder ds) ≡ map subject_of_label
+        (labels ++ added_by_children (children_of (children_spelled block scope numbers ds).0)))
+        × (length (labels_of elder ds) ≤ length elder + count What.nodes (children_asked setting.version asks scope elder ds))
+    children_labels scope elder numbers no_items labels met new seen = (
+      new,
+      seen ∙ ap (map subject_of_label) (sym (append-nil labels)),
+      omega arith,
+    )
+    children_labels scope elder numbers (item d ds) labels met new seen =
+        let A = sub_asked setting.version asks scope elder d in
+        let next = with_label (label_in d) Outcome elder in
+        let B = children_asked setting.version asks scope next ds in
+        let checked = sub_label scope elder d (first_met A B met) in
+        let one = added_if (is_some (label_in d)) OfSubaction in
+        let rest = children_labels scope next (sub_of block scope numbers d).1 ds (labels ++ one) (rest_met A B met)
+        (new_label scope elder (label_in d) checked new) (elder_subjects scope elder (label_in d) labels checked seen) in
+        let later = added_by_children (children_of (children_spelled block scope (sub_of block scope numbers d).1 ds).0) in (
+          rest.0,
+          rest.1 ∙ ap (map subject_of_label) (append_assoc labels one later ∙ ap (λ b. labels ++ (added_if b OfSubaction ++ later))
+              (sym (sub_labelled scope numbers d))),
+          omega (arith, rest.2, grows_by (label_in d) Outcome elder, count-append What.nodes A B, sub_is_node scope elder d),
+        )
 
-  -- ---- any step
+    -- ---- any step
 
-  operation_good : (scope : Scope) (numbers : Numbers) (d : Data) (labels : List Label) → AllMet (operation_asked setting scope d)
-      → GoodStep setting.kinds (operation_of setting numbers d).0 labels n (count What.operations (operation_asked setting scope d)) (count What.nodes (operation_asked setting scope d))
-  unfolding operation_asked operation_of
-  operation_good scope numbers d labels met =
-      let op = part (codes "op") d in
-      let A = operation_shape_asked d in
-      let B = one_more_operation setting.version ∷ [] in
-      let C = target_asked setting (object_of op) (call_named op) in
-      let D = arguments_asked (verb_in setting op) op in
-      let E = label_asked scope [] (label_in d) in
-      let metC = rest_met (A ++ B) C (first_met (A ++ B ++ C) D (first_met (A ++ B ++ C ++ D) E met)) in
-      record {
-        fits = call_fits setting numbers op paired metC;
-        operations_are = omega (arith, count_five What.operations A B C D E, operation_shape_counts What.operations d, target_counts What.operations setting (object_of op) (call_named op), arguments_count What.operations (verb_in setting op) op, label_counts What.operations scope [] (label_in d));
-        nodes_are = omega (arith, count_five What.nodes A B C D E, operation_shape_counts What.nodes d, target_counts What.nodes setting (object_of op) (call_named op), arguments_count What.nodes (verb_in setting op) op, label_counts What.nodes scope [] (label_in d));
-        shallow = omega arith;
-      }
+    operation_good : (scope : Scope) (numbers : Numbers) (d : Data) (labels : List Label) → AllMet (operation_asked setting scope d)
+        → GoodStep setting.kinds (operation_of setting numbers d).0 labels n (count What.operations (operation_asked setting scope d))
+        (count What.nodes (operation_asked setting scope d))
+    unfolding operation_asked operation_of
+    operation_good scope numbers d labels met =
+        let op = part (codes "op") d in
+        let A = operation_shape_asked d in
+        let B = one_more_operation setting.version ∷ [] in
+        let C = target_asked setting (object_of op) (call_named op) in
+        let D = arguments_asked (verb_in setting op) op in
+        let E = label_asked scope [] (label_in d) in
+        let metC = rest_met (A ++ B) C (first_met (A ++ B ++ C) D (first_met (A ++ B ++ C ++ D) E met)) in
+        record {
+          fits = call_fits setting numbers op paired metC;
+          operations_are = omega (
+            arith,
+            count_five What.operations A B C D E,
+            operation_shape_counts What.operations d,
+            target_counts What.operations setting (object_of op) (call_named op),
+            arguments_count What.operations (verb_in setting op) op,
+            label_counts What.operations scope [] (label_in d),
+          );
+          nodes_are = omega (
+            arith,
+            count_five What.nodes A B C D E,
+            operation_shape_counts What.nodes d,
+            target_counts What.nodes setting
+                (object_of op) (call_named op),
+            arguments_count What.nodes (verb_in setting op) op,
+            label_counts What.nodes scope []
+                (label_in d),
+          );
+          shallow = omega arith;
+        }
 
-  abort_good : (scope : Scope) (numbers : Numbers) (d : Data) (labels : List Label)
-      → GoodStep setting.kinds (abort_of numbers d).0 labels n (count What.operations (abort_asked setting.version d)) (count What.nodes (abort_asked setting.version d))
-  unfolding abort_asked abort_shape_asked abort_of
-  abort_good scope numbers d labels =
-      let A = abort_shape_asked setting.version d in
-      let B = reason_asked (as_str (part (codes "abort") d)) in
-      record {
-        fits = tt;
-        operations_are = omega (arith, count-append What.operations A B, reason_counts What.operations (as_str (part (codes "abort") d)));
-        nodes_are = omega (arith, count-append What.nodes A B, reason_counts What.nodes (as_str (part (codes "abort") d)));
-        shallow = omega arith;
-      }
+    abort_good : (scope : Scope) (numbers : Numbers) (d : Data) (labels : List Label)
+        → GoodStep setting.kinds (abort_of numbers d).0 labels n (count What.operations (abort_asked setting.version d))
+        (count What.nodes (abort_asked setting.version d))
+    unfolding abort_asked abort_shape_asked abort_of
+    abort_good scope numbers d labels =
+        let A = abort_shape_asked setting.version d in
+        let B = reason_asked (as_str (part (codes "abort") d)) in
+        record {
+          fits = tt;
+          operations_are = omega (arith, count-append What.operations A B, reason_counts What.operations (as_str (part (codes "abort") d)));
+          nodes_are = omega (arith, count-append What.nodes A B, reason_counts What.nodes (as_str (part (codes "abort") d)));
+          shallow = omega arith;
+        }
 
-  parallel_good : (scope : Scope) (numbers : Numbers) (d : Data) (labels : List Label) → AreSeen scope labels → length scope + counted (parallel_asked setting.version asks scope d) < most_labels → AllMet (parallel_asked setting.version asks scope d)
-      → GoodStep setting.kinds (parallel_of block scope numbers d).0 labels n (count What.operations (parallel_asked setting.version asks scope d)) (count What.nodes (parallel_asked setting.version asks scope d))
-  unfolding parallel_asked parallel_of
-  parallel_good scope numbers d labels seen few met =
-      let A = parallel_shape_asked d in
-      let B = one_more_node ∷ [] in
-      let C = children_asked setting.version asks scope [] (children_in d) in
-      let ops = count_three What.operations A B C in
-      let nds = count_three What.nodes A B C in
-      let a1 = parallel_shape_counts What.operations d in let a2 = parallel_shape_counts What.nodes d in
-      let good = children_good scope [] numbers (children_in d) labels seen (omega (arith, few, ops, nds)) (rest_met (A ++ B) C met) in
-      record {
-        fits = good.fits;
-        operations_are = omega (arith, ops, a1, good.operations_are);
-        nodes_are = omega (arith, nds, a2, good.nodes_are);
-        shallow = good.shallow;
-      }
+    parallel_good : (scope : Scope) (numbers : Numbers) (d : Data) (labels : List Label) → AreSeen scope labels
+        → length scope + counted (parallel_asked setting.version asks scope d) < most_labels
+        → AllMet (parallel_asked setting.version asks scope d)
+        → GoodStep setting.kinds (parallel_of block scope numbers d).0 labels n
+        (count What.operations (parallel_asked setting.version asks scope d))
+        (count What.nodes (parallel_asked setting.version asks scope d))
+    unfolding parallel_asked parallel_of
+    parallel_good scope numbers d labels seen few met =
+        let A = parallel_shape_asked d in
+        let B = one_more_node ∷ [] in
+        let C = children_asked setting.version asks scope [] (children_in d) in
+        let ops = count_three What.operations A B C in
+        let nds = count_three What.nodes A B C in
+        let a1 = parallel_shape_counts What.operations d in let a2 = parallel_shape_counts What.nodes d in
+        let good = children_good scope [] numbers (children_in d) labels seen (omega (arith, few, ops, nds)) (rest_met (A ++ B) C met) in
+        record {
+          fits = good.fits;
+          operations_are = omega (arith, ops, a1, good.operations_are);
+          nodes_are = omega (arith, nds, a2, good.nodes_are);
+          shallow = good.shallow;
+        }
 
-  parallel_labels : (scope : Scope) (numbers : Numbers) (d : Data) (labels : List Label) → AreSeen scope labels → AllMet (parallel_asked setting.version asks scope d)
-      → AreSeen (with_labels (labels_of [] (children_in d)) scope) (labels ++ added_by (parallel_of block scope numbers d).0)
-      × (length (with_labels (labels_of [] (children_in d)) scope) ≤ length scope + counted (parallel_asked setting.version asks scope d))
-  unfolding parallel_asked parallel_of
-  parallel_labels scope numbers d labels seen met =
-      let A = parallel_shape_asked d in
-      let B = one_more_node ∷ [] in
-      let C = children_asked setting.version asks scope [] (children_in d) in
-      let elder = labels_of [] (children_in d) in
-      let added = added_by_children (children_of (children_spelled block scope numbers (children_in d)).0) in
-      let here = children_labels scope [] numbers (children_in d) [] (rest_met (A ++ B) C met) (sym (append-nil scope)) refl in
-      let is : with_labels elder scope ≡ scope ++ elder = here.0 in (
-        ap subjects is ∙ map-append (λ (l : List ℕ × Subject). l.1) scope elder ∙ ap (λ xs. xs ++ subjects elder) seen ∙ ap (λ xs. map subject_of_label labels ++ xs) here.1 ∙ sym (map-append subject_of_label labels added),
-        omega (arith, ap length is, length-append scope elder, here.2, count_three What.nodes A B C),
-      )
+    parallel_labels : (scope : Scope) (numbers : Numbers) (d : Data) (labels : List Label) → AreSeen scope labels
+        → AllMet (parallel_asked setting.version asks scope d)
+        → AreSeen (with_labels (labels_of [] (children_in d)) scope) (labels ++ added_by (parallel_of block scope numbers d).0)
+        × (length (with_labels (labels_of [] (children_in d)) scope) ≤ length scope + counted (parallel_asked setting.version asks scope d))
+    unfolding parallel_asked parallel_of
+    parallel_labels scope numbers d labels seen met =
+        let A = parallel_shape_asked d in
+        let B = one_more_node ∷ [] in
+        let C = children_asked setting.version asks scope [] (children_in d) in
+        let elder = labels_of [] (children_in d) in
+        let added = added_by_children (children_of (children_spelled block scope numbers (children_in d)).0) in
+        let here = children_labels scope [] numbers (children_in d) [] (rest_met (A ++ B) C met) (sym (append-nil scope)) refl in
+        let is : with_labels elder scope ≡ scope ++ elder = here.0 in (
+          ap subjects is ∙ map-append (λ (l : List ℕ × Subject). l.1) scope elder ∙ ap (λ xs. xs ++ subjects elder) seen
+              ∙ ap (λ xs. map subject_of_label labels ++ xs) here.1 ∙ sym (map-append subject_of_label labels added),
+          omega (arith, ap length is, length-append scope elder, here.2, count_three What.nodes A B C),
+        )
 
-  operation_labels : (scope : Scope) (numbers : Numbers) (d : Data) (labels : List Label) → AreSeen scope labels → AllMet (operation_asked setting scope d)
-      → AreSeen (with_label (label_in d) (Reply (verb_in setting (part (codes "op") d))) scope) (labels ++ added_by (operation_of setting numbers d).0)
-      × (length (with_label (label_in d) (Reply (verb_in setting (part (codes "op") d))) scope) ≤ length scope + counted (operation_asked setting scope d))
-  unfolding operation_asked operation_of subject_of_label
-  operation_labels scope numbers d labels seen met =
-      let op = part (codes "op") d in
-      let verb = verb_in setting op in
-      let A = operation_shape_asked d in
-      let B = one_more_operation setting.version ∷ [] in
-      let C = target_asked setting (object_of op) (call_named op) in
-      let D = arguments_asked verb op in
-      let E = label_asked scope [] (label_in d) in (
-        label_seen scope [] labels (label_in d) (Reply verb) (OfCall (call_of verb numbers op).0) (ap (λ v. Reply v) (verb_is verb numbers op)) (rest_met (A ++ B ++ C ++ D) E met) seen,
-        omega (arith, grows_by (label_in d) (Reply verb) scope, count_five What.operations A B C D E),
-      )
+    operation_labels : (scope : Scope) (numbers : Numbers) (d : Data) (labels : List Label) → AreSeen scope labels
+        → AllMet (operation_asked setting scope d)
+        → AreSeen (with_label (label_in d) (Reply (verb_in setting (part (codes "op") d))) scope)
+        (labels ++ added_by (operation_of setting numbers d).0)
+        × (length (with_label (label_in d) (Reply (verb_in setting (part (codes "op") d))) scope) ≤ length scope + counted
+        (operation_asked setting scope d))
+    unfolding operation_asked operation_of subject_of_label
+    operation_labels scope numbers d labels seen met =
+        let op = part (codes "op") d in
+        let verb = verb_in setting op in
+        let A = operation_shape_asked d in
+        let B = one_more_operation setting.version ∷ [] in
+        let C = target_asked setting (object_of op) (call_named op) in
+        let D = arguments_asked verb op in
+        let E = label_asked scope [] (label_in d) in (
+          label_seen scope [] labels (label_in d) (Reply verb) (OfCall (call_of verb numbers op).0)
+              (ap (λ v. Reply v) (verb_is verb numbers op)) (rest_met (A ++ B ++ C ++ D) E met) seen,
+          omega (arith, grows_by (label_in d) (Reply verb) scope, count_five What.operations A B C D E),
+        )
 
-  nothing_added : (scope : Scope) (labels : List Label) → AreSeen scope labels → AreSeen scope (labels ++ [])
-  nothing_added scope labels seen = seen ∙ ap (map subject_of_label) (sym (append-nil labels))
+    nothing_added : (scope : Scope) (labels : List Label) → AreSeen scope labels → AreSeen scope (labels ++ [])
+    nothing_added scope labels seen = seen ∙ ap (map subject_of_label) (sym (append-nil labels))
 
-  outcome_is : subject_of_label OfSubaction ≡ Outcome
-  unfolding subject_of_label
-  outcome_is = refl
+    outcome_is : subject_of_label OfSubaction ≡ Outcome
+    unfolding subject_of_label
+    outcome_is = refl
 
-  if_adds_none : (scope : Scope) (numbers : Numbers) (d : Data) (labels : List Label) → AreSeen scope labels → AreSeen scope (labels ++ added_by (if_of block scope numbers d).0)
-  unfolding if_of
-  if_adds_none scope numbers d labels seen = nothing_added scope labels seen
+    if_adds_none : (scope : Scope) (numbers : Numbers) (d : Data) (labels : List Label) → AreSeen scope labels
+        → AreSeen scope (labels ++ added_by (if_of block scope numbers d).0)
+    unfolding if_of
+    if_adds_none scope numbers d labels seen = nothing_added scope labels seen
 
-  abort_adds_none : (scope : Scope) (numbers : Numbers) (d : Data) (labels : List Label) → AreSeen scope labels → AreSeen scope (labels ++ added_by (abort_of numbers d).0)
-  unfolding abort_of
-  abort_adds_none scope numbers d labels seen = nothing_added scope labels seen
+    abort_adds_none : (scope : Scope) (numbers : Numbers) (d : Data) (labels : List Label) → AreSeen scope labels
+        → AreSeen scope (labels ++ added_by (abort_of numbers d).0)
+    unfolding abort_of
+    abort_adds_none scope numbers d labels seen = nothing_added scope labels seen
 
-  by_sort : (sort : Option Sort) (scope : Scope) (numbers : Numbers) (d : Data) (labels : List Label) → AreSeen scope labels → length scope + counted (step_asked_by sort asks setting scope d) < most_labels → AllMet (step_asked_by sort asks setting scope d)
-      → GoodStep setting.kinds (step_of_by sort block setting scope numbers d).0 labels n (count What.operations (step_asked_by sort asks setting scope d)) (count What.nodes (step_asked_by sort asks setting scope d))
-      × AreSeen (scope_after_by sort setting scope d) (labels ++ added_by (step_of_by sort block setting scope numbers d).0)
-      × (length (scope_after_by sort setting scope d) ≤ length scope + counted (step_asked_by sort asks setting scope d))
-  by_sort None scope numbers d labels seen few met = cc
-  by_sort (Some an_operation) scope numbers d labels seen few met =
-      let behind = operation_labels scope numbers d labels seen met in
-      (operation_good scope numbers d labels met, behind.0, behind.1)
-  by_sort (Some an_if) scope numbers d labels seen few met = (if_good scope numbers d labels seen few met, if_adds_none scope numbers d labels seen, omega arith)
-  by_sort (Some a_sub) scope numbers d labels seen few met =
-      let good = sub_good scope [] numbers d labels seen few met in
-      let child = (sub_of block scope numbers d).0 in (
-        record { fits = (good.body_fits, good.handlers_fit); operations_are = good.operations_are; nodes_are = good.nodes_are; shallow = max-le good.body_shallow good.handlers_shallow },
-        label_seen scope [] labels (label_in d) Outcome OfSubaction outcome_is (sub_label scope [] d met) seen ∙ ap (λ b. map subject_of_label (labels ++ added_if b OfSubaction)) (sym (sub_labelled scope numbers d)),
-        omega (arith, grows_by (label_in d) Outcome scope, sub_is_node scope [] d),
-      )
-  by_sort (Some an_abort) scope numbers d labels seen few met = (abort_good scope numbers d labels, abort_adds_none scope numbers d labels seen, omega arith)
-  by_sort (Some a_parallel) scope numbers d labels seen few met =
-      let behind = parallel_labels scope numbers d labels seen met in
-      (parallel_good scope numbers d labels seen few met, behind.0, behind.1)
+    by_sort : (sort : Option Sort) (scope : Scope) (numbers : Numbers) (d : Data) (labels : List Label) → AreSeen scope labels
+        → length scope + counted (step_asked_by sort asks setting scope d) < most_labels → AllMet (step_asked_by sort asks setting scope d)
+        → GoodStep setting.kinds (step_of_by sort block setting scope numbers d).0 labels n
+        (count What.operations (step_asked_by sort asks setting scope d)) (count What.nodes (step_asked_by sort asks setting scope d))
+        × AreSeen (scope_after_by sort setting scope d) (labels ++ added_by (step_of_by sort block setting scope numbers d).0)
+        × (length (scope_after_by sort setting scope d) ≤ length scope + counted (step_asked_by sort asks setting scope d))
+    by_sort None scope numbers d labels seen few met = cc
+    by_sort (Some an_operation) scope numbers d labels seen few met =
+        let behind = operation_labels scope numbers d labels seen met in
+        (operation_good scope numbers d labels met, behind.0, behind.1)
+    by_sort (Some an_if) scope numbers d labels seen few met =
+        (if_good scope numbers d labels seen few met, if_adds_none scope numbers d labels seen, omega arith)
+    by_sort (Some a_sub) scope numbers d labels seen few met =
+        let good = sub_good scope [] numbers d labels seen few met in
+        let child = (sub_of block scope numbers d).0 in (
+          record {
+            fits = (good.body_fits, good.handlers_fit);
+            operations_are = good.operations_are;
+            nodes_are = good.nodes_are;
+            shallow =
+                max-le good.body_shallow good.handlers_shallow;
+          },
+          label_seen scope [] labels (label_in d) Outcome OfSubaction outcome_is (sub_label scope [] d met) seen
+              ∙ ap (λ b. map subject_of_label (labels ++ added_if b OfSubaction)) (sym (sub_labelled scope numbers d)),
+          omega (arith, grows_by (label_in d) Outcome scope, sub_is_node scope [] d),
+        )
+    by_sort (Some an_abort) scope numbers d labels seen few met =
+        (abort_good scope numbers d labels, abort_adds_none scope numbers d labels seen, omega arith)
+    by_sort (Some a_parallel) scope numbers d labels seen few met =
+        let behind = parallel_labels scope numbers d labels seen met in
+        (parallel_good scope numbers d labels seen few met, behind.0, behind.1)
 
-  steps_good : (scope : Scope) (numbers : Numbers) (ds : Items) (labels : List Label) → AreSeen scope labels → length scope + counted (steps_asked asks setting scope ds) < most_labels → AllMet (steps_asked asks setting scope ds)
-      → GoodBlock setting.kinds (steps_of (steps_spelled block setting scope numbers ds).0) labels (suc n) (count What.operations (steps_asked asks setting scope ds)) (count What.nodes (steps_asked asks setting scope ds))
-  unfolding step_asked step_of scope_after
-  steps_good scope numbers no_items labels seen few met = record { fits = tt; operations_are = refl; nodes_are = refl; shallow = omega arith }
-  steps_good scope numbers (item d ds) labels seen few met =
-      let A = step_asked asks setting scope d in
-      let next = scope_after setting scope d in
-      let B = steps_asked asks setting next ds in
-      let ops = count-append What.operations A B in
-      let nds = count-append What.nodes A B in
-      let here = by_sort (sort_of d) scope numbers d labels seen (omega (arith, few, ops, nds)) (first_met A B met) in
-      let step = step_of block setting scope numbers d in
-      let rest = steps_good next step.1 ds (labels ++ added_by step.0) here.1 (omega (arith, few, here.2, ops, nds)) (rest_met A B met) in
-      record {
-        fits = (here.0.fits, rest.fits);
-        operations_are = omega (arith, ops, here.0.operations_are, rest.operations_are);
-        nodes_are = omega (arith, nds, here.0.nodes_are, rest.nodes_are);
-        shallow = max-le (omega (arith, here.0.shallow)) rest.shallow;
-      }
+    steps_good : (scope : Scope) (numbers : Numbers) (ds : Items) (labels : List Label) → AreSeen scope labels
+        → length scope + counted (steps_asked asks setting scope ds) < most_labels → AllMet (steps_asked asks setting scope ds)
+        → GoodBlock setting.kinds (steps_of (steps_spelled block setting scope numbers ds).0) labels (suc n)
+        (count What.operations (steps_asked asks setting scope ds)) (count What.nodes (steps_asked asks setting scope ds))
+    unfolding step_asked step_of scope_after
+    steps_good scope numbers no_items labels seen few met = record {
+      fits = tt;
+      operations_are = refl;
+      nodes_are = refl;
+      shallow =
+          omega arith;
+    }
+    steps_good scope numbers (item d ds) labels seen few met =
+        let A = step_asked asks setting scope d in
+        let next = scope_after setting scope d in
+        let B = steps_asked asks setting next ds in
+        let ops = count-append What.operations A B in
+        let nds = count-append What.nodes A B in
+        let here = by_sort (sort_of d) scope numbers d labels seen (omega (arith, few, ops, nds)) (first_met A B met) in
+        let step = step_of block setting scope numbers d in
+        let rest = steps_good next step.1 ds (labels ++ added_by step.0) here.1 (omega (arith, few, here.2, ops, nds)) (rest_met A B met) in
+        record {
+          fits = (here.0.fits, rest.fits);
+          operations_are = omega (arith, ops, here.0.operations_are, rest.operations_are);
+          nodes_are = omega (arith, nds, here.0.nodes_are, rest.nodes_are);
+          shallow = max-le (omega (arith, here.0.shallow)) rest.shallow;
+        }
 
-  array_good : (scope : Scope) (numbers : Numbers) (o : Option Items) (labels : List Label) → AreSeen scope labels → length scope + counted (array_asked (steps_asked asks setting scope) o) < most_labels → AllMet (array_asked (steps_asked asks setting scope) o)
-      → GoodBlock setting.kinds (steps_of (steps_spelled block setting scope numbers (or_no_items o)).0) labels (suc n) (count What.operations (array_asked (steps_asked asks setting scope) o)) (count What.nodes (array_asked (steps_asked asks setting scope) o))
-  array_good scope numbers None labels seen few met = cc
-  array_good scope numbers (Some ds) labels seen few met = steps_good scope numbers ds labels seen few met
+    array_good : (scope : Scope) (numbers : Numbers) (o : Option Items) (labels : List Label) → AreSeen scope labels
+        → length scope + counted (array_asked (steps_asked asks setting scope) o) < most_labels
+        → AllMet (array_asked (steps_asked asks setting scope) o)
+        → GoodBlock setting.kinds (steps_of (steps_spelled block setting scope numbers (or_no_items o)).0) labels (suc n)
+        (count What.operations (array_asked (steps_asked asks setting scope) o))
+        (count What.nodes (array_asked (steps_asked asks setting scope) o))
+    array_good scope numbers None labels seen few met = cc
+    array_good scope numbers (Some ds) labels seen few met = steps_good scope numbers ds labels seen few met
 
 -- ---- blocks
 
-pub block_good : (setting : Setting) → length setting.names ≡ length setting.kinds → (n : ℕ) (scope : Scope) (numbers : Numbers) (d : Data) (labels : List Label) → AreSeen scope labels → length scope + counted (block_asked setting n scope d) < most_labels → AllMet (block_asked setting n scope d)
-    → GoodBlock setting.kinds (block_of setting n scope numbers d).0 labels n (count What.operations (block_asked setting n scope d)) (count What.nodes (block_asked setting n scope d))
+pub block_good : (setting : Setting) → length setting.names ≡ length setting.kinds → (n : ℕ) (scope : Scope) (numbers : Numbers) (d : Data)
+    (labels : List Label) → AreSeen scope labels → length scope + counted (block_asked setting n scope d) < most_labels
+    → AllMet (block_asked setting n scope d)
+    → GoodBlock setting.kinds (block_of setting n scope numbers d).0 labels n (count What.operations (block_asked setting n scope d))
+    (count What.nodes (block_asked setting n scope d))
 unfolding block_asked block_of
 block_good setting paired zero scope numbers d labels seen few met = too_deep (as_array d) met
   where
-    too_deep : (o : Option Items) → AllMet (array_asked (λ ds. holds false Depth ∷ []) o) → GoodBlock setting.kinds NoStep labels zero (count What.operations (array_asked (λ ds. holds false Depth ∷ []) o)) (count What.nodes (array_asked (λ ds. holds false Depth ∷ []) o))
+    too_deep : (o : Option Items) → AllMet (array_asked (λ ds. holds false Depth ∷ []) o) → GoodBlock setting.kinds NoStep labels zero
+        (count What.operations (array_asked (λ ds. holds false Depth ∷ []) o))
+        (count What.nodes (array_asked (λ ds. holds false Depth ∷ []) o))
     too_deep None met = cc
     too_deep (Some ds) met = cc
-block_good setting paired (suc n) scope numbers d labels seen few met = array_good setting paired n (block_asked setting n) (block_of setting n) (block_good setting paired n) scope numbers (as_array d) labels seen few met
+block_good setting paired (suc n) scope numbers d labels seen few met = array_good setting paired n (block_asked setting n)
+    (block_of setting n) (block_good setting paired n) scope numbers (as_array d) labels seen few met

@@ -1,7 +1,8 @@
 -- What a document with no fault spells is a batch.
 use Rattle.std.specs.FinMap as finite_map
 use Rattle.std.specs.FinSet as finite_set
-use Rattle.std.proofs.Common.{◌≡◌, ℕ, ◌+◌, ◌≤◌, ◌<◌, Bool, true, false, cond, ◌&&◌, List, [], ◌∷◌, ◌++◌, length, Option, None, Some, refl, sym, subst, ◌∙◌, arith}
+use Rattle.std.proofs.Common.{◌≡◌, ℕ, ◌+◌, ◌≤◌, ◌<◌, Bool, true, false, cond, ◌&&◌, List, [], ◌∷◌, ◌++◌, length, Option, None, Some, refl}
+use Rattle.std.proofs.Common.{sym, subst, ◌∙◌, arith}
 use Rattle.std.specs.Prelude.{ℤ, pos, negsuc, nat_abs, nat_le, codes, unwrap_or, option_and_then}
 use Rattle.std.proofs.lemmas.Bool.{leb-true, and_parts}
 use Rattle.std.proofs.Math.Nat.{max-le}
@@ -21,9 +22,13 @@ use Rattle.lang.specs.Demand.{first_fault, no_counts}
 use Rattle.lang.specs.Look
 use Rattle.lang.specs.Look.{whole}
 use Rattle.lang.specs.Scope.{Numbers, Setting, Table, no_numbers}
-use Rattle.lang.specs.Asked.{array_start_asked, asked, block_asked, document_shape_asked, element_asked, elements_asked, entries_asked, entry_asked, kind_in, kinds_of, names_of, object_asked, object_name, object_name_asked, object_shape_asked, objects_asked, objects_in, or_no_items, pair_asked, pairs_asked, part, setting_in, signed_within, start_asked, text_of, key_of, transactions_asked, transactions_in, version_in}
+use Rattle.lang.specs.Asked.{array_start_asked, asked, block_asked, document_shape_asked, element_asked, elements_asked, entries_asked}
+use Rattle.lang.specs.Asked.{entry_asked, kind_in, kinds_of, names_of, object_asked, object_name, object_name_asked, object_shape_asked}
+use Rattle.lang.specs.Asked.{objects_asked, objects_in, or_no_items, pair_asked, pairs_asked, part, setting_in, signed_within, start_asked}
+use Rattle.lang.specs.Asked.{text_of, key_of, transactions_asked, transactions_in, version_in}
 use Rattle.lang.specs.Scope.{with_item, with_text}
-use Rattle.lang.specs.Spelled.{bind_all, block_of, blocks_of, document_in, entries_of, or_zero, pair_of, pairs_of, parts_in, put_all, start_of, starts_of}
+use Rattle.lang.specs.Spelled.{bind_all, block_of, blocks_of, document_in, entries_of, or_zero, pair_of, pairs_of, parts_in, put_all}
+use Rattle.lang.specs.Spelled.{start_of, starts_of}
 use Rattle.lang.proofs.Faultless.{block_good, counted, most_labels}
 use Rattle.lang.proofs.Later.{blocks_later, values_later}
 use Rattle.lang.proofs.ListLemmas.{kinds_of_starts}
@@ -41,8 +46,10 @@ record GoodBlocks (ks : List Kind) (blocks : List tree.Block) (operations nodes 
   operations_are : all_operations blocks ≡ operations
   nodes_are : all_nodes blocks ≡ nodes
 
-blocks_good : (setting : Setting) → length setting.names ≡ length setting.kinds → (number : ℕ) (numbers : Numbers) (ds : Items) → counted (transactions_asked number setting ds) < most_labels → AllMet (transactions_asked number setting ds)
-    → GoodBlocks setting.kinds (blocks_of setting numbers ds).0 (count What.operations (transactions_asked number setting ds)) (count What.nodes (transactions_asked number setting ds))
+blocks_good : (setting : Setting) → length setting.names ≡ length setting.kinds → (number : ℕ) (numbers : Numbers) (ds : Items)
+    → counted (transactions_asked number setting ds) < most_labels → AllMet (transactions_asked number setting ds)
+    → GoodBlocks setting.kinds (blocks_of setting numbers ds).0 (count What.operations (transactions_asked number setting ds))
+    (count What.nodes (transactions_asked number setting ds))
 blocks_good setting paired number numbers no_items few met = record { fit = tt; shallow = tt; operations_are = refl; nodes_are = refl }
 blocks_good setting paired number numbers (item d ds) few met =
     let A = block_asked setting 24 [] d in
@@ -50,7 +57,8 @@ blocks_good setting paired number numbers (item d ds) few met =
     let ops = count-append What.operations A B in
     let nds = count-append What.nodes A B in
     let here = block_good setting paired 24 [] numbers d [] refl (omega (arith, few, ops, nds)) (first_met A B met) in
-    let rest = blocks_good setting paired (number + 1) (block_of setting 24 [] numbers d).1 ds (omega (arith, few, ops, nds)) (rest_met A B met) in
+    let rest = blocks_good setting paired (number + 1) (block_of setting 24 [] numbers d).1 ds (omega (arith, few, ops, nds))
+    (rest_met A B met) in
     record {
       fit = (here.fits, rest.fit);
       shallow = (here.shallow, rest.shallow);
@@ -74,7 +82,8 @@ kinds_are_many version (item d ds) = let rest = kinds_are_many version ds in ome
 
 starts_are_many : (version : ℕ) (numbers : Numbers) (ds : Items) → length (starts_of version numbers ds).0 ≡ items_len ds
 starts_are_many version numbers no_items = refl
-starts_are_many version numbers (item d ds) = let rest = starts_are_many version (start_of (kind_in version d) numbers (part (codes "start") d)).1 ds in omega arith
+starts_are_many version numbers (item d ds) = let rest = starts_are_many version
+    (start_of (kind_in version d) numbers (part (codes "start") d)).1 ds in omega arith
 
 -- ---- starting entries
 
@@ -92,16 +101,19 @@ pair_counts earlier d = refl
 
 entries_count : (numbers : Numbers) (ds : Items) → length (entries_of numbers ds).0 ≡ count What.starts (entries_asked ds)
 entries_count numbers no_items = refl
-entries_count numbers (item d ds) = let rest = entries_count (with_item (text_of d) numbers) ds in omega (arith, rest, entry_counts d, count-append What.starts (entry_asked d) (entries_asked ds))
+entries_count numbers (item d ds) = let rest = entries_count (with_item (text_of d) numbers) ds in
+    omega (arith, rest, entry_counts d, count-append What.starts (entry_asked d) (entries_asked ds))
 
-elements_count : (numbers : Numbers) (earlier : Table) (ds : Items) → length (entries_of numbers ds).0 ≡ count What.starts (elements_asked earlier ds)
+elements_count : (numbers : Numbers) (earlier : Table) (ds : Items) → length (entries_of numbers ds).0 ≡ count What.starts
+    (elements_asked earlier ds)
 elements_count numbers earlier no_items = refl
 elements_count numbers earlier (item d ds) =
     let next = with_text (text_of d) earlier in
     let rest = elements_count (with_item (text_of d) numbers) next ds in
     omega (arith, rest, element_counts earlier d, count-append What.starts (element_asked earlier d) (elements_asked next ds))
 
-pairs_count : (numbers : Numbers) (earlier : Table) (ds : Items) → length (pairs_of numbers ds).0 ≡ count What.starts (pairs_asked earlier ds)
+pairs_count : (numbers : Numbers) (earlier : Table) (ds : Items) → length (pairs_of numbers ds).0 ≡ count What.starts
+    (pairs_asked earlier ds)
 pairs_count numbers earlier no_items = refl
 pairs_count numbers earlier (item d ds) =
     let next = with_text (key_of d) earlier in
@@ -112,7 +124,8 @@ pairs_count numbers earlier (item d ds) =
 insert_len : (s : finite_set.FinSet item_cmp) (x : Item) → finite_set.len (finite_set.insert s x) ≤ finite_set.len s + 1
 insert_len s x = by (finite_set.contains s x) (finite_set.len-insert items_total s x)
   where
-    by : (b : Bool) → finite_set.len (finite_set.insert s x) ≡ cond b (finite_set.len s) (finite_set.len s + 1) → finite_set.len (finite_set.insert s x) ≤ finite_set.len s + 1
+    by : (b : Bool) → finite_set.len (finite_set.insert s x) ≡ cond b (finite_set.len s) (finite_set.len s + 1)
+        → finite_set.len (finite_set.insert s x) ≤ finite_set.len s + 1
     by true e = omega arith
     by false e = omega arith
 
@@ -123,28 +136,44 @@ put_all_len s (x ∷ xs) = omega (arith, put_all_len (finite_set.insert s x) xs,
 bind_len : (m : finite_map.FinMap item_cmp Item) (k v : Item) → finite_map.len (finite_map.insert m k v) ≤ finite_map.len m + 1
 bind_len m k v = by (finite_map.contains_key m k) (finite_map.len-insert items_total m k v)
   where
-    by : (b : Bool) → finite_map.len (finite_map.insert m k v) ≡ cond b (finite_map.len m) (finite_map.len m + 1) → finite_map.len (finite_map.insert m k v) ≤ finite_map.len m + 1
+    by : (b : Bool) → finite_map.len (finite_map.insert m k v) ≡ cond b (finite_map.len m) (finite_map.len m + 1)
+        → finite_map.len (finite_map.insert m k v) ≤ finite_map.len m + 1
     by true e = omega arith
     by false e = omega arith
 
-bind_all_len : (m : finite_map.FinMap item_cmp Item) (es : List (Item × Item)) → finite_map.len (bind_all m es) ≤ finite_map.len m + length es
+bind_all_len : (m : finite_map.FinMap item_cmp Item) (es : List (Item × Item))
+    → finite_map.len (bind_all m es) ≤ finite_map.len m + length es
 bind_all_len m [] = omega arith
 bind_all_len m (e ∷ es) = omega (arith, bind_all_len (finite_map.insert m e.0 e.1) es, bind_len m e.0 e.1)
 
-set_start : (numbers : Numbers) (o : Option Items) → finite_set.len (put_all finite_set.empty (entries_of numbers (or_no_items o)).0) ≤ count What.starts (array_start_asked (elements_asked []) o)
+set_start : (numbers : Numbers) (o : Option Items) → finite_set.len (put_all finite_set.empty (entries_of numbers (or_no_items o)).0)
+    ≤ count What.starts (array_start_asked (elements_asked []) o)
 unfolding array_start_asked
 set_start numbers None = omega (arith, finite_set.len-empty item_cmp)
-set_start numbers (Some ds) = omega (arith, finite_set.len-empty item_cmp, put_all_len finite_set.empty (entries_of numbers ds).0, elements_count numbers [] ds)
+set_start numbers (Some ds) = omega (
+  arith,
+  finite_set.len-empty item_cmp,
+  put_all_len finite_set.empty (entries_of numbers ds).0,
+  elements_count numbers [] ds,
+)
 
-queue_start : (numbers : Numbers) (o : Option Items) → length (entries_of numbers (or_no_items o)).0 ≤ count What.starts (array_start_asked entries_asked o)
+queue_start : (numbers : Numbers) (o : Option Items) → length (entries_of numbers (or_no_items o)).0 ≤ count What.starts
+    (array_start_asked entries_asked o)
 unfolding array_start_asked
 queue_start numbers None = omega arith
 queue_start numbers (Some ds) = omega (arith, entries_count numbers ds)
 
-directory_start : (numbers : Numbers) (o : Option Items) → finite_map.len (bind_all finite_map.empty (pairs_of numbers (or_no_items o)).0) ≤ count What.starts (array_start_asked (pairs_asked []) o)
+directory_start : (numbers : Numbers) (o : Option Items) → finite_map.len (bind_all finite_map.empty (pairs_of numbers (or_no_items o)).0)
+    ≤ count What.starts (array_start_asked (pairs_asked []) o)
 unfolding array_start_asked
 directory_start numbers None = omega (arith, finite_map.len-empty item_cmp Item)
-directory_start numbers (Some ds) = omega (arith, finite_map.len-empty item_cmp Item, bind_all_len finite_map.empty (pairs_of numbers ds).0, pairs_count numbers [] ds)
+directory_start numbers (Some ds) = omega (
+  arith,
+  finite_map.len-empty item_cmp Item,
+  bind_all_len finite_map.empty
+      (pairs_of numbers ds).0,
+  pairs_count numbers [] ds,
+)
 
 start_counts : (k : Kind) (numbers : Numbers) (d : Data) → entries_in (start_of k numbers d).0 ≤ count What.starts (start_asked k d)
 unfolding start_of start_asked
@@ -155,7 +184,8 @@ start_counts kind.Queue numbers d = queue_start numbers (as_array d)
 start_counts kind.Directory numbers d = directory_start numbers (as_array d)
 start_counts kind.Max numbers d = omega arith
 
-object_counts : (version : ℕ) (names : Table) (numbers : Numbers) (d : Data) → entries_in (start_of (kind_in version d) numbers (part (codes "start") d)).0 ≤ count What.starts (object_asked version names d)
+object_counts : (version : ℕ) (names : Table) (numbers : Numbers) (d : Data)
+    → entries_in (start_of (kind_in version d) numbers (part (codes "start") d)).0 ≤ count What.starts (object_asked version names d)
 unfolding object_asked
 object_counts version names numbers d =
     let A = object_shape_asked version d in
@@ -163,12 +193,19 @@ object_counts version names numbers d =
     let C = start_asked (kind_in version d) (part (codes "start") d) in
     omega (arith, start_counts (kind_in version d) numbers (part (codes "start") d), count-append What.starts (A ++ B) C)
 
-starts_count : (version : ℕ) (names : Table) (numbers : Numbers) (ds : Items) → all_entries_in (starts_of version numbers ds).0 ≤ count What.starts (objects_asked version names ds)
+starts_count : (version : ℕ) (names : Table) (numbers : Numbers) (ds : Items)
+    → all_entries_in (starts_of version numbers ds).0 ≤ count What.starts (objects_asked version names ds)
 starts_count version names numbers no_items = omega arith
 starts_count version names numbers (item d ds) =
     let next = names ++ object_name d ∷ [] in
     let rest = starts_count version next (start_of (kind_in version d) numbers (part (codes "start") d)).1 ds in
-    omega (arith, rest, object_counts version names numbers d, count-append What.starts (object_asked version names d) (objects_asked version next ds))
+    omega (
+      arith,
+      rest,
+      object_counts version names numbers d,
+      count-append What.starts (object_asked version names d)
+          (objects_asked version next ds),
+    )
 
 -- ---- starting numbers
 
@@ -202,7 +239,8 @@ start_is_small kind.Max numbers d = at_most 1_000_000_000_000_000 (whole d)
 starts_are_small : (version : ℕ) (numbers : Numbers) (ds : Items) → largest (starts_of version numbers ds).0 ≤ 1_000_000_000_000_000
 starts_are_small version numbers no_items = omega arith
 starts_are_small version numbers (item d ds) =
-    max-le (start_is_small (kind_in version d) numbers (part (codes "start") d)) (starts_are_small version (start_of (kind_in version d) numbers (part (codes "start") d)).1 ds)
+    max-le (start_is_small (kind_in version d) numbers (part (codes "start") d))
+    (starts_are_small version (start_of (kind_in version d) numbers (part (codes "start") d)).1 ds)
 
 -- ---- the document
 
@@ -210,7 +248,8 @@ few : (d : Data) → AllMet (document_shape_asked d) → (items_len (objects_in 
 unfolding document_shape_asked
 few d met = (leb-true (items_len (objects_in d)) 1000 met.1.1.1.1.0, leb-true (items_len (transactions_in d)) 10000 met.1.1.1.1.1.0)
 
-met_is_batch : (d : Data) → AllMet (asked d) → count What.starts (asked d) ≤ 100000 → count What.operations (asked d) ≤ 1000000 → count What.nodes (asked d) ≤ 100000
+met_is_batch : (d : Data) → AllMet (asked d) → count What.starts (asked d) ≤ 100000 → count What.operations (asked d) ≤ 1000000
+    → count What.nodes (asked d) ≤ 100000
     → IsBatch (document_in d).start (document_in d).texts (document_in d).transactions
 unfolding asked document_in parts_in
 met_is_batch d met few_starts few_operations few_nodes =
@@ -226,17 +265,21 @@ met_is_batch d met few_starts few_operations few_nodes =
     let ops = count-append What.operations (A ++ B) C in
     let nds = count-append What.nodes (A ++ B) C in
     let after = (starts_of version no_numbers (objects_in d)).1 in
-    let good = blocks_good setting paired 1 after (transactions_in d) (omega (arith, ops, nds, few_operations, few_nodes)) (rest_met (A ++ B) C met) in
+    let good = blocks_good setting paired 1 after (transactions_in d) (omega (arith, ops, nds, few_operations, few_nodes))
+    (rest_met (A ++ B) C met) in
     let texts = (document_in d).texts in
     let starts = starts_numbered version [] no_numbers (objects_in d) in
     let transactions = blocks_numbered setting 1 after (transactions_in d) in
     let last = (blocks_of setting after (transactions_in d)).1 in
     let all = grows_on no_numbers after last (A ++ B) C (grows_behind no_numbers after A B starts.grows) transactions.grows in
     record {
-      well_formed = subst (AllWellFormed (blocks_of setting after (transactions_in d)).0) (sym (kinds_of_starts version no_numbers (objects_in d))) good.fit;
+      well_formed = subst (AllWellFormed (blocks_of setting after (transactions_in d)).0)
+          (sym (kinds_of_starts version no_numbers (objects_in d))) good.fit;
       named = names ∙ sym many;
-      named_starts = values_later (texts_in after) texts transactions.grows.items transactions.grows.reasons (starts_of version no_numbers (objects_in d)).0 starts.named;
-      named_transactions = blocks_later (texts_in last) texts (omega arith) (omega arith) (blocks_of setting after (transactions_in d)).0 transactions.named;
+      named_starts = values_later (texts_in after) texts transactions.grows.items transactions.grows.reasons
+          (starts_of version no_numbers (objects_in d)).0 starts.named;
+      named_transactions = blocks_later (texts_in last) texts (omega arith) (omega arith) (blocks_of setting after (transactions_in d)).0
+          transactions.named;
       object_names = objects_named version [] (objects_in d) (rest_met A B (first_met (A ++ B) C met));
       item_names = all.item_names met refl;
       reason_names = all.reason_names met refl;
@@ -245,13 +288,21 @@ met_is_batch d met few_starts few_operations few_nodes =
       few_operations = omega (arith, few_operations, ops, good.operations_are);
       few_nodes = omega (arith, few_nodes, nds, good.nodes_are);
       shallow = good.shallow;
-      few_entries = omega (arith, few_starts, starts_count version [] no_numbers (objects_in d), count-append What.starts A B, count-append What.starts (A ++ B) C);
+      few_entries = omega (
+        arith,
+        few_starts,
+        starts_count version [] no_numbers (objects_in d),
+        count-append What.starts A B,
+        count-append What.starts (A ++ B) C,
+      );
       small = starts_are_small version no_numbers (objects_in d);
     }
 
 -- the law that a batch keeps
-pub faultless_is_batch : (d : Data) → first_fault (asked d) ≡ None → IsBatch (document_in d).start (document_in d).texts (document_in d).transactions
+pub faultless_is_batch : (d : Data) → first_fault (asked d) ≡ None → IsBatch (document_in d).start (document_in d).texts
+    (document_in d).transactions
 faultless_is_batch d none =
     let all = faultless (asked d) none in
     let p = passed (asked d) no_counts all.0 all.1 in
-    met_is_batch d p.met (omega (arith, p.starts, p.few_starts (omega arith))) (omega (arith, p.operations, p.few_operations (omega arith))) (omega (arith, p.nodes, p.few_nodes (omega arith)))
+    met_is_batch d p.met (omega (arith, p.starts, p.few_starts (omega arith)))
+    (omega (arith, p.operations, p.few_operations (omega arith))) (omega (arith, p.nodes, p.few_nodes (omega arith)))

@@ -1,5 +1,6 @@
 -- Labels, as the entries of a map.
-use Rattle.std.proofs.Common.{◌≡◌, ◌+◌, ◌<◌, ℕ, Bool, true, false, not, cond, ◌||◌, Ok, List, [], ◌∷◌, ◌++◌, take, drop, length, get_or, Option, Some, None, String, Global, string_bytes, is_some, add-one, append_assoc, refl, sym, ap, ap₂, ◌∙◌}
+use Rattle.std.proofs.Common.{◌≡◌, ◌+◌, ◌<◌, ℕ, Bool, true, false, not, cond, ◌||◌, Ok, List, [], ◌∷◌, ◌++◌, take, drop, length, get_or}
+use Rattle.std.proofs.Common.{Option, Some, None, String, Global, string_bytes, is_some, add-one, append_assoc, refl, sym, ap, ap₂, ◌∙◌}
 use Rattle.std.specs.Prelude.{slice_get}
 use Rattle.std.proofs.Math.Seq.{drop-cons}
 use Rattle.std.proofs.lemmas.List.{append-nil}
@@ -25,35 +26,42 @@ use Rattle.indexmap.proofs.CallerLemmas.{insert_entry-new}
 use Rattle.lang.specs.declared.words.Subject.{Subject}
 
 -- what a label is of, from the entries of a map
-pub named_view : (name : List ℕ) (es : List (String Global × Subject)) → named name (scope_of es) ≡ lookup (λ k. bytes_eq name (string_bytes k)) es
+pub named_view : (name : List ℕ) (es : List (String Global × Subject)) → named name (scope_of es) ≡ lookup
+    (λ k. bytes_eq name (string_bytes k)) es
 named_view name [] = refl
 named_view name (e ∷ es) = simp (named_view name es)
 
-place_view : (name : List ℕ) (es : List (String Global × Subject)) → position_or_len (bytes_eq name) (keys_of (scope_of es)) ≡ position_or_len (λ k. bytes_eq name (string_bytes k)) (keys_of es)
+place_view : (name : List ℕ) (es : List (String Global × Subject)) → position_or_len (bytes_eq name) (keys_of (scope_of es))
+    ≡ position_or_len (λ k. bytes_eq name (string_bytes k)) (keys_of es)
 place_view name [] = refl
 place_view name (e ∷ es) = simp (place_view name es)
 
 -- how many labels stand before a label, from the entries of a map
-pub number_view : (name : List ℕ) (es : List (String Global × Subject)) → label_number name (scope_of es) ≡ fit (position_or_len (λ k. bytes_eq name (string_bytes k)) (keys_of es))
+pub number_view : (name : List ℕ) (es : List (String Global × Subject)) → label_number name (scope_of es) ≡ fit
+    (position_or_len (λ k. bytes_eq name (string_bytes k)) (keys_of es))
 number_view name es = ap fit (place_view name es)
 
 is_absent : (o : Option Subject) → is_some o ≡ false → o ≡ None
 is_absent None h = refl
 is_absent (Some x) h = cc
 
-scope_of-append : (es : List (String Global × Subject)) (k : String Global) (a : Subject) → scope_of (es ++ (k, a) ∷ []) ≡ scope_of es ++ (string_bytes k, a) ∷ []
+scope_of-append : (es : List (String Global × Subject)) (k : String Global) (a : Subject) → scope_of (es ++ (k, a) ∷ []) ≡ scope_of es
+    ++ (string_bytes k, a) ∷ []
 scope_of-append [] k a = refl
 scope_of-append (e ∷ es) k a = ap (λ rest. (string_bytes e.0, e.1) ∷ rest) (scope_of-append es k a)
 
 -- a label that is new goes last
-pub scope_of-insert_new : {S : Type 0} (m : IndexMap (String Global) Subject S) (k : String Global) (a : Subject) → is_named (string_bytes k) (scope_of m.entries) ≡ false
+pub scope_of-insert_new : {S : Type 0} (m : IndexMap (String Global) Subject S) (k : String Global) (a : Subject)
+    → is_named (string_bytes k) (scope_of m.entries) ≡ false
     → scope_of (insert_entry string_eq m.entries k a) ≡ scope_of m.entries ++ (string_bytes k, a) ∷ []
 scope_of-insert_new m k a h =
-    let none : lookup (λ l. bytes_eq (string_bytes k) (string_bytes l)) m.entries ≡ None = sym (named_view (string_bytes k) m.entries) ∙ is_absent _ h in
+    let none : lookup (λ l. bytes_eq (string_bytes k) (string_bytes l)) m.entries ≡ None = sym (named_view (string_bytes k) m.entries)
+    ∙ is_absent _ h in
     ap scope_of (insert_entry-new string_eq m k a none) ∙ scope_of-append m.entries k a
 
 -- a label that was not seen is seen behind the others
-pub scope_of-insert : {S : Type 0} (m : IndexMap (String Global) Subject S) (k : String Global) (a : Subject) (name : List ℕ) → string_bytes k ≡ name → is_named name (scope_of m.entries) ≡ false
+pub scope_of-insert : {S : Type 0} (m : IndexMap (String Global) Subject S) (k : String Global) (a : Subject) (name : List ℕ)
+    → string_bytes k ≡ name → is_named name (scope_of m.entries) ≡ false
     → scope_of (insert_entry string_eq m.entries k a) ≡ with_label (Some name) a (scope_of m.entries)
 scope_of-insert m k a name is new =
     scope_of-insert_new m k a (ap (λ n. is_named n (scope_of m.entries)) is ∙ new) ∙ ap (λ n. scope_of m.entries ++ (n, a) ∷ []) is
@@ -73,7 +81,8 @@ scope_of-same m k a name is there es same =
     ∙ ap (λ b. cond b (scope_of m.entries) (scope_of m.entries ++ (name, a) ∷ [])) (sym (is_named-get m k name is ∙ there))
 
 -- cut back to its first entries, a map shows what it showed
-pub cut_back : (old new : List (String Global × Subject)) (more : Scope) → scope_of new ≡ scope_of old ++ more → scope_of (take (length old) new) ≡ scope_of old
+pub cut_back : (old new : List (String Global × Subject)) (more : Scope) → scope_of new ≡ scope_of old ++ more
+    → scope_of (take (length old) new) ≡ scope_of old
 cut_back [] new more e = refl
 cut_back (o ∷ old) [] more e = cc
 cut_back (o ∷ old) (n ∷ new) more e =
@@ -82,7 +91,8 @@ cut_back (o ∷ old) (n ∷ new) more e =
     ap₂ (λ x xs. x ∷ xs) head (cut_back old new more tail)
 
 -- the labels from a place on, by the one at the place
-pub labels_from : (es : List (String Global × Subject)) (i : ℕ) (e : String Global × Subject) → Some e ≡ slice_get es i → drop i es ≡ e ∷ drop (i + 1) es
+pub labels_from : (es : List (String Global × Subject)) (i : ℕ) (e : String Global × Subject) → Some e ≡ slice_get es i
+    → drop i es ≡ e ∷ drop (i + 1) es
 labels_from es i e at =
     let within : i < length es = slice_get_within es i e (sym at) in
     let is : get_or es i e ≡ e = let same = slice_get-get_or es i e within in cc in

@@ -11,9 +11,11 @@ use Rattle.objects.specs.declared.value.Value.TheVariants as value
 use Rattle.meaning.specs.declared.test.Test.{Test}
 use Rattle.meaning.specs.declared.test.Test.TheVariants.{Is, AtLeast, IsItem}
 use Rattle.meaning.specs.Trees as tree
-use Rattle.meaning.specs.Trees.{NoStep, Steps, Step, Operation, If, Subaction, Abort, Parallel, Handlers, ForReason, Otherwise, GoOn, Pass, Children, NoChild, Child}
+use Rattle.meaning.specs.Trees.{NoStep, Steps, Step, Operation, If, Subaction, Abort, Parallel, Handlers, ForReason, Otherwise, GoOn, Pass}
+use Rattle.meaning.specs.Trees.{Children, NoChild, Child}
 use Rattle.batch.specs.Names.{Texts}
-use Rattle.batch.specs.Named.{HasText, HasReason, IsNamedCall, IsNamedTest, IsNamed, IsNamedStep, AreNamedHandlers, AreNamed, AllNamed, IsNamedValue, AllNamedValues}
+use Rattle.batch.specs.Named.{HasText, HasReason, IsNamedCall, IsNamedTest, IsNamed, IsNamedStep, AreNamedHandlers, AreNamed, AllNamed}
+use Rattle.batch.specs.Named.{IsNamedValue, AllNamedValues}
 
 module _ (texts more : Texts) (items : length texts.items ≤ length more.items) (reasons : length texts.reasons ≤ length more.reasons) where
   item_later : (x : Item) → HasText texts x → HasText more x
@@ -56,14 +58,22 @@ module _ (texts more : Texts) (items : length texts.items ≤ length more.items)
     step_later (Parallel children) named = children_later children named
 
     pub handlers_later : (handlers : Handlers) → AreNamedHandlers texts handlers → AreNamedHandlers more handlers
-    handlers_later (ForReason reason handler others) named = (reason_later reason named.0, block_later handler named.1, handlers_later others named.2)
+    handlers_later (ForReason reason handler others) named = (
+      reason_later reason named.0,
+      block_later handler named.1,
+      handlers_later others named.2,
+    )
     handlers_later (Otherwise handler) named = block_later handler named
     handlers_later GoOn named = tt
     handlers_later Pass named = tt
 
     pub children_later : (children : Children) → AreNamed texts children → AreNamed more children
     children_later NoChild named = tt
-    children_later (Child body handlers labelled younger) named = (block_later body named.0, handlers_later handlers named.1, children_later younger named.2)
+    children_later (Child body handlers labelled younger) named = (
+      block_later body named.0,
+      handlers_later handlers named.1,
+      children_later younger named.2,
+    )
 
   pub blocks_later : (blocks : List tree.Block) → AllNamed texts blocks → AllNamed more blocks
   blocks_later [] named = tt

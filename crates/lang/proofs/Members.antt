@@ -1,5 +1,6 @@
 -- An object's members beside the entries of its map.
-use Rattle.std.proofs.Common.{◌≡◌, ℕ, true, false, List, [], ◌∷◌, ◌&&◌, Some, Ordering, Less, Equal, Greater, string_bytes, refl, sym, ap, ◌∙◌}
+use Rattle.std.proofs.Common.{◌≡◌, ℕ, true, false, List, [], ◌∷◌, ◌&&◌, Some, Ordering, Less, Equal, Greater, string_bytes, refl, sym, ap}
+use Rattle.std.proofs.Common.{◌∙◌}
 use Rattle.std.specs.Prelude.{codes, is_some}
 use Rattle.std.specs.Ordering.{nat_cmp, match_ordering, is_eq}
 use Rattle.std.specs.Cmp.Lexicographic.{slice_cmp}
@@ -16,7 +17,8 @@ use Rattle.lang.specs.Asked.{sort_of}
 use Rattle.lang.specs.Look.{has, has_only, is_among, members_among}
 use Rattle.lang.specs.declared.steps.Sort.TheVariants.{Operation}
 
-pub members_among-keys : (names : List (List ℕ)) (es : List Entry) → members_among names (members_view es) ≡ list_all (λ k. is_among (string_bytes k) names) (keys_of es)
+pub members_among-keys : (names : List (List ℕ)) (es : List Entry) → members_among names (members_view es) ≡ list_all
+    (λ k. is_among (string_bytes k) names) (keys_of es)
 members_among-keys names [] = refl
 members_among-keys names (e ∷ es) = ap (λ rest. is_among (string_bytes e.0) names && rest) (members_among-keys names es)
 
@@ -24,7 +26,8 @@ members_among-keys names (e ∷ es) = ap (λ rest. is_among (string_bytes e.0) n
 pub ruleset array_sizes = items_len-items_view
 
 -- a name that isn't among those of all members is no member's
-absent_member : (names : List (List ℕ)) (q : List ℕ) (ms : Members) → members_among names ms ≡ true → is_among q names ≡ false → is_some (get_member q ms) ≡ false
+absent_member : (names : List (List ℕ)) (q : List ℕ) (ms : Members) → members_among names ms ≡ true → is_among q names ≡ false
+    → is_some (get_member q ms) ≡ false
 absent_member names q no_members only out = refl
 absent_member names q (member k d ms) only out =
     let parts : (is_among k names ≡ true) × (members_among names ms ≡ true) = and_parts _ _ only in
@@ -50,7 +53,13 @@ absent names q (array ds) only out = absurd (false≢true only)
 -- a step with an operation and no other part than a label is an operation
 pub only_operation : (d : Data) → has (codes "op") d ≡ true → has_only (codes "op" ∷ codes "as" ∷ []) d ≡ true → sort_of d ≡ Some Operation
 unfolding sort_of
-only_operation d op only = rw (op, none (codes "if") refl, none (codes "sub") refl, none (codes "abort") refl, none (codes "parallel") refl) refl
+only_operation d op only = rw (
+  op,
+  none (codes "if") refl,
+  none (codes "sub") refl,
+  none (codes "abort") refl,
+  none (codes "parallel") refl,
+) refl
   where
     none : (q : List ℕ) → is_among q (codes "op" ∷ codes "as" ∷ []) ≡ false → has q d ≡ false
     none q out = absent (codes "op" ∷ codes "as" ∷ []) q d only out

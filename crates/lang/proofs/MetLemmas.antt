@@ -5,7 +5,8 @@ use Rattle.std.proofs.lemmas.Bool.{ltb-true}
 use Rattle.lang.specs.declared.fault.Code.{Code}
 use Rattle.lang.specs.declared.fault.Fault.{Fault}
 use Rattle.lang.specs.declared.counts.Counts.{Counts}
-use Rattle.lang.specs.Demand.{Demand, holds, one_more_start, one_more_operation, one_more_node, in_transaction, most_operations, check, check_one, and_then, fault_of, first_fault, limited, no_counts}
+use Rattle.lang.specs.Demand.{Demand, holds, one_more_start, one_more_operation, one_more_node, in_transaction, most_operations, check}
+use Rattle.lang.specs.Demand.{check_one, and_then, fault_of, first_fault, limited, no_counts}
 
 -- each test holds
 abbrev pub AllMet : List Demand → Type 0
@@ -85,7 +86,8 @@ passed_none c next e =
       few_nodes = λ h. omega (arith, d);
     }
 
-passed_test : (b : Bool) (code : Code) (ds : List Demand) (c next : Counts) → ((c' : Counts) → check c' ds ≡ Ok next → Passed c' next ds) → and_then (check_one c (holds b code)) (λ n. check n ds) ≡ Ok next → Passed c next (holds b code ∷ ds)
+passed_test : (b : Bool) (code : Code) (ds : List Demand) (c next : Counts) → ((c' : Counts) → check c' ds ≡ Ok next → Passed c' next ds)
+    → and_then (check_one c (holds b code)) (λ n. check n ds) ≡ Ok next → Passed c next (holds b code ∷ ds)
 passed_test true code ds c next later e =
     let p = later c e in
     record {
@@ -106,7 +108,8 @@ most version = by (nat_le 4 version)
     by true = omega arith
     by false = omega arith
 
-passed_start : (b : Bool) (ds : List Demand) (c next : Counts) → nat_lt c.starts 100000 ≡ b → ((c' : Counts) → check c' ds ≡ Ok next → Passed c' next ds)
+passed_start : (b : Bool) (ds : List Demand) (c next : Counts) → nat_lt c.starts 100000 ≡ b
+    → ((c' : Counts) → check c' ds ≡ Ok next → Passed c' next ds)
     → and_then (limited b c (record c { starts = c.starts + 1 })) (λ n. check n ds) ≡ Ok next → Passed c next (one_more_start ∷ ds)
 passed_start true ds c next lt later e =
     let p = later (record c { starts = c.starts + 1 }) e in
@@ -122,8 +125,10 @@ passed_start true ds c next lt later e =
     }
 passed_start false ds c next lt later e = cc
 
-passed_operation : (b : Bool) (version : ℕ) (ds : List Demand) (c next : Counts) → nat_lt c.operations (most_operations version) ≡ b → ((c' : Counts) → check c' ds ≡ Ok next → Passed c' next ds)
-    → and_then (limited b c (record c { operations = c.operations + 1 })) (λ n. check n ds) ≡ Ok next → Passed c next (one_more_operation version ∷ ds)
+passed_operation : (b : Bool) (version : ℕ) (ds : List Demand) (c next : Counts) → nat_lt c.operations (most_operations version) ≡ b
+    → ((c' : Counts) → check c' ds ≡ Ok next → Passed c' next ds)
+    → and_then (limited b c (record c { operations = c.operations + 1 })) (λ n. check n ds) ≡ Ok next
+    → Passed c next (one_more_operation version ∷ ds)
 passed_operation true version ds c next lt later e =
     let p = later (record c { operations = c.operations + 1 }) e in
     let below = ltb-true c.operations (most_operations version) lt in
@@ -139,7 +144,8 @@ passed_operation true version ds c next lt later e =
     }
 passed_operation false version ds c next lt later e = cc
 
-passed_node : (b : Bool) (ds : List Demand) (c next : Counts) → nat_lt c.nodes 100000 ≡ b → ((c' : Counts) → check c' ds ≡ Ok next → Passed c' next ds)
+passed_node : (b : Bool) (ds : List Demand) (c next : Counts) → nat_lt c.nodes 100000 ≡ b
+    → ((c' : Counts) → check c' ds ≡ Ok next → Passed c' next ds)
     → and_then (limited b c (record c { nodes = c.nodes + 1 })) (λ n. check n ds) ≡ Ok next → Passed c next (one_more_node ∷ ds)
 passed_node true ds c next lt later e =
     let p = later (record c { nodes = c.nodes + 1 }) e in
@@ -155,7 +161,8 @@ passed_node true ds c next lt later e =
     }
 passed_node false ds c next lt later e = cc
 
-passed_on_to : (n : ℕ) (ds : List Demand) (c next : Counts) → Passed (record c { transaction = n }) next ds → Passed c next (in_transaction n ∷ ds)
+passed_on_to : (n : ℕ) (ds : List Demand) (c next : Counts) → Passed (record c { transaction = n }) next ds
+    → Passed c next (in_transaction n ∷ ds)
 passed_on_to n ds c next p = record {
   met = p.met;
   starts = omega (arith, p.starts);
@@ -170,7 +177,8 @@ pub passed : (ds : List Demand) (c next : Counts) → check c ds ≡ Ok next →
 passed [] c next e = passed_none c next e
 passed (holds b code ∷ ds) c next e = passed_test b code ds c next (λ c'. passed ds c' next) e
 passed (one_more_start ∷ ds) c next e = passed_start (nat_lt c.starts 100000) ds c next refl (λ c'. passed ds c' next) e
-passed (one_more_operation version ∷ ds) c next e = passed_operation (nat_lt c.operations (most_operations version)) version ds c next refl (λ c'. passed ds c' next) e
+passed (one_more_operation version ∷ ds) c next e = passed_operation (nat_lt c.operations (most_operations version)) version ds c next refl
+    (λ c'. passed ds c' next) e
 passed (one_more_node ∷ ds) c next e = passed_node (nat_lt c.nodes 100000) ds c next refl (λ c'. passed ds c' next) e
 passed (in_transaction n ∷ ds) c next e = passed_on_to n ds c next (passed ds (record c { transaction = n }) next e)
 

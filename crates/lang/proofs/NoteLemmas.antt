@@ -1,5 +1,6 @@
 -- What is noted of a document's members, member by member.
-use Rattle.std.proofs.Common.{◌≡◌, ℕ, ℤ, ◌<◌, ◌≤◌, List, ◌∷◌, Bool, true, false, ◌&&◌, Option, Some, None, Ordering, Less, Equal, Greater, refl, sym, ap, ◌∙◌, arith, ltb-false, leb-true, true≢false}
+use Rattle.std.proofs.Common.{◌≡◌, ℕ, ℤ, ◌<◌, ◌≤◌, List, ◌∷◌, Bool, true, false, ◌&&◌, Option, Some, None, Ordering, Less, Equal, Greater}
+use Rattle.std.proofs.Common.{refl, sym, ap, ◌∙◌, arith, ltb-false, leb-true, true≢false}
 use Rattle.std.specs.Prelude.{codes, is_some, nat_le, nat_lt, option_and_then, option_map, unwrap_or}
 use Rattle.std.specs.Ordering.{nat_cmp, match_ordering, is_eq}
 use Rattle.std.specs.Cmp.Lexicographic.{slice_cmp}
@@ -143,7 +144,8 @@ unfolding read_or_null
 no_object depth token rest new d some other e =
     ap (λ o. as_object (read_or_null o)) (sym e) ∙ by token other
   where
-    by : (k : Lent) → (k ≡ lent.BeginObject → ⊥) → as_object (read_or_null (converted of_json (json.value depth (token_of k ∷ rest)))) ≡ None
+    by : (k : Lent) → (k ≡ lent.BeginObject → ⊥) → as_object (read_or_null (converted of_json (json.value depth (token_of k ∷ rest))))
+        ≡ None
     by lent.BeginObject never = absurd (never refl)
     by lent.BeginArray never = ap (λ o. as_object (read_or_null o)) (array_opened depth rest some) ∙ no_object_items _
     by lent.EndObject never = ap (λ o. as_object (read_or_null (converted of_json o))) (value_is depth (Token.end_object ∷ rest))

@@ -1,5 +1,6 @@
 -- What a document spells has its texts: each item and reason that a transaction names.
-use Rattle.std.proofs.Common.{◌≡◌, ◌<◌, ◌+◌, ℕ, zero, suc, Bool, true, false, cond, List, [], ◌∷◌, ◌++◌, length, Option, None, Some, subst, arith}
+use Rattle.std.proofs.Common.{◌≡◌, ◌<◌, ◌+◌, ℕ, zero, suc, Bool, true, false, cond, List, [], ◌∷◌, ◌++◌, length, Option, None, Some, subst}
+use Rattle.std.proofs.Common.{arith}
 use Rattle.std.specs.Prelude.{codes, ⊤}
 use Rattle.std.specs.Option.{ForSome}
 use Rattle.serde_json.specs.Data.{Data, Items, no_items, item, Members, no_members, member}
@@ -12,7 +13,8 @@ use Rattle.batch.specs.Names.{Texts, is_name}
 use Rattle.batch.specs.Named.{AllNamed, AreNamed, AreNamedHandlers, HasReason, HasText, IsNamed, IsNamedCall, IsNamedStep, IsNamedTest}
 use Rattle.batch.specs.Views.{Tried, children_of, steps_of}
 use Rattle.lang.specs.declared.steps.Sort.{Sort}
-use Rattle.lang.specs.declared.steps.Sort.TheVariants.{Operation as an_operation, If as an_if, Sub as a_sub, Abort as an_abort, Parallel as a_parallel}
+use Rattle.lang.specs.declared.steps.Sort.TheVariants.{Operation as an_operation, If as an_if, Sub as a_sub, Abort as an_abort}
+use Rattle.lang.specs.declared.steps.Sort.TheVariants.{Parallel as a_parallel}
 use Rattle.lang.specs.declared.words.ItemVerb.{ItemVerb}
 use Rattle.lang.specs.declared.words.ItemVerb.TheVariants.{Insert, Remove, Has, Enq, Unbind, Lookup}
 use Rattle.lang.specs.declared.words.AmountVerb.{AmountVerb}
@@ -31,10 +33,19 @@ use Rattle.lang.specs.Demand.{Demand, holds, in_transaction, one_more_node, one_
 use Rattle.lang.specs.Look.{has, or_empty, text_member}
 use Rattle.lang.specs.Scope.{Numbers, Scope, Setting, number_of, with_item, with_label, with_reason}
 use Rattle.lang.specs.Words.{amount_call, item_call, lone_call, pair_call}
-use Rattle.lang.specs.Asked.{abort_asked, abort_shape_asked, amount_item, arguments_asked, array_asked, block_asked, block_asked_if, call_named, children_asked, children_in, handlers_asked, handlers_in, has_count, holds_item, holds_number, holds_word, if_asked, if_label, if_shape_asked, item_asked, label_asked, label_in, member_asked, members_asked, name_item, object_of, operation_asked, operation_shape_asked, or_no_items, parallel_asked, parallel_shape_asked, part, reason_asked, scope_after, seen_asked, sort_of, step_asked, step_asked_by, steps_asked, sub_asked, sub_shape_asked, subject_of, target_asked, test_asked, transaction_asked, transactions_asked, verb_in}
-use Rattle.lang.specs.Spelled.{abort_of, block_of, block_of_if, blocks_of, call_of, children_spelled, handlers_spelled, if_of, item_of, members_of, operation_of, or_no_step, or_zero, parallel_of, reason_of, step_of, step_of_by, steps_spelled, sub_of, test_of}
+use Rattle.lang.specs.Asked.{abort_asked, abort_shape_asked, amount_item, arguments_asked, array_asked, block_asked, block_asked_if}
+use Rattle.lang.specs.Asked.{call_named, children_asked, children_in, handlers_asked, handlers_in, has_count, holds_item, holds_number}
+use Rattle.lang.specs.Asked.{holds_word, if_asked, if_label, if_shape_asked, item_asked, label_asked, label_in, member_asked, members_asked}
+use Rattle.lang.specs.Asked.{name_item, object_of, operation_asked, operation_shape_asked, or_no_items, parallel_asked}
+use Rattle.lang.specs.Asked.{parallel_shape_asked, part, reason_asked, scope_after, seen_asked, sort_of, step_asked, step_asked_by}
+use Rattle.lang.specs.Asked.{steps_asked, sub_asked, sub_shape_asked, subject_of, target_asked, test_asked, transaction_asked}
+use Rattle.lang.specs.Asked.{transactions_asked, verb_in}
+use Rattle.lang.specs.Spelled.{abort_of, block_of, block_of_if, blocks_of, call_of, children_spelled, handlers_spelled, if_of, item_of}
+use Rattle.lang.specs.Spelled.{members_of, operation_of, or_no_step, or_zero, parallel_of, reason_of, step_of, step_of_by, steps_spelled}
+use Rattle.lang.specs.Spelled.{sub_of, test_of}
 use Rattle.lang.proofs.Later.{block_later, handlers_later, step_later, test_later}
-use Rattle.lang.proofs.Tables.{Grows, Numbered, grows_before, grows_behind, grows_item, grows_none, grows_on, grows_reason, number_below, texts_in}
+use Rattle.lang.proofs.Tables.{Grows, Numbered, grows_before, grows_behind, grows_item, grows_none, grows_on, grows_reason, number_below}
+use Rattle.lang.proofs.Tables.{texts_in}
 
 -- ---- calls
 
@@ -67,9 +78,14 @@ lone_call_named texts Top = tt
 
 call_numbered : (v : Verb) (numbers : Numbers) (op : Data) → Numbered IsNamedCall numbers (call_of v numbers op) (arguments_asked v op)
 unfolding call_of arguments_asked item_asked
-call_numbered (OfAmount v) numbers op = record { named = amount_call_named (texts_in numbers) v (or_zero (amount_item 2 op)); grows = grows_none numbers _ }
+call_numbered (OfAmount v) numbers op = record {
+  named = amount_call_named (texts_in numbers) v (or_zero (amount_item 2 op));
+  grows =
+      grows_none numbers _;
+}
 call_numbered (OfItem v) numbers op = record {
-  named = item_call_named (texts_in (with_item (name_item 2 op) numbers)) v (item_of (name_item 2 op) numbers) (number_below (name_item 2 op) numbers.items);
+  named = item_call_named (texts_in (with_item (name_item 2 op) numbers)) v (item_of (name_item 2 op) numbers)
+      (number_below (name_item 2 op) numbers.items);
   grows = grows_item (name_item 2 op) numbers _ (λ met. met.1.1.0);
 }
 call_numbered (OfPair v) numbers op =
@@ -80,12 +96,15 @@ call_numbered (OfPair v) numbers op =
     let second = grows_item (name_item 3 op) after (item_asked 3 op) (λ met. met.1.0) in
     let key : HasText (texts_in after) (item_of (name_item 2 op) numbers) = number_below (name_item 2 op) numbers.items in
     record {
-      named = pair_call_named (texts_in last) v (item_of (name_item 2 op) numbers) (item_of (name_item 3 op) after) (omega (arith, second.items, key)) (number_below (name_item 3 op) after.items);
-      grows = grows_behind numbers last shape (item_asked 2 op ++ item_asked 3 op) (grows_on numbers after last (item_asked 2 op) (item_asked 3 op) first second);
+      named = pair_call_named (texts_in last) v (item_of (name_item 2 op) numbers) (item_of (name_item 3 op) after)
+          (omega (arith, second.items, key)) (number_below (name_item 3 op) after.items);
+      grows = grows_behind numbers last shape (item_asked 2 op ++ item_asked 3 op)
+          (grows_on numbers after last (item_asked 2 op) (item_asked 3 op) first second);
     }
 call_numbered (Alone v) numbers op = record { named = lone_call_named (texts_in numbers) v; grows = grows_none numbers _ }
 
-operation_numbered : (setting : Setting) (scope : Scope) (numbers : Numbers) (d : Data) → Numbered IsNamedStep numbers (operation_of setting numbers d) (operation_asked setting scope d)
+operation_numbered : (setting : Setting) (scope : Scope) (numbers : Numbers) (d : Data)
+    → Numbered IsNamedStep numbers (operation_of setting numbers d) (operation_asked setting scope d)
 unfolding operation_of operation_asked
 operation_numbered setting scope numbers d =
     let op = part (codes "op") d in
@@ -100,26 +119,31 @@ operation_numbered setting scope numbers d =
 -- ---- tests and aborts
 
 -- one of three tests
-one_of_three : (a b : Bool) (numbers : Numbers) (x y z : Test × Numbers) (X Y Z : List Demand) → Numbered IsNamedTest numbers x X → Numbered IsNamedTest numbers y Y → Numbered IsNamedTest numbers z Z
+one_of_three : (a b : Bool) (numbers : Numbers) (x y z : Test × Numbers) (X Y Z : List Demand) → Numbered IsNamedTest numbers x X
+    → Numbered IsNamedTest numbers y Y → Numbered IsNamedTest numbers z Z
     → Numbered IsNamedTest numbers (cond a x (cond b y z)) (cond a X (cond b Y Z))
 one_of_three true b numbers x y z X Y Z first second third = first
 one_of_three false true numbers x y z X Y Z first second third = second
 one_of_three false false numbers x y z X Y Z first second third = third
 
-test_numbered : (subject : Subject) (numbers : Numbers) (d : Data) → Numbered IsNamedTest numbers (test_of subject numbers d) (test_asked subject d)
+test_numbered : (subject : Subject) (numbers : Numbers) (d : Data) → Numbered IsNamedTest numbers (test_of subject numbers d)
+    (test_asked subject d)
 unfolding test_of test_asked
 test_numbered subject numbers d =
     let text = or_empty (text_member (codes "item") d) in
-    one_of_three (has (codes "is") d) (has (codes "atleast") d) numbers _ _ _ (holds_word subject d) (holds_number subject d) (holds_item subject d)
+    one_of_three (has (codes "is") d) (has (codes "atleast") d) numbers _ _ _ (holds_word subject d) (holds_number subject d)
+    (holds_item subject d)
     (record { named = tt; grows = grows_none numbers _ })
     (record { named = tt; grows = grows_none numbers _ })
     (record { named = number_below text numbers.items; grows = grows_item text numbers (holds_item subject d) (λ met. met.1.1.0) })
 
-reason_numbered : (numbers : Numbers) (o : Option (List ℕ)) → Numbered (λ texts reason. ForSome reason (HasReason texts)) numbers (reason_of numbers o) (reason_asked o)
+reason_numbered : (numbers : Numbers) (o : Option (List ℕ)) → Numbered (λ texts reason. ForSome reason (HasReason texts)) numbers
+    (reason_of numbers o) (reason_asked o)
 unfolding reason_of reason_asked
 reason_numbered numbers None = record { named = λ r is. absurd cc; grows = grows_none numbers _ }
 reason_numbered numbers (Some reason) = record {
-  named = λ r is. let same : number_of reason numbers.reasons ≡ r = cc in subst (λ n. n < length (with_reason reason numbers).reasons) same (number_below reason numbers.reasons);
+  named = λ r is. let same : number_of reason numbers.reasons ≡ r = cc in subst (λ n. n < length (with_reason reason numbers).reasons) same
+      (number_below reason numbers.reasons);
   grows = grows_reason reason numbers _ (λ met. met.0);
 }
 
@@ -148,37 +172,46 @@ NamedMembersIf : Texts → Option (List (ℕ × tree.Block)) → Type 0
 NamedMembersIf texts None = ⊤
 NamedMembersIf texts (Some members) = NamedMembers texts members
 
-members_named : (texts : Texts) (members : List (ℕ × tree.Block)) (others : Handlers) → NamedMembers texts members → AreNamedHandlers texts others → AreNamedHandlers texts (for_reasons members others)
+members_named : (texts : Texts) (members : List (ℕ × tree.Block)) (others : Handlers) → NamedMembers texts members
+    → AreNamedHandlers texts others → AreNamedHandlers texts (for_reasons members others)
 unfolding NamedMembers
 members_named texts [] others named last = last
 members_named texts (first ∷ rest) others named last = (named.0, named.1, members_named texts rest others named.2 last)
 
-handlers_named : (texts : Texts) (members : Option (List (ℕ × tree.Block))) (o : Option tree.Block) → NamedMembersIf texts members → NamedIf texts o → AreNamedHandlers texts (handlers_of members o)
+handlers_named : (texts : Texts) (members : Option (List (ℕ × tree.Block))) (o : Option tree.Block) → NamedMembersIf texts members
+    → NamedIf texts o → AreNamedHandlers texts (handlers_of members o)
 unfolding NamedMembersIf NamedIf
 handlers_named texts None None named last = tt
 handlers_named texts None (Some handler) named last = last
 handlers_named texts (Some members) None named last = members_named texts members _ named tt
 handlers_named texts (Some members) (Some handler) named last = members_named texts members _ named last
 
-members_later : (before after : Numbers) (ds : List Demand) → Grows before after ds → (members : List (ℕ × tree.Block)) → NamedMembers (texts_in before) members → NamedMembers (texts_in after) members
+members_later : (before after : Numbers) (ds : List Demand) → Grows before after ds → (members : List (ℕ × tree.Block))
+    → NamedMembers (texts_in before) members → NamedMembers (texts_in after) members
 unfolding NamedMembers
 members_later before after ds grows [] named = tt
-members_later before after ds grows (first ∷ rest) named =
-    (omega (arith, grows.reasons, named.0), block_later (texts_in before) (texts_in after) grows.items grows.reasons first.1 named.1, members_later before after ds grows rest named.2)
+members_later before after ds grows (first ∷ rest) named = (
+  omega (arith, grows.reasons, named.0),
+  block_later (texts_in before) (texts_in after) grows.items grows.reasons first.1 named.1,
+  members_later before after ds grows rest named.2,
+)
 
-members_if_later : (before after : Numbers) (ds : List Demand) → Grows before after ds → (members : Option (List (ℕ × tree.Block))) → NamedMembersIf (texts_in before) members → NamedMembersIf (texts_in after) members
+members_if_later : (before after : Numbers) (ds : List Demand) → Grows before after ds → (members : Option (List (ℕ × tree.Block)))
+    → NamedMembersIf (texts_in before) members → NamedMembersIf (texts_in after) members
 unfolding NamedMembersIf
 members_if_later before after ds grows None named = tt
 members_if_later before after ds grows (Some members) named = members_later before after ds grows members named
 
 module _ (setting : Setting) (asks : Scope → Data → List Demand) (block : Scope → Numbers → Data → tree.Block × Numbers)
     (inner : (scope : Scope) (numbers : Numbers) (d : Data) → Numbered IsNamed numbers (block scope numbers d) (asks scope d)) where
-  block_if_numbered : (scope : Scope) (numbers : Numbers) (o : Option Data) → Numbered NamedIf numbers (block_of_if block scope numbers o) (block_asked_if asks scope o)
+  block_if_numbered : (scope : Scope) (numbers : Numbers) (o : Option Data) → Numbered NamedIf numbers (block_of_if block scope numbers o)
+      (block_asked_if asks scope o)
   unfolding block_of_if block_asked_if NamedIf
   block_if_numbered scope numbers None = record { named = tt; grows = grows_none numbers _ }
   block_if_numbered scope numbers (Some d) = let it = inner scope numbers d in record { named = it.named; grows = it.grows }
 
-  if_numbered : (scope : Scope) (numbers : Numbers) (d : Data) → Numbered IsNamedStep numbers (if_of block scope numbers d) (if_asked asks scope d)
+  if_numbered : (scope : Scope) (numbers : Numbers) (d : Data) → Numbered IsNamedStep numbers (if_of block scope numbers d)
+      (if_asked asks scope d)
   unfolding if_of if_asked
   if_numbered scope numbers d =
       let subject = subject_of (if_label d) scope in
@@ -201,10 +234,12 @@ module _ (setting : Setting) (asks : Scope → Data → List Demand) (block : Sc
           block_later (texts_in one.1) (texts_in other.1) second.grows.items second.grows.reasons one.0 first.named,
           or_no_step_named (texts_in other.1) other.0 second.named,
         );
-        grows = grows_on numbers one.1 other.1 (A ++ B ++ C ++ D ++ E) F (grows_on numbers tested.1 one.1 (A ++ B ++ C ++ D) E (grows_behind numbers tested.1 (A ++ B ++ C) D test.grows) first.grows) second.grows;
+        grows = grows_on numbers one.1 other.1 (A ++ B ++ C ++ D ++ E) F (grows_on numbers tested.1 one.1 (A ++ B ++ C ++ D) E
+            (grows_behind numbers tested.1 (A ++ B ++ C) D test.grows) first.grows) second.grows;
       }
 
-  members_numbered : (scope : Scope) (numbers : Numbers) (ds : Members) → Numbered NamedMembers numbers (members_of block scope numbers ds) (members_asked asks scope ds)
+  members_numbered : (scope : Scope) (numbers : Numbers) (ds : Members) → Numbered NamedMembers numbers (members_of block scope numbers ds)
+      (members_asked asks scope ds)
   unfolding NamedMembers
   members_numbered scope numbers no_members = record { named = tt; grows = grows_none numbers _ }
   members_numbered scope numbers (member reason d ds) =
@@ -214,13 +249,20 @@ module _ (setting : Setting) (asks : Scope → Data → List Demand) (block : Sc
       let rest = members_numbered scope here.1 ds in
       let last = (members_of block scope here.1 ds).1 in
       let named : HasReason (texts_in begun) (number_of reason numbers.reasons) = number_below reason numbers.reasons in
-      let one = grows_on numbers begun here.1 (holds (is_name reason) Name ∷ []) (asks scope d) (grows_reason reason numbers _ (λ met. met.0)) first.grows in
+      let one = grows_on numbers begun here.1 (holds (is_name reason) Name ∷ []) (asks scope d)
+      (grows_reason reason numbers _ (λ met. met.0)) first.grows in
       record {
-        named = (omega (arith, named, first.grows.reasons, rest.grows.reasons), block_later (texts_in here.1) (texts_in last) rest.grows.items rest.grows.reasons here.0 first.named, rest.named);
+        named = (
+          omega (arith, named, first.grows.reasons, rest.grows.reasons),
+          block_later (texts_in here.1)
+              (texts_in last) rest.grows.items rest.grows.reasons here.0 first.named,
+          rest.named,
+        );
         grows = grows_on numbers here.1 last (member_asked asks scope reason d) (members_asked asks scope ds) one rest.grows;
       }
 
-  handlers_numbered : (scope : Scope) (numbers : Numbers) (o : Option Members) → Numbered NamedMembersIf numbers (handlers_spelled block scope numbers o) (handlers_asked asks scope o)
+  handlers_numbered : (scope : Scope) (numbers : Numbers) (o : Option Members) → Numbered NamedMembersIf numbers
+      (handlers_spelled block scope numbers o) (handlers_asked asks scope o)
   unfolding handlers_spelled handlers_asked NamedMembersIf
   handlers_numbered scope numbers None = record { named = tt; grows = grows_none numbers _ }
   handlers_numbered scope numbers (Some ds) = let it = members_numbered scope numbers ds in record { named = it.named; grows = it.grows }
@@ -228,7 +270,8 @@ module _ (setting : Setting) (asks : Scope → Data → List Demand) (block : Sc
   NamedTried : Texts → Tried → Type 0
   NamedTried texts child = IsNamed texts child.body × AreNamedHandlers texts child.handlers
 
-  sub_numbered : (scope elder : Scope) (numbers : Numbers) (d : Data) → Numbered NamedTried numbers (sub_of block scope numbers d) (sub_asked setting.version asks scope elder d)
+  sub_numbered : (scope elder : Scope) (numbers : Numbers) (d : Data) → Numbered NamedTried numbers (sub_of block scope numbers d)
+      (sub_asked setting.version asks scope elder d)
   unfolding sub_of sub_asked NamedTried
   sub_numbered scope elder numbers d =
       let body = block scope numbers (part (codes "sub") d) in
@@ -247,12 +290,17 @@ module _ (setting : Setting) (asks : Scope → Data → List Demand) (block : Sc
       record {
         named = (
           block_later (texts_in body.1) (texts_in otherwise.1) both.items both.reasons body.0 first.named,
-          handlers_named (texts_in otherwise.1) by_reasons.0 otherwise.0 (members_if_later by_reasons.1 otherwise.1 F third.grows by_reasons.0 second.named) third.named,
+          handlers_named (texts_in otherwise.1) by_reasons.0 otherwise.0
+              (members_if_later by_reasons.1 otherwise.1 F third.grows by_reasons.0 second.named) third.named,
         );
-        grows = grows_on numbers by_reasons.1 otherwise.1 (A ++ B ++ C ++ D ++ E) F (grows_on numbers body.1 by_reasons.1 (A ++ B ++ C ++ D) E (grows_behind numbers body.1 (A ++ B ++ C) D first.grows) second.grows) third.grows;
+        grows = grows_on numbers by_reasons.1 otherwise.1 (A ++ B ++ C ++ D ++ E) F
+            (grows_on numbers body.1 by_reasons.1 (A ++ B ++ C ++ D) E (grows_behind numbers body.1 (A ++ B ++ C) D first.grows)
+            second.grows) third.grows;
       }
 
-  children_numbered : (scope elder : Scope) (numbers : Numbers) (ds : Items) → Numbered (λ texts children. AreNamed texts (children_of children)) numbers (children_spelled block scope numbers ds) (children_asked setting.version asks scope elder ds)
+  children_numbered : (scope elder : Scope) (numbers : Numbers) (ds : Items)
+      → Numbered (λ texts children. AreNamed texts (children_of children)) numbers (children_spelled block scope numbers ds)
+      (children_asked setting.version asks scope elder ds)
   unfolding NamedTried
   children_numbered scope elder numbers no_items = record { named = tt; grows = grows_none numbers _ }
   children_numbered scope elder numbers (item d ds) =
@@ -267,10 +315,12 @@ module _ (setting : Setting) (asks : Scope → Data → List Demand) (block : Sc
           handlers_later (texts_in here.1) (texts_in last) rest.grows.items rest.grows.reasons here.0.handlers first.named.1,
           rest.named,
         );
-        grows = grows_on numbers here.1 last (sub_asked setting.version asks scope elder d) (children_asked setting.version asks scope next ds) first.grows rest.grows;
+        grows = grows_on numbers here.1 last (sub_asked setting.version asks scope elder d)
+            (children_asked setting.version asks scope next ds) first.grows rest.grows;
       }
 
-  parallel_numbered : (scope : Scope) (numbers : Numbers) (d : Data) → Numbered IsNamedStep numbers (parallel_of block scope numbers d) (parallel_asked setting.version asks scope d)
+  parallel_numbered : (scope : Scope) (numbers : Numbers) (d : Data) → Numbered IsNamedStep numbers (parallel_of block scope numbers d)
+      (parallel_asked setting.version asks scope d)
   unfolding parallel_of parallel_asked
   parallel_numbered scope numbers d =
       let children = children_numbered scope [] numbers (children_in d) in
@@ -278,7 +328,8 @@ module _ (setting : Setting) (asks : Scope → Data → List Demand) (block : Sc
 
   -- ---- any step
 
-  by_sort : (sort : Option Sort) (scope : Scope) (numbers : Numbers) (d : Data) → Numbered IsNamedStep numbers (step_of_by sort block setting scope numbers d) (step_asked_by sort asks setting scope d)
+  by_sort : (sort : Option Sort) (scope : Scope) (numbers : Numbers) (d : Data)
+      → Numbered IsNamedStep numbers (step_of_by sort block setting scope numbers d) (step_asked_by sort asks setting scope d)
   unfolding NamedTried
   by_sort None scope numbers d = record { named = λ r is. absurd cc; grows = grows_none numbers _ }
   by_sort (Some an_operation) scope numbers d = operation_numbered setting scope numbers d
@@ -287,7 +338,8 @@ module _ (setting : Setting) (asks : Scope → Data → List Demand) (block : Sc
   by_sort (Some an_abort) scope numbers d = abort_numbered setting.version numbers d
   by_sort (Some a_parallel) scope numbers d = parallel_numbered scope numbers d
 
-  steps_numbered : (scope : Scope) (numbers : Numbers) (ds : Items) → Numbered (λ texts steps. IsNamed texts (steps_of steps)) numbers (steps_spelled block setting scope numbers ds) (steps_asked asks setting scope ds)
+  steps_numbered : (scope : Scope) (numbers : Numbers) (ds : Items) → Numbered (λ texts steps. IsNamed texts (steps_of steps)) numbers
+      (steps_spelled block setting scope numbers ds) (steps_asked asks setting scope ds)
   unfolding step_of step_asked
   steps_numbered scope numbers no_items = record { named = tt; grows = grows_none numbers _ }
   steps_numbered scope numbers (item d ds) =
@@ -302,20 +354,23 @@ module _ (setting : Setting) (asks : Scope → Data → List Demand) (block : Sc
       }
 
   array_numbered : (scope : Scope) (numbers : Numbers) (o : Option Items)
-      → Numbered (λ texts steps. IsNamed texts (steps_of steps)) numbers (steps_spelled block setting scope numbers (or_no_items o)) (array_asked (steps_asked asks setting scope) o)
+      → Numbered (λ texts steps. IsNamed texts (steps_of steps)) numbers (steps_spelled block setting scope numbers (or_no_items o))
+      (array_asked (steps_asked asks setting scope) o)
   array_numbered scope numbers None = record { named = tt; grows = grows_none numbers _ }
   array_numbered scope numbers (Some ds) = steps_numbered scope numbers ds
 
 -- ---- blocks
 
-block_numbered : (setting : Setting) (n : ℕ) (scope : Scope) (numbers : Numbers) (d : Data) → Numbered IsNamed numbers (block_of setting n scope numbers d) (block_asked setting n scope d)
+block_numbered : (setting : Setting) (n : ℕ) (scope : Scope) (numbers : Numbers) (d : Data)
+    → Numbered IsNamed numbers (block_of setting n scope numbers d) (block_asked setting n scope d)
 unfolding block_of block_asked
 block_numbered setting zero scope numbers d = record { named = tt; grows = grows_none numbers _ }
 block_numbered setting (suc n) scope numbers d =
     let it = array_numbered setting (block_asked setting n) (block_of setting n) (block_numbered setting n) scope numbers (as_array d) in
     record { named = it.named; grows = it.grows }
 
-pub blocks_numbered : (setting : Setting) (number : ℕ) (numbers : Numbers) (ds : Items) → Numbered AllNamed numbers (blocks_of setting numbers ds) (transactions_asked number setting ds)
+pub blocks_numbered : (setting : Setting) (number : ℕ) (numbers : Numbers) (ds : Items)
+    → Numbered AllNamed numbers (blocks_of setting numbers ds) (transactions_asked number setting ds)
 blocks_numbered setting number numbers no_items = record { named = tt; grows = grows_none numbers _ }
 blocks_numbered setting number numbers (item d ds) =
     let here = block_of setting 24 [] numbers d in
@@ -324,5 +379,6 @@ blocks_numbered setting number numbers (item d ds) =
     let rest = blocks_numbered setting (number + 1) here.1 ds in
     record {
       named = (block_later (texts_in here.1) (texts_in last) rest.grows.items rest.grows.reasons here.0 first.named, rest.named);
-      grows = grows_on numbers here.1 last (transaction_asked number setting d) (transactions_asked (number + 1) setting ds) (grows_behind numbers here.1 (in_transaction number ∷ []) (block_asked setting 24 [] d) first.grows) rest.grows;
+      grows = grows_on numbers here.1 last (transaction_asked number setting d) (transactions_asked (number + 1) setting ds)
+          (grows_behind numbers here.1 (in_transaction number ∷ []) (block_asked setting 24 [] d) first.grows) rest.grows;
     }

@@ -1,5 +1,6 @@
 -- What the objects of a document start with has its texts.
-use Rattle.std.proofs.Common.{◌≡◌, ◌<◌, ◌||◌, ℕ, zero, suc, Bool, true, false, cond, List, [], ◌∷◌, ◌++◌, length, Option, None, Some, refl, sym, subst, ◌∙◌, arith}
+use Rattle.std.proofs.Common.{◌≡◌, ◌<◌, ◌||◌, ℕ, zero, suc, Bool, true, false, cond, List, [], ◌∷◌, ◌++◌, length, Option, None, Some, refl}
+use Rattle.std.proofs.Common.{sym, subst, ◌∙◌, arith}
 use Rattle.std.specs.Prelude.{codes, slice_index_or, ⊤}
 use Rattle.std.specs.FinMap as finite_map
 use Rattle.std.specs.FinSet as finite_set
@@ -14,7 +15,9 @@ use Rattle.objects.specs.declared.kind.Kind.TheVariants as kind
 use Rattle.batch.specs.Names.{AreNames, Texts, is_name}
 use Rattle.batch.specs.Named.{AllNamedValues, HasText, IsNamedValue}
 use Rattle.lang.specs.Scope.{Numbers, Table, with_item, with_text}
-use Rattle.lang.specs.Asked.{array_start_asked, element_asked, elements_asked, entries_asked, entry_asked, key_of, kind_in, names_of, object_asked, object_name, object_name_asked, object_shape_asked, objects_asked, or_no_items, pair_asked, pairs_asked, part, start_asked, text_of, value_of}
+use Rattle.lang.specs.Asked.{array_start_asked, element_asked, elements_asked, entries_asked, entry_asked, key_of, kind_in, names_of}
+use Rattle.lang.specs.Asked.{object_asked, object_name, object_name_asked, object_shape_asked, objects_asked, or_no_items, pair_asked}
+use Rattle.lang.specs.Asked.{pairs_asked, part, start_asked, text_of, value_of}
 use Rattle.lang.specs.Spelled.{bind_all, entries_of, item_of, pairs_of, put_all, start_of, starts_of}
 use Rattle.lang.proofs.Later.{value_later}
 use Rattle.lang.proofs.MetLemmas.{AllMet, first_met, rest_met}
@@ -34,26 +37,32 @@ each_has texts [] have k x lt = absurd (omega arith)
 each_has texts (y ∷ ys) have zero x lt = have.0
 each_has texts (y ∷ ys) have (suc k) x lt = each_has texts ys have.1 k x (omega arith)
 
-put_all_has : (texts : Texts) (xs : List Item) (s : finite_set.FinSet item_cmp) → ((x : Item) → finite_set.contains s x ≡ true → HasText texts x) → AllHave texts xs
+put_all_has : (texts : Texts) (xs : List Item) (s : finite_set.FinSet item_cmp)
+    → ((x : Item) → finite_set.contains s x ≡ true → HasText texts x) → AllHave texts xs
     → (x : Item) → finite_set.contains (put_all s xs) x ≡ true → HasText texts x
 unfolding AllHave
 put_all_has texts [] s had have = had
 put_all_has texts (y ∷ ys) s had have =
-    put_all_has texts ys (finite_set.insert s y) (λ x is. by x (eq_by_cmp item_cmp x y) refl (sym (finite_set.contains-insert items_total s y x) ∙ is)) have.1
+    put_all_has texts ys (finite_set.insert s y)
+    (λ x is. by x (eq_by_cmp item_cmp x y) refl (sym (finite_set.contains-insert items_total s y x) ∙ is)) have.1
   where
     by : (x : Item) (b : Bool) → eq_by_cmp item_cmp x y ≡ b → (b || finite_set.contains s x) ≡ true → HasText texts x
     by x true same is = subst (HasText texts) (sym (alike_is x y same)) have.0
     by x false same is = had x is
 
-bind_all_has : (texts : Texts) (es : List (Item × Item)) (m : finite_map.FinMap item_cmp Item) → ((k x : Item) → finite_map.get m k ≡ Some x → HasText texts k × HasText texts x) → AllPairsHave texts es
+bind_all_has : (texts : Texts) (es : List (Item × Item)) (m : finite_map.FinMap item_cmp Item)
+    → ((k x : Item) → finite_map.get m k ≡ Some x → HasText texts k × HasText texts x) → AllPairsHave texts es
     → (k x : Item) → finite_map.get (bind_all m es) k ≡ Some x → HasText texts k × HasText texts x
 unfolding AllPairsHave
 bind_all_has texts [] m had have = had
 bind_all_has texts (e ∷ es) m had have =
-    bind_all_has texts es (finite_map.insert m e.0 e.1) (λ k x is. by k x (eq_by_cmp item_cmp k e.0) refl (sym (finite_map.get-insert items_total m e.0 e.1 k) ∙ is)) have.2
+    bind_all_has texts es (finite_map.insert m e.0 e.1)
+    (λ k x is. by k x (eq_by_cmp item_cmp k e.0) refl (sym (finite_map.get-insert items_total m e.0 e.1 k) ∙ is)) have.2
   where
-    by : (k x : Item) (b : Bool) → eq_by_cmp item_cmp k e.0 ≡ b → cond b (Some e.1) (finite_map.get m k) ≡ Some x → HasText texts k × HasText texts x
-    by k x true same is = let bound : e.1 ≡ x = cc in (subst (HasText texts) (sym (alike_is k e.0 same)) have.0, subst (HasText texts) bound have.1)
+    by : (k x : Item) (b : Bool) → eq_by_cmp item_cmp k e.0 ≡ b → cond b (Some e.1) (finite_map.get m k) ≡ Some x → HasText texts k
+        × HasText texts x
+    by k x true same is = let bound : e.1 ≡ x = cc in
+        (subst (HasText texts) (sym (alike_is k e.0 same)) have.0, subst (HasText texts) bound have.1)
     by k x false same is = had k x is
 
 -- ---- entries
@@ -68,10 +77,12 @@ entries_numbered numbers (item d ds) =
     let here : HasText (texts_in next) (item_of (text_of d) numbers) = number_below (text_of d) numbers.items in
     record {
       named = (omega (arith, here, rest.grows.items), rest.named);
-      grows = grows_on numbers next last (entry_asked d) (entries_asked ds) (grows_item (text_of d) numbers (entry_asked d) (λ met. met.1.0)) rest.grows;
+      grows = grows_on numbers next last (entry_asked d) (entries_asked ds)
+          (grows_item (text_of d) numbers (entry_asked d) (λ met. met.1.0)) rest.grows;
     }
 
-elements_numbered : (numbers : Numbers) (earlier : Table) (ds : Items) → Numbered AllHave numbers (entries_of numbers ds) (elements_asked earlier ds)
+elements_numbered : (numbers : Numbers) (earlier : Table) (ds : Items) → Numbered AllHave numbers (entries_of numbers ds)
+    (elements_asked earlier ds)
 unfolding AllHave element_asked
 elements_numbered numbers earlier no_items = record { named = tt; grows = grows_none numbers _ }
 elements_numbered numbers earlier (item d ds) =
@@ -82,10 +93,12 @@ elements_numbered numbers earlier (item d ds) =
     let here : HasText (texts_in next) (item_of (text_of d) numbers) = number_below (text_of d) numbers.items in
     record {
       named = (omega (arith, here, rest.grows.items), rest.named);
-      grows = grows_on numbers next last (element_asked earlier d) (elements_asked after ds) (grows_item (text_of d) numbers (element_asked earlier d) (λ met. met.1.0)) rest.grows;
+      grows = grows_on numbers next last (element_asked earlier d) (elements_asked after ds)
+          (grows_item (text_of d) numbers (element_asked earlier d) (λ met. met.1.0)) rest.grows;
     }
 
-pairs_numbered : (numbers : Numbers) (earlier : Table) (ds : Items) → Numbered AllPairsHave numbers (pairs_of numbers ds) (pairs_asked earlier ds)
+pairs_numbered : (numbers : Numbers) (earlier : Table) (ds : Items) → Numbered AllPairsHave numbers (pairs_of numbers ds)
+    (pairs_asked earlier ds)
 unfolding AllPairsHave pair_asked
 pairs_numbered numbers earlier no_items = record { named = tt; grows = grows_none numbers _ }
 pairs_numbered numbers earlier (item d ds) =
@@ -106,17 +119,20 @@ pairs_numbered numbers earlier (item d ds) =
 
 -- ---- values
 
-set_numbered : (numbers : Numbers) (o : Option Items) → Numbered AllHave numbers (entries_of numbers (or_no_items o)) (array_start_asked (elements_asked []) o)
+set_numbered : (numbers : Numbers) (o : Option Items) → Numbered AllHave numbers (entries_of numbers (or_no_items o))
+    (array_start_asked (elements_asked []) o)
 unfolding array_start_asked AllHave
 set_numbered numbers None = record { named = tt; grows = grows_none numbers _ }
 set_numbered numbers (Some ds) = elements_numbered numbers [] ds
 
-queue_numbered : (numbers : Numbers) (o : Option Items) → Numbered AllHave numbers (entries_of numbers (or_no_items o)) (array_start_asked entries_asked o)
+queue_numbered : (numbers : Numbers) (o : Option Items) → Numbered AllHave numbers (entries_of numbers (or_no_items o))
+    (array_start_asked entries_asked o)
 unfolding array_start_asked AllHave
 queue_numbered numbers None = record { named = tt; grows = grows_none numbers _ }
 queue_numbered numbers (Some ds) = entries_numbered numbers ds
 
-directory_numbered : (numbers : Numbers) (o : Option Items) → Numbered AllPairsHave numbers (pairs_of numbers (or_no_items o)) (array_start_asked (pairs_asked []) o)
+directory_numbered : (numbers : Numbers) (o : Option Items) → Numbered AllPairsHave numbers (pairs_of numbers (or_no_items o))
+    (array_start_asked (pairs_asked []) o)
 unfolding array_start_asked AllPairsHave
 directory_numbered numbers None = record { named = tt; grows = grows_none numbers _ }
 directory_numbered numbers (Some ds) = pairs_numbered numbers [] ds
@@ -124,7 +140,8 @@ directory_numbered numbers (Some ds) = pairs_numbered numbers [] ds
 none_inside : (texts : Texts) (x : Item) → finite_set.contains (finite_set.empty {R = item_cmp}) x ≡ true → HasText texts x
 none_inside texts x is = let none = finite_set.contains-empty item_cmp x in absurd cc
 
-none_bound : (texts : Texts) (k x : Item) → finite_map.get (finite_map.empty {X = Item} {R = item_cmp}) k ≡ Some x → HasText texts k × HasText texts x
+none_bound : (texts : Texts) (k x : Item) → finite_map.get (finite_map.empty {X = Item} {R = item_cmp}) k ≡ Some x → HasText texts k
+    × HasText texts x
 none_bound texts k x is = let none = finite_map.get-empty {X = Item} item_cmp k in absurd cc
 
 start_numbered : (k : Kind) (numbers : Numbers) (d : Data) → Numbered IsNamedValue numbers (start_of k numbers d) (start_asked k d)
@@ -134,7 +151,11 @@ start_numbered kind.Counter numbers d = record { named = tt; grows = grows_none 
 start_numbered kind.Set numbers d =
     let it = set_numbered numbers (as_array d) in
     let entries = entries_of numbers (or_no_items (as_array d)) in
-    record { named = put_all_has (texts_in entries.1) entries.0 finite_set.empty (none_inside (texts_in entries.1)) it.named; grows = it.grows }
+    record {
+      named = put_all_has (texts_in entries.1) entries.0 finite_set.empty (none_inside (texts_in entries.1)) it.named;
+      grows =
+          it.grows;
+    }
 start_numbered kind.Queue numbers d =
     let it = queue_numbered numbers (as_array d) in
     let entries = entries_of numbers (or_no_items (as_array d)) in
@@ -145,7 +166,8 @@ start_numbered kind.Directory numbers d =
     record { named = bind_all_has (texts_in pairs.1) pairs.0 finite_map.empty (none_bound (texts_in pairs.1)) it.named; grows = it.grows }
 start_numbered kind.Max numbers d = record { named = tt; grows = grows_none numbers _ }
 
-pub starts_numbered : (version : ℕ) (names : Table) (numbers : Numbers) (ds : Items) → Numbered AllNamedValues numbers (starts_of version numbers ds) (objects_asked version names ds)
+pub starts_numbered : (version : ℕ) (names : Table) (numbers : Numbers) (ds : Items) → Numbered AllNamedValues numbers
+    (starts_of version numbers ds) (objects_asked version names ds)
 unfolding object_asked
 starts_numbered version names numbers no_items = record { named = tt; grows = grows_none numbers _ }
 starts_numbered version names numbers (item d ds) =
@@ -161,7 +183,8 @@ starts_numbered version names numbers (item d ds) =
     let C = start_asked k start in
     record {
       named = (value_later (texts_in here.1) (texts_in last) rest.grows.items rest.grows.reasons here.0 first.named, rest.named);
-      grows = grows_on numbers here.1 last (object_asked version names d) (objects_asked version next ds) (grows_behind numbers here.1 (A ++ B) C first.grows) rest.grows;
+      grows = grows_on numbers here.1 last (object_asked version names d) (objects_asked version next ds)
+          (grows_behind numbers here.1 (A ++ B) C first.grows) rest.grows;
     }
 
 -- ---- names of objects

@@ -1,19 +1,30 @@
 -- The demands with places are those that are asked, and the fault that is found among them is the first.
-use Rattle.std.proofs.Common.{◌≡◌, ℕ, ◌+◌, zero, suc, List, [], ◌∷◌, ◌++◌, Option, None, Some, Result, Ok, Err, refl, sym, ap, ap₂, ◌∙◌, append_assoc}
+use Rattle.std.proofs.Common.{◌≡◌, ℕ, ◌+◌, zero, suc, List, [], ◌∷◌, ◌++◌, Option, None, Some, Result, Ok, Err, refl, sym, ap, ap₂, ◌∙◌}
+use Rattle.std.proofs.Common.{append_assoc}
 use Rattle.std.proofs.lemmas.List.{append-nil}
 use Rattle.serde_json.specs.Data.{Data, Items, no_items, item, Members, no_members, member}
 use Rattle.serde_json.specs.Find.{as_array}
 use Rattle.objects.specs.declared.kind.Kind.{Kind}
 use Rattle.objects.specs.declared.kind.Kind.TheVariants as kind
 use Rattle.lang.specs.declared.steps.Sort.{Sort}
-use Rattle.lang.specs.declared.steps.Sort.TheVariants.{Operation as an_operation, If as an_if, Sub as a_sub, Abort as an_abort, Parallel as a_parallel}
+use Rattle.lang.specs.declared.steps.Sort.TheVariants.{Operation as an_operation, If as an_if, Sub as a_sub, Abort as an_abort}
+use Rattle.lang.specs.declared.steps.Sort.TheVariants.{Parallel as a_parallel}
 use Rattle.lang.specs.declared.words.Subject.TheVariants.{Outcome}
 use Rattle.lang.specs.declared.fault.Fault.{Fault}
 use Rattle.lang.specs.declared.counts.Counts.{Counts}
 use Rattle.lang.specs.Demand.{Demand, check, one_more_node}
 use Rattle.lang.specs.Scope.{Scope, Setting, Table, with_label, with_text}
-use Rattle.lang.specs.Asked.{Asks, array_asked, array_start_asked, asked, block_asked, block_asked_if, children_asked, document_shape_asked, elements_asked, entries_asked, handlers_asked, if_asked, if_label, if_shape_asked, key_of, label_asked, label_in, member_asked, members_asked, object_asked, object_name, object_name_asked, object_shape_asked, objects_asked, or_no_items, pairs_asked, parallel_asked, parallel_shape_asked, scope_after, seen_asked, sort_of, start_asked, step_asked, step_asked_by, steps_asked, sub_asked, sub_shape_asked, subject_of, test_asked, text_of, transactions_asked}
-use Rattle.lang.specs.Places.{Found, Placed, Places, Token, below, block_placed, block_placed_if, children_placed, demands_of, elements_placed, entries_placed, found_here, found_inside, go_on, handlers_placed, here, if_placed, inside, items_in, itself, list_placed, members_placed, no_asks, nothing, object_placed, objects_placed, pairs_placed, parallel_placed, placed, seek, start_placed, step_placed, step_placed_by, steps_placed, sub_placed, transactions_placed}
+use Rattle.lang.specs.Asked.{Asks, array_asked, array_start_asked, asked, block_asked, block_asked_if, children_asked, document_shape_asked}
+use Rattle.lang.specs.Asked.{elements_asked, entries_asked, handlers_asked, if_asked, if_label, if_shape_asked, key_of, label_asked}
+use Rattle.lang.specs.Asked.{label_in, member_asked, members_asked, object_asked, object_name, object_name_asked, object_shape_asked}
+use Rattle.lang.specs.Asked.{objects_asked, or_no_items, pairs_asked, parallel_asked, parallel_shape_asked, scope_after, seen_asked}
+use Rattle.lang.specs.Asked.{sort_of, start_asked, step_asked, step_asked_by, steps_asked, sub_asked, sub_shape_asked, subject_of}
+use Rattle.lang.specs.Asked.{test_asked, text_of, transactions_asked}
+use Rattle.lang.specs.Places.{Found, Placed, Places, Token, below, block_placed, block_placed_if, children_placed, demands_of}
+use Rattle.lang.specs.Places.{elements_placed, entries_placed, found_here, found_inside, go_on, handlers_placed, here, if_placed, inside}
+use Rattle.lang.specs.Places.{items_in, itself, list_placed, members_placed, no_asks, nothing, object_placed, objects_placed, pairs_placed}
+use Rattle.lang.specs.Places.{parallel_placed, placed, seek, start_placed, step_placed, step_placed_by, steps_placed, sub_placed}
+use Rattle.lang.specs.Places.{transactions_placed}
 use Rattle.lang.proofs.Checks.{and_check, check-after, check-append, failed-before}
 
 -- ---- the fault that is found is the first
@@ -31,7 +42,8 @@ told_here : (r : Result Counts Fault) → told (here r) ≡ r
 told_here (Ok c) = refl
 told_here (Err fault) = refl
 
-told_on : (r : Result Counts Found) (asked : Placed) (ds : List Demand) → ((c : Counts) → told (seek c asked) ≡ check c ds) → told (go_on r (λ next. seek next asked)) ≡ and_check (told r) ds
+told_on : (r : Result Counts Found) (asked : Placed) (ds : List Demand) → ((c : Counts) → told (seek c asked) ≡ check c ds)
+    → told (go_on r (λ next. seek next asked)) ≡ and_check (told r) ds
 told_on (Ok c) asked ds rest = rest c ∙ sym (check-after c ds)
 told_on (Err found) asked ds rest = sym (failed-before found.fault ds)
 
@@ -74,7 +86,8 @@ module _ (places : Places) (asks : Asks) (same : Agrees places asks) where
 
   if_same : (scope : Scope) (d : Data) → demands_of (if_placed places scope d) ≡ if_asked asks scope d
   unfolding if_placed if_asked
-  if_same scope d = rw (same, block_if_same, append-nil) (six (if_shape_asked d) (one_more_node ∷ []) (seen_asked scope (if_label d)) (test_asked (subject_of (if_label d) scope) d) _ _)
+  if_same scope d = rw (same, block_if_same, append-nil) (six (if_shape_asked d) (one_more_node ∷ []) (seen_asked scope (if_label d))
+      (test_asked (subject_of (if_label d) scope) d) _ _)
 
   members_same : (scope : Scope) (ds : Members) → demands_of (members_placed places scope ds) ≡ members_asked asks scope ds
   members_same scope no_members = refl
@@ -85,19 +98,28 @@ module _ (places : Places) (asks : Asks) (same : Agrees places asks) where
   handlers_same scope None = refl
   handlers_same scope (Some ds) = members_same scope ds
 
-  sub_same : (version : ℕ) (scope elder : Scope) (d : Data) → demands_of (sub_placed version places scope elder d) ≡ sub_asked version asks scope elder d
+  sub_same : (version : ℕ) (scope elder : Scope) (d : Data) → demands_of (sub_placed version places scope elder d)
+      ≡ sub_asked version asks scope elder d
   unfolding sub_placed sub_asked
-  sub_same version scope elder d = rw (same, handlers_same, block_if_same, append-nil) (six (sub_shape_asked version d) (one_more_node ∷ []) (label_asked scope elder (label_in d)) _ _ _)
+  sub_same version scope elder d = rw (same, handlers_same, block_if_same, append-nil)
+      (six (sub_shape_asked version d) (one_more_node ∷ []) (label_asked scope elder (label_in d)) _ _ _)
 
-  children_same : (version : ℕ) (scope elder : Scope) (i : ℕ) (ds : Items) → demands_of (children_placed version places scope elder i ds) ≡ children_asked version asks scope elder ds
+  children_same : (version : ℕ) (scope elder : Scope) (i : ℕ) (ds : Items) → demands_of (children_placed version places scope elder i ds)
+      ≡ children_asked version asks scope elder ds
   children_same version scope elder i no_items = refl
-  children_same version scope elder i (item d ds) = rw (sub_same, children_same version scope (with_label (label_in d) Outcome elder) (i + 1) ds) refl
+  children_same version scope elder i (item d ds) = rw (
+    sub_same,
+    children_same version scope (with_label (label_in d) Outcome elder)
+        (i + 1) ds,
+  ) refl
 
-  parallel_same : (version : ℕ) (scope : Scope) (d : Data) → demands_of (parallel_placed version places scope d) ≡ parallel_asked version asks scope d
+  parallel_same : (version : ℕ) (scope : Scope) (d : Data) → demands_of (parallel_placed version places scope d)
+      ≡ parallel_asked version asks scope d
   unfolding parallel_placed parallel_asked
   parallel_same version scope d = rw (children_same, append-nil) (three (parallel_shape_asked d) (one_more_node ∷ []) _)
 
-  step_same_by : (sort : Option Sort) (setting : Setting) (scope : Scope) (d : Data) → demands_of (step_placed_by sort places setting scope d) ≡ step_asked_by sort asks setting scope d
+  step_same_by : (sort : Option Sort) (setting : Setting) (scope : Scope) (d : Data)
+      → demands_of (step_placed_by sort places setting scope d) ≡ step_asked_by sort asks setting scope d
   step_same_by None setting scope d = refl
   step_same_by (Some an_operation) setting scope d = append-nil _
   step_same_by (Some an_if) setting scope d = if_same scope d
@@ -105,20 +127,24 @@ module _ (places : Places) (asks : Asks) (same : Agrees places asks) where
   step_same_by (Some an_abort) setting scope d = append-nil _
   step_same_by (Some a_parallel) setting scope d = parallel_same setting.version scope d
 
-  step_same : (setting : Setting) (scope : Scope) (d : Data) → demands_of (step_placed places setting scope d) ≡ step_asked asks setting scope d
+  step_same : (setting : Setting) (scope : Scope) (d : Data) → demands_of (step_placed places setting scope d)
+      ≡ step_asked asks setting scope d
   unfolding step_placed step_asked
   step_same setting scope d = step_same_by (sort_of d) setting scope d
 
-  steps_same : (setting : Setting) (scope : Scope) (i : ℕ) (ds : Items) → demands_of (steps_placed places setting scope i ds) ≡ steps_asked asks setting scope ds
+  steps_same : (setting : Setting) (scope : Scope) (i : ℕ) (ds : Items) → demands_of (steps_placed places setting scope i ds)
+      ≡ steps_asked asks setting scope ds
   steps_same setting scope i no_items = refl
   steps_same setting scope i (item d ds) = rw (step_same, steps_same setting (scope_after setting scope d) (i + 1) ds) refl
 
 -- the items of an array, or the demand for one
-array_same : (asks : Items → List Demand) (demands : Items → List Demand) (o : Option Items) → ((ds : Items) → demands ds ≡ asks ds) → demands no_items ≡ [] → array_asked (λ ds. []) o ++ demands (or_no_items o) ≡ array_asked asks o
+array_same : (asks : Items → List Demand) (demands : Items → List Demand) (o : Option Items) → ((ds : Items) → demands ds ≡ asks ds)
+    → demands no_items ≡ [] → array_asked (λ ds. []) o ++ demands (or_no_items o) ≡ array_asked asks o
 array_same asks demands None same none = rw none refl
 array_same asks demands (Some ds) same none = same ds
 
-list_same : (asks : Items → List Demand) (demands : Items → List Demand) (o : Option Items) → ((ds : Items) → demands ds ≡ asks ds) → demands no_items ≡ [] → array_start_asked (λ ds. []) o ++ demands (or_no_items o) ≡ array_start_asked asks o
+list_same : (asks : Items → List Demand) (demands : Items → List Demand) (o : Option Items) → ((ds : Items) → demands ds ≡ asks ds)
+    → demands no_items ≡ [] → array_start_asked (λ ds. []) o ++ demands (or_no_items o) ≡ array_start_asked asks o
 unfolding array_start_asked
 list_same asks demands None same none = rw none refl
 list_same asks demands (Some ds) same none = same ds
@@ -126,7 +152,8 @@ list_same asks demands (Some ds) same none = same ds
 block_same : (setting : Setting) (n : ℕ) → Agrees (block_placed setting n) (block_asked setting n)
 unfolding block_placed block_asked
 block_same setting zero scope d = append-nil _
-block_same setting (suc n) scope d = array_same _ (λ ds. demands_of (steps_placed (block_placed setting n) setting scope 0 ds)) (as_array d) (steps_same (block_placed setting n) (block_asked setting n) (block_same setting n) setting scope 0) refl
+block_same setting (suc n) scope d = array_same _ (λ ds. demands_of (steps_placed (block_placed setting n) setting scope 0 ds))
+    (as_array d) (steps_same (block_placed setting n) (block_asked setting n) (block_same setting n) setting scope 0) refl
 
 entries_same : (i : ℕ) (ds : Items) → demands_of (entries_placed i ds) ≡ entries_asked ds
 entries_same i no_items = refl
@@ -153,11 +180,13 @@ object_same : (version : ℕ) (names : Table) (d : Data) → demands_of (object_
 unfolding object_placed object_asked
 object_same version names d = rw (start_same, append-nil) (three (object_shape_asked version d) (object_name_asked names (object_name d)) _)
 
-pub objects_same : (version : ℕ) (names : Table) (i : ℕ) (ds : Items) → demands_of (objects_placed version names i ds) ≡ objects_asked version names ds
+pub objects_same : (version : ℕ) (names : Table) (i : ℕ) (ds : Items) → demands_of (objects_placed version names i ds)
+    ≡ objects_asked version names ds
 objects_same version names i no_items = refl
 objects_same version names i (item d ds) = rw (object_same, objects_same version (names ++ object_name d ∷ []) (i + 1) ds) refl
 
-transactions_same : (setting : Setting) (i : ℕ) (ds : Items) → demands_of (transactions_placed setting i ds) ≡ transactions_asked (i + 1) setting ds
+transactions_same : (setting : Setting) (i : ℕ) (ds : Items) → demands_of (transactions_placed setting i ds) ≡ transactions_asked
+    (i + 1) setting ds
 transactions_same setting i no_items = refl
 transactions_same setting i (item d ds) = rw (block_same, transactions_same setting (i + 1) ds) refl
 
@@ -172,7 +201,8 @@ placed_same d = rw (objects_same, transactions_same, append-nil) (three (documen
 pub own_met : (c next : Counts) (ds : List Demand) → check c ds ≡ Ok next → seek c (itself ds nothing) ≡ Ok next
 own_met c next ds met = ap (λ r. go_on (here r) (λ n. Ok n)) met
 
-pub own_unmet : (c : Counts) (e : Fault) (ds : List Demand) (rest : Placed) → check c ds ≡ Err e → seek c (itself ds rest) ≡ Err (found_here e)
+pub own_unmet : (c : Counts) (e : Fault) (ds : List Demand) (rest : Placed) → check c ds ≡ Err e
+    → seek c (itself ds rest) ≡ Err (found_here e)
 own_unmet c e ds rest failed = ap (λ r. go_on (here r) (λ n. seek n rest)) failed
 
 -- where those on the value itself are met, the rest decides
@@ -180,9 +210,11 @@ pub own_first : (c next : Counts) (ds : List Demand) (rest : Placed) → check c
 own_first c next ds rest met = ap (λ r. go_on (here r) (λ n. seek n rest)) met
 
 -- where those on the first part are met, the rest decides
-pub part_met : (c next : Counts) (token : Token) (part rest : Placed) → seek c part ≡ Ok next → seek c (inside token part rest) ≡ seek next rest
+pub part_met : (c next : Counts) (token : Token) (part rest : Placed) → seek c part ≡ Ok next → seek c (inside token part rest)
+    ≡ seek next rest
 part_met c next token part rest met = ap (λ r. go_on (below token r) (λ n. seek n rest)) met
 
 -- where one on the first part is not met, it is the first of all
-pub part_unmet : (c : Counts) (found : Found) (token : Token) (part rest : Placed) → seek c part ≡ Err found → seek c (inside token part rest) ≡ Err (found_inside token found)
+pub part_unmet : (c : Counts) (found : Found) (token : Token) (part rest : Placed) → seek c part ≡ Err found
+    → seek c (inside token part rest) ≡ Err (found_inside token found)
 part_unmet c found token part rest failed = ap (λ r. go_on (below token r) (λ n. seek n rest)) failed

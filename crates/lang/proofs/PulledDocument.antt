@@ -5,7 +5,8 @@ use Rattle.serde_json.specs.Events.{items_len}
 use Rattle.lang.specs.declared.counts.Counts.{Counts}
 use Rattle.lang.specs.Answer.{IsMet}
 use Rattle.lang.specs.Pulled.{in_order}
-use Rattle.lang.specs.Asked.{asked, declared_by, document_shape_asked, objects_asked, setting_in, transactions_asked, version_in, version_of}
+use Rattle.lang.specs.Asked.{asked, declared_by, document_shape_asked, objects_asked, setting_in, transactions_asked, version_in}
+use Rattle.lang.specs.Asked.{version_of}
 use Rattle.lang.proofs.Checks.{check_met}
 
 module _ (version : ℕ) (os ts : Items) (some : 1 ≤ version) (known : version ≤ 4) where

@@ -7,7 +7,8 @@ use Rattle.serde_json.specs.Data.{Data, Members, member, put}
 use Rattle.lang.specs.Pulled.{IsAfter}
 
 -- what is after a reason is after the one before it, too
-pub after_both : (before : Option (List ℕ)) (reason next : List ℕ) → IsAfter reason before → IsAfter next (Some reason) → IsAfter next before
+pub after_both : (before : Option (List ℕ)) (reason next : List ℕ) → IsAfter reason before → IsAfter next (Some reason)
+    → IsAfter next before
 after_both None reason next first second = tt
 after_both (Some before) reason next first second = nat_list_cmp_total.trans before reason next first second
 

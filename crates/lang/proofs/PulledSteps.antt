@@ -17,7 +17,8 @@ use Rattle.objects.specs.declared.call.Call.{Call}
 use Rattle.lang.specs.declared.counts.Counts.{Counts}
 use Rattle.lang.specs.declared.words.Subject.TheVariants.{Reply}
 use Rattle.lang.specs.Answer.{IsMet}
-use Rattle.lang.specs.Asked.{Asks, amount_asked, amount_item, item_asked, arguments_asked, label_asked, label_in, operation_asked, operation_verb, part, scope_after, sort_of, step_asked, target_asked, operation_shape_asked}
+use Rattle.lang.specs.Asked.{Asks, amount_asked, amount_item, item_asked, arguments_asked, label_asked, label_in, operation_asked}
+use Rattle.lang.specs.Asked.{operation_verb, part, scope_after, sort_of, step_asked, target_asked, operation_shape_asked}
 use Rattle.lang.specs.Demand.{one_more_operation}
 use Rattle.lang.specs.Pulled.{op_array, op_step}
 use Rattle.lang.specs.Scope.{Numbers, with_item, Scope, Setting, with_label}

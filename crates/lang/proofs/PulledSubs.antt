@@ -11,13 +11,16 @@ use Rattle.lang.specs.declared.counts.Counts.{Counts}
 use Rattle.lang.specs.declared.steps.Sort.TheVariants.{Sub}
 use Rattle.lang.specs.declared.words.Subject.TheVariants.{Outcome}
 use Rattle.lang.specs.Answer.{IsMet}
-use Rattle.lang.specs.Asked.{Asks, block_asked_if, handlers_asked, handlers_in, label_asked, label_in, members_asked, part, scope_after, sort_of, step_asked, sub_asked, sub_shape_asked, children_asked, labels_of, parallel_asked, parallel_shape_asked}
+use Rattle.lang.specs.Asked.{Asks, block_asked_if, handlers_asked, handlers_in, label_asked, label_in, members_asked, part, scope_after}
+use Rattle.lang.specs.Asked.{sort_of, step_asked, sub_asked, sub_shape_asked, children_asked, labels_of, parallel_asked}
+use Rattle.lang.specs.Asked.{parallel_shape_asked}
 use Rattle.lang.specs.Demand.{check, holds, one_more_node}
 use Rattle.lang.specs.declared.fault.Code.TheVariants.{DuplicateLabel, Name}
 use Rattle.batch.specs.Names.{is_name}
 use Rattle.lang.specs.Pulled.{ReadsMembers, ReadsValue, SubTail, are_allowed, sub_members}
 use Rattle.lang.specs.Scope.{Numbers, Scope, Setting, is_named, with_label, with_labels}
-use Rattle.lang.specs.Spelled.{Spelling, block_of_if, handlers_spelled, members_of, spelled_map, step_of, sub_of, sub_step, tried, children_spelled, parallel_of}
+use Rattle.lang.specs.Spelled.{Spelling, block_of_if, handlers_spelled, members_of, spelled_map, step_of, sub_of, sub_step, tried}
+use Rattle.lang.specs.Spelled.{children_spelled, parallel_of}
 use Rattle.lang.proofs.Checks.{check_met}
 use Rattle.lang.proofs.PulledLemmas.{reads_member, reads_string}
 use Rattle.batch.specs.Views.{Tried, children_of}

@@ -12,7 +12,8 @@ use Rattle.lang.specs.declared.counts.Counts.{Counts}
 use Rattle.lang.specs.declared.steps.Sort.TheVariants.{If, Abort}
 use Rattle.lang.specs.declared.words.Subject.{Subject}
 use Rattle.lang.specs.Answer.{IsMet}
-use Rattle.lang.specs.Asked.{Asks, abort_asked, abort_shape_asked, block_asked_if, if_asked, if_label, if_shape_asked, is_abort, part, reason_asked, scope_after, seen_asked, sort_of, step_asked, subject_of, test_asked}
+use Rattle.lang.specs.Asked.{Asks, abort_asked, abort_shape_asked, block_asked_if, if_asked, if_label, if_shape_asked, is_abort, part}
+use Rattle.lang.specs.Asked.{reason_asked, scope_after, seen_asked, sort_of, step_asked, subject_of, test_asked}
 use Rattle.lang.specs.Demand.{one_more_node}
 use Rattle.lang.specs.Pulled.{TestKey, abort_step, if_step}
 use Rattle.lang.specs.Pulled.TestKey.{word, least, entry}

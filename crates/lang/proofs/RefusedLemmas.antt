@@ -8,7 +8,8 @@ use Rattle.serde_json.specs.Find.{as_object}
 use Rattle.serde_json.specs.Read.{read as read_text}
 use Rattle.lang.specs.declared.fault.Code.TheVariants.{Shape}
 use Rattle.lang.specs.declared.fault.Fault.{Fault}
-use Rattle.lang.specs.Asked.{asked, document_shape_asked, objects_asked, objects_in, setting_in, transactions_asked, transactions_in, version_in}
+use Rattle.lang.specs.Asked.{asked, document_shape_asked, objects_asked, objects_in, setting_in, transactions_asked, transactions_in}
+use Rattle.lang.specs.Asked.{version_in}
 use Rattle.lang.specs.Demand.{check, first_fault, no_counts}
 use Rattle.lang.specs.Faults.{fault_outside}
 use Rattle.lang.specs.Reading.{spelled_by, unless_fault, value_of}

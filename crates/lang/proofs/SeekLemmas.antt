@@ -1,7 +1,8 @@
 -- The first demand that is not met, of a step and of a block.
 use Rattle.std.specs.Result.{IfErr, IsErrAnd}
 use Rattle.std.specs.Prelude.{codes, nat_lt}
-use Rattle.std.proofs.Common.{◌≡◌, ℕ, zero, suc, ◌<◌, ◌≤◌, Bool, true, false, cond, Option, None, Some, Result, Ok, Err, [], ◌∷◌, List, length, inr, refl, subst, sym, ap, ap₂, ◌∙◌, arith}
+use Rattle.std.proofs.Common.{◌≡◌, ℕ, zero, suc, ◌<◌, ◌≤◌, Bool, true, false, cond, Option, None, Some, Result, Ok, Err, [], ◌∷◌, List}
+use Rattle.std.proofs.Common.{length, inr, refl, subst, sym, ap, ap₂, ◌∙◌, arith}
 use Rattle.std.proofs.lemmas.Bool.{le-ltb}
 use Rattle.serde_json.specs.Data.{Data, Items}
 use Rattle.serde_json.specs.Find.{as_array, get}
@@ -12,11 +13,13 @@ use Rattle.lang.specs.declared.places.Place.{Place}
 use Rattle.lang.specs.declared.places.Place.TheVariants.{Whole, Pointer, LineColumn}
 use Rattle.lang.specs.declared.places.Unmet.{Unmet}
 use Rattle.lang.specs.declared.words.Subject.{Subject}
-use Rattle.lang.specs.Asked.{asked, block_asked, declared_by, document_shape_asked, if_label, if_shape_asked, objects_asked, objects_in, part, seen_asked, setting_in, subject_of, test_asked, transactions_in, version_in}
+use Rattle.lang.specs.Asked.{asked, block_asked, declared_by, document_shape_asked, if_label, if_shape_asked, objects_asked, objects_in}
+use Rattle.lang.specs.Asked.{part, seen_asked, setting_in, subject_of, test_asked, transactions_in, version_in}
 use Rattle.lang.specs.Demand.{check, fault_at, fault_of, no_counts, one_more_node}
 use Rattle.lang.specs.Faults.{fault_outside}
 use Rattle.lang.specs.Found.{IsPlaceOf, Shows, found_of, pointer_text}
-use Rattle.lang.specs.Places.{Found, Placed, Places, block_placed, block_placed_if, found_here, if_placed, inside, itself, member_named, nothing, objects_placed, placed, seek, steps_placed, transactions_placed}
+use Rattle.lang.specs.Places.{Found, Placed, Places, block_placed, block_placed_if, found_here, if_placed, inside, itself, member_named}
+use Rattle.lang.specs.Places.{nothing, objects_placed, placed, seek, steps_placed, transactions_placed}
 use Rattle.lang.specs.Reading.{Document, reading, spelled_by, unless_fault, value_of}
 use Rattle.lang.specs.Scope.{Scope, Setting}
 use Rattle.lang.proofs.BlockLemmas.{no_array, too_deep}
@@ -42,12 +45,14 @@ found_plain u e fault at none is =
 pub if_parts : (places : Places) (scope : Scope) (d : Data) (label : List ℕ) (subject : Subject) (c next : Counts)
     → check c (if_shape_asked d) ≡ Ok c → check c (one_more_node ∷ []) ≡ Ok next → label ≡ if_label d
     → check next (seen_asked scope label) ≡ Ok next → subject ≡ subject_of label scope → check next (test_asked subject d) ≡ Ok next
-    → seek c (if_placed places scope d) ≡ seek next (inside (member_named (codes "then")) (places scope (part (codes "then") d)) (inside (member_named (codes "else")) (block_placed_if places scope (get (codes "else") d)) nothing))
+    → seek c (if_placed places scope d) ≡ seek next (inside (member_named (codes "then")) (places scope (part (codes "then") d))
+    (inside (member_named (codes "else")) (block_placed_if places scope (get (codes "else") d)) nothing))
 unfolding if_placed
 if_parts places scope d label subject c next shape node is seen of test =
     let seen' = ap (λ l. check next (seen_asked scope l)) (sym is) ∙ seen in
     let test' = ap (λ s. check next (test_asked s d)) (sym (of ∙ ap (λ l. subject_of l scope) is)) ∙ test in
-    let branches = inside (member_named (codes "then")) (places scope (part (codes "then") d)) (inside (member_named (codes "else")) (block_placed_if places scope (get (codes "else") d)) nothing) in
+    let branches = inside (member_named (codes "then")) (places scope (part (codes "then") d))
+    (inside (member_named (codes "else")) (block_placed_if places scope (get (codes "else") d)) nothing) in
     let tested = itself (test_asked (subject_of (if_label d) scope) d) branches in
     let labelled = itself (seen_asked scope (if_label d)) tested in
     own_first c c (if_shape_asked d) (itself (one_more_node ∷ []) labelled) shape
@@ -56,32 +61,41 @@ if_parts places scope d label subject c next shape node is seen of test =
     ∙ own_first next next (test_asked (subject_of (if_label d) scope) d) branches test'
 
 module _ (setting : Setting) (scope : Scope) (d : Data) where
-  pub no_array_found : (n : ℕ) (c : Counts) → as_array d ≡ None → seek c (block_placed setting n scope d) ≡ Err (found_here (fault_at Shape c))
+  pub no_array_found : (n : ℕ) (c : Counts) → as_array d ≡ None → seek c (block_placed setting n scope d) ≡ Err
+      (found_here (fault_at Shape c))
   unfolding block_placed
-  no_array_found zero c none = own_unmet c (fault_at Shape c) (block_asked setting zero scope d) nothing (no_array setting scope d zero c none)
+  no_array_found zero c none = own_unmet c (fault_at Shape c) (block_asked setting zero scope d) nothing
+      (no_array setting scope d zero c none)
   no_array_found (suc n) c none = rw none refl
 
-  pub too_deep_found : (n : ℕ) (c : Counts) (ds : Items) → n ≡ 0 → Some ds ≡ as_array d → seek c (block_placed setting n scope d) ≡ Err (found_here (fault_at Depth c))
+  pub too_deep_found : (n : ℕ) (c : Counts) (ds : Items) → n ≡ 0 → Some ds ≡ as_array d → seek c (block_placed setting n scope d) ≡ Err
+      (found_here (fault_at Depth c))
   unfolding block_placed
-  too_deep_found zero c ds e is = own_unmet c (fault_at Depth c) (block_asked setting zero scope d) nothing (too_deep setting scope d zero c ds e is)
+  too_deep_found zero c ds e is = own_unmet c (fault_at Depth c) (block_asked setting zero scope d) nothing
+      (too_deep setting scope d zero c ds e is)
   too_deep_found (suc n) c ds e is = absurd (omega arith)
 
-  pub block_places : (m n : ℕ) (c : Counts) (ds : Items) → n ≡ suc m → Some ds ≡ as_array d → seek c (block_placed setting n scope d) ≡ seek c (steps_placed (block_placed setting m) setting scope 0 ds)
+  pub block_places : (m n : ℕ) (c : Counts) (ds : Items) → n ≡ suc m → Some ds ≡ as_array d → seek c (block_placed setting n scope d)
+      ≡ seek c (steps_placed (block_placed setting m) setting scope 0 ds)
   unfolding block_placed
   block_places m n c ds e is = rw (e, ← is) refl
 
 -- ---- a document
 
 -- the demands on a document itself are met, and those on its objects and its transactions decide
-pub document_parts : (d : Data) (version : ℕ) (os ts : Items) (setting : Setting) (c : Counts) → version ≡ version_in d → os ≡ objects_in d → ts ≡ transactions_in d → setting ≡ declared_by version os
+pub document_parts : (d : Data) (version : ℕ) (os ts : Items) (setting : Setting) (c : Counts) → version ≡ version_in d → os ≡ objects_in d
+    → ts ≡ transactions_in d → setting ≡ declared_by version os
     → check c (document_shape_asked d) ≡ Ok c
-    → seek c (placed d) ≡ seek c (inside (member_named (codes "objects")) (objects_placed version [] 0 os) (inside (member_named (codes "transactions")) (transactions_placed setting 0 ts) nothing))
+    → seek c (placed d) ≡ seek c (inside (member_named (codes "objects")) (objects_placed version [] 0 os)
+    (inside (member_named (codes "transactions")) (transactions_placed setting 0 ts) nothing))
 unfolding placed
 document_parts d version os ts setting c v o t s shape =
     let rest : Setting → Items → Placed = λ set ds. inside (member_named (codes "transactions")) (transactions_placed set 0 ds) nothing in
-    let parts : ℕ → Items → Items → Setting → Result Counts Found = λ n ds es set. seek c (inside (member_named (codes "objects")) (objects_placed n [] 0 ds) (rest set es)) in
+    let parts : ℕ → Items → Items → Setting → Result Counts Found = λ n ds es set. seek c
+    (inside (member_named (codes "objects")) (objects_placed n [] 0 ds) (rest set es)) in
     let same : setting ≡ setting_in d = s ∙ ap (λ n. declared_by n os) v ∙ ap (declared_by (version_in d)) o in
-    own_first c c (document_shape_asked d) (inside (member_named (codes "objects")) (objects_placed (version_in d) [] 0 (objects_in d)) (rest (setting_in d) (transactions_in d))) shape
+    own_first c c (document_shape_asked d) (inside (member_named (codes "objects")) (objects_placed (version_in d) [] 0 (objects_in d))
+    (rest (setting_in d) (transactions_in d))) shape
     ∙ ap (λ n. parts n (objects_in d) (transactions_in d) (setting_in d)) (sym v)
     ∙ ap (λ ds. parts version ds (transactions_in d) (setting_in d)) (sym o)
     ∙ ap (λ ds. parts version os ds (setting_in d)) (sym t)
@@ -94,13 +108,15 @@ met_no_fault : (r : Result Counts Fault) (c : Counts) (fault : Fault) → r ≡ 
 met_no_fault r c fault is also = cc
 
 -- objects that were sought in vain are read with the same counts
-pub read_alike : (c next after : Counts) (version : ℕ) (ds : Items) → seek c (objects_placed version [] 0 ds) ≡ Ok next → check c (objects_asked version [] ds) ≡ Ok after → next ≡ after
+pub read_alike : (c next after : Counts) (version : ℕ) (ds : Items) → seek c (objects_placed version [] 0 ds) ≡ Ok next
+    → check c (objects_asked version [] ds) ≡ Ok after → next ≡ after
 read_alike c next after version ds sought read =
     let same = told_first c (objects_placed version [] 0 ds) ∙ ap (check c) (objects_same version [] 0 ds) in
     counts_alike (check c (objects_asked version [] ds)) next after (sym same ∙ ap told sought) read
 
 -- and they are read without a fault
-pub read_well : (c next : Counts) (fault : Fault) (version : ℕ) (ds : Items) → seek c (objects_placed version [] 0 ds) ≡ Ok next → check c (objects_asked version [] ds) ≡ Err fault → ⊥
+pub read_well : (c next : Counts) (fault : Fault) (version : ℕ) (ds : Items) → seek c (objects_placed version [] 0 ds) ≡ Ok next
+    → check c (objects_asked version [] ds) ≡ Err fault → ⊥
 read_well c next fault version ds sought read =
     let same = told_first c (objects_placed version [] 0 ds) ∙ ap (check c) (objects_same version [] 0 ds) in
     met_no_fault (check c (objects_asked version [] ds)) next fault (sym same ∙ ap told sought) read
@@ -111,20 +127,24 @@ met_or : (r : Result Counts Fault) (d : Data) (fault : Fault) → unless_fault d
 met_or (Ok c) d fault is = cc
 met_or (Err e) d fault is = let same : e ≡ fault = cc in ap (λ x. Err x) same
 
-reads_short : (b : Bool) (long short : Result Document Fault) (fault : Fault) → b ≡ false → cond b long short ≡ Err fault → short ≡ Err fault
+reads_short : (b : Bool) (long short : Result Document Fault) (fault : Fault) → b ≡ false → cond b long short ≡ Err fault
+    → short ≡ Err fault
 reads_short true long short fault is reads = cc
 reads_short false long short fault is reads = reads
 
 -- what a value's first demand is refused for
-pub fault_known : (bytes : List ℕ) (d : Data) (fault : Fault) → reading bytes ≡ Err fault → length bytes ≤ 67108864 → value_of bytes ≡ Some d → told (seek no_counts (placed d)) ≡ Err fault
+pub fault_known : (bytes : List ℕ) (d : Data) (fault : Fault) → reading bytes ≡ Err fault → length bytes ≤ 67108864
+    → value_of bytes ≡ Some d → told (seek no_counts (placed d)) ≡ Err fault
 unfolding reading
 fault_known bytes d fault reads short known =
-    let spelled = reads_short (nat_lt 67108864 (length bytes)) (Err (fault_outside TooMany)) (spelled_by (value_of bytes)) fault (le-ltb 67108864 (length bytes) short) reads in
+    let spelled = reads_short (nat_lt 67108864 (length bytes)) (Err (fault_outside TooMany)) (spelled_by (value_of bytes)) fault
+    (le-ltb 67108864 (length bytes) short) reads in
     told_first no_counts (placed d) ∙ ap (check no_counts) (placed_same d)
     ∙ met_or (check no_counts (asked d)) d fault (sym (ap spelled_by known) ∙ spelled)
 
 -- a document with a fault does not meet all its demands
-pub not_all_met : (bytes : List ℕ) (d : Data) (fault : Fault) (start next : Counts) → reading bytes ≡ Err fault → length bytes ≤ 67108864 → value_of bytes ≡ Some d
+pub not_all_met : (bytes : List ℕ) (d : Data) (fault : Fault) (start next : Counts) → reading bytes ≡ Err fault → length bytes ≤ 67108864
+    → value_of bytes ≡ Some d
     → start ≡ no_counts → seek start (placed d) ≡ Ok next → ⊥
 not_all_met bytes d fault start next reads short known begun met =
     let here : seek no_counts (placed d) ≡ Ok next = rw begun at met in
@@ -134,8 +154,10 @@ faults_alike : (r : Result Counts Fault) (e fault : Fault) → r ≡ Err e → r
 faults_alike r e fault is also = cc
 
 -- the place that is shown is that of the fault
-pub place_shown : (bytes : List ℕ) (d : Data) (fault found : Fault) (pointer : List ℕ) (place : Place) (start : Counts) → reading bytes ≡ Err fault → length bytes ≤ 67108864 → value_of bytes ≡ Some d
-    → start ≡ no_counts → seek start (placed d) ≡ Err (record { fault = found; pointer = pointer }) → Shows pointer place → IsPlaceOf bytes fault place
+pub place_shown : (bytes : List ℕ) (d : Data) (fault found : Fault) (pointer : List ℕ) (place : Place) (start : Counts)
+    → reading bytes ≡ Err fault → length bytes ≤ 67108864 → value_of bytes ≡ Some d
+    → start ≡ no_counts → seek start (placed d) ≡ Err (record { fault = found; pointer = pointer }) → Shows pointer place
+    → IsPlaceOf bytes fault place
 place_shown bytes d fault found pointer place start reads short known begun failed shown = by place shown
   where
     make : Fault → List ℕ → Result Counts Found

@@ -1,5 +1,6 @@
 -- Texts by number, as the keys of a set.
-use Rattle.std.proofs.Common.{◌≡◌, ◌<◌, ◌+◌, ◌||◌, ℕ, suc, Bool, true, false, not, cond, List, [], ◌∷◌, ◌++◌, Some, None, String, Global, string_bytes, refl, ap, ap₂, sym, ◌∙◌, arith}
+use Rattle.std.proofs.Common.{◌≡◌, ◌<◌, ◌+◌, ◌||◌, ℕ, suc, Bool, true, false, not, cond, List, [], ◌∷◌, ◌++◌, Some, None, String, Global}
+use Rattle.std.proofs.Common.{string_bytes, refl, ap, ap₂, sym, ◌∙◌, arith}
 use Rattle.std.proofs.lemmas.Bool.{ltb-true}
 use Rattle.std.specs.Prelude.{nat_lt, position, length, slice_get, option_map}
 use Rattle.std.specs.List.{list_any, position_or_len}
@@ -10,7 +11,8 @@ use Rattle.objects.specs.Entries.{State, kinds}
 use Rattle.batch.specs.Names.{texts_of}
 use Rattle.lang.specs.Scope.{Table, place_of, is_listed, with_text}
 
-first_of_keys : (text : List ℕ) (keys : List (String Global)) → position_or_len (bytes_eq text) (texts_of keys) ≡ position_or_len (λ k. bytes_eq text (string_bytes k)) keys
+first_of_keys : (text : List ℕ) (keys : List (String Global)) → position_or_len (bytes_eq text) (texts_of keys) ≡ position_or_len
+    (λ k. bytes_eq text (string_bytes k)) keys
 first_of_keys text [] = refl
 first_of_keys text (k ∷ keys) = simp (first_of_keys text keys)
 
@@ -19,11 +21,13 @@ length-texts_of [] = refl
 length-texts_of (k ∷ keys) = ap suc (length-texts_of keys)
 
 -- the place of a text among the keys of a set
-pub place_of-keys : (text : List ℕ) (keys : List (String Global)) → place_of text (texts_of keys) ≡ position (λ k. bytes_eq text (string_bytes k)) keys
+pub place_of-keys : (text : List ℕ) (keys : List (String Global)) → place_of text (texts_of keys) ≡ position
+    (λ k. bytes_eq text (string_bytes k)) keys
 place_of-keys text keys = rw (first_of_keys text keys, length-texts_of keys) refl
 
 -- whether a text is among the keys of a set
-pub is_listed-keys : (text : List ℕ) (keys : List (String Global)) → is_listed text (texts_of keys) ≡ list_any (λ k. bytes_eq text (string_bytes k)) keys
+pub is_listed-keys : (text : List ℕ) (keys : List (String Global)) → is_listed text (texts_of keys) ≡ list_any
+    (λ k. bytes_eq text (string_bytes k)) keys
 is_listed-keys text [] = refl
 is_listed-keys text (k ∷ keys) = simp (is_listed-keys text keys)
 
@@ -31,15 +35,18 @@ texts_of-append : (keys : List (String Global)) (k : String Global) → texts_of
 texts_of-append [] k = refl
 texts_of-append (l ∷ keys) k = ap (λ rest. string_bytes l ∷ rest) (texts_of-append keys k)
 
-goes_last : (b : Bool) (keys : List (String Global)) (k : String Global) → b ≡ false → texts_of (cond b keys (keys ++ k ∷ [])) ≡ texts_of keys ++ string_bytes k ∷ []
+goes_last : (b : Bool) (keys : List (String Global)) (k : String Global) → b ≡ false → texts_of (cond b keys (keys ++ k ∷ []))
+    ≡ texts_of keys ++ string_bytes k ∷ []
 goes_last true keys k new = cc
 goes_last false keys k new = texts_of-append keys k
 
 -- a text that is new goes last
-pub new_text : (text : List ℕ) (keys : List (String Global)) (k : String Global) → string_bytes k ≡ text → is_listed text (texts_of keys) ≡ false
+pub new_text : (text : List ℕ) (keys : List (String Global)) (k : String Global) → string_bytes k ≡ text
+    → is_listed text (texts_of keys) ≡ false
     → texts_of (cond (list_any (λ l. bytes_eq (string_bytes k) (string_bytes l)) keys) keys (keys ++ k ∷ [])) ≡ texts_of keys ++ text ∷ []
 new_text text keys k is new =
-    goes_last _ keys k (sym (is_listed-keys (string_bytes k) keys) ∙ ap (λ t. is_listed t (texts_of keys)) is ∙ new) ∙ ap (λ t. texts_of keys ++ t ∷ []) is
+    goes_last _ keys k (sym (is_listed-keys (string_bytes k) keys) ∙ ap (λ t. is_listed t (texts_of keys)) is ∙ new)
+    ∙ ap (λ t. texts_of keys ++ t ∷ []) is
 
 -- the texts of a list that has one key more, or not
 shown : (b : Bool) (keys : List (String Global)) (k : String Global)
@@ -64,15 +71,19 @@ listed_there : (text : List ℕ) (table : Table) → position_or_len (bytes_eq t
 listed_there text [] h = absurd (omega arith)
 listed_there text (t ∷ table) h = by (bytes_eq text t) (listed_there text table) h
   where
-    by : (b : Bool) → (position_or_len (bytes_eq text) table < length table → is_listed text table ≡ true) → cond (not b) (1 + position_or_len (bytes_eq text) table) 0 < length (t ∷ table) → (b || is_listed text table) ≡ true
+    by : (b : Bool) → (position_or_len (bytes_eq text) table < length table → is_listed text table ≡ true)
+        → cond (not b) (1 + position_or_len (bytes_eq text) table) 0 < length (t ∷ table) → (b || is_listed text table) ≡ true
     by true later h = refl
     by false later h = later (omega arith)
 
 -- a text that stands in the table adds nothing, and has its place
-pub listed_text : (text : List ℕ) (table : Table) (i : ℕ) → place_of text table ≡ Some i → (i ≡ position_or_len (bytes_eq text) table) × (is_listed text table ≡ true)
+pub listed_text : (text : List ℕ) (table : Table) (i : ℕ) → place_of text table ≡ Some i → (i ≡ position_or_len (bytes_eq text) table)
+    × (is_listed text table ≡ true)
 listed_text text table i at = by (nat_lt (position_or_len (bytes_eq text) table) (length table)) refl at
   where
-    by : (b : Bool) → nat_lt (position_or_len (bytes_eq text) table) (length table) ≡ b → cond b (Some (position_or_len (bytes_eq text) table)) None ≡ Some i → (i ≡ position_or_len (bytes_eq text) table) × (is_listed text table ≡ true)
+    by : (b : Bool) → nat_lt (position_or_len (bytes_eq text) table) (length table) ≡ b
+        → cond b (Some (position_or_len (bytes_eq text) table)) None ≡ Some i → (i ≡ position_or_len (bytes_eq text) table)
+        × (is_listed text table ≡ true)
     by true lt e = (cc, listed_there text table (ltb-true _ _ lt))
     by false lt e = cc
 
@@ -80,7 +91,8 @@ pub unlisted_text : (text : List ℕ) (table : Table) → is_listed text table �
 unlisted_text text [] h = refl
 unlisted_text text (t ∷ table) h = by (bytes_eq text t) (unlisted_text text table) h
   where
-    by : (b : Bool) → (is_listed text table ≡ false → position_or_len (bytes_eq text) table ≡ length table) → (b || is_listed text table) ≡ false → cond (not b) (1 + position_or_len (bytes_eq text) table) 0 ≡ length (t ∷ table)
+    by : (b : Bool) → (is_listed text table ≡ false → position_or_len (bytes_eq text) table ≡ length table)
+        → (b || is_listed text table) ≡ false → cond (not b) (1 + position_or_len (bytes_eq text) table) 0 ≡ length (t ∷ table)
     by true later h = cc
     by false later h = omega (arith, later h)
 

@@ -15,7 +15,8 @@ first_below : (text : List ℕ) (table : Table) → is_listed text table ≡ tru
 first_below text [] h = cc
 first_below text (t ∷ table) h = by (bytes_eq text t) (first_below text table) h
   where
-    by : (b : Bool) → (is_listed text table ≡ true → position_or_len (bytes_eq text) table < length table) → (b || is_listed text table) ≡ true → cond (not b) (1 + position_or_len (bytes_eq text) table) 0 < length (t ∷ table)
+    by : (b : Bool) → (is_listed text table ≡ true → position_or_len (bytes_eq text) table < length table)
+        → (b || is_listed text table) ≡ true → cond (not b) (1 + position_or_len (bytes_eq text) table) 0 < length (t ∷ table)
     by true later h = omega arith
     by false later h = omega (arith, later h)
 
@@ -23,7 +24,8 @@ first_at_most : (text : List ℕ) (table : Table) → position_or_len (bytes_eq 
 first_at_most text [] = omega arith
 first_at_most text (t ∷ table) = by (bytes_eq text t) (first_at_most text table)
   where
-    by : (b : Bool) → position_or_len (bytes_eq text) table ≤ length table → cond (not b) (1 + position_or_len (bytes_eq text) table) 0 ≤ length (t ∷ table)
+    by : (b : Bool) → position_or_len (bytes_eq text) table ≤ length table
+        → cond (not b) (1 + position_or_len (bytes_eq text) table) 0 ≤ length (t ∷ table)
     by true later = omega arith
     by false later = omega (arith, later)
 
@@ -40,7 +42,13 @@ number_below text table = by (is_listed text table) refl
   where
     by : (b : Bool) → is_listed text table ≡ b → number_of text table < length (cond b table (table ++ text ∷ []))
     by true e = omega (arith, fit_at_most (position_or_len (bytes_eq text) table), first_below text table e)
-    by false e = omega (arith, fit_at_most (position_or_len (bytes_eq text) table), first_at_most text table, length-append table (text ∷ []))
+    by false e = omega (
+      arith,
+      fit_at_most (position_or_len (bytes_eq text) table),
+      first_at_most text table,
+      length-append table
+          (text ∷ []),
+    )
 
 with_more : (text : List ℕ) (table : Table) → length table ≤ length (with_text text table)
 with_more text table = by (is_listed text table)
@@ -89,7 +97,8 @@ grows_behind a b xs ys g = grows_on a a b xs ys (grows_none a xs) g
 pub grows_before : (a b : Numbers) (xs ys : List Demand) → Grows a b xs → Grows a b (xs ++ ys)
 grows_before a b xs ys g = grows_on a b b xs ys g (grows_none b ys)
 
-pub grows_item : (text : List ℕ) (numbers : Numbers) (ds : List Demand) → (AllMet ds → is_name text ≡ true) → Grows numbers (with_item text numbers) ds
+pub grows_item : (text : List ℕ) (numbers : Numbers) (ds : List Demand) → (AllMet ds → is_name text ≡ true)
+    → Grows numbers (with_item text numbers) ds
 grows_item text numbers ds named = record {
   items = with_more text numbers.items;
   reasons = omega arith;
@@ -97,7 +106,8 @@ grows_item text numbers ds named = record {
   reason_names = λ met are. are;
 }
 
-pub grows_reason : (text : List ℕ) (numbers : Numbers) (ds : List Demand) → (AllMet ds → is_name text ≡ true) → Grows numbers (with_reason text numbers) ds
+pub grows_reason : (text : List ℕ) (numbers : Numbers) (ds : List Demand) → (AllMet ds → is_name text ≡ true)
+    → Grows numbers (with_reason text numbers) ds
 grows_reason text numbers ds named = record {
   items = omega arith;
   reasons = with_more text numbers.reasons;
@@ -110,6 +120,7 @@ abbrev pub texts_in : Numbers → Texts
 texts_in numbers = record { objects = []; items = numbers.items; reasons = numbers.reasons }
 
 -- what is spelled has its texts, which the demands made names
-pub record Numbered {A : Type 0} (HasTexts : Texts → A → Type 0) (before : Numbers) (spelled : A × Numbers) (ds : List Demand) : Type 0 where
+pub record Numbered {A : Type 0} (HasTexts : Texts → A → Type 0) (before : Numbers) (spelled : A × Numbers)
+    (ds : List Demand) : Type 0 where
   pub named : HasTexts (texts_in spelled.1) spelled.0
   pub grows : Grows before spelled.1 ds

@@ -1,5 +1,6 @@
 -- What is asked of a document, in reading order. Behind a demand that fails the list says nothing of use.
-use Rattle.std.specs.Prelude.{ℕ, ℤ, nat_abs, zero, suc, ◌+◌, ◌==◌, ◌&&◌, ◌||◌, Bool, true, false, not, List, [], ◌∷◌, ◌++◌, codes, Option, Some, None, is_some, unwrap_or, option_and_then, nat_le, if◌then◌else◌}
+use Rattle.std.specs.Prelude.{ℕ, ℤ, nat_abs, zero, suc, ◌+◌, ◌==◌, ◌&&◌, ◌||◌, Bool, true, false, not, List, [], ◌∷◌, ◌++◌, codes, Option}
+use Rattle.std.specs.Prelude.{Some, None, is_some, unwrap_or, option_and_then, nat_le, if◌then◌else◌}
 use Rattle.std.specs.Option.{option_map_or}
 use Rattle.serde_json.specs.Data.{Data, null, Items, no_items, item, Members, no_members, member}
 use Rattle.serde_json.specs.Find.{get, as_array, as_bool, as_object, as_str}
@@ -7,14 +8,16 @@ use Rattle.serde_json.specs.Events.{items_len}
 use Rattle.objects.specs.declared.kind.Kind.{Kind}
 use Rattle.objects.specs.declared.kind.Kind.TheVariants as kind
 use Rattle.meaning.specs.declared.test.Word.{Word}
-use Rattle.lang.specs.declared.fault.Code.TheVariants.{Shape, Name, DuplicateObject, UnknownObject, UnknownOperation, Argument, UnknownLabel, DuplicateLabel, Condition, Depth, TooMany, Start}
+use Rattle.lang.specs.declared.fault.Code.TheVariants.{Shape, Name, DuplicateObject, UnknownObject, UnknownOperation, Argument}
+use Rattle.lang.specs.declared.fault.Code.TheVariants.{UnknownLabel, DuplicateLabel, Condition, Depth, TooMany, Start}
 use Rattle.lang.specs.declared.words.LoneVerb.TheVariants.{Balance}
 use Rattle.lang.specs.declared.words.Verb.{Verb}
 use Rattle.lang.specs.declared.words.Verb.TheVariants.{OfAmount, OfItem, OfPair, Alone}
 use Rattle.lang.specs.declared.words.Subject.{Subject}
 use Rattle.lang.specs.declared.words.Subject.TheVariants.{Reply, Outcome}
 use Rattle.lang.specs.declared.steps.Sort.{Sort}
-use Rattle.lang.specs.declared.steps.Sort.TheVariants.{Operation as an_operation, If as an_if, Sub as a_sub, Abort as an_abort, Parallel as a_parallel}
+use Rattle.lang.specs.declared.steps.Sort.TheVariants.{Operation as an_operation, If as an_if, Sub as a_sub, Abort as an_abort}
+use Rattle.lang.specs.declared.steps.Sort.TheVariants.{Parallel as a_parallel}
 use Rattle.lang.specs.Demand.{Demand, holds, one_more_start, one_more_operation, one_more_node, in_transaction}
 use Rattle.lang.specs.Look.{has, has_only, text_member, text_item, whole_item, whole, whole_member, list_member, count, or_empty, within}
 use Rattle.lang.specs.Scope.{Table, Setting, Scope, is_listed, kind_named, named, is_named, with_label, with_labels, with_text}
@@ -38,7 +41,8 @@ label_in d = text_member (codes "as") d
 -- a label is a name, and is neither seen nor an elder sibling's
 unfoldable pub label_asked : Scope → Scope → Option (List ℕ) → List Demand
 label_asked scope elder None = []
-label_asked scope elder (Some name) = holds (is_name name) Name ∷ holds (not (is_named name scope || is_named name elder)) DuplicateLabel ∷ []
+label_asked scope elder (Some name) = holds (is_name name) Name ∷ holds (not (is_named name scope || is_named name elder)) DuplicateLabel
+    ∷ []
 
 -- ---- operations
 
@@ -134,11 +138,13 @@ abbrev pub holds_number : Subject → Data → List Demand
 holds_number subject d = holds (fits_number subject) Condition ∷ holds (is_some (whole_member (codes "atleast") d)) Condition ∷ []
 
 abbrev pub holds_item : Subject → Data → List Demand
-holds_item subject d = holds (fits_item subject) Condition ∷ holds (is_some (text_member (codes "item") d)) Condition ∷ holds (is_name (or_empty (text_member (codes "item") d))) Name ∷ []
+holds_item subject d = holds (fits_item subject) Condition ∷ holds (is_some (text_member (codes "item") d)) Condition ∷ holds
+    (is_name (or_empty (text_member (codes "item") d))) Name ∷ []
 
 -- the test of an `if`, against what its label is of
 unfoldable pub test_asked : Subject → Data → List Demand
-test_asked subject d = if has (codes "is") d then holds_word subject d else if has (codes "atleast") d then holds_number subject d else holds_item subject d
+test_asked subject d = if has (codes "is") d then holds_word subject d else if has (codes "atleast") d then holds_number subject
+    d else holds_item subject d
 
 -- a block that a step may have
 unfoldable pub block_asked_if : Asks → Scope → Option Data → List Demand
@@ -176,7 +182,8 @@ if_asked asks scope d =
 
 -- handlers by reason, which a version may have
 abbrev pub handlers_are_members : ℕ → Data → Bool
-handlers_are_members version d = not (has (codes "handlers") d) || (nat_le 3 version && is_some (option_and_then as_object (get (codes "handlers") d)))
+handlers_are_members version d = not (has (codes "handlers") d) ||
+    (nat_le 3 version && is_some (option_and_then as_object (get (codes "handlers") d)))
 
 unfoldable pub sub_shape_asked : ℕ → Data → List Demand
 sub_shape_asked version d =
@@ -221,7 +228,8 @@ reason_asked None = []
 reason_asked (Some reason) = holds (is_name reason) Name ∷ []
 
 unfoldable pub abort_shape_asked : ℕ → Data → List Demand
-abort_shape_asked version d = holds (has_only (codes "abort" ∷ []) d) Shape ∷ holds (is_abort version (part (codes "abort") d)) Shape ∷ one_more_node ∷ []
+abort_shape_asked version d = holds (has_only (codes "abort" ∷ []) d) Shape ∷ holds (is_abort version (part (codes "abort") d)) Shape
+    ∷ one_more_node ∷ []
 
 unfoldable pub abort_asked : ℕ → Data → List Demand
 abort_asked version d = abort_shape_asked version d ++ reason_asked (as_str (part (codes "abort") d))
@@ -232,7 +240,8 @@ parallel_shape_asked d = holds (has_only (codes "parallel" ∷ []) d) Shape ∷ 
 -- the children, where their elder siblings have these labels
 abbrev pub children_asked : ℕ → Asks → Scope → Scope → Items → List Demand
 children_asked version asks scope elder no_items = []
-children_asked version asks scope elder (item d ds) = sub_asked version asks scope elder d ++ children_asked version asks scope (with_label (label_in d) Outcome elder) ds
+children_asked version asks scope elder (item d ds) = sub_asked version asks scope elder d ++ children_asked version asks scope
+    (with_label (label_in d) Outcome elder) ds
 
 -- the labels of the children
 abbrev pub labels_of : Scope → Items → Scope
@@ -313,7 +322,8 @@ entries_asked no_items = []
 entries_asked (item d ds) = entry_asked d ++ entries_asked ds
 
 unfoldable pub element_asked : Table → Data → List Demand
-element_asked earlier d = holds (is_some (as_str d)) Start ∷ holds (is_name (text_of d)) Name ∷ holds (not (is_listed (text_of d) earlier)) Start ∷ one_more_start ∷ []
+element_asked earlier d = holds (is_some (as_str d)) Start ∷ holds (is_name (text_of d)) Name ∷ holds (not (is_listed (text_of d) earlier))
+    Start ∷ one_more_start ∷ []
 
 -- the entries of a set, which differ from these earlier ones
 abbrev pub elements_asked : Table → Items → List Demand

@@ -29,7 +29,8 @@ limited within c next = if within then Ok next else Err (fault_at TooMany c)
 abbrev pub check_one : Counts → Demand → Result Counts Fault
 check_one c (holds b code) = if b then Ok c else Err (fault_at code c)
 check_one c one_more_start = limited (nat_lt c.starts 100000) c (record c { starts = c.starts + 1 })
-check_one c (one_more_operation version) = limited (nat_lt c.operations (most_operations version)) c (record c { operations = c.operations + 1 })
+check_one c (one_more_operation version) = limited (nat_lt c.operations (most_operations version)) c
+    (record c { operations = c.operations + 1 })
 check_one c one_more_node = limited (nat_lt c.nodes 100000) c (record c { nodes = c.nodes + 1 })
 check_one c (in_transaction n) = Ok (record c { transaction = n })
 

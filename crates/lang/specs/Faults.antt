@@ -1,7 +1,9 @@
 -- The numbers of codes, and the faults that are in no transaction.
 use Rattle.std.specs.Prelude.{ℕ}
 use Rattle.lang.specs.declared.fault.Code.{Code}
-use Rattle.lang.specs.declared.fault.Code.TheVariants.{NotJson, Shape, Name, DuplicateObject, UnknownObject, UnknownOperation, Argument, UnknownLabel, DuplicateLabel, Condition, Depth, TooMany, Start, Memory, Input, Output}
+use Rattle.lang.specs.declared.fault.Code.TheVariants.{NotJson, Shape, Name, DuplicateObject, UnknownObject, UnknownOperation, Argument}
+use Rattle.lang.specs.declared.fault.Code.TheVariants.{UnknownLabel, DuplicateLabel, Condition, Depth, TooMany, Start, Memory, Input}
+use Rattle.lang.specs.declared.fault.Code.TheVariants.{Output}
 use Rattle.lang.specs.declared.fault.Fault.{Fault}
 
 abbrev pub number_of : Code → ℕ

@@ -1,5 +1,6 @@
 -- What is told of a fault's place.
-use Rattle.std.specs.Prelude.{◌≡◌, ◌≢◌, ◌<◌, ◌≤◌, ◌⊎◌, ℕ, List, [], length, Option, None, Some, Ok, Err, option_map, string_bytes, unwrap_or, String}
+use Rattle.std.specs.Prelude.{◌≡◌, ◌≢◌, ◌<◌, ◌≤◌, ◌⊎◌, ℕ, List, [], length, Option, None, Some, Ok, Err, option_map, string_bytes}
+use Rattle.std.specs.Prelude.{unwrap_or, String}
 use Rattle.std.specs.declared.alloc.Global.{Global}
 use Rattle.serde_json.specs.Data.{Data}
 use Rattle.lang.specs.declared.counts.Counts.{Counts}
@@ -32,12 +33,14 @@ Shows pointer (LineColumn line column) = ⊥
 
 -- the bytes write a value, and the first demand that it doesn't meet has this fault and this pointer
 abbrev pub PointsTo : List ℕ → Fault → List ℕ → Type 0
-PointsTo bytes fault pointer = (d : Data) × (value_of bytes ≡ Some d) × (seek no_counts (placed d) ≡ Err (record { fault = fault; pointer = pointer }))
+PointsTo bytes fault pointer = (d : Data) × (value_of bytes ≡ Some d)
+    × (seek no_counts (placed d) ≡ Err (record { fault = fault; pointer = pointer }))
 
 -- The place of a fault. The whole is the place of a fault of its length, too, and a pointer leads to a part of it.
 abbrev pub IsPlaceOf : List ℕ → Fault → Place → Type 0
 IsPlaceOf bytes fault Whole = (67108864 < length bytes) ⊎ PointsTo bytes fault []
-IsPlaceOf bytes fault (Pointer text) = (length bytes ≤ 67108864) × (0 < length (string_bytes text)) × PointsTo bytes fault (string_bytes text)
+IsPlaceOf bytes fault (Pointer text) = (length bytes ≤ 67108864) × (0 < length (string_bytes text))
+    × PointsTo bytes fault (string_bytes text)
 IsPlaceOf bytes fault (LineColumn line column) = (length bytes ≤ 67108864) × (value_of bytes ≡ None)
 
 -- The demands with their places are those that are asked, so that no other fault is first.

@@ -1,18 +1,24 @@
 -- What is asked of a document, with the places: the same demands as in `asked`, each under the part that it is asked of.
-use Rattle.std.specs.Prelude.{ℕ, ◌+◌, List, [], ◌∷◌, ◌++◌, codes, map, Option, None, Some, Result, Ok, Err, zero, suc, nat_lt, length, option_map, unwrap_or, string_bytes, ◌≡◌, ◌≢◌}
+use Rattle.std.specs.Prelude.{ℕ, ◌+◌, List, [], ◌∷◌, ◌++◌, codes, map, Option, None, Some, Result, Ok, Err, zero, suc, nat_lt, length}
+use Rattle.std.specs.Prelude.{option_map, unwrap_or, string_bytes, ◌≡◌, ◌≢◌}
 use Rattle.std.specs.Fmt.{decimal}
 use Rattle.serde_json.specs.Data.{Data, Items, no_items, item, Members, no_members, member}
 use Rattle.serde_json.specs.Find.{as_array, get}
 use Rattle.objects.specs.declared.kind.Kind.{Kind}
 use Rattle.objects.specs.declared.kind.Kind.TheVariants as kind
 use Rattle.lang.specs.declared.steps.Sort.{Sort}
-use Rattle.lang.specs.declared.steps.Sort.TheVariants.{Operation as an_operation, If as an_if, Sub as a_sub, Abort as an_abort, Parallel as a_parallel}
+use Rattle.lang.specs.declared.steps.Sort.TheVariants.{Operation as an_operation, If as an_if, Sub as a_sub, Abort as an_abort}
+use Rattle.lang.specs.declared.steps.Sort.TheVariants.{Parallel as a_parallel}
 use Rattle.lang.specs.declared.words.Subject.TheVariants.{Outcome}
 use Rattle.lang.specs.declared.fault.Fault.{Fault}
 use Rattle.lang.specs.declared.counts.Counts.{Counts}
 use Rattle.lang.specs.Demand.{Demand, one_more_node, in_transaction, check, no_counts}
 use Rattle.lang.specs.Scope.{Scope, Setting, Table, with_label, with_text}
-use Rattle.lang.specs.Asked.{abort_asked, array_asked, array_start_asked, block_asked, children_in, document_shape_asked, element_asked, entry_asked, handlers_in, if_label, if_shape_asked, key_of, kind_in, label_asked, label_in, member_asked, object_name, object_name_asked, object_shape_asked, objects_in, operation_asked, or_no_items, pair_asked, parallel_shape_asked, part, scope_after, seen_asked, setting_in, sort_of, start_asked, step_asked_by, sub_shape_asked, subject_of, test_asked, text_of, transactions_in, version_in}
+use Rattle.lang.specs.Asked.{abort_asked, array_asked, array_start_asked, block_asked, children_in, document_shape_asked, element_asked}
+use Rattle.lang.specs.Asked.{entry_asked, handlers_in, if_label, if_shape_asked, key_of, kind_in, label_asked, label_in, member_asked}
+use Rattle.lang.specs.Asked.{object_name, object_name_asked, object_shape_asked, objects_in, operation_asked, or_no_items, pair_asked}
+use Rattle.lang.specs.Asked.{parallel_shape_asked, part, scope_after, seen_asked, setting_in, sort_of, start_asked, step_asked_by}
+use Rattle.lang.specs.Asked.{sub_shape_asked, subject_of, test_asked, text_of, transactions_in, version_in}
 
 -- a member by its name, or an item by its index
 pub data Token : Type 0 where
@@ -94,7 +100,8 @@ if_placed places scope d =
 -- A reason that is no name is a fault of the handlers, not of its block.
 abbrev pub members_placed : Places → Scope → Members → Placed
 members_placed places scope no_members = nothing
-members_placed places scope (member reason d ds) = itself (member_asked no_asks scope reason d) (inside (member_named reason) (places scope d) (members_placed places scope ds))
+members_placed places scope (member reason d ds) = itself (member_asked no_asks scope reason d)
+    (inside (member_named reason) (places scope d) (members_placed places scope ds))
 
 unfoldable pub handlers_placed : Places → Scope → Option Members → Placed
 handlers_placed places scope None = nothing
@@ -113,7 +120,8 @@ sub_placed version places scope elder d =
 -- the children from an index on
 abbrev pub children_placed : ℕ → Places → Scope → Scope → ℕ → Items → Placed
 children_placed version places scope elder i no_items = nothing
-children_placed version places scope elder i (item d ds) = inside (item_at i) (sub_placed version places scope elder d) (children_placed version places scope (with_label (label_in d) Outcome elder) (i + 1) ds)
+children_placed version places scope elder i (item d ds) = inside (item_at i) (sub_placed version places scope elder d)
+    (children_placed version places scope (with_label (label_in d) Outcome elder) (i + 1) ds)
 
 unfoldable pub parallel_placed : ℕ → Places → Scope → Data → Placed
 parallel_placed version places scope d =
@@ -136,7 +144,8 @@ step_placed places setting scope d = step_placed_by (sort_of d) places setting s
 -- the steps from an index on
 abbrev pub steps_placed : Places → Setting → Scope → ℕ → Items → Placed
 steps_placed places setting scope i no_items = nothing
-steps_placed places setting scope i (item d ds) = inside (item_at i) (step_placed places setting scope d) (steps_placed places setting (scope_after setting scope d) (i + 1) ds)
+steps_placed places setting scope i (item d ds) = inside (item_at i) (step_placed places setting scope d)
+    (steps_placed places setting (scope_after setting scope d) (i + 1) ds)
 
 -- the items of an array, or none
 abbrev pub items_in : Data → Items
@@ -145,7 +154,8 @@ items_in d = or_no_items (as_array d)
 -- a block within so many more levels
 unfoldable pub block_placed : Setting → ℕ → Places
 block_placed setting zero scope d = itself (block_asked setting zero scope d) nothing
-block_placed setting (suc n) scope d = itself (array_asked (λ ds. []) (as_array d)) (steps_placed (block_placed setting n) setting scope 0 (items_in d))
+block_placed setting (suc n) scope d = itself (array_asked (λ ds. []) (as_array d)) (steps_placed (block_placed setting n) setting scope 0
+    (items_in d))
 
 -- ---- objects
 
@@ -156,11 +166,13 @@ entries_placed i (item d ds) = inside (item_at i) (itself (entry_asked d) nothin
 
 abbrev pub elements_placed : Table → ℕ → Items → Placed
 elements_placed earlier i no_items = nothing
-elements_placed earlier i (item d ds) = inside (item_at i) (itself (element_asked earlier d) nothing) (elements_placed (with_text (text_of d) earlier) (i + 1) ds)
+elements_placed earlier i (item d ds) = inside (item_at i) (itself (element_asked earlier d) nothing)
+    (elements_placed (with_text (text_of d) earlier) (i + 1) ds)
 
 abbrev pub pairs_placed : Table → ℕ → Items → Placed
 pairs_placed earlier i no_items = nothing
-pairs_placed earlier i (item d ds) = inside (item_at i) (itself (pair_asked earlier d) nothing) (pairs_placed (with_text (key_of d) earlier) (i + 1) ds)
+pairs_placed earlier i (item d ds) = inside (item_at i) (itself (pair_asked earlier d) nothing)
+    (pairs_placed (with_text (key_of d) earlier) (i + 1) ds)
 
 -- an array of entries
 unfoldable pub list_placed : (Items → Placed) → Data → Placed
@@ -184,7 +196,8 @@ object_placed version names d =
 -- the objects from an index on
 abbrev pub objects_placed : ℕ → Table → ℕ → Items → Placed
 objects_placed version names i no_items = nothing
-objects_placed version names i (item d ds) = inside (item_at i) (object_placed version names d) (objects_placed version (names ++ object_name d ∷ []) (i + 1) ds)
+objects_placed version names i (item d ds) = inside (item_at i) (object_placed version names d)
+    (objects_placed version (names ++ object_name d ∷ []) (i + 1) ds)
 
 -- ---- the document
 
@@ -195,7 +208,8 @@ transaction_placed n setting d = itself (in_transaction n ∷ []) (block_placed 
 -- the transactions from an index on, which are numbered from 1
 abbrev pub transactions_placed : Setting → ℕ → Items → Placed
 transactions_placed setting i no_items = nothing
-transactions_placed setting i (item d ds) = inside (item_at i) (transaction_placed (i + 1) setting d) (transactions_placed setting (i + 1) ds)
+transactions_placed setting i (item d ds) = inside (item_at i) (transaction_placed (i + 1) setting d)
+    (transactions_placed setting (i + 1) ds)
 
 -- all that is asked of a document, with the places
 unfoldable pub placed : Data → Placed

@@ -1,5 +1,6 @@
 -- What is seen at a place of a document: the objects, the labels, and the texts that are numbered so far.
-use Rattle.std.specs.Prelude.{◌≡◌, ℕ, ◌++◌, Bool, true, false, List, [], ◌∷◌, map, Option, Some, None, position, is_some, option_and_then, slice_get, nat_lt, if◌then◌else◌, String, string_bytes}
+use Rattle.std.specs.Prelude.{◌≡◌, ℕ, ◌++◌, Bool, true, false, List, [], ◌∷◌, map, Option, Some, None, position, is_some, option_and_then}
+use Rattle.std.specs.Prelude.{slice_get, nat_lt, if◌then◌else◌, String, string_bytes}
 use Rattle.std.specs.List.{list_any, position_or_len}
 use Rattle.std.specs.Map.{lookup, keys_of}
 use Rattle.std.specs.Str.{bytes_eq}

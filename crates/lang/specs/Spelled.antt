@@ -1,4 +1,5 @@
--- The batch that a document with no fault spells. Items and reasons are numbered in reading order, so each part hands on the numbers so far.
+-- The batch that a document with no fault spells. Items and reasons are numbered in reading order, so each part hands
+-- on the numbers so far.
 use Rattle.std.specs.FinSet as finite_set
 use Rattle.std.specs.FinMap as finite_map
 use Rattle.std.specs.Prelude.{ℕ, zero, suc, pos, Bool, List, [], ◌∷◌, codes, Option, Some, None, is_some, unwrap_or, if◌then◌else◌}
@@ -22,12 +23,15 @@ use Rattle.lang.specs.declared.words.Verb.{Verb}
 use Rattle.lang.specs.declared.words.Verb.TheVariants.{OfAmount, OfItem, OfPair, Alone}
 use Rattle.lang.specs.declared.words.Subject.{Subject}
 use Rattle.lang.specs.declared.steps.Sort.{Sort}
-use Rattle.lang.specs.declared.steps.Sort.TheVariants.{Operation as an_operation, If as an_if, Sub as a_sub, Abort as an_abort, Parallel as a_parallel}
+use Rattle.lang.specs.declared.steps.Sort.TheVariants.{Operation as an_operation, If as an_if, Sub as a_sub, Abort as an_abort}
+use Rattle.lang.specs.declared.steps.Sort.TheVariants.{Parallel as a_parallel}
 use Rattle.lang.specs.Amounts.{amount_of}
 use Rattle.lang.specs.Look.{has, text_member, whole_member, or_empty}
 use Rattle.lang.specs.Scope.{Numbers, no_numbers, Setting, Scope, number_of, label_number, place_of, with_item, with_reason}
 use Rattle.lang.specs.Words.{amount_call, item_call, pair_call, lone_call}
-use Rattle.lang.specs.Asked.{part, label_in, amount_item, name_item, object_of, verb_in, if_label, subject_of, tested_word, sort_of, scope_after, handlers_in, children_in, kind_in, text_of, key_of, value_of, number_start, signed_start, names_of, or_no_items, objects_in, transactions_in, setting_in, version_in}
+use Rattle.lang.specs.Asked.{part, label_in, amount_item, name_item, object_of, verb_in, if_label, subject_of, tested_word, sort_of}
+use Rattle.lang.specs.Asked.{scope_after, handlers_in, children_in, kind_in, text_of, key_of, value_of, number_start, signed_start}
+use Rattle.lang.specs.Asked.{names_of, or_no_items, objects_in, transactions_in, setting_in, version_in}
 
 abbrev pub or_zero : Option ℕ → ℕ
 or_zero o = unwrap_or o 0
@@ -80,11 +84,13 @@ unfoldable pub if_of : Spelling → Scope → Numbers → Data → Step × Numbe
 if_of block scope numbers d =
     let test = test_of (subject_of (if_label d) scope) numbers d in
     let first = block scope test.1 (part (codes "then") d) in
-    spelled_map (λ second. If (label_number (if_label d) scope) test.0 first.0 (or_no_step second)) (block_of_if block scope first.1 (get (codes "else") d))
+    spelled_map (λ second. If (label_number (if_label d) scope) test.0 first.0 (or_no_step second))
+    (block_of_if block scope first.1 (get (codes "else") d))
 
 -- the handlers by reason
 abbrev pub member_of : Spelling → Scope → Numbers → List ℕ → Data → (ℕ × Block) × Numbers
-member_of block scope numbers reason d = spelled_map (λ b. (number_of reason numbers.reasons, b)) (block scope (with_reason reason numbers) d)
+member_of block scope numbers reason d = spelled_map (λ b. (number_of reason numbers.reasons, b))
+    (block scope (with_reason reason numbers) d)
 
 abbrev pub members_of : Spelling → Scope → Numbers → Members → List (ℕ × Block) × Numbers
 members_of block scope numbers no_members = ([], numbers)
@@ -105,7 +111,8 @@ unfoldable pub sub_of : Spelling → Scope → Numbers → Data → Tried × Num
 sub_of block scope numbers d =
     let body = block scope numbers (part (codes "sub") d) in
     let handlers = handlers_spelled block scope body.1 (handlers_in d) in
-    spelled_map (λ handler. tried body.0 handlers.0 handler (is_some (label_in d))) (block_of_if block scope handlers.1 (get (codes "handler") d))
+    spelled_map (λ handler. tried body.0 handlers.0 handler (is_some (label_in d)))
+    (block_of_if block scope handlers.1 (get (codes "handler") d))
 
 unfoldable pub reason_of : Numbers → Option (List ℕ) → Option ℕ × Numbers
 reason_of numbers None = (None, numbers)
@@ -122,7 +129,8 @@ children_spelled block scope numbers (item d ds) =
     (here.0 ∷ rest.0, rest.1)
 
 unfoldable pub parallel_of : Spelling → Scope → Numbers → Data → Step × Numbers
-parallel_of block scope numbers d = spelled_map (λ children. Parallel (children_of children)) (children_spelled block scope numbers (children_in d))
+parallel_of block scope numbers d = spelled_map (λ children. Parallel (children_of children))
+    (children_spelled block scope numbers (children_in d))
 
 abbrev pub sub_step : Tried → Step
 sub_step child = Subaction child.body child.handlers child.labelled
@@ -148,7 +156,8 @@ steps_spelled block setting scope numbers (item d ds) =
 -- a block within so many more levels
 unfoldable pub block_of : Setting → ℕ → Spelling
 block_of setting zero scope numbers d = (NoStep, numbers)
-block_of setting (suc n) scope numbers d = spelled_map steps_of (steps_spelled (block_of setting n) setting scope numbers (or_no_items (as_array d)))
+block_of setting (suc n) scope numbers d = spelled_map steps_of (steps_spelled (block_of setting n) setting scope numbers
+    (or_no_items (as_array d)))
 
 -- ---- objects
 
@@ -159,7 +168,11 @@ entries_of numbers (item d ds) =
     (item_of (text_of d) numbers ∷ rest.0, rest.1)
 
 abbrev pub pair_of : Numbers → Data → (Item × Item) × Numbers
-pair_of numbers d = ((item_of (key_of d) numbers, item_of (value_of d) (with_item (key_of d) numbers)), with_item (value_of d) (with_item (key_of d) numbers))
+pair_of numbers d = (
+  (item_of (key_of d) numbers, item_of (value_of d) (with_item (key_of d) numbers)),
+  with_item (value_of d)
+      (with_item (key_of d) numbers),
+)
 
 abbrev pub pairs_of : Numbers → Items → List (Item × Item) × Numbers
 pairs_of numbers no_items = ([], numbers)
@@ -180,9 +193,11 @@ bind_all m (e ∷ es) = bind_all (finite_map.insert m e.0 e.1) es
 unfoldable pub start_of : Kind → Numbers → Data → Value × Numbers
 start_of kind.Account numbers d = (value.Account (or_zero (number_start d)), numbers)
 start_of kind.Counter numbers d = (value.Counter (unwrap_or (signed_start d) (pos 0)), numbers)
-start_of kind.Set numbers d = spelled_map (λ items. value.Set (put_all finite_set.empty items)) (entries_of numbers (or_no_items (as_array d)))
+start_of kind.Set numbers d = spelled_map (λ items. value.Set (put_all finite_set.empty items))
+    (entries_of numbers (or_no_items (as_array d)))
 start_of kind.Queue numbers d = spelled_map value.Queue (entries_of numbers (or_no_items (as_array d)))
-start_of kind.Directory numbers d = spelled_map (λ pairs. value.Directory (bind_all finite_map.empty pairs)) (pairs_of numbers (or_no_items (as_array d)))
+start_of kind.Directory numbers d = spelled_map (λ pairs. value.Directory (bind_all finite_map.empty pairs))
+    (pairs_of numbers (or_no_items (as_array d)))
 start_of kind.Max numbers d = (value.Max (or_zero (number_start d)), numbers)
 
 abbrev pub starts_of : ℕ → Numbers → Items → State × Numbers

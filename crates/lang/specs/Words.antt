@@ -43,10 +43,12 @@ kind_of version s =
     else None
 
 abbrev pub account_verb : List ℕ → Option Verb
-account_verb s = if bytes_eq s (codes "deposit") then Some (OfAmount Deposit) else if bytes_eq s (codes "withdraw") then Some (OfAmount Withdraw) else if bytes_eq s (codes "balance") then Some (Alone Balance) else None
+account_verb s = if bytes_eq s (codes "deposit") then Some (OfAmount Deposit) else if bytes_eq s (codes "withdraw") then Some
+    (OfAmount Withdraw) else if bytes_eq s (codes "balance") then Some (Alone Balance) else None
 
 abbrev pub counter_verb : List ℕ → Option Verb
-counter_verb s = if bytes_eq s (codes "add") then Some (OfAmount Add) else if bytes_eq s (codes "sub") then Some (OfAmount Sub) else if bytes_eq s (codes "read") then Some (Alone Read) else None
+counter_verb s = if bytes_eq s (codes "add") then Some (OfAmount Add) else if bytes_eq s (codes "sub") then Some
+    (OfAmount Sub) else if bytes_eq s (codes "read") then Some (Alone Read) else None
 
 abbrev pub set_verb : List ℕ → Option Verb
 set_verb s =

@@ -1,5 +1,6 @@
 -- What a run keeps: the kinds of the objects, and a bound on their numbers.
-use Rattle.std.proofs.Common.{◌≡◌, ℕ, zero, suc, ◌+◌, ◌≤◌, ◌<◌, ◌^◌, nat_le, cond, ℤ, pos, negsuc, ◌+ℤ◌, ◌-ℤ◌, ◌<ℤ◌, nat_abs, List, [], ◌∷◌, length, take, Bool, true, false, Option, Some, None, ◌++◌, ◌-◌, refl, sym, ap, ◌∙◌, subst, arith}
+use Rattle.std.proofs.Common.{◌≡◌, ℕ, zero, suc, ◌+◌, ◌≤◌, ◌<◌, ◌^◌, nat_le, cond, ℤ, pos, negsuc, ◌+ℤ◌, ◌-ℤ◌, ◌<ℤ◌, nat_abs, List, [], ◌∷◌}
+use Rattle.std.proofs.Common.{length, take, Bool, true, false, Option, Some, None, ◌++◌, ◌-◌, refl, sym, ap, ◌∙◌, subst, arith}
 use Rattle.std.proofs.lemmas.Bool.Decides.{nat_tests}
 use Rattle.std.proofs.lemmas.Int.{ints}
 use Rattle.std.specs.Prelude.{slice_index_or}
@@ -20,14 +21,17 @@ use Rattle.objects.specs.declared.call.Call.TheVariants as to
 use Rattle.objects.specs.declared.call.Reply.{Reply}
 use Rattle.meaning.specs.declared.end.End.TheVariants.{Ended, Aborted}
 use Rattle.objects.specs.Entries.{State, kinds, reply_at, after_call}
-use Rattle.meaning.specs.Trees.{Block, NoStep, Steps, Operation, If, Subaction, Abort, Parallel, ForReason, Otherwise, GoOn, Pass, NoChild, Child}
+use Rattle.meaning.specs.Trees.{Block, NoStep, Steps, Operation, If, Subaction, Abort, Parallel, ForReason, Otherwise, GoOn, Pass, NoChild}
+use Rattle.meaning.specs.Trees.{Child}
 use Rattle.meaning.specs.Labels.{holds}
 use Rattle.meaning.specs.declared.held.Held.{Held}
 use Rattle.meaning.specs.Records.{Taken, TakenStep, TakenChild, TakenHandler, TakenChildren}
-use Rattle.meaning.specs.OneThread.{Run, Ran, state_of, operate, choose, is_for, choose_handler, act, go_on, go_on_children, one, one_step, one_handler, one_children}
+use Rattle.meaning.specs.OneThread.{Run, Ran, state_of, operate, choose, is_for, choose_handler, act, go_on, go_on_children, one, one_step}
+use Rattle.meaning.specs.OneThread.{one_handler, one_children}
 use Rattle.meaning.specs.Batch.{settled, block_at, state_at}
 use Rattle.meaning.specs.WellFormed.{CallFits, operations, size_of, largest, largest_amount, HasRoom}
-use Rattle.meaning.specs.Running.{Keeps, PerformLaw, LimitLaw, CallKeepsLaw, BlockKeepsLaw, StepKeepsLaw, HandlersKeepLaw, ChildrenKeepLaw, EntriesKeepLaw, all_operations, BatchKeepsLaw}
+use Rattle.meaning.specs.Running.{Keeps, PerformLaw, LimitLaw, CallKeepsLaw, BlockKeepsLaw, StepKeepsLaw, HandlersKeepLaw, ChildrenKeepLaw}
+use Rattle.meaning.specs.Running.{EntriesKeepLaw, all_operations, BatchKeepsLaw}
 use Rattle.meaning.proofs.Misfits.{after_call_rest}
 
 -- ---- one call
@@ -79,7 +83,8 @@ same_kind v c = refl
 kinds_after : (state : State) (object : ℕ) (call : Call) → kinds (after_call state object call) ≡ kinds state
 kinds_after [] object call = refl
 kinds_after (v ∷ vs) zero call = ap (λ k. k ∷ kinds vs) (same_kind v call)
-kinds_after (v ∷ vs) (suc object) call = ap kinds (after_call_rest v vs object call) ∙ ap (λ ks. kind_of_value v ∷ ks) (kinds_after vs object call)
+kinds_after (v ∷ vs) (suc object) call = ap kinds (after_call_rest v vs object call) ∙ ap (λ ks. kind_of_value v ∷ ks)
+    (kinds_after vs object call)
 
 largest_after : (state : State) (object : ℕ) (call : Call) → largest (after_call state object call) ≤ largest state + largest_amount
 largest_after [] object call = omega arith
@@ -87,7 +92,11 @@ largest_after (v ∷ vs) zero call = omega (arith, value_grows v call)
 largest_after (v ∷ vs) (suc object) call = omega (arith, ap largest (after_call_rest v vs object call), largest_after vs object call)
 
 pub call_keeps : CallKeepsLaw
-call_keeps state object call = record { same_kinds = kinds_after state object call; growth = omega (arith, largest_after state object call) }
+call_keeps state object call = record {
+  same_kinds = kinds_after state object call;
+  growth =
+      omega (arith, largest_after state object call);
+}
 
 call_fits : (state : State) (object : ℕ) (call : Call) → CallFits (kinds state) object call → Fits state object call
 call_fits [] object call fits = absurd cc
@@ -125,27 +134,37 @@ keeps_then first second s t u h k = record { same_kinds = k.same_kinds ∙ h.sam
 pub keeps_weaker : (fewer more : ℕ) (s t : State) → fewer ≤ more → Keeps fewer s t → Keeps more s t
 keeps_weaker fewer more s t le h = record { same_kinds = h.same_kinds; growth = omega (arith, h.growth, le) }
 
-operation_keeps : (object : ℕ) (call : Call) (labelled : Bool) (state : State) (reply : Option Reply) → Keeps 1 state (state_of (operate object call labelled state reply))
+operation_keeps : (object : ℕ) (call : Call) (labelled : Bool) (state : State) (reply : Option Reply)
+    → Keeps 1 state (state_of (operate object call labelled state reply))
 operation_keeps object call labelled state None = keeps_same state 1
 operation_keeps object call labelled state (Some reply) = call_keeps state object call
 
-choice_keeps : (test : Bool) (then else : State → Run Taken) (state : State) (m n : ℕ) → Keeps m state (state_of (then state)) → Keeps n state (state_of (else state)) → Keeps (m + n) state (state_of (choose test then else state))
+choice_keeps : (test : Bool) (then else : State → Run Taken) (state : State) (m n : ℕ) → Keeps m state (state_of (then state))
+    → Keeps n state (state_of (else state)) → Keeps (m + n) state (state_of (choose test then else state))
 choice_keeps true then else state m n h k = keeps_weaker m (m + n) _ _ (omega arith) h
 choice_keeps false then else state m n h k = keeps_weaker n (m + n) _ _ (omega arith) k
 
-handler_choice_keeps : (test : Bool) (handler : State → Run Taken) (others : State → Run TakenHandler) (state : State) (m n : ℕ) → Keeps m state (state_of (handler state)) → Keeps n state (state_of (others state)) → Keeps (m + n) state (state_of (choose_handler test handler others state))
+handler_choice_keeps : (test : Bool) (handler : State → Run Taken) (others : State → Run TakenHandler) (state : State) (m n : ℕ)
+    → Keeps m state (state_of (handler state)) → Keeps n state (state_of (others state))
+    → Keeps (m + n) state (state_of (choose_handler test handler others state))
 handler_choice_keeps true handler others state m n h k = keeps_weaker m (m + n) _ _ (omega arith) h
 handler_choice_keeps false handler others state m n h k = keeps_weaker n (m + n) _ _ (omega arith) k
 
-pub act_keeps : (labelled : Bool) (body : Run Taken) (handlers : Option ℕ → State → Run TakenHandler) (state : State) (m n : ℕ) → Keeps m state (state_of body) → ((reason : Option ℕ) → Keeps n state (state_of (handlers reason state))) → Keeps (m + n) state (state_of (act labelled body handlers state))
+pub act_keeps : (labelled : Bool) (body : Run Taken) (handlers : Option ℕ → State → Run TakenHandler) (state : State) (m n : ℕ)
+    → Keeps m state (state_of body) → ((reason : Option ℕ) → Keeps n state (state_of (handlers reason state)))
+    → Keeps (m + n) state (state_of (act labelled body handlers state))
 act_keeps labelled (Ran body Ended labels after_body) handlers state m n h k = keeps_weaker m (m + n) _ _ (omega arith) h
-act_keeps labelled (Ran body (Aborted reason) labels after_body) handlers state m n h k = keeps_weaker n (m + n) _ _ (omega arith) (k reason)
+act_keeps labelled (Ran body (Aborted reason) labels after_body) handlers state m n h k = keeps_weaker n (m + n) _ _ (omega arith)
+    (k reason)
 
-go_on_keeps : (step : Run TakenStep) (rest : List Held → State → Run Taken) (state : State) (m n : ℕ) → Keeps m state (state_of step) → ((labels : List Held) (mid : State) → Keeps n mid (state_of (rest labels mid))) → Keeps (m + n) state (state_of (go_on step rest))
+go_on_keeps : (step : Run TakenStep) (rest : List Held → State → Run Taken) (state : State) (m n : ℕ) → Keeps m state (state_of step)
+    → ((labels : List Held) (mid : State) → Keeps n mid (state_of (rest labels mid))) → Keeps (m + n) state (state_of (go_on step rest))
 go_on_keeps (Ran step Ended labels mid) rest state m n h k = keeps_then m n state mid _ h (k labels mid)
 go_on_keeps (Ran step (Aborted reason) labels mid) rest state m n h k = keeps_weaker m (m + n) _ _ (omega arith) h
 
-go_on_children_keeps : (child : Run TakenChild) (younger : State → Run TakenChildren) (state : State) (m n : ℕ) → Keeps m state (state_of child) → ((mid : State) → Keeps n mid (state_of (younger mid))) → Keeps (m + n) state (state_of (go_on_children child younger))
+go_on_children_keeps : (child : Run TakenChild) (younger : State → Run TakenChildren) (state : State) (m n : ℕ)
+    → Keeps m state (state_of child) → ((mid : State) → Keeps n mid (state_of (younger mid)))
+    → Keeps (m + n) state (state_of (go_on_children child younger))
 go_on_children_keeps (Ran child Ended labels mid) younger state m n h k = keeps_then m n state mid _ h (k mid)
 go_on_children_keeps (Ran child (Aborted reason) labels mid) younger state m n h k = keeps_weaker m (m + n) _ _ (omega arith) h
 
@@ -155,20 +174,24 @@ mutual
   pub block_keeps : BlockKeepsLaw
   block_keeps NoStep labels state = keeps_same state 0
   block_keeps (Steps step rest) labels state =
-      go_on_keeps (one_step step labels state) (λ added mid. one rest (labels ++ added) mid) state _ _ (step_keeps step labels state) (λ added mid. block_keeps rest (labels ++ added) mid)
+      go_on_keeps (one_step step labels state) (λ added mid. one rest (labels ++ added) mid) state _ _ (step_keeps step labels state)
+      (λ added mid. block_keeps rest (labels ++ added) mid)
 
   pub step_keeps : StepKeepsLaw
   step_keeps (Operation object call labelled) labels state = operation_keeps object call labelled state (reply_at state object call)
   step_keeps (If label test then else) labels state =
-      choice_keeps (holds labels label test) (one then labels) (one else labels) state _ _ (block_keeps then labels state) (block_keeps else labels state)
+      choice_keeps (holds labels label test) (one then labels) (one else labels) state _ _ (block_keeps then labels state)
+      (block_keeps else labels state)
   step_keeps (Subaction body handlers labelled) labels state =
-      act_keeps labelled (one body labels state) (one_handler handlers labels) state _ _ (block_keeps body labels state) (λ reason. handlers_keep handlers labels reason state)
+      act_keeps labelled (one body labels state) (one_handler handlers labels) state _ _ (block_keeps body labels state)
+      (λ reason. handlers_keep handlers labels reason state)
   step_keeps (Abort reason) labels state = keeps_same state 0
   step_keeps (Parallel children) labels state = children_keep children labels state
 
   pub handlers_keep : HandlersKeepLaw
   handlers_keep (ForReason reason handler others) labels aborted state =
-      handler_choice_keeps (is_for reason aborted) (one handler labels) (one_handler others labels aborted) state _ _ (block_keeps handler labels state) (handlers_keep others labels aborted state)
+      handler_choice_keeps (is_for reason aborted) (one handler labels) (one_handler others labels aborted) state _ _
+      (block_keeps handler labels state) (handlers_keep others labels aborted state)
   handlers_keep (Otherwise handler) labels aborted state = block_keeps handler labels state
   handlers_keep GoOn labels aborted state = keeps_same state 0
   handlers_keep Pass labels aborted state = keeps_same state 0
@@ -176,13 +199,16 @@ mutual
   pub children_keep : ChildrenKeepLaw
   children_keep NoChild labels state = keeps_same state 0
   children_keep (Child body handlers labelled younger) labels state =
-      go_on_children_keeps (act labelled (one body labels state) (one_handler handlers labels) state) (one_children younger labels) state _ _ (act_keeps labelled (one body labels state) (one_handler handlers labels) state _ _ (block_keeps body labels state) (λ reason. handlers_keep handlers labels reason state)) (λ mid. children_keep younger labels mid)
+      go_on_children_keeps (act labelled (one body labels state) (one_handler handlers labels) state) (one_children younger labels) state _
+      _ (act_keeps labelled (one body labels state) (one_handler handlers labels) state _ _ (block_keeps body labels state)
+      (λ reason. handlers_keep handlers labels reason state)) (λ mid. children_keep younger labels mid)
 
 pub entries_keep : EntriesKeepLaw
 entries_keep state [] = keeps_same state 0
 entries_keep state (p ∷ ps) =
     let mid = after_call state p.object p.call in
-    keeps_weaker (1 + length ps) (length (p ∷ ps)) _ _ (omega arith) (keeps_then 1 (length ps) state mid _ (call_keeps state p.object p.call) (entries_keep mid ps))
+    keeps_weaker (1 + length ps) (length (p ∷ ps)) _ _ (omega arith)
+    (keeps_then 1 (length ps) state mid _ (call_keeps state p.object p.call) (entries_keep mid ps))
 
 -- ---- a batch
 
@@ -190,7 +216,8 @@ settled_keeps : (before : State) (run : Run Taken) (count : ℕ) → Keeps count
 settled_keeps before (Ran taken Ended labels state) count h = h
 settled_keeps before (Ran taken (Aborted reason) labels state) count h = keeps_same before count
 
-one_more_block : (batch : List Block) (b : ℕ) → b < length batch → all_operations (take (suc b) batch) ≡ all_operations (take b batch) + operations (slice_index_or batch b NoStep)
+one_more_block : (batch : List Block) (b : ℕ) → b < length batch → all_operations (take (suc b) batch) ≡ all_operations
+    (take b batch) + operations (slice_index_or batch b NoStep)
 one_more_block [] b within = absurd (omega arith)
 one_more_block (block ∷ blocks) zero within = omega arith
 one_more_block (block ∷ blocks) (suc b) within = omega (arith, one_more_block blocks b (omega arith))
@@ -202,4 +229,5 @@ batch_keeps start batch (suc b) within =
     let before = state_at start batch b in
     let run = one (block_at batch b) [] before in
     subst (λ n. Keeps n start (settled before run)) (sym (one_more_block batch b (omega arith)))
-    (keeps_then _ _ start before _ (batch_keeps start batch b (omega arith)) (settled_keeps before run _ (block_keeps (block_at batch b) [] before)))
+    (keeps_then _ _ start before _ (batch_keeps start batch b (omega arith))
+    (settled_keeps before run _ (block_keeps (block_at batch b) [] before)))

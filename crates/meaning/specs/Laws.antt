@@ -25,14 +25,17 @@ both_taken (TakenChildren.Child child rest) younger = TakenChildren.Child child 
 
 -- the runs of two lists of children as one, the later one made where the earlier one ends
 abbrev pub followed : Run TakenChildren → Run TakenChildren → Run TakenChildren
-followed older younger = Ran (both_taken (record_of older) (record_of younger)) (outcome_of younger) (labels_of older ++ labels_of younger) (state_of younger)
+followed older younger = Ran (both_taken (record_of older) (record_of younger)) (outcome_of younger) (labels_of older ++ labels_of younger)
+    (state_of younger)
 
 -- the same, the later one made on the state before the earlier one
 abbrev pub joined : Run TakenChildren → Run TakenChildren → Run TakenChildren
 joined older younger = followed older (carried (kept_of_children (record_of older)) younger)
 
--- A block is run on a state in which a list of entries is legal, and each entry of the run, dropped ones too, commutes forward with each of the list.
--- Then the run on the state after the list has the same record and outcome, the list is legal where the first run ends, and the second ends where that list leads from there.
+-- A block is run on a state in which a list of entries is legal, and each entry of the run, dropped ones too, commutes
+-- forward with each of the list.
+-- Then the run on the state after the list has the same record and outcome, the list is legal where the first run ends,
+-- and the second ends where that list leads from there.
 abbrev pub ShiftLaw : Type 0
 ShiftLaw =
     (block : Block) (labels : List Held) (state : State) (committed : List Entry)
@@ -106,7 +109,8 @@ abbrev pub InOrderLaw : Type 0
 InOrderLaw =
     (older younger : Children) (labels : List Held) (state : State)
     → outcome_of (one_children older labels state) ≡ Ended
-    → one_children (both older younger) labels state ≡ followed (one_children older labels state) (one_children younger labels (state_of (one_children older labels state)))
+    → one_children (both older younger) labels state ≡ followed (one_children older labels state)
+    (one_children younger labels (state_of (one_children older labels state)))
 
 -- Children may be run in two parts at once, both on the state at their entry. Where the earlier part comes to its end, and each entry of
 -- the later part commutes forward with each that the earlier part leaves, the two together are the one-thread run.
@@ -114,7 +118,8 @@ abbrev pub ForkLaw : Type 0
 ForkLaw =
     (older younger : Children) (labels : List Held) (state : State)
     → outcome_of (one_children older labels state) ≡ Ended
-    → AllCommute (entries_of_children (record_of (one_children younger labels state))) (kept_of_children (record_of (one_children older labels state)))
+    → AllCommute (entries_of_children (record_of (one_children younger labels state)))
+    (kept_of_children (record_of (one_children older labels state)))
     → one_children (both older younger) labels state ≡ joined (one_children older labels state) (one_children younger labels state)
 
 -- Where the earlier part aborts, the later part is not reached.

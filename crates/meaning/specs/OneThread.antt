@@ -5,11 +5,13 @@ use Rattle.objects.specs.declared.call.Reply.{Reply}
 use Rattle.meaning.specs.declared.end.End.{End}
 use Rattle.meaning.specs.declared.end.End.TheVariants.{Ended, Aborted}
 use Rattle.objects.specs.Entries.{State, reply_at, after_call}
-use Rattle.meaning.specs.Trees.{Block, NoStep, Steps, Step, Operation, If, Subaction, Abort, Parallel, Handlers, ForReason, Otherwise, GoOn, Pass, Children, NoChild, Child}
+use Rattle.meaning.specs.Trees.{Block, NoStep, Steps, Step, Operation, If, Subaction, Abort, Parallel, Handlers, ForReason, Otherwise, GoOn}
+use Rattle.meaning.specs.Trees.{Pass, Children, NoChild, Child}
 use Rattle.meaning.specs.Labels.{holds}
 use Rattle.meaning.specs.declared.held.Held.{Held}
 use Rattle.meaning.specs.declared.held.Held.TheVariants.{Replied, Outcome}
-use Rattle.meaning.specs.Records.{Taken, Nothing, Took, TakenStep, Performed, Branched, Acted, InParallel, TakenChild, Committed, Undone, TakenHandler, NoHandler, Handled, TakenChildren}
+use Rattle.meaning.specs.Records.{Taken, Nothing, Took, TakenStep, Performed, Branched, Acted, InParallel, TakenChild, Committed, Undone}
+use Rattle.meaning.specs.Records.{TakenHandler, NoHandler, Handled, TakenChildren}
 
 -- what was done: its record, how it ended, the labels that it adds, and the state that it leaves
 pub data Run (A : Type 0) : Type 0 where
@@ -35,7 +37,8 @@ label_if false held = []
 abbrev pub operate : ℕ → Call → Bool → State → Option Reply → Run TakenStep
 operate object call labelled state None = Ran TakenStep.Abort (Aborted None) [] state
 operate object call labelled state (Some reply) =
-    Ran (Performed (record { object = object; call = call; reply = reply })) Ended (label_if labelled (Replied reply)) (after_call state object call)
+    Ran (Performed (record { object = object; call = call; reply = reply })) Ended (label_if labelled (Replied reply))
+    (after_call state object call)
 
 -- a branch that aborts makes its block abort; its labels are forgotten
 abbrev pub as_branch : Bool → Run Taken → Run TakenStep
@@ -84,7 +87,8 @@ before_younger child labels younger =
 
 abbrev pub go_on_children : Run TakenChild → (State → Run TakenChildren) → Run TakenChildren
 go_on_children (Ran child Ended labels state) younger = before_younger child labels (younger state)
-go_on_children (Ran child (Aborted reason) labels state) younger = Ran (TakenChildren.Child child TakenChildren.NoChild) (Aborted reason) [] state
+go_on_children (Ran child (Aborted reason) labels state) younger = Ran (TakenChildren.Child child TakenChildren.NoChild)
+    (Aborted reason) [] state
 
 unfoldable mutual
   pub one : Block → List Held → State → Run Taken
@@ -94,7 +98,8 @@ unfoldable mutual
   pub one_step : Step → List Held → State → Run TakenStep
   one_step (Operation object call labelled) labels state = operate object call labelled state (reply_at state object call)
   one_step (If label test then else) labels state = choose (holds labels label test) (one then labels) (one else labels) state
-  one_step (Subaction body handlers labelled) labels state = as_step Acted (act labelled (one body labels state) (one_handler handlers labels) state)
+  one_step (Subaction body handlers labelled) labels state =
+      as_step Acted (act labelled (one body labels state) (one_handler handlers labels) state)
   one_step (Abort reason) labels state = Ran TakenStep.Abort (Aborted reason) [] state
   one_step (Parallel children) labels state = as_step InParallel (one_children children labels state)
 

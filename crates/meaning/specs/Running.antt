@@ -13,7 +13,8 @@ use Rattle.meaning.specs.declared.held.Held.{Held}
 use Rattle.meaning.specs.declared.held.Held.TheVariants.{Replied, Outcome}
 use Rattle.meaning.specs.OneThread.{record_of, outcome_of, labels_of, state_of, one, one_step, one_handler, one_children}
 use Rattle.meaning.specs.Batch.{state_at}
-use Rattle.meaning.specs.WellFormed.{Label, OfCall, OfSubaction, CallFits, test_fits, added_by, added_by_children, operations, operations_of_step, operations_of_handlers, operations_of_children, largest, largest_amount, HasRoom}
+use Rattle.meaning.specs.WellFormed.{Label, OfCall, OfSubaction, CallFits, test_fits, added_by, added_by_children, operations}
+use Rattle.meaning.specs.WellFormed.{operations_of_step, operations_of_handlers, operations_of_children, largest, largest_amount, HasRoom}
 
 -- after at most so many operations
 pub record Keeps (count : ℕ) (before after : State) : Type 0 where
@@ -48,21 +49,25 @@ abbrev pub BlockKeepsLaw : Type 0
 BlockKeepsLaw = (block : Block) (labels : List Held) (state : State) → Keeps (operations block) state (state_of (one block labels state))
 
 abbrev pub StepKeepsLaw : Type 0
-StepKeepsLaw = (step : Step) (labels : List Held) (state : State) → Keeps (operations_of_step step) state (state_of (one_step step labels state))
+StepKeepsLaw = (step : Step) (labels : List Held) (state : State) → Keeps (operations_of_step step) state
+    (state_of (one_step step labels state))
 
 abbrev pub HandlersKeepLaw : Type 0
 HandlersKeepLaw =
-    (handlers : Handlers) (labels : List Held) (reason : Option ℕ) (state : State) → Keeps (operations_of_handlers handlers) state (state_of (one_handler handlers labels reason state))
+    (handlers : Handlers) (labels : List Held) (reason : Option ℕ) (state : State) → Keeps (operations_of_handlers handlers) state
+    (state_of (one_handler handlers labels reason state))
 
 abbrev pub ChildrenKeepLaw : Type 0
-ChildrenKeepLaw = (children : Children) (labels : List Held) (state : State) → Keeps (operations_of_children children) state (state_of (one_children children labels state))
+ChildrenKeepLaw = (children : Children) (labels : List Held) (state : State) → Keeps (operations_of_children children) state
+    (state_of (one_children children labels state))
 
 -- So do entries, and a run has no more entries than its tree has operations.
 abbrev pub EntriesKeepLaw : Type 0
 EntriesKeepLaw = (state : State) (ps : List Entry) → Keeps (length ps) state (after state ps)
 
 abbrev pub EntriesCountLaw : Type 0
-EntriesCountLaw = (block : Block) (labels : List Held) (state : State) → length (entries (record_of (one block labels state))) ≤ operations block
+EntriesCountLaw = (block : Block) (labels : List Held) (state : State) → length (entries (record_of (one block labels state))) ≤ operations
+    block
 
 -- The states of a batch, too.
 abbrev pub all_operations : List Block → ℕ
@@ -70,7 +75,8 @@ all_operations [] = 0
 all_operations (block ∷ blocks) = operations block + all_operations blocks
 
 abbrev pub BatchKeepsLaw : Type 0
-BatchKeepsLaw = (start : State) (batch : List Block) (b : ℕ) → b ≤ length batch → Keeps (all_operations (take b batch)) start (state_at start batch b)
+BatchKeepsLaw = (start : State) (batch : List Block) (b : ℕ) → b ≤ length batch → Keeps (all_operations (take b batch)) start
+    (state_at start batch b)
 
 -- what a label of this kind can hold
 abbrev pub IsHeldBy : Held → Label → Type 0

@@ -1,5 +1,6 @@
 -- A batch of which the first transactions were run.
-use Rattle.std.proofs.Common.{◌≡◌, ℕ, zero, suc, ◌+◌, ◌<◌, ◌≤◌, List, [], ◌∷◌, ◌++◌, map, length, get_or, refl, sym, ap, subst, ◌∙◌, arith, add-one}
+use Rattle.std.proofs.Common.{◌≡◌, ℕ, zero, suc, ◌+◌, ◌<◌, ◌≤◌, List, [], ◌∷◌, ◌++◌, map, length, get_or, refl, sym, ap, subst, ◌∙◌, arith}
+use Rattle.std.proofs.Common.{add-one}
 use Rattle.std.proofs.lemmas.List.{length-map, map-append}
 use Rattle.objects.specs.Entries.{State}
 use Rattle.meaning.specs.Trees as meant
@@ -18,14 +19,17 @@ use Rattle.one_thread.specs.Journaled.{Journaled}
 abbrev resting : State → Journaled
 resting s = record { state = s; journal = [] }
 
-shown_from-more : (start : State) (blocks : List meant.Block) (b count : ℕ) → shown_from start blocks b (suc count) ≡ shown_from start blocks b count ++ shown_of (answer start blocks (b + count)) ∷ []
+shown_from-more : (start : State) (blocks : List meant.Block) (b count : ℕ) → shown_from start blocks b (suc count)
+    ≡ shown_from start blocks b count ++ shown_of (answer start blocks (b + count)) ∷ []
 unfolding shown_from
 shown_from-more start blocks b zero = let here : b ≡ b + 0 = omega arith in ap (λ n. shown_of (answer start blocks n) ∷ []) here
 shown_from-more start blocks b (suc count) =
     let next : suc b + count ≡ b + suc count = omega arith in
-    ap (λ rest. shown_of (answer start blocks b) ∷ rest) (shown_from-more start blocks (suc b) count ∙ ap (λ n. shown_from start blocks (suc b) count ++ shown_of (answer start blocks n) ∷ []) next)
+    ap (λ rest. shown_of (answer start blocks b) ∷ rest) (shown_from-more start blocks (suc b) count
+    ∙ ap (λ n. shown_from start blocks (suc b) count ++ shown_of (answer start blocks n) ∷ []) next)
 
-state_at-next : (start : State) (blocks : List meant.Block) (i : ℕ) → settled (state_at start blocks i) (answer start blocks i) ≡ state_at start blocks (i + 1)
+state_at-next : (start : State) (blocks : List meant.Block) (i : ℕ) → settled (state_at start blocks i) (answer start blocks i)
+    ≡ state_at start blocks (i + 1)
 unfolding state_at
 state_at-next start blocks i = ap (state_at start blocks) (sym (add-one i))
 
@@ -38,7 +42,8 @@ pub part_answered-start : (batch : Batch) (now : Journaled) → now ≡ resting 
 unfolding shown_from state_at
 part_answered-start batch now is = record { shown = refl; settled = is }
 
-module _ (batch : Batch) (items : List Block) (same : items ≡ batch.transactions.items) (i : ℕ) (records : List Record) (now : Journaled) (x : Block) (h : ArePartAnswered batch i records now) (lt : i < length items) (read : x ≡ get_or items i x) where
+module _ (batch : Batch) (items : List Block) (same : items ≡ batch.transactions.items) (i : ℕ) (records : List Record) (now : Journaled)
+    (x : Block) (h : ArePartAnswered batch i records now) (lt : i < length items) (read : x ≡ get_or items i x) where
   abbrev here : State
   here = state_at (start_of batch) (blocks_of batch) i
 
@@ -56,23 +61,30 @@ module _ (batch : Batch) (items : List Block) (same : items ≡ batch.transactio
   part_answered-can_run =
       let size = length-map batch.transactions.items block_view in
       let count = ap length same in
-      let can : CanRunHere (block_at (blocks_of batch) i) [] here = transaction_can_run (start_of batch) batch.names (blocks_of batch) i batch.is_batch (omega arith) in
+      let can : CanRunHere (block_at (blocks_of batch) i) [] here = transaction_can_run (start_of batch) batch.names
+      (blocks_of batch) i batch.is_batch (omega arith) in
       subst (CanRunHere (block_view x) []) (sym at_state) (subst (λ b. CanRunHere b [] here) (sym block_here) can)
 
   pub part_answered-none_left : now.journal ≡ []
   part_answered-none_left = ap (λ (j : Journaled). j.journal) h.settled
 
-  pub part_answered-more : (made : Record) (next : Journaled) → record_view made ≡ shown_of (one (block_view x) [] now.state) → next ≡ resting (settled now.state (one (block_view x) [] now.state)) → ArePartAnswered batch (i + 1) (records ++ made ∷ []) next
+  pub part_answered-more : (made : Record) (next : Journaled) → record_view made ≡ shown_of (one (block_view x) [] now.state)
+      → next ≡ resting (settled now.state (one (block_view x) [] now.state)) → ArePartAnswered batch (i + 1) (records ++ made ∷ []) next
   part_answered-more made next shows settles = let from_first : i ≡ 0 + i = omega arith in record {
     shown = map-append record_view records (made ∷ []) ∙ ap (λ xs. xs ++ record_view made ∷ []) h.shown
-        ∙ ap (λ y. shown_from (start_of batch) (blocks_of batch) 0 i ++ y ∷ []) (shows ∙ ap shown_of runs ∙ ap (λ n. shown_of (answer (start_of batch) (blocks_of batch) n)) from_first)
-        ∙ sym (shown_from-more (start_of batch) (blocks_of batch) 0 i) ∙ ap (shown_from (start_of batch) (blocks_of batch) 0) (sym (add-one i));
-    settled = settles ∙ ap resting (ap (settled now.state) runs ∙ ap (λ s. settled s (answer (start_of batch) (blocks_of batch) i)) at_state ∙ state_at-next (start_of batch) (blocks_of batch) i);
+        ∙ ap (λ y. shown_from (start_of batch) (blocks_of batch) 0 i ++ y ∷ []) (shows ∙ ap shown_of runs
+        ∙ ap (λ n. shown_of (answer (start_of batch) (blocks_of batch) n)) from_first)
+        ∙ sym (shown_from-more (start_of batch) (blocks_of batch) 0 i) ∙ ap (shown_from (start_of batch) (blocks_of batch) 0)
+        (sym (add-one i));
+    settled = settles ∙ ap resting (ap (settled now.state) runs ∙ ap (λ s. settled s (answer (start_of batch) (blocks_of batch) i))
+        at_state ∙ state_at-next (start_of batch) (blocks_of batch) i);
   }
 
 -- all of them are
-pub part_answered-all : (batch : Batch) (items : List Block) → items ≡ batch.transactions.items → (i : ℕ) (records : List Record) (now : Journaled) → ArePartAnswered batch i records now → i ≤ length items → length items ≤ i
-    → (map record_view records ≡ all_shown (start_of batch) (blocks_of batch)) × (now.state ≡ final_state (start_of batch) (blocks_of batch))
+pub part_answered-all : (batch : Batch) (items : List Block) → items ≡ batch.transactions.items → (i : ℕ) (records : List Record)
+    (now : Journaled) → ArePartAnswered batch i records now → i ≤ length items → length items ≤ i
+    → (map record_view records ≡ all_shown (start_of batch) (blocks_of batch))
+    × (now.state ≡ final_state (start_of batch) (blocks_of batch))
 part_answered-all batch items same i records now h within over =
     let size = length-map batch.transactions.items block_view in
     let all = ap length same in

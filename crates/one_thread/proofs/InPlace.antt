@@ -26,26 +26,41 @@ after-both (n ∷ ns) ms s = after-both ns ms _
 pub ground : IsGround in_place
 ground = record {
   none = λ j. (refl, leads_back-same j);
-  both = λ u v w es ns fs ms first second. (second.0 ∙ ap (λ s. after s ms) first.0 ∙ after-both ns ms u.state, leads_back-then u v w first.1 second.1);
+  both = λ u v w es ns fs ms first second. (
+    second.0 ∙ ap (λ s. after s ms) first.0 ∙ after-both ns ms u.state,
+    leads_back-then u v w first.1 second.1,
+  );
   leads = λ u v es ns took. took.0;
 }
 
 -- a call that was made
 pub call_took : (before now : Journaled) (object : ℕ) (call : Call) (reply : Reply) → now ≡ performed before object call
     → (let entry : Entry = record { object = object; call = call; reply = reply } in in_place.Took before (entry ∷ []) (entry ∷ []) now)
-call_took before now object call reply is = (ap (λ (j : Journaled). j.state) is, subst (LeadsBack before) (sym is) (leads_back-performed before object call))
+call_took before now object call reply is = (
+  ap (λ (j : Journaled). j.state) is,
+  subst (LeadsBack before) (sym is)
+      (leads_back-performed before object call),
+)
 
 -- once an aborted body is taken back, the objects and the journal are as before it
-pub taken_back : (run : Run Taken) (before mid next : Journaled) (body : Record) (mark : ℕ) → ShowsRun in_place run body before mid → mark ≡ length before.journal → next ≡ rewound mid mark → next ≡ before
+pub taken_back : (run : Run Taken) (before mid next : Journaled) (body : Record) (mark : ℕ) → ShowsRun in_place run body before mid
+    → mark ≡ length before.journal → next ≡ rewound mid mark → next ≡ before
 taken_back run before mid next body mark shows at is = is ∙ ap (rewound mid) at ∙ rewound-back before mid shows.took.1
 
-pub undone : (run : Run Taken) (before mid next : Journaled) (body : Record) (mark : ℕ) → ShowsRun in_place run body before mid → mark ≡ length before.journal → next ≡ rewound mid mark → IsUndone in_place run body before next
+pub undone : (run : Run Taken) (before mid next : Journaled) (body : Record) (mark : ℕ) → ShowsRun in_place run body before mid
+    → mark ≡ length before.journal → next ≡ rewound mid mark → IsUndone in_place run body before next
 undone run before mid next body mark shows at is =
     let back = taken_back run before mid next body mark shows at is in
-    record { tree = shows.tree; end = shows.end; took = subst (λ j. in_place.Took before (entries (record_of run)) [] j) (sym back) (ground.none before) }
+    record {
+      tree = shows.tree;
+      end = shows.end;
+      took = subst (λ j. in_place.Took before (entries (record_of run)) [] j) (sym back)
+          (ground.none before);
+    }
 
 -- the state that a run leaves
-pub shows_state : (block : meant.Block) (held : List Held) (before now : Journaled) (done : Record) → ShowsRun in_place (one block held before.state) done before now → now.state ≡ state_of (one block held before.state)
+pub shows_state : (block : meant.Block) (held : List Held) (before now : Journaled) (done : Record)
+    → ShowsRun in_place (one block held before.state) done before now → now.state ≡ state_of (one block held before.state)
 shows_state block held before now done shows = shows.took.0 ∙ sym (block_leads block held before.state).1
 
 -- ---- a transaction at its end
@@ -61,13 +76,18 @@ settled-aborted s (Ran taken (Aborted other) labels state) reason h = refl
 abbrev resting : State → Journaled
 resting s = record { state = s; journal = [] }
 
-pub settles-ended : (block : meant.Block) (before mid now : Journaled) (done : Record) → ShowsRun in_place (one block [] before.state) done before mid → done.outcome ≡ Ended → now ≡ resting mid.state
+pub settles-ended : (block : meant.Block) (before mid now : Journaled) (done : Record)
+    → ShowsRun in_place (one block [] before.state) done before mid → done.outcome ≡ Ended → now ≡ resting mid.state
     → now ≡ resting (settled before.state (one block [] before.state))
 settles-ended block before mid now done shows ended is =
-    is ∙ ap resting (shows_state block [] before mid done shows ∙ sym (settled-ended before.state (one block [] before.state) (sym shows.end ∙ ended)))
+    is ∙ ap resting (shows_state block [] before mid done shows
+    ∙ sym (settled-ended before.state (one block [] before.state) (sym shows.end ∙ ended)))
 
-pub settles-aborted : (block : meant.Block) (before mid now : Journaled) (done : Record) (reason : Option ℕ) → ShowsRun in_place (one block [] before.state) done before mid → done.outcome ≡ Aborted reason → before.journal ≡ [] → now ≡ rewound mid 0
+pub settles-aborted : (block : meant.Block) (before mid now : Journaled) (done : Record) (reason : Option ℕ)
+    → ShowsRun in_place (one block [] before.state) done before mid → done.outcome ≡ Aborted reason → before.journal ≡ []
+    → now ≡ rewound mid 0
     → now ≡ resting (settled before.state (one block [] before.state))
 settles-aborted block before mid now done reason shows aborted none is =
-    taken_back _ before mid now done 0 shows (sym (ap length none)) is ∙ ap (λ js. let j : Journaled = record { state = before.state; journal = js } in j) none
+    taken_back _ before mid now done 0 shows (sym (ap length none)) is
+    ∙ ap (λ js. let j : Journaled = record { state = before.state; journal = js } in j) none
     ∙ ap resting (sym (settled-aborted before.state (one block [] before.state) reason (sym shows.end ∙ aborted)))

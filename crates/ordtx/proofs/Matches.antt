@@ -25,7 +25,8 @@ ordtx_is_simple = refl
 
 -- what holds both parts holds the pair
 pub holds_pair : {X A B : Type 0} (f : X → A) (g : X → B) (o : Option X) (a : A) (b : B) → Some a ≡ option_map f o
-    → Some b ≡ option_map (λ (p : A × B). p.1) (option_map {U = A × B} (λ x. (f x, g x)) o) → option_map {U = A × B} (λ x. (f x, g x)) o ≡ Some (a, b)
+    → Some b ≡ option_map (λ (p : A × B). p.1) (option_map {U = A × B} (λ x. (f x, g x)) o) → option_map {U = A × B} (λ x. (f x, g x)) o
+    ≡ Some (a, b)
 holds_pair f g None a b first second = cc
 holds_pair {X} {A} {B} f g (Some x) a b first second =
     let pair : A → B → A × B = λ u v. (u, v) in

@@ -14,7 +14,8 @@ use Rattle.carry.specs.declared.document.Unfit.{Unfit}
 use Rattle.lang.specs.Faults.{fault_outside}
 use Rattle.lang.specs.Reading.{Document, reading}
 use Rattle.lang.specs.declared.fault.Fault.{Fault}
-use Rattle.ordtx.specs.Answers.{IsReportOf, IsAuditOf, IsPlainReportOf, IsCheckOf, IsFaultOf, IsCarriedOf, IsUnfitOf, IsCarryFaultOf, end_of, unfit_code}
+use Rattle.ordtx.specs.Answers.{IsReportOf, IsAuditOf, IsPlainReportOf, IsCheckOf, IsFaultOf, IsCarriedOf, IsUnfitOf, IsCarryFaultOf}
+use Rattle.ordtx.specs.Answers.{end_of, unfit_code}
 use Rattle.ordtx.specs.Laws.{OneTextLaw, OneFaultLaw, FaultlessLaw}
 
 -- one document
@@ -51,10 +52,13 @@ one_audit bytes first second a b =
     let d = a.document in
     let counted : Rounds d.start d.transactions b.rounds = subst (λ e. Rounds e.start e.transactions b.rounds) same b.counted in
     let all : length b.counts ≡ length d.transactions = b.all ∙ ap (λ e. length e.transactions) same in
-    let each = subst (λ e. (i : ℕ) → i < length e.transactions → Count e.start e.transactions i (slice_index_or b.counts i 0)) same b.each in
+    let each = subst (λ e. (i : ℕ) → i < length e.transactions → Count e.start e.transactions i (slice_index_or b.counts i 0)) same
+    b.each in
     a.is
-    ∙ ap (λ n. audit_report (names_of d.texts) d.start d.transactions n a.counts) (one_number d.start d.transactions 0 b.rounds a.rounds counted a.counted)
-    ∙ ap (audit_report (names_of d.texts) d.start d.transactions b.rounds) (one_list d.start d.transactions a.counts b.counts a.all all a.each each)
+    ∙ ap (λ n. audit_report (names_of d.texts) d.start d.transactions n a.counts)
+    (one_number d.start d.transactions 0 b.rounds a.rounds counted a.counted)
+    ∙ ap (audit_report (names_of d.texts) d.start d.transactions b.rounds)
+    (one_list d.start d.transactions a.counts b.counts a.all all a.each each)
     ∙ ap (λ e. audit_report (names_of e.texts) e.start e.transactions b.rounds b.counts) (sym same)
     ∙ sym b.is
 

@@ -12,14 +12,18 @@ four_parts a b c d = append_assoc (a ++ b) c d ∙ append_assoc a b (c ++ d)
 
 -- the parts of the line
 pub placed_text : (text at : List ℕ) (number : ℕ) (fault : Fault) (place : Place)
-    → text ≡ codes "fault " ++ (decimal number ++ (codes " transaction " ++ (decimal fault.transaction ++ (codes " at" ++ (at ++ codes "\n")))))
+    → text ≡ codes "fault "
+    ++ (decimal number ++ (codes " transaction " ++ (decimal fault.transaction ++ (codes " at" ++ (at ++ codes "\n")))))
     → number ≡ number_of fault.code → at ≡ place_text place → text ≡ place_line fault place
 placed_text text at number fault place wrote is_number is_at =
     let a = codes "fault " in let t = codes " transaction " ++ (decimal fault.transaction ++ (codes " at" ++ (at ++ codes "\n"))) in
     wrote
     ∙ ap (λ n. a ++ (decimal n ++ t)) is_number
-    ∙ ap (λ x. a ++ (decimal (number_of fault.code) ++ (codes " transaction " ++ (decimal fault.transaction ++ (codes " at" ++ (x ++ codes "\n")))))) is_at
-    ∙ sym (seven_parts a (decimal (number_of fault.code)) (codes " transaction ") (decimal fault.transaction) (codes " at") (place_text place) (codes "\n"))
+    ∙ ap (λ x. a ++ (decimal (number_of fault.code)
+    ++ (codes " transaction " ++ (decimal fault.transaction ++ (codes " at" ++ (x ++ codes "\n")))))) is_at
+    ∙ sym (seven_parts a (decimal (number_of fault.code)) (codes " transaction ") (decimal fault.transaction) (codes " at")
+    (place_text place) (codes "\n"))
   where
     seven_parts : (a b c d e f g : List ℕ) → a ++ b ++ c ++ d ++ e ++ f ++ g ≡ a ++ (b ++ (c ++ (d ++ (e ++ (f ++ g)))))
-    seven_parts a b c d e f g = four_parts (a ++ b ++ c ++ d) e f g ∙ four_parts (a ++ b) c d (e ++ (f ++ g)) ∙ append_assoc a b (c ++ (d ++ (e ++ (f ++ g))))
+    seven_parts a b c d e f g = four_parts (a ++ b ++ c ++ d) e f g ∙ four_parts (a ++ b) c d (e ++ (f ++ g))
+        ∙ append_assoc a b (c ++ (d ++ (e ++ (f ++ g))))

@@ -93,7 +93,8 @@ place_text (LineColumn line column) = codes " line " ++ decimal line ++ codes " 
 
 -- the line of a fault and its place
 abbrev pub place_line : Fault → Place → List ℕ
-place_line fault place = line (codes "fault " ++ decimal (number_of fault.code) ++ codes " transaction " ++ decimal fault.transaction ++ codes " at" ++ place_text place)
+place_line fault place = line (codes "fault " ++ decimal (number_of fault.code) ++ codes " transaction " ++ decimal fault.transaction
+    ++ codes " at" ++ place_text place)
 
 -- The bytes spell no document, and the text is the line of their first fault and its place.
 pub record IsPlacedFaultOf (bytes text : List ℕ) : Type 0 where

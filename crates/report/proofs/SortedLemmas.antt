@@ -1,10 +1,12 @@
 -- Maps of sorted entries, and sets of sorted items.
-use Rattle.std.proofs.Common.{◌≡◌, List, [], ◌∷◌, map, Bool, true, false, cond, ◌&&◌, ◌||◌, T, refl, ap, ◌∙◌, sym, subst, Ordering, Less, Option, Some, None}
+use Rattle.std.proofs.Common.{◌≡◌, List, [], ◌∷◌, map, Bool, true, false, cond, ◌&&◌, ◌||◌, T, refl, ap, ◌∙◌, sym, subst, Ordering, Less}
+use Rattle.std.proofs.Common.{Option, Some, None}
 use Rattle.std.specs.Ordering.{is_lt, eq_by_cmp}
 use Rattle.std.specs.Cmp.{IsTotalOrder}
 use Rattle.std.specs.List.{AllByRecursion, list_any}
 use Rattle.std.specs.List.Sorted.{IsStrictlySortedBy}
-use Rattle.std.specs.FinMap.{IsAntisymmetric, entries, keys, from_entries, from_sorted, find, is_sorted, same_map, get-from_entries, get-from_sorted, entries-from_sorted}
+use Rattle.std.specs.FinMap.{IsAntisymmetric, entries, keys, from_entries, from_sorted, find, is_sorted, same_map, get-from_entries}
+use Rattle.std.specs.FinMap.{get-from_sorted, entries-from_sorted}
 use Rattle.std.specs.FinMap.Entries.{below_all}
 use Rattle.std.specs.FinSet as finite_set
 use Rattle.atoms.specs.Item.{item_cmp}
@@ -26,9 +28,11 @@ module _ {K X : Type 0} (R : K → K → Ordering) where
   rises es sorted = subst T (sym (sorted_is es sorted)) tt
 
   -- the map of sorted entries has just these
-  pub entries-sorted : IsTotalOrder R → IsAntisymmetric R → (es : List (K × X)) → IsStrictlySortedBy R (map (λ e. e.0) es) → entries (from_entries {R = R} es) ≡ es
+  pub entries-sorted : IsTotalOrder R → IsAntisymmetric R → (es : List (K × X)) → IsStrictlySortedBy R (map (λ e. e.0) es)
+      → entries (from_entries {R = R} es) ≡ es
   entries-sorted total same es sorted =
-      ap entries (same_map total same (from_entries es) (from_sorted es) (λ q. get-from_entries total es q ∙ sym (get-from_sorted R es q (rises es sorted))))
+      ap entries (same_map total same (from_entries es) (from_sorted es) (λ q. get-from_entries total es q
+      ∙ sym (get-from_sorted R es q (rises es sorted))))
       ∙ entries-from_sorted R es (rises es sorted)
 
 abbrev as_entries : List Item → List (Item × Unit {0})
@@ -47,14 +51,17 @@ marked_or false b = refl
 
 find-as_entries : (xs : List Item) (q : Item) → find item_cmp q (as_entries xs) ≡ marked (list_any (eq_by_cmp item_cmp q) xs)
 find-as_entries [] q = refl
-find-as_entries (x ∷ xs) q = ap (cond (eq_by_cmp item_cmp q x) (Some tt)) (find-as_entries xs q) ∙ marked_or (eq_by_cmp item_cmp q x) (list_any (eq_by_cmp item_cmp q) xs)
+find-as_entries (x ∷ xs) q = ap (cond (eq_by_cmp item_cmp q x) (Some tt)) (find-as_entries xs q) ∙ marked_or (eq_by_cmp item_cmp q x)
+    (list_any (eq_by_cmp item_cmp q) xs)
 
 -- the members of the set of sorted items are just these
 pub members-sorted : (xs : List Item) → IsStrictlySortedBy item_cmp xs → members (finite_set.from_list xs) ≡ xs
 members-sorted xs sorted =
     let s : finite_set.FinSet item_cmp = finite_set.from_list xs in
-    let has : (q : Item) → list_any (eq_by_cmp item_cmp q) (finite_set.items s) ≡ list_any (eq_by_cmp item_cmp q) xs = λ q. sym (finite_set.contains-items s q) ∙ finite_set.contains-from_list items_total xs q in
-    let there : IsStrictlySortedBy item_cmp (map (λ e. e.0) (as_entries xs)) = subst (IsStrictlySortedBy item_cmp) (sym (as_entries-keys xs)) sorted in
+    let has : (q : Item) → list_any (eq_by_cmp item_cmp q) (finite_set.items s) ≡ list_any (eq_by_cmp item_cmp q) xs =
+    λ q. sym (finite_set.contains-items s q) ∙ finite_set.contains-from_list items_total xs q in
+    let there : IsStrictlySortedBy item_cmp (map (λ e. e.0) (as_entries xs)) = subst (IsStrictlySortedBy item_cmp)
+    (sym (as_entries-keys xs)) sorted in
     ap keys (same_map items_total items_antisymmetric (from_entries (as_entries (finite_set.items s))) (from_sorted (as_entries xs)) (λ q.
     get-from_entries items_total (as_entries (finite_set.items s)) q ∙ find-as_entries (finite_set.items s) q ∙ ap marked (has q)
     ∙ sym (get-from_sorted item_cmp (as_entries xs) q (rises item_cmp (as_entries xs) there) ∙ find-as_entries xs q)))

@@ -1,5 +1,6 @@
 -- The lines that are left to write.
-use Rattle.std.proofs.Common.{◌≡◌, ℕ, ◌+◌, ◌<◌, ◌≤◌, List, [], ◌∷◌, ◌++◌, length, get_or, drop, map, Option, Some, None, refl, sym, ap, ◌∙◌, append_assoc}
+use Rattle.std.proofs.Common.{◌≡◌, ℕ, ◌+◌, ◌<◌, ◌≤◌, List, [], ◌∷◌, ◌++◌, length, get_or, drop, map, Option, Some, None, refl, sym, ap, ◌∙◌}
+use Rattle.std.proofs.Common.{append_assoc}
 use Rattle.std.proofs.Math.ListN.{drop_of_length-le}
 use Rattle.std.specs.Prelude.{codes}
 use Rattle.meaning.specs.declared.end.End.{End}
@@ -7,8 +8,10 @@ use Rattle.meaning.specs.Trees as meant
 use Rattle.meaning.specs.Trees.{NoStep, NoChild}
 use Rattle.meaning.specs.Shown.{Shown, AtEnd, First, ShownStep, ShownChildren, end_of}
 use Rattle.meaning.specs.Words.{Names}
-use Rattle.meaning.specs.Texts.{line, outcome_text, reason_of, steps_text, step_text, child_text, children_text, handler_path, handler_block, part}
-use Rattle.batch.specs.Views.{block_view, step_view, steps_view, subaction_view, children_view, taken_view, record_view, before_end, tried_view, before_younger}
+use Rattle.meaning.specs.Texts.{line, outcome_text, reason_of, steps_text, step_text, child_text, children_text, handler_path}
+use Rattle.meaning.specs.Texts.{handler_block, part}
+use Rattle.batch.specs.Views.{block_view, step_view, steps_view, subaction_view, children_view, taken_view, record_view, before_end}
+use Rattle.batch.specs.Views.{tried_view, before_younger}
 use Rattle.batch.specs.declared.tree.Step.{Step}
 use Rattle.batch.specs.declared.tree.Subaction.{Subaction, out-Subaction}
 use Rattle.batch.specs.declared.record.Record.{Record}
@@ -44,57 +47,79 @@ module _ (names : Names) (path : List ℕ) where
 
   -- the lines of the steps from the i-th on, counted from 0
   pub rest_text : ℕ → List Step → List Taken → End → List ℕ
-  rest_text i steps taken outcome = steps_text names path (i + 1) (steps_view (drop i steps)) (before_end (map taken_view (drop i taken)) (AtEnd outcome))
+  rest_text i steps taken outcome = steps_text names path (i + 1) (steps_view (drop i steps))
+      (before_end (map taken_view (drop i taken)) (AtEnd outcome))
 
-  pub rest_text-start : (steps : List Step) (taken : List Taken) (outcome : End) → rest_text 0 steps taken outcome ≡ steps_text names path 1 (steps_view steps) (before_end (map taken_view taken) (AtEnd outcome))
+  pub rest_text-start : (steps : List Step) (taken : List Taken) (outcome : End) → rest_text 0 steps taken outcome
+      ≡ steps_text names path 1 (steps_view steps) (before_end (map taken_view taken) (AtEnd outcome))
   unfolding rest_text
   rest_text-start steps taken outcome = refl
 
-  pub rest_text-more : (i : ℕ) (steps : List Step) (taken : List Taken) (outcome : End) (x : Step) (y : Taken) → i < length steps → x ≡ get_or steps i x → i < length taken → y ≡ get_or taken i y
-      → rest_text i steps taken outcome ≡ step_text names (part path (i + 1)) (step_view x) (taken_view y) ++ rest_text (i + 1) steps taken outcome
+  pub rest_text-more : (i : ℕ) (steps : List Step) (taken : List Taken) (outcome : End) (x : Step) (y : Taken) → i < length steps
+      → x ≡ get_or steps i x → i < length taken → y ≡ get_or taken i y
+      → rest_text i steps taken outcome ≡ step_text names (part path (i + 1)) (step_view x) (taken_view y) ++ rest_text
+      (i + 1) steps taken outcome
   unfolding rest_text
   rest_text-more i steps taken outcome x y lt is lt' is' =
-      ap (λ ts. steps_text names path (i + 1) (steps_view (drop i steps)) (before_end (map taken_view ts) (AtEnd outcome))) (left taken i y lt' is')
-      ∙ ap (λ ss. steps_text names path (i + 1) (steps_view ss) (before_end (map taken_view (y ∷ drop (i + 1) taken)) (AtEnd outcome))) (left steps i x lt is)
+      ap (λ ts. steps_text names path (i + 1) (steps_view (drop i steps)) (before_end (map taken_view ts) (AtEnd outcome)))
+      (left taken i y lt' is')
+      ∙ ap (λ ss. steps_text names path (i + 1) (steps_view ss) (before_end (map taken_view (y ∷ drop (i + 1) taken)) (AtEnd outcome)))
+      (left steps i x lt is)
 
-  pub rest_text-no_step : (i : ℕ) (steps : List Step) (taken : List Taken) (outcome : End) → length steps ≤ i → rest_text i steps taken outcome ≡ []
+  pub rest_text-no_step : (i : ℕ) (steps : List Step) (taken : List Taken) (outcome : End) → length steps ≤ i
+      → rest_text i steps taken outcome ≡ []
   unfolding rest_text
   rest_text-no_step i steps taken outcome le =
-      ap (λ ss. steps_text names path (i + 1) (steps_view ss) (before_end (map taken_view (drop i taken)) (AtEnd outcome))) (drop_of_length-le steps le) ∙ no_text (i + 1) (before_end (map taken_view (drop i taken)) (AtEnd outcome))
+      ap (λ ss. steps_text names path (i + 1) (steps_view ss) (before_end (map taken_view (drop i taken)) (AtEnd outcome)))
+      (drop_of_length-le steps le) ∙ no_text (i + 1) (before_end (map taken_view (drop i taken)) (AtEnd outcome))
 
-  pub rest_text-end : (i : ℕ) (steps : List Step) (taken : List Taken) (outcome : End) → length taken ≤ i → rest_text i steps taken outcome ≡ []
+  pub rest_text-end : (i : ℕ) (steps : List Step) (taken : List Taken) (outcome : End) → length taken ≤ i → rest_text i steps taken outcome
+      ≡ []
   unfolding rest_text
   rest_text-end i steps taken outcome le =
-      ap (λ ts. steps_text names path (i + 1) (steps_view (drop i steps)) (before_end (map taken_view ts) (AtEnd outcome))) (drop_of_length-le taken le) ∙ end_text (i + 1) (steps_view (drop i steps)) outcome
+      ap (λ ts. steps_text names path (i + 1) (steps_view (drop i steps)) (before_end (map taken_view ts) (AtEnd outcome)))
+      (drop_of_length-le taken le) ∙ end_text (i + 1) (steps_view (drop i steps)) outcome
 
   -- the same for children
   pub rest_children_text : ℕ → List Subaction → List (Record × Option Record) → List ℕ
-  rest_children_text i children tried = children_text names path (i + 1) (children_view (drop i children)) (before_younger (map tried_view (drop i tried)) ShownChildren.NoChild)
+  rest_children_text i children tried = children_text names path (i + 1) (children_view (drop i children))
+      (before_younger (map tried_view (drop i tried)) ShownChildren.NoChild)
 
-  pub rest_children_text-start : (children : List Subaction) (tried : List (Record × Option Record)) → rest_children_text 0 children tried ≡ children_text names path 1 (children_view children) (before_younger (map tried_view tried) ShownChildren.NoChild)
+  pub rest_children_text-start : (children : List Subaction) (tried : List (Record × Option Record)) → rest_children_text 0 children tried
+      ≡ children_text names path 1 (children_view children) (before_younger (map tried_view tried) ShownChildren.NoChild)
   unfolding rest_children_text
   rest_children_text-start children tried = refl
 
-  pub rest_children_text-more : (i : ℕ) (children : List Subaction) (tried : List (Record × Option Record)) (x : Subaction) (y : Record × Option Record) → i < length children → x ≡ get_or children i x → i < length tried → y ≡ get_or tried i y
-      → rest_children_text i children tried ≡ child_text names (part path (i + 1)) (subaction_view x).body (subaction_view x).handlers (tried_view y) ++ rest_children_text (i + 1) children tried
+  pub rest_children_text-more : (i : ℕ) (children : List Subaction) (tried : List (Record × Option Record)) (x : Subaction)
+      (y : Record × Option Record) → i < length children → x ≡ get_or children i x → i < length tried → y ≡ get_or tried i y
+      → rest_children_text i children tried ≡ child_text names (part path (i + 1)) (subaction_view x).body (subaction_view x).handlers
+      (tried_view y) ++ rest_children_text (i + 1) children tried
   unfolding rest_children_text
   rest_children_text-more i children tried x y lt is lt' is' =
-      ap (λ ts. children_text names path (i + 1) (children_view (drop i children)) (before_younger (map tried_view ts) ShownChildren.NoChild)) (left tried i y lt' is')
-      ∙ ap (λ cs. children_text names path (i + 1) (children_view cs) (before_younger (map tried_view (y ∷ drop (i + 1) tried)) ShownChildren.NoChild)) (left children i x lt is)
+      ap (λ ts. children_text names path (i + 1) (children_view (drop i children))
+      (before_younger (map tried_view ts) ShownChildren.NoChild)) (left tried i y lt' is')
+      ∙ ap (λ cs. children_text names path (i + 1) (children_view cs)
+      (before_younger (map tried_view (y ∷ drop (i + 1) tried)) ShownChildren.NoChild)) (left children i x lt is)
 
-  pub rest_children_text-no_child : (i : ℕ) (children : List Subaction) (tried : List (Record × Option Record)) → length children ≤ i → rest_children_text i children tried ≡ []
+  pub rest_children_text-no_child : (i : ℕ) (children : List Subaction) (tried : List (Record × Option Record)) → length children ≤ i
+      → rest_children_text i children tried ≡ []
   unfolding rest_children_text
   rest_children_text-no_child i children tried le =
-      ap (λ cs. children_text names path (i + 1) (children_view cs) (before_younger (map tried_view (drop i tried)) ShownChildren.NoChild)) (drop_of_length-le children le) ∙ no_children_text (i + 1) (before_younger (map tried_view (drop i tried)) ShownChildren.NoChild)
+      ap (λ cs. children_text names path (i + 1) (children_view cs) (before_younger (map tried_view (drop i tried)) ShownChildren.NoChild))
+      (drop_of_length-le children le) ∙ no_children_text (i + 1) (before_younger (map tried_view (drop i tried)) ShownChildren.NoChild)
 
-  pub rest_children_text-end : (i : ℕ) (children : List Subaction) (tried : List (Record × Option Record)) → length tried ≤ i → rest_children_text i children tried ≡ []
+  pub rest_children_text-end : (i : ℕ) (children : List Subaction) (tried : List (Record × Option Record)) → length tried ≤ i
+      → rest_children_text i children tried ≡ []
   unfolding rest_children_text
   rest_children_text-end i children tried le =
-      ap (λ ts. children_text names path (i + 1) (children_view (drop i children)) (before_younger (map tried_view ts) ShownChildren.NoChild)) (drop_of_length-le tried le) ∙ end_children_text (i + 1) (children_view (drop i children))
+      ap (λ ts. children_text names path (i + 1) (children_view (drop i children))
+      (before_younger (map tried_view ts) ShownChildren.NoChild)) (drop_of_length-le tried le)
+      ∙ end_children_text (i + 1) (children_view (drop i children))
 
 -- texts written one after another
 pub after_text : (mid new text rest more all : List ℕ) → mid ++ rest ≡ all → new ≡ mid ++ text → rest ≡ text ++ more → new ++ more ≡ all
-after_text mid new text rest more all is wrote splits = ap (λ x. x ++ more) wrote ∙ append_assoc mid text more ∙ ap (λ x. mid ++ x) (sym splits) ∙ is
+after_text mid new text rest more all is wrote splits = ap (λ x. x ++ more) wrote ∙ append_assoc mid text more
+    ∙ ap (λ x. mid ++ x) (sym splits) ∙ is
 
 pub after_two : (out mid new first second : List ℕ) → mid ≡ out ++ first → new ≡ mid ++ second → new ≡ out ++ (first ++ second)
 after_two out mid new first second e f = f ∙ ap (λ x. x ++ second) e ∙ append_assoc out first second
@@ -102,19 +127,30 @@ after_two out mid new first second e f = f ∙ ap (λ x. x ++ second) e ∙ appe
 -- the lines of a subaction
 module _ (names : Names) (path : List ℕ) (child : Subaction) (body : Record) where
   abbrev pub body_lines : List ℕ
-  body_lines = line (codes "S " ++ path ++ outcome_text names body.outcome) ++ steps_text names (path ++ codes ".b") 1 (block_view (out-Subaction child).body) (record_view body)
+  body_lines = line (codes "S " ++ path ++ outcome_text names body.outcome) ++ steps_text names (path ++ codes ".b") 1
+      (block_view (out-Subaction child).body) (record_view body)
 
-  body_lines-is : line (codes "S " ++ path ++ outcome_text names (end_of (record_view body))) ++ steps_text names (path ++ codes ".b") 1 (subaction_view child).body (record_view body) ≡ body_lines
+  body_lines-is : line (codes "S " ++ path ++ outcome_text names (end_of (record_view body))) ++ steps_text names (path ++ codes ".b") 1
+      (subaction_view child).body (record_view body) ≡ body_lines
   body_lines-is =
-      ap (λ outcome. line (codes "S " ++ path ++ outcome_text names outcome) ++ steps_text names (path ++ codes ".b") 1 (subaction_view child).body (record_view body)) (end_of-record_view body)
-      ∙ ap (λ block. line (codes "S " ++ path ++ outcome_text names body.outcome) ++ steps_text names (path ++ codes ".b") 1 block (record_view body)) (subaction_view-body child)
+      ap (λ outcome. line (codes "S " ++ path ++ outcome_text names outcome) ++ steps_text names (path ++ codes ".b") 1
+      (subaction_view child).body (record_view body)) (end_of-record_view body)
+      ∙ ap (λ block. line (codes "S " ++ path ++ outcome_text names body.outcome) ++ steps_text names (path ++ codes ".b") 1 block
+      (record_view body)) (subaction_view-body child)
 
-  pub child_text-body : (handler : Option Record) → handler ≡ None → child_text names path (subaction_view child).body (subaction_view child).handlers (tried_view (body, handler)) ≡ body_lines
-  child_text-body handler is = ap (λ h. child_text names path (subaction_view child).body (subaction_view child).handlers (tried_view (body, h))) is ∙ body_lines-is
+  pub child_text-body : (handler : Option Record) → handler ≡ None → child_text names path (subaction_view child).body
+      (subaction_view child).handlers (tried_view (body, handler)) ≡ body_lines
+  child_text-body handler is = ap (λ h. child_text names path (subaction_view child).body (subaction_view child).handlers
+      (tried_view (body, h))) is ∙ body_lines-is
 
-  pub child_text-handler : (handler : Option Record) (done : Record) → handler ≡ Some done → child_text names path (subaction_view child).body (subaction_view child).handlers (tried_view (body, handler))
-      ≡ body_lines ++ steps_text names (handler_path names path (subaction_view child).handlers (reason_of body.outcome)) 1 (handler_block (subaction_view child).handlers (reason_of body.outcome)) (record_view done)
+  pub child_text-handler : (handler : Option Record) (done : Record) → handler ≡ Some done
+      → child_text names path (subaction_view child).body (subaction_view child).handlers (tried_view (body, handler))
+      ≡ body_lines ++ steps_text names (handler_path names path (subaction_view child).handlers (reason_of body.outcome)) 1
+      (handler_block (subaction_view child).handlers (reason_of body.outcome)) (record_view done)
   child_text-handler handler done is =
       ap (λ h. child_text names path (subaction_view child).body (subaction_view child).handlers (tried_view (body, h))) is
-      ∙ ap (λ lines. lines ++ steps_text names (handler_path names path (subaction_view child).handlers (reason_of (end_of (record_view body)))) 1 (handler_block (subaction_view child).handlers (reason_of (end_of (record_view body)))) (record_view done)) body_lines-is
-      ∙ ap (λ outcome. body_lines ++ steps_text names (handler_path names path (subaction_view child).handlers (reason_of outcome)) 1 (handler_block (subaction_view child).handlers (reason_of outcome)) (record_view done)) (end_of-record_view body)
+      ∙ ap (λ lines. lines ++ steps_text names (handler_path names path (subaction_view child).handlers
+      (reason_of (end_of (record_view body)))) 1
+      (handler_block (subaction_view child).handlers (reason_of (end_of (record_view body)))) (record_view done)) body_lines-is
+      ∙ ap (λ outcome. body_lines ++ steps_text names (handler_path names path (subaction_view child).handlers (reason_of outcome)) 1
+      (handler_block (subaction_view child).handlers (reason_of outcome)) (record_view done)) (end_of-record_view body)

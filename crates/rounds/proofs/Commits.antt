@@ -1,5 +1,6 @@
 -- Runs are committed one after the other.
-use Rattle.std.proofs.Common.{◌≡◌, ℕ, suc, ◌+◌, ◌<◌, List, [], ◌∷◌, ◌++◌, length, get_or, drop, refl, sym, ap, subst, ◌∙◌, add-one, drop-cons}
+use Rattle.std.proofs.Common.{◌≡◌, ℕ, suc, ◌+◌, ◌<◌, List, [], ◌∷◌, ◌++◌, length, get_or, drop, refl, sym, ap, subst, ◌∙◌, add-one}
+use Rattle.std.proofs.Common.{drop-cons}
 use Rattle.objects.specs.declared.value.Value.{Value}
 use Rattle.objects.specs.declared.entry.Entry.{Entry}
 use Rattle.objects.specs.Entries.{after, AreLegal}
@@ -14,7 +15,8 @@ split_legal : (values : List Value) (xs ys : List Entry) → AreLegal values (xs
 split_legal values [] ys h = (tt, h)
 split_legal values (x ∷ xs) ys h = let rest = split_legal (objects.after values (x.object, x.call)) xs ys h.1 in ((h.0, rest.0), rest.1)
 
-split_room : (values : List Value) (xs ys : List Entry) → AllHaveRoom values (xs ++ ys) → AllHaveRoom values xs × AllHaveRoom (after values xs) ys
+split_room : (values : List Value) (xs ys : List Entry) → AllHaveRoom values (xs ++ ys) → AllHaveRoom values xs
+    × AllHaveRoom (after values xs) ys
 split_room values [] ys h = (tt, h)
 split_room values (x ∷ xs) ys h = let rest = split_room (objects.after values (x.object, x.call)) xs ys h.1 in ((h.0, rest.0), rest.1)
 
@@ -25,7 +27,8 @@ pub record ArePartCommitted (runs : List PendingRun) (start : List Value) (i : �
   pub leads : after now (own_nets (drop i runs)) ≡ after start (own_nets runs)
 
 -- the runs from the next one on
-next_run : (runs : List PendingRun) (i : ℕ) (x : PendingRun) → i < length runs → x ≡ get_or runs i x → own_nets (drop i runs) ≡ x.net.items ++ own_nets (drop (i + 1) runs)
+next_run : (runs : List PendingRun) (i : ℕ) (x : PendingRun) → i < length runs → x ≡ get_or runs i x → own_nets (drop i runs) ≡ x.net.items
+    ++ own_nets (drop (i + 1) runs)
 next_run runs i x lt is =
     ap own_nets (drop-cons runs i x lt) ∙ ap (λ (y : PendingRun). y.net.items ++ own_nets (drop (suc i) runs)) (sym is) ∙ rw add-one refl
 
@@ -50,5 +53,6 @@ module _ (runs : List PendingRun) (start : List Value) (i : ℕ) (now : List Val
   part_committed-more next on = record {
     legal = subst (λ v. AreLegal v (own_nets (drop (i + 1) runs))) (sym on) both_legal.1;
     room = subst (λ v. AllHaveRoom v (own_nets (drop (i + 1) runs))) (sym on) both_have_room.1;
-    leads = ap (λ v. after v (own_nets (drop (i + 1) runs))) on ∙ sym (after-append now net (own_nets (drop (i + 1) runs))) ∙ ap (after now) (sym rest) ∙ part.leads;
+    leads = ap (λ v. after v (own_nets (drop (i + 1) runs))) on ∙ sym (after-append now net (own_nets (drop (i + 1) runs)))
+        ∙ ap (after now) (sym rest) ∙ part.leads;
   }

@@ -1,5 +1,6 @@
 -- The first run of a round that doesn't stand is where the next opening is.
-use Rattle.std.proofs.Common.{◌≡◌, ℕ, zero, suc, ◌+◌, ◌-◌, ◌<◌, ◌≤◌, ◌↔◌, List, [], ◌∷◌, ◌++◌, length, get_or, take, refl, sym, ap, ◌∙◌, subst, arith}
+use Rattle.std.proofs.Common.{◌≡◌, ℕ, zero, suc, ◌+◌, ◌-◌, ◌<◌, ◌≤◌, ◌↔◌, List, [], ◌∷◌, ◌++◌, length, get_or, take, refl, sym, ap, ◌∙◌}
+use Rattle.std.proofs.Common.{subst, arith}
 use native.Mathlib.Decide.{dec_le}
 use Rattle.objects.specs.Entries.{State}
 use Rattle.objects.specs.declared.entry.Entry.{Entry}
@@ -18,7 +19,8 @@ use Rattle.rounds.specs.declared.pending_run.PendingRun.{PendingRun}
 use Rattle.rounds.specs.PendingRuns.{left_by, AreSumsOf, IsPendingOf, own_nets, all_left, HoldsPast, HoldsAt, IsFirstFrom}
 
 -- a pending run is that of another state where both have the same record and outcome
-moved : (r s : one_thread.Run Taken) (made : PendingRun) → IsPendingOf r made → record_of s ≡ record_of r → outcome_of s ≡ outcome_of r → IsPendingOf s made
+moved : (r s : one_thread.Run Taken) (made : PendingRun) → IsPendingOf r made → record_of s ≡ record_of r → outcome_of s ≡ outcome_of r
+    → IsPendingOf s made
 moved r s made is taken outcome =
     let nets_are : net (record_of r) (outcome_of r) ≡ net (record_of s) (outcome_of s) =
     ap (λ t. net t (outcome_of r)) (sym taken) ∙ ap (λ o. net (record_of s) o) (sym outcome) in
@@ -46,30 +48,36 @@ module _ (start : State) (blocks : List Block) where
       (λ holds. by_summary.0 (by_since.0 holds), λ commute. by_since.1 (by_summary.1 commute))
 
   -- a run that was made at an opening and stands past what came since is a run at the later one
-  pub still_stands : (i b count : ℕ) (run : PendingRun) → IsPendingOf (alone start blocks i b) run → AllCommute (entries (record_of (alone start blocks i b))) (nets start blocks b count) → IsPendingOf (alone start blocks i (b + count)) run
+  pub still_stands : (i b count : ℕ) (run : PendingRun) → IsPendingOf (alone start blocks i b) run
+      → AllCommute (entries (record_of (alone start blocks i b))) (nets start blocks b count)
+      → IsPendingOf (alone start blocks i (b + count)) run
   still_stands i b count run is commute =
       let law = standing_run start blocks i b count commute in
       moved (alone start blocks i b) (alone start blocks i (b + count)) run is law.0 law.1
 
   -- a run that keeps is a run of the answer
-  pub keeps_answers : (i b : ℕ) (run : PendingRun) → b ≤ i → IsPendingOf (alone start blocks i b) run → Keeps start blocks i b → IsPendingOf (answer start blocks i) run
+  pub keeps_answers : (i b : ℕ) (run : PendingRun) → b ≤ i → IsPendingOf (alone start blocks i b) run → Keeps start blocks i b
+      → IsPendingOf (answer start blocks i) run
   keeps_answers i b run le is keeps =
       let same : b + (i - b) ≡ i = omega arith in
       subst (λ j. IsPendingOf (alone start blocks i j) run) same (still_stands i b (i - b) run is keeps)
 
   -- the first j runs leave what one thread leaves
-  nets_agree : (b j : ℕ) (runs : List PendingRun) → j ≤ length runs → ((k : ℕ) (d : PendingRun) → k < j → IsPendingOf (answer start blocks (b + k)) (get_or runs k d))
+  nets_agree : (b j : ℕ) (runs : List PendingRun) → j ≤ length runs
+      → ((k : ℕ) (d : PendingRun) → k < j → IsPendingOf (answer start blocks (b + k)) (get_or runs k d))
       → (own_nets (take j runs) ≡ nets start blocks b j) × IsSummary (all_left (take j runs)) (nets start blocks b j)
   unfolding nets
   nets_agree b zero runs le answers = (refl, summary-nil)
   nets_agree b (suc j) [] le answers = absurd (omega arith)
   nets_agree b (suc j) (run ∷ runs) le answers =
       let here : b + 0 ≡ b = omega arith in
-      let is : IsPendingOf (answer start blocks b) run = subst (λ i. IsPendingOf (answer start blocks i) run) here (answers 0 run (omega arith)) in
+      let is : IsPendingOf (answer start blocks b) run = subst (λ i. IsPendingOf (answer start blocks i) run) here
+      (answers 0 run (omega arith)) in
       let rest = nets_agree (suc b) j runs (omega arith) (λ k d lt. let there : b + suc k ≡ suc b + k = omega arith in
       subst (λ i. IsPendingOf (answer start blocks i) (get_or runs k d)) there (answers (suc k) d (omega arith))) in (
         ap (λ ns. ns ++ own_nets (take j runs)) is.net ∙ ap (λ ns. net_of (answer start blocks b) ++ ns) rest.0,
-        summary-append (left_by run.sums) (net_of (answer start blocks b)) (all_left (take j runs)) (nets start blocks (suc b) j) is.sums.net_is rest.1,
+        summary-append (left_by run.sums) (net_of (answer start blocks b)) (all_left (take j runs))
+            (nets start blocks (suc b) j) is.sums.net_is rest.1,
       )
 
   -- each run was made on the state of opening b, by number from b on
@@ -77,14 +85,17 @@ module _ (start : State) (blocks : List Block) where
   AreAlone b runs = (k : ℕ) (d : PendingRun) → k < length runs → IsPendingOf (alone start blocks (b + k) b) (get_or runs k d)
 
   -- a run holds past those before it exactly where it keeps
-  holds_here : (b k : ℕ) (runs : List PendingRun) (d : PendingRun) → AreAlone b runs → k < length runs → IsSummary (all_left (take k runs)) (nets start blocks b k)
+  holds_here : (b k : ℕ) (runs : List PendingRun) (d : PendingRun) → AreAlone b runs → k < length runs → IsSummary (all_left (take k runs))
+      (nets start blocks b k)
       → HoldsPast (all_left (take k runs)) (get_or runs k d) ↔ Keeps start blocks (b + k) b
   holds_here b k runs d are lt same =
       let count : (b + k) - b ≡ k = omega arith in
-      subst (λ n. HoldsPast (all_left (take k runs)) (get_or runs k d) ↔ AllCommute (entries (record_of (alone start blocks (b + k) b))) (nets start blocks b n)) (sym count)
+      subst (λ n. HoldsPast (all_left (take k runs)) (get_or runs k d) ↔ AllCommute (entries (record_of (alone start blocks (b + k) b)))
+      (nets start blocks b n)) (sym count)
       (holds_past (b + k) b (all_left (take k runs)) (nets start blocks b k) (get_or runs k d) (are k d lt) same)
 
-  clear : (b j : ℕ) (runs : List PendingRun) → AreAlone b runs → j ≤ length runs → ((k : ℕ) → k < j → HoldsAt runs k) → (k : ℕ) (d : PendingRun) → k < j → Keeps start blocks (b + k) b × IsPendingOf (answer start blocks (b + k)) (get_or runs k d)
+  clear : (b j : ℕ) (runs : List PendingRun) → AreAlone b runs → j ≤ length runs → ((k : ℕ) → k < j → HoldsAt runs k)
+      → (k : ℕ) (d : PendingRun) → k < j → Keeps start blocks (b + k) b × IsPendingOf (answer start blocks (b + k)) (get_or runs k d)
   clear b zero runs are le stand k d lt = absurd (omega arith)
   clear b (suc j) runs are le stand k d lt =
       let before = clear b j runs are (omega arith) (λ k lt. stand k (omega arith)) in
@@ -95,27 +106,34 @@ module _ (start : State) (blocks : List Block) where
             let same = (nets_agree b j runs (omega arith) (λ k d lt. (before k d lt).1)).1 in
             let keeps = (holds_here b j runs d are (omega arith) same).0 (stand j (omega arith) d) in
             let from : b ≤ b + j = omega arith in
-            subst (λ k. Keeps start blocks (b + k) b × IsPendingOf (answer start blocks (b + k)) (get_or runs k d)) here (keeps, keeps_answers (b + j) b (get_or runs j d) from (are j d (omega arith)) keeps)
+            subst (λ k. Keeps start blocks (b + k) b × IsPendingOf (answer start blocks (b + k)) (get_or runs k d)) here
+            (keeps, keeps_answers (b + j) b (get_or runs j d) from (are j d (omega arith)) keeps)
       ]
 
   -- the runs before the first conflict leave what one thread leaves
   pub left : (b : ℕ) (runs : List PendingRun) (first : ℕ) → AreAlone b runs → IsFirstFrom runs 0 first
       → (own_nets (take first runs) ≡ nets start blocks b first) × IsSummary (all_left (take first runs)) (nets start blocks b first)
   left b runs first are conflict =
-      nets_agree b first runs conflict.within (λ k d lt. (clear b first runs are conflict.within (λ k low. conflict.clear k (omega arith) low) k d lt).1)
+      nets_agree b first runs conflict.within
+      (λ k d lt. (clear b first runs are conflict.within (λ k low. conflict.clear k (omega arith) low) k d lt).1)
 
-  no_later : (b : ℕ) (runs : List PendingRun) (first m : ℕ) → AreAlone b runs → IsFirstFrom runs 0 first → m ≤ b + length runs → AllKeep start blocks b m → ¬ (b + first < m)
+  no_later : (b : ℕ) (runs : List PendingRun) (first m : ℕ) → AreAlone b runs → IsFirstFrom runs 0 first → m ≤ b + length runs
+      → AllKeep start blocks b m → ¬ (b + first < m)
   no_later b runs first m are conflict within keep later =
       let more : first < length runs = omega arith in
-      conflict.conflict more (λ d. (holds_here b first runs d are more (left b runs first are conflict).1).1 (keep (b + first) (omega arith) later))
+      conflict.conflict more (λ d. (holds_here b first runs d are more (left b runs first are conflict).1).1
+      (keep (b + first) (omega arith) later))
 
-  pub next_opening : (b : ℕ) (runs : List PendingRun) (first : ℕ) → b + length runs ≡ length blocks → AreAlone b runs → IsFirstFrom runs 0 first → IsNextOpening start blocks b (b + first)
+  pub next_opening : (b : ℕ) (runs : List PendingRun) (first : ℕ) → b + length runs ≡ length blocks → AreAlone b runs
+      → IsFirstFrom runs 0 first → IsNextOpening start blocks b (b + first)
   next_opening b runs first all are conflict = record {
     within = let le = conflict.within in omega arith;
     all_keep = λ i low high. let same : b + (i - b) ≡ i = omega arith in
         let lt : i - b < first = omega arith in
         let more : i - b < length runs = let le = conflict.within in omega arith in
-        some_run (Keeps start blocks i b) runs (i - b) more (λ d. subst (λ k. Keeps start blocks k b) same (clear b first runs are conflict.within (λ k low. conflict.clear k (omega arith) low) (i - b) d lt).0);
+        some_run (Keeps start blocks i b) runs (i - b) more
+        (λ d. subst (λ k. Keeps start blocks k b) same
+        (clear b first runs are conflict.within (λ k low. conflict.clear k (omega arith) low) (i - b) d lt).0);
     largest = λ m within keep. elim (dec_le m (b + first)) [
       | yes le ↦ le
       | no over ↦ absurd (no_later b runs first m are conflict (omega arith) keep (omega arith))

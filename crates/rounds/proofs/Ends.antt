@@ -30,12 +30,14 @@ module _ (batch : Batch) (b rounds : ℕ) (state : State) (runs : List PendingRu
         let over = done.1 in let all = done.0.all in
         some_run (IsRecordOf (answer (start_of batch) (blocks_of batch) i) (get_or records i d)) runs i (omega arith) (λ run.
         let place : i < length runs = omega arith in
-        let read : get_or records i d ≡ (get_or runs i run).tree = ap (λ rs. get_or rs i d) are ∙ get_or-map (λ r. r.tree) runs i run d place in
+        let read : get_or records i d ≡ (get_or runs i run).tree = ap (λ rs. get_or rs i d) are
+        ∙ get_or-map (λ r. r.tree) runs i run d place in
         subst (IsRecordOf (answer (start_of batch) (blocks_of batch) i)) (sym read) (done.0.committed i run (omega arith)).tree);
   }
 
   pub all_rounds : AtTheEnd → Rounds (start_of batch) (blocks_of batch) rounds
-  all_rounds done = let same : rounds + 0 ≡ rounds = omega arith in subst (Rounds (start_of batch) (blocks_of batch)) same (done.0.all_rounds 0 (same_end done))
+  all_rounds done = let same : rounds + 0 ≡ rounds = omega arith in subst (Rounds (start_of batch) (blocks_of batch)) same
+      (done.0.all_rounds 0 (same_end done))
 
   pub last_state : AtTheEnd → state ≡ state_at (start_of batch) (blocks_of batch) (length (blocks_of batch))
   last_state done = done.0.reached ∙ ap (state_at (start_of batch) (blocks_of batch)) (same_end done)
@@ -44,7 +46,8 @@ module _ (batch : Batch) (b rounds : ℕ) (state : State) (runs : List PendingRu
   unfolding state_at
   all_nets done =
       let count : length (blocks_of batch) ≡ 0 + length (blocks_of batch) = omega arith in
-      last_state done ∙ (ap (state_at (start_of batch) (blocks_of batch)) count ∙ (batch_leads (start_of batch) (blocks_of batch) 0 (length (blocks_of batch))).1)
+      last_state done ∙ (ap (state_at (start_of batch) (blocks_of batch)) count
+      ∙ (batch_leads (start_of batch) (blocks_of batch) 0 (length (blocks_of batch))).1)
 
   pub all_counts : AtTheEnd → AreCounts batch counts
   all_counts done = record {
@@ -53,7 +56,8 @@ module _ (batch : Batch) (b rounds : ℕ) (state : State) (runs : List PendingRu
   }
 
 -- what the records show, by number from b on
-shown_list : (start : State) (blocks : List Block) (records : List Record) (b count : ℕ) → length records ≡ count → ((k : ℕ) (d : Record) → k < count → record_view (get_or records k d) ≡ shown_of (answer start blocks (b + k)))
+shown_list : (start : State) (blocks : List Block) (records : List Record) (b count : ℕ) → length records ≡ count
+    → ((k : ℕ) (d : Record) → k < count → record_view (get_or records k d) ≡ shown_of (answer start blocks (b + k)))
     → map record_view records ≡ shown_from start blocks b count
 unfolding shown_from
 shown_list start blocks [] b zero size each = refl
@@ -61,10 +65,14 @@ shown_list start blocks [] b (suc count) size each = absurd (omega arith)
 shown_list start blocks (r ∷ records) b zero size each = absurd (omega arith)
 shown_list start blocks (r ∷ records) b (suc count) size each =
     let here : b + 0 ≡ b = omega arith in
-    let first : record_view r ≡ shown_of (answer start blocks b) = each 0 r (omega arith) ∙ ap (λ i. shown_of (answer start blocks i)) here in
-    let rest = shown_list start blocks records (suc b) count (omega arith) (λ k d lt. let there : b + suc k ≡ suc b + k = omega arith in each (suc k) d (omega arith) ∙ ap (λ i. shown_of (answer start blocks i)) there) in
+    let first : record_view r ≡ shown_of (answer start blocks b) = each 0 r (omega arith)
+    ∙ ap (λ i. shown_of (answer start blocks i)) here in
+    let rest = shown_list start blocks records (suc b) count (omega arith) (λ k d lt. let there : b + suc k ≡ suc b + k = omega arith in
+    each (suc k) d (omega arith) ∙ ap (λ i. shown_of (answer start blocks i)) there) in
     ap (λ x. x ∷ map record_view records) first ∙ ap (λ xs. shown_of (answer start blocks b) ∷ xs) rest
 
-pub all_are_shown : (batch : Batch) (records : List Record) → AreAnswers batch records → map record_view records ≡ all_shown (start_of batch) (blocks_of batch)
+pub all_are_shown : (batch : Batch) (records : List Record) → AreAnswers batch records → map record_view records ≡ all_shown
+    (start_of batch) (blocks_of batch)
 all_are_shown batch records are =
-    shown_list (start_of batch) (blocks_of batch) records 0 (length (blocks_of batch)) are.all (λ k d lt. let there : 0 + k ≡ k = omega arith in are.each k d lt ∙ ap (λ i. shown_of (answer (start_of batch) (blocks_of batch) i)) (sym there))
+    shown_list (start_of batch) (blocks_of batch) records 0 (length (blocks_of batch)) are.all (λ k d lt. let there : 0 + k ≡ k =
+    omega arith in are.each k d lt ∙ ap (λ i. shown_of (answer (start_of batch) (blocks_of batch) i)) (sym there))

@@ -1,7 +1,9 @@
 -- The first run that does not stand, and the nets that runs are checked against.
-use Rattle.std.proofs.Common.{◌≡◌, ℕ, ◌+◌, ◌<◌, ◌≤◌, List, [], ◌∷◌, ◌++◌, length, get_or, take, drop, ◌-◌, arith, refl, sym, ap, ◌∙◌, subst, append_assoc, append-nil}
+use Rattle.std.proofs.Common.{◌≡◌, ℕ, ◌+◌, ◌<◌, ◌≤◌, List, [], ◌∷◌, ◌++◌, length, get_or, take, drop, ◌-◌, arith, refl, sym, ap, ◌∙◌, subst}
+use Rattle.std.proofs.Common.{append_assoc, append-nil}
 use Rattle.std.specs.Prelude.{IsTrue, ◌↔◌, Bool}
-use Rattle.std.proofs.lemmas.List.{take_more, take-append-drop, length-append, take-take, get_or-take, length-take-le, length_push, take_rest, take_all, get_or-drop, get_or_read}
+use Rattle.std.proofs.lemmas.List.{take_more, take-append-drop, length-append, take-take, get_or-take, length-take-le, length_push}
+use Rattle.std.proofs.lemmas.List.{take_rest, take_all, get_or-drop, get_or_read}
 use Rattle.std.proofs.Math.Seq.{take-append_seam, get_or-append_seam}
 use Rattle.std.proofs.Math.ListN.{get_or-append, length-drop}
 use native.Mathlib.Decide.{dec_le}
@@ -13,25 +15,33 @@ use Rattle.rounds.specs.Checks.{IsSeen}
 -- the nets of two lists of runs
 nets_append : (xs ys : List PendingRun) → all_left (xs ++ ys) ≡ all_left xs ++ all_left ys
 nets_append [] ys = refl
-nets_append (run ∷ xs) ys = ap (λ ns. (left_by run.sums) ++ ns) (nets_append xs ys) ∙ sym (append_assoc (left_by run.sums) (all_left xs) (all_left ys))
+nets_append (run ∷ xs) ys = ap (λ ns. (left_by run.sums) ++ ns) (nets_append xs ys)
+    ∙ sym (append_assoc (left_by run.sums) (all_left xs) (all_left ys))
 
 -- one more run
-pub next_nets : (runs : List PendingRun) (i : ℕ) (run : PendingRun) → i < length runs → run ≡ get_or runs i run → all_left (take (i + 1) runs) ≡ all_left (take i runs) ++ (left_by run.sums)
+pub next_nets : (runs : List PendingRun) (i : ℕ) (run : PendingRun) → i < length runs → run ≡ get_or runs i run
+    → all_left (take (i + 1) runs) ≡ all_left (take i runs) ++ (left_by run.sums)
 next_nets runs i run lt is =
     let last : all_left (run ∷ []) ≡ (left_by run.sums) = append-nil (left_by run.sums) in
-    ap all_left (take_more runs i run lt) ∙ (nets_append (take i runs) (get_or runs i run ∷ []) ∙ (ap (λ r. all_left (take i runs) ++ all_left (r ∷ [])) (sym is) ∙ ap (λ ns. all_left (take i runs) ++ ns) last))
+    ap all_left (take_more runs i run lt) ∙ (nets_append (take i runs) (get_or runs i run ∷ [])
+    ∙ (ap (λ r. all_left (take i runs) ++ all_left (r ∷ [])) (sym is) ∙ ap (λ ns. all_left (take i runs) ++ ns) last))
 
 -- a list of nets with one run's more
-pub nets_more : (runs : List PendingRun) (i : ℕ) (run : PendingRun) (before after net : List Entry) → i < length runs → run ≡ get_or runs i run → net ≡ (left_by run.sums) → after ≡ before ++ net → before ≡ all_left (take i runs) → after ≡ all_left (take (i + 1) runs)
+pub nets_more : (runs : List PendingRun) (i : ℕ) (run : PendingRun) (before after net : List Entry) → i < length runs
+    → run ≡ get_or runs i run → net ≡ (left_by run.sums) → after ≡ before ++ net → before ≡ all_left (take i runs)
+    → after ≡ all_left (take (i + 1) runs)
 nets_more runs i run before after net lt is this all so_far =
     all ∙ (ap (λ es. es ++ net) so_far ∙ (ap (λ es. all_left (take i runs) ++ es) this ∙ sym (next_nets runs i run lt is)))
 
 -- where the net of one run more begins
-pub starts_more : (runs : List PendingRun) (i : ℕ) (starts more : List ℕ) (nets : List Entry) → more ≡ starts ++ length nets ∷ [] → length starts ≡ i → nets ≡ all_left (take i runs)
-    → ((k : ℕ) → k < i → get_or starts k 0 ≡ length (all_left (take k runs))) → (k : ℕ) → k < i + 1 → get_or more k 0 ≡ length (all_left (take k runs))
+pub starts_more : (runs : List PendingRun) (i : ℕ) (starts more : List ℕ) (nets : List Entry) → more ≡ starts ++ length nets ∷ []
+    → length starts ≡ i → nets ≡ all_left (take i runs)
+    → ((k : ℕ) → k < i → get_or starts k 0 ≡ length (all_left (take k runs))) → (k : ℕ) → k < i + 1
+    → get_or more k 0 ≡ length (all_left (take k runs))
 starts_more runs i starts more nets pushed all so_far each k lt = elim (dec_le i k) [
   | yes le ↦ let last : length starts ≡ k = omega arith in let same : i ≡ k = omega arith in
-      ap (λ xs. get_or xs k 0) pushed ∙ (ap (λ n. get_or (starts ++ length nets ∷ []) n 0) (sym last) ∙ (get_or-append_seam starts (length nets) [] 0 ∙ (ap length so_far ∙ ap (λ n. length (all_left (take n runs))) same)))
+      ap (λ xs. get_or xs k 0) pushed ∙ (ap (λ n. get_or (starts ++ length nets ∷ []) n 0) (sym last)
+      ∙ (get_or-append_seam starts (length nets) [] 0 ∙ (ap length so_far ∙ ap (λ n. length (all_left (take n runs))) same)))
   | no less ↦ ap (λ xs. get_or xs k 0) pushed ∙ (get_or-append starts (length nets ∷ []) 0 k (omega arith) ∙ each k (omega arith))
 ]
 
@@ -40,12 +50,21 @@ first_nets : (runs : List PendingRun) (i : ℕ) → all_left runs ≡ all_left (
 first_nets runs i = ap all_left (sym (take-append-drop i runs)) ∙ nets_append (take i runs) (drop i runs)
 
 -- they are those of the list's front
-pub front_taken : (runs : List PendingRun) (i n : ℕ) (nets : List Entry) → nets ≡ all_left runs → n ≡ length (all_left (take i runs)) → take n nets ≡ all_left (take i runs)
-front_taken runs i n nets are size = ap (take n) (are ∙ first_nets runs i) ∙ (ap (λ m. take m (all_left (take i runs) ++ all_left (drop i runs))) size ∙ take-append_seam (all_left (take i runs)) (all_left (drop i runs)))
+pub front_taken : (runs : List PendingRun) (i n : ℕ) (nets : List Entry) → nets ≡ all_left runs → n ≡ length (all_left (take i runs))
+    → take n nets ≡ all_left (take i runs)
+front_taken runs i n nets are size = ap (take n) (are ∙ first_nets runs i)
+    ∙ (ap (λ m. take m (all_left (take i runs) ++ all_left (drop i runs))) size ∙ take-append_seam (all_left (take i runs))
+    (all_left (drop i runs)))
 
 -- which is no longer than the list
-pub front_within : (runs : List PendingRun) (i n : ℕ) (nets : List Entry) → nets ≡ all_left runs → n ≡ length (all_left (take i runs)) → n ≤ length nets
-front_within runs i n nets are size = omega (arith, ap length (are ∙ first_nets runs i), length-append (all_left (take i runs)) (all_left (drop i runs)))
+pub front_within : (runs : List PendingRun) (i n : ℕ) (nets : List Entry) → nets ≡ all_left runs → n ≡ length (all_left (take i runs))
+    → n ≤ length nets
+front_within runs i n nets are size = omega (
+  arith,
+  ap length (are ∙ first_nets runs i),
+  length-append (all_left (take i runs))
+      (all_left (drop i runs)),
+)
 
 -- the test against the nets before a run is whether it stands
 pub stands_here : (runs : List PendingRun) (i : ℕ) (before : List Entry) (told : Bool) → before ≡ all_left (take i runs)
@@ -56,7 +75,8 @@ stands_here runs i before told so_far test = (
 )
 
 -- a run at which the first ones end and that doesn't hold itself
-pub first_found : (runs : List PendingRun) (first : ℕ) → first ≤ length runs → ((k : ℕ) → k < first → HoldsAt runs k) → (first < length runs → ¬ HoldsAt runs first)
+pub first_found : (runs : List PendingRun) (first : ℕ) → first ≤ length runs → ((k : ℕ) → k < first → HoldsAt runs k)
+    → (first < length runs → ¬ HoldsAt runs first)
     → IsFirstFrom runs 0 first
 first_found runs first within clear fails = record {
   beyond = omega arith;
@@ -74,20 +94,26 @@ module _ (runs : List PendingRun) (n i : ℕ) (lt : i < n) where
 
   -- what stands among them stands among all, and the other way round
   pub front_stands : HoldsAt (take n runs) i → HoldsAt runs i
-  front_stands stands d = subst (λ ns. HoldsPast ns (get_or runs i d)) before_front (subst (HoldsPast (all_left (take i (take n runs)))) (get_or-take n runs i d lt) (stands d))
+  front_stands stands d = subst (λ ns. HoldsPast ns (get_or runs i d)) before_front (subst (HoldsPast (all_left (take i (take n runs))))
+      (get_or-take n runs i d lt) (stands d))
 
   pub stands_front : HoldsAt runs i → HoldsAt (take n runs) i
-  stands_front stands d = subst (HoldsPast (all_left (take i (take n runs)))) (sym (get_or-take n runs i d lt)) (subst (λ ns. HoldsPast ns (get_or runs i d)) (sym before_front) (stands d))
+  stands_front stands d = subst (HoldsPast (all_left (take i (take n runs)))) (sym (get_or-take n runs i d lt))
+      (subst (λ ns. HoldsPast ns (get_or runs i d)) (sym before_front) (stands d))
 
 -- the starts of one run more
-pub front_starts : (runs : List PendingRun) (i : ℕ) (starts more : List ℕ) (nets : List Entry) → i < length runs → more ≡ starts ++ length nets ∷ [] → nets ≡ all_left (take i runs) → AreStarts (take i runs) starts → AreStarts (take (i + 1) runs) more
+pub front_starts : (runs : List PendingRun) (i : ℕ) (starts more : List ℕ) (nets : List Entry) → i < length runs
+    → more ≡ starts ++ length nets ∷ [] → nets ≡ all_left (take i runs) → AreStarts (take i runs) starts
+    → AreStarts (take (i + 1) runs) more
 front_starts runs i starts more nets lt pushed so_far are =
     let size : length starts ≡ i = are.all ∙ length-take-le i runs (omega arith) in
     record {
       all = omega (arith, ap length pushed, length_push starts (length nets), size, length-take-le (i + 1) runs (omega arith));
       each = λ k low.
           let within : k < i + 1 = omega (arith, low, length-take-le (i + 1) runs (omega arith)) in
-          starts_more runs i starts more nets pushed size so_far (λ j below. are.each j (omega (arith, below, length-take-le i runs (omega arith))) ∙ ap length (before_front runs i j below)) k within ∙ sym (ap length (before_front runs (i + 1) k within));
+          starts_more runs i starts more nets pushed size so_far
+          (λ j below. are.each j (omega (arith, below, length-take-le i runs (omega arith))) ∙ ap length (before_front runs i j below))
+          k within ∙ sym (ap length (before_front runs (i + 1) k within));
     }
 
 -- ---- the runs from one place on
@@ -102,20 +128,24 @@ module _ (runs : List PendingRun) (from i : ℕ) where
 -- ---- a block of runs, which ends at place n
 
 -- what stands before it and in it
-pub block_clear : (runs : List PendingRun) (n from first : ℕ) → ((k : ℕ) → k < from → HoldsAt runs k) → IsFirstFrom (take n runs) from first → (k : ℕ) → k < n → k < first → HoldsAt runs k
+pub block_clear : (runs : List PendingRun) (n from first : ℕ) → ((k : ℕ) → k < from → HoldsAt runs k)
+    → IsFirstFrom (take n runs) from first → (k : ℕ) → k < n → k < first → HoldsAt runs k
 block_clear runs n from first before told k inside low = elim (dec_le from k) [
   | yes le ↦ front_stands runs n k inside (told.clear k le low)
   | no less ↦ before k (omega arith)
 ]
 
 -- its first conflict is that of all runs
-pub block_seen : (runs : List PendingRun) (n from first upto : ℕ) (nets : List Entry) (starts : List ℕ) → n ≤ length runs → first < n → nets ≡ all_left (take n runs) → AreStarts (take n runs) starts → upto ≡ get_or starts first upto
-    → ((k : ℕ) → k < from → HoldsAt runs k) → IsFirstFrom (take n runs) from first → IsSeen runs (record { first = first; nets = nets; upto = upto })
+pub block_seen : (runs : List PendingRun) (n from first upto : ℕ) (nets : List Entry) (starts : List ℕ) → n ≤ length runs → first < n
+    → nets ≡ all_left (take n runs) → AreStarts (take n runs) starts → upto ≡ get_or starts first upto
+    → ((k : ℕ) → k < from → HoldsAt runs k) → IsFirstFrom (take n runs) from first
+    → IsSeen runs (record { first = first; nets = nets; upto = upto })
 block_seen runs n from first upto nets starts within inside listed are is before told =
     let lt : first < length (take n runs) = omega (arith, inside, length-take-le n runs within) in
     let size = get_or_read starts first upto (omega (arith, lt, are.all)) is 0 ∙ are.each first lt in
     record {
-      first = first_found runs first (omega arith) (λ k low. block_clear runs n from first before told k (omega arith) low) (λ _ stands. told.conflict lt (stands_front runs n first inside stands));
+      first = first_found runs first (omega arith) (λ k low. block_clear runs n from first before told k (omega arith) low)
+          (λ _ stands. told.conflict lt (stands_front runs n first inside stands));
       within = front_within (take n runs) first upto nets listed size;
       nets = front_taken (take n runs) first upto nets listed size ∙ before_front runs n first inside;
     }
@@ -123,7 +153,8 @@ block_seen runs n from first upto nets starts within inside listed are is before
 -- ---- run by run
 
 -- one run more stands
-pub clear_more : (runs : List PendingRun) (i : ℕ) → ((k : ℕ) → k < i → HoldsAt runs k) → HoldsAt runs i → (k : ℕ) → k < i + 1 → HoldsAt runs k
+pub clear_more : (runs : List PendingRun) (i : ℕ) → ((k : ℕ) → k < i → HoldsAt runs k) → HoldsAt runs i → (k : ℕ) → k < i + 1
+    → HoldsAt runs k
 clear_more runs i clear here k lt = elim (dec_le i k) [
   | yes le ↦ let same : i ≡ k = omega arith in subst (HoldsAt runs) same here
   | no less ↦ clear k (omega arith)

@@ -1,5 +1,6 @@
 -- Runs are made one after the other, and put in their places in any order.
-use Rattle.std.proofs.Common.{◌≡◌, ℕ, zero, suc, ◌+◌, ◌<◌, ◌≤◌, List, [], ◌∷◌, ◌++◌, ◌==◌, map, length, get_or, set, take, refl, sym, ap, ◌∙◌, subst, arith}
+use Rattle.std.proofs.Common.{◌≡◌, ℕ, zero, suc, ◌+◌, ◌<◌, ◌≤◌, List, [], ◌∷◌, ◌++◌, ◌==◌, map, length, get_or, set, take, refl, sym, ap}
+use Rattle.std.proofs.Common.{◌∙◌, subst, arith}
 use Rattle.std.proofs.lemmas.List.{take_more, map-append, get_or-set_same, get_or-set_other, length-set}
 use Rattle.std.proofs.lemmas.List.Elements.{All-push, All-same}
 use Rattle.std.specs.List.{All, sum_by, range_with_len}
@@ -32,40 +33,52 @@ times_numbers : (i : ℕ) (xs ys : List Made) → times i (numbers_of (xs ++ ys)
 times_numbers i xs ys = ap (times i) (map-append (λ (m : Made). m.number) xs ys) ∙ times_append i (numbers_of xs) (numbers_of ys)
 
 -- one run more
-pub made_more : (batch : Batch) (state : State) (numbers : List ℕ) (i : ℕ) (m : Made) (made more : List Made) → i < length numbers → m.number ≡ get_or numbers i 0 → more ≡ made ++ m ∷ [] → AreMade batch state (take i numbers) made → IsMade batch state m → AreMade batch state (take (i + 1) numbers) more
+pub made_more : (batch : Batch) (state : State) (numbers : List ℕ) (i : ℕ) (m : Made) (made more : List Made) → i < length numbers
+    → m.number ≡ get_or numbers i 0 → more ≡ made ++ m ∷ [] → AreMade batch state (take i numbers) made → IsMade batch state m
+    → AreMade batch state (take (i + 1) numbers) more
 made_more batch state numbers i m made more lt is pushed so_far here = record {
   each = All-same (IsMade batch state) more (made ++ m ∷ []) pushed (All-push (IsMade batch state) made m so_far.each here);
   dealt = λ j.
-      let left : times j (numbers_of more) ≡ times j (numbers_of made) + times j (m.number ∷ []) = ap (λ ms. times j (numbers_of ms)) pushed ∙ times_numbers j made (m ∷ []) in
-      let right : times j (take (i + 1) numbers) ≡ times j (take i numbers) + times j (get_or numbers i 0 ∷ []) = ap (times j) (take_more numbers i 0 lt) ∙ times_append j (take i numbers) (get_or numbers i 0 ∷ []) in
-      left ∙ (ap (λ n. n + times j (m.number ∷ [])) (so_far.dealt j) ∙ (ap (λ n. times j (take i numbers) + times j (n ∷ [])) is ∙ sym right));
+      let left : times j (numbers_of more) ≡ times j (numbers_of made) + times j (m.number ∷ []) =
+      ap (λ ms. times j (numbers_of ms)) pushed ∙ times_numbers j made (m ∷ []) in
+      let right : times j (take (i + 1) numbers) ≡ times j (take i numbers) + times j (get_or numbers i 0 ∷ []) =
+      ap (times j) (take_more numbers i 0 lt) ∙ times_append j (take i numbers) (get_or numbers i 0 ∷ []) in
+      left ∙ (ap (λ n. n + times j (m.number ∷ [])) (so_far.dealt j) ∙ (ap (λ n. times j (take i numbers) + times j (n ∷ [])) is
+      ∙ sym right));
 }
 
 -- runs that were made, and a view and labels that are ready for the next
-pub record IsGroupSoFar (batch : Batch) (state : State) (numbers : List ℕ) (view : View) (labels : List Held) (made : List Made) : Type 0 where
+pub record IsGroupSoFar (batch : Batch) (state : State) (numbers : List ℕ) (view : View) (labels : List Held)
+    (made : List Made) : Type 0 where
   pub all_made : AreMade batch state numbers made
   pub as_opened : view ≡ opened state
   pub unlabelled : labels ≡ []
 
 -- a number stands in the chunks of a list, put together, as often as in the list
-times_chunks : (i size count : ℕ) (numbers : List ℕ) → 0 < size → count ≡ div_ceil (length numbers) size → sum_by (λ k. times i (slice_chunk numbers size k)) (range_with_len 0 count) ≡ times i numbers
+times_chunks : (i size count : ℕ) (numbers : List ℕ) → 0 < size → count ≡ div_ceil (length numbers) size
+    → sum_by (λ k. times i (slice_chunk numbers size k)) (range_with_len 0 count) ≡ times i numbers
 times_chunks i size count numbers some are =
     let f : ℕ → ℕ = λ k. times i (slice_chunk numbers size k) in
     let rs = map f (range_with_len 0 count) in
     let size_of : length rs ≡ count = length-map-range_with_len f 0 count in
     sym (sum-map f (range_with_len 0 count))
-    ∙ (sum_by_chunks (λ y. bit (y == i)) size numbers rs (λ k lt. get_or-map-range_with_len f 0 count k k 0 (omega arith) (omega arith) ∙ times_sum i (slice_chunk numbers size k)) some (size_of ∙ are) ∙ sym (times_sum i numbers))
+    ∙ (sum_by_chunks (λ y. bit (y == i)) size numbers rs (λ k lt. get_or-map-range_with_len f 0 count k k 0 (omega arith) (omega arith)
+    ∙ times_sum i (slice_chunk numbers size k)) some (size_of ∙ are) ∙ sym (times_sum i numbers))
 
 -- the groups' runs, each group once, are a run for each of the numbers
-pub all_groups : (batch : Batch) (state : State) (numbers : List ℕ) (cut count : ℕ) (made : List Made) → 0 < cut → count ≡ div_ceil (length numbers) cut → AreGivenOnce (λ k. AreMade batch state (slice_chunk numbers cut k)) count made → AreMade batch state numbers made
+pub all_groups : (batch : Batch) (state : State) (numbers : List ℕ) (cut count : ℕ) (made : List Made) → 0 < cut
+    → count ≡ div_ceil (length numbers) cut → AreGivenOnce (λ k. AreMade batch state (slice_chunk numbers cut k)) count made
+    → AreMade batch state numbers made
 all_groups batch state numbers cut count made some are given =
     let IsGroup : ℕ → List Made → Type 0 = λ k. AreMade batch state (slice_chunk numbers cut k) in record {
       each = each_given IsGroup (IsMade batch state) (λ k own here. here.each) given.order made given.given;
-      dealt = λ i. sum_given_once IsGroup (λ ms. times i (numbers_of ms)) refl (times_numbers i) (λ k. times i (slice_chunk numbers cut k)) (λ k own here. here.dealt i) count made given ∙ times_chunks i cut count numbers some are;
+      dealt = λ i. sum_given_once IsGroup (λ ms. times i (numbers_of ms)) refl (times_numbers i) (λ k. times i (slice_chunk numbers cut k))
+          (λ k own here. here.dealt i) count made given ∙ times_chunks i cut count numbers some are;
     }
 
 -- Some of the runs are in their places, and these are left.
-pub record ArePut (batch : Batch) (state : State) (numbers : List ℕ) (old runs : List PendingRun) (was counts : List ℕ) (left : List Made) : Type 0 where
+pub record ArePut (batch : Batch) (state : State) (numbers : List ℕ) (old runs : List PendingRun) (was counts : List ℕ)
+    (left : List Made) : Type 0 where
   pub each : All (IsMade batch state) left
   pub runs_all : length runs ≡ length old
   pub counts_all : length counts ≡ length was
@@ -74,9 +87,12 @@ pub record ArePut (batch : Batch) (state : State) (numbers : List ℕ) (old runs
   pub made : (i : ℕ) (d : PendingRun) → times i (numbers_of left) < times i numbers → IsPendingOf (meaning batch i state) (get_or runs i d)
   pub told : (i : ℕ) → i < length was → get_or counts i 0 + times i (numbers_of left) ≡ get_or was i 0 + times i numbers
 
-pub put_inside : (batch : Batch) (state : State) (numbers : List ℕ) (old runs : List PendingRun) (was counts : List ℕ) (left rest : List Made) (m : Made) → left ≡ rest ++ m ∷ [] → ArePut batch state numbers old runs was counts left → 0 < times m.number numbers
+pub put_inside : (batch : Batch) (state : State) (numbers : List ℕ) (old runs : List PendingRun) (was counts : List ℕ)
+    (left rest : List Made) (m : Made) → left ≡ rest ++ m ∷ [] → ArePut batch state numbers old runs was counts left
+    → 0 < times m.number numbers
 put_inside batch state numbers old runs was counts left rest m popped put =
-    let split : times m.number (numbers_of left) ≡ times m.number (numbers_of rest) + times m.number (m.number ∷ []) = ap (λ ms. times m.number (numbers_of ms)) popped ∙ times_numbers m.number rest (m ∷ []) in
+    let split : times m.number (numbers_of left) ≡ times m.number (numbers_of rest) + times m.number (m.number ∷ []) =
+    ap (λ ms. times m.number (numbers_of ms)) popped ∙ times_numbers m.number rest (m ∷ []) in
     let once = times_one m.number in
     let few = put.few m.number in
     omega arith
@@ -92,19 +108,25 @@ all_front P (x ∷ xs) y all =
     (front P x xs (all 0 x (omega arith)) rest.0, rest.1)
 
 -- a pending run of a run of a meaning
-pub pending_of : (meant : OneRun Taken) (run : Run) (pending : PendingRun) → IsRunOf meant run → IsPendingFor run pending → IsPendingOf meant pending
+pub pending_of : (meant : OneRun Taken) (run : Run) (pending : PendingRun) → IsRunOf meant run → IsPendingFor run pending
+    → IsPendingOf meant pending
 pending_of meant run pending is own =
     let net_is : pending.net.items ≡ net_of meant = ap (λ v. v.items) own.net ∙ is.net in
     record {
       tree = ap record_view own.tree ∙ is.tree;
       net = net_is;
-      sums = subst (AreSumsOf pending.sums (entries_in (record_of meant))) is.net (subst (λ es. AreSumsOf pending.sums es run.net.items) is.entries own.sums);
+      sums = subst (AreSumsOf pending.sums (entries_in (record_of meant))) is.net
+          (subst (λ es. AreSumsOf pending.sums es run.net.items) is.entries own.sums);
     }
 
-pub put_one : (batch : Batch) (state : State) (numbers : List ℕ) (old runs : List PendingRun) (was counts : List ℕ) (left rest : List Made) (m : Made) → length was ≡ length old → m.number < length old → left ≡ rest ++ m ∷ [] → ArePut batch state numbers old runs was counts left → ArePut batch state numbers old (set runs m.number m.run) was (set counts m.number (get_or counts m.number 0 + 1)) rest
+pub put_one : (batch : Batch) (state : State) (numbers : List ℕ) (old runs : List PendingRun) (was counts : List ℕ) (left rest : List Made)
+    (m : Made) → length was ≡ length old → m.number < length old → left ≡ rest ++ m ∷ []
+    → ArePut batch state numbers old runs was counts left → ArePut batch state numbers old (set runs m.number m.run) was
+    (set counts m.number (get_or counts m.number 0 + 1)) rest
 put_one batch state numbers old runs was counts left rest m sizes inside popped put =
     let made = all_front (IsMade batch state) rest m (subst (All (IsMade batch state)) popped put.each) in
-    let split : (i : ℕ) → times i (numbers_of left) ≡ times i (numbers_of rest) + times i (m.number ∷ []) = λ i. ap (λ ms. times i (numbers_of ms)) popped ∙ times_numbers i rest (m ∷ []) in
+    let split : (i : ℕ) → times i (numbers_of left) ≡ times i (numbers_of rest) + times i (m.number ∷ []) =
+    λ i. ap (λ ms. times i (numbers_of ms)) popped ∙ times_numbers i rest (m ∷ []) in
     let runs_all = put.runs_all in
     let counts_all = put.counts_all in
     record {
@@ -113,17 +135,25 @@ put_one batch state numbers old runs was counts left rest m sizes inside popped 
       counts_all = length-set counts m.number (get_or counts m.number 0 + 1) ∙ put.counts_all;
       few = λ i. let s = split i in let f = put.few i in omega arith;
       same = λ i d e. elim (ℕ_discrete i m.number) [
-        | yes here ↦ let s = split i in let f = put.few i in let once : times i (m.number ∷ []) ≡ 1 = ap (λ n. times i (n ∷ [])) (sym here) ∙ times_one i in absurd (omega arith)
-        | no other ↦ let s = split i in let none = times_none i m.number (λ h. other (sym h)) in get_or-set_other runs m.number i m.run d other ∙ put.same i d (omega arith)
+        | yes here ↦ let s = split i in let f = put.few i in let once : times i (m.number ∷ []) ≡ 1 = ap (λ n. times i (n ∷ [])) (sym here)
+            ∙ times_one i in absurd (omega arith)
+        | no other ↦ let s = split i in let none = times_none i m.number (λ h. other (sym h)) in
+            get_or-set_other runs m.number i m.run d other ∙ put.same i d (omega arith)
       ];
       made = λ i d lt. elim (ℕ_discrete i m.number) [
-        | yes here ↦ let at : m.number < length runs = omega arith in subst (λ n. IsPendingOf (meaning batch n state) (get_or (set runs m.number m.run) n d)) (sym here) (subst (IsPendingOf (meaning batch m.number state)) (sym (get_or-set_same runs m.number m.run d at)) made.1)
-        | no other ↦ let s = split i in let none = times_none i m.number (λ h. other (sym h)) in subst (IsPendingOf (meaning batch i state)) (sym (get_or-set_other runs m.number i m.run d other)) (put.made i d (omega arith))
+        | yes here ↦ let at : m.number < length runs = omega arith in
+            subst (λ n. IsPendingOf (meaning batch n state) (get_or (set runs m.number m.run) n d)) (sym here)
+            (subst (IsPendingOf (meaning batch m.number state)) (sym (get_or-set_same runs m.number m.run d at)) made.1)
+        | no other ↦ let s = split i in let none = times_none i m.number (λ h. other (sym h)) in
+            subst (IsPendingOf (meaning batch i state)) (sym (get_or-set_other runs m.number i m.run d other)) (put.made i d (omega arith))
       ];
       told = λ i lt. elim (ℕ_discrete i m.number) [
-        | yes here ↦ let s = split i in let t = put.told i lt in let once : times i (m.number ∷ []) ≡ 1 = ap (λ n. times i (n ∷ [])) (sym here) ∙ times_one i in
+        | yes here ↦ let s = split i in let t = put.told i lt in let once : times i (m.number ∷ []) ≡ 1 = ap (λ n. times i (n ∷ []))
+            (sym here) ∙ times_one i in
             let at : m.number < length counts = omega arith in
-            let now : get_or (set counts m.number (get_or counts m.number 0 + 1)) i 0 ≡ get_or counts i 0 + 1 = ap (λ n. get_or (set counts m.number (get_or counts m.number 0 + 1)) n 0) here ∙ (get_or-set_same counts m.number (get_or counts m.number 0 + 1) 0 at ∙ ap (λ n. get_or counts n 0 + 1) (sym here)) in
+            let now : get_or (set counts m.number (get_or counts m.number 0 + 1)) i 0 ≡ get_or counts i 0 + 1 =
+            ap (λ n. get_or (set counts m.number (get_or counts m.number 0 + 1)) n 0) here
+            ∙ (get_or-set_same counts m.number (get_or counts m.number 0 + 1) 0 at ∙ ap (λ n. get_or counts n 0 + 1) (sym here)) in
             omega arith
         | no other ↦ let s = split i in let t = put.told i lt in let none = times_none i m.number (λ h. other (sym h)) in
             let now = get_or-set_other counts m.number i (get_or counts m.number 0 + 1) 0 other in omega arith

@@ -12,20 +12,24 @@ use Rattle.batch.specs.Views.{record_view}
 use Rattle.batch.specs.declared.batch.Batch.{Batch}
 use Rattle.batch.specs.declared.record.Record.{Record}
 
--- At opening b, after so many rounds: the objects are those after the first b transactions, which have their answers, and each later one has a run on this state, or its number is among the stale ones.
+-- At opening b, after so many rounds: the objects are those after the first b transactions, which have their answers,
+-- and each later one has a run on this state, or its number is among the stale ones.
 pub record AtOpening (batch : Batch) (b rounds : ℕ) (state : State) (runs : List PendingRun) (counts stale : List ℕ) : Type 0 where
   pub within : b ≤ length (blocks_of batch)
   pub all : length runs ≡ length (blocks_of batch)
   pub counted : length counts ≡ length (blocks_of batch)
   pub reached : state ≡ state_at (start_of batch) (blocks_of batch) b
   pub committed : (i : ℕ) (d : PendingRun) → i < b → IsPendingOf (answer (start_of batch) (blocks_of batch) i) (slice_index_or runs i d)
-  pub pending : (i : ℕ) (d : PendingRun) → b ≤ i → i < length (blocks_of batch) → times i stale ≡ 0 → IsPendingOf (alone (start_of batch) (blocks_of batch) i b) (slice_index_or runs i d)
+  pub pending : (i : ℕ) (d : PendingRun) → b ≤ i → i < length (blocks_of batch) → times i stale ≡ 0
+      → IsPendingOf (alone (start_of batch) (blocks_of batch) i b) (slice_index_or runs i d)
   pub numbers : (i : ℕ) → 0 < times i stale → (b ≤ i) × (i < length (blocks_of batch))
   pub few_rounds : rounds ≤ b
   pub few_runs : (i : ℕ) → slice_index_or counts i 0 + times i stale ≤ rounds + 1
-  pub all_rounds : (more : ℕ) → RoundsFrom (start_of batch) (blocks_of batch) b more → Rounds (start_of batch) (blocks_of batch) (rounds + more)
+  pub all_rounds : (more : ℕ) → RoundsFrom (start_of batch) (blocks_of batch) b more → Rounds (start_of batch) (blocks_of batch)
+      (rounds + more)
   pub committed_counts : (i : ℕ) → i < b → Count (start_of batch) (blocks_of batch) i (slice_index_or counts i 0)
-  pub pending_counts : (i more : ℕ) → b ≤ i → i < length (blocks_of batch) → CountFrom (start_of batch) (blocks_of batch) i b (suc more) → Count (start_of batch) (blocks_of batch) i (slice_index_or counts i 0 + times i stale + more)
+  pub pending_counts : (i more : ℕ) → b ≤ i → i < length (blocks_of batch) → CountFrom (start_of batch) (blocks_of batch) i b (suc more)
+      → Count (start_of batch) (blocks_of batch) i (slice_index_or counts i 0 + times i stale + more)
 
 -- the record shows what the run does
 abbrev pub IsRecordOf : OneRun Taken → Record → Type 0
@@ -34,4 +38,5 @@ IsRecordOf run made = record_view made ≡ shown_of run
 -- the records are those of the one-thread answer, by number
 pub record AreAnswers (batch : Batch) (records : List Record) : Type 0 where
   pub all : length records ≡ length (blocks_of batch)
-  pub each : (i : ℕ) (d : Record) → i < length (blocks_of batch) → IsRecordOf (answer (start_of batch) (blocks_of batch) i) (slice_index_or records i d)
+  pub each : (i : ℕ) (d : Record) → i < length (blocks_of batch) → IsRecordOf (answer (start_of batch) (blocks_of batch) i)
+      (slice_index_or records i d)

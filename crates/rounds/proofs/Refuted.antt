@@ -1,5 +1,6 @@
 -- The runs that don't stand are told, each once.
-use Rattle.std.proofs.Common.{◌≡◌, ◌≢◌, ℕ, ◌+◌, ◌-◌, ◌<◌, ◌≤◌, inl, inr, List, [], ◌∷◌, ◌++◌, length, get_or, length-append, refl, sym, ap, ◌∙◌, subst, arith}
+use Rattle.std.proofs.Common.{◌≡◌, ◌≢◌, ℕ, ◌+◌, ◌-◌, ◌<◌, ◌≤◌, inl, inr, List, [], ◌∷◌, ◌++◌, length, get_or, length-append, refl, sym, ap}
+use Rattle.std.proofs.Common.{◌∙◌, subst, arith}
 use Rattle.std.proofs.lemmas.List.{get_or_default}
 use native.Mathlib.Decide.{ℕ_discrete}
 use Rattle.objects.specs.declared.entry.Entry.{Entry}
@@ -25,18 +26,24 @@ fails_decided runs since place lt fails = record {
 }
 
 -- what one place tells is all that is told of it
-told_at : (runs : List PendingRun) (since : List Entry) (place i : ℕ) (own numbers : List ℕ) → place ≡ i → IsDecided runs since place own → times i numbers ≡ times i own → (d : PendingRun) → Kept since (times i numbers) (get_or runs i d)
-told_at runs since place i own numbers same decided is d = subst (λ n. Kept since n (get_or runs i d)) (sym is) (subst (λ k. Kept since (times k own) (get_or runs k d)) same (decided.here d))
+told_at : (runs : List PendingRun) (since : List Entry) (place i : ℕ) (own numbers : List ℕ) → place ≡ i → IsDecided runs since place own
+    → times i numbers ≡ times i own → (d : PendingRun) → Kept since (times i numbers) (get_or runs i d)
+told_at runs since place i own numbers same decided is d = subst (λ n. Kept since n (get_or runs i d)) (sym is)
+    (subst (λ k. Kept since (times k own) (get_or runs k d)) same (decided.here d))
 
 -- what all places together tell
-pub all_decided : (runs : List PendingRun) (since : List Entry) (from count : ℕ) (numbers : List ℕ) → from + count ≡ length runs → AreGivenOnce (λ piece. IsDecided runs since (from + piece)) count numbers → AreRefuted runs since from (length runs) numbers
+pub all_decided : (runs : List PendingRun) (since : List Entry) (from count : ℕ) (numbers : List ℕ) → from + count ≡ length runs
+    → AreGivenOnce (λ piece. IsDecided runs since (from + piece)) count numbers → AreRefuted runs since from (length runs) numbers
 all_decided runs since from count numbers all given = record {
-  before = λ i lt. given_nowhere (λ piece. IsDecided runs since (from + piece)) (times i) refl (times_append i) count numbers (λ j own below decided. decided.elsewhere i (let apart : i ≢ from + j = omega arith in apart)) given;
-  beyond = λ i le. given_nowhere (λ piece. IsDecided runs since (from + piece)) (times i) refl (times_append i) count numbers (λ j own below decided. decided.elsewhere i (let apart : i ≢ from + j = omega arith in apart)) given;
+  before = λ i lt. given_nowhere (λ piece. IsDecided runs since (from + piece)) (times i) refl (times_append i) count numbers
+      (λ j own below decided. decided.elsewhere i (let apart : i ≢ from + j = omega arith in apart)) given;
+  beyond = λ i le. given_nowhere (λ piece. IsDecided runs since (from + piece)) (times i) refl (times_append i) count numbers
+      (λ j own below decided. decided.elsewhere i (let apart : i ≢ from + j = omega arith in apart)) given;
   each = λ i d low high.
       let piece = i - from in
       let place : from + piece ≡ i = omega arith in
-      let told = given_here (λ k. IsDecided runs since (from + k)) (times i) refl (times_append i) piece count (omega arith) (λ j own other decided. decided.elsewhere i (let apart : i ≢ from + j = omega arith in apart)) numbers given in
+      let told = given_here (λ k. IsDecided runs since (from + k)) (times i) refl (times_append i) piece count (omega arith)
+      (λ j own other decided. decided.elsewhere i (let apart : i ≢ from + j = omega arith in apart)) numbers given in
       told_at runs since (from + piece) i told.0 numbers place told.1 told.2 d;
 }
 
@@ -55,7 +62,8 @@ none_told runs since from = record {
 }
 
 -- one run more is decided
-pub told_more : (runs : List PendingRun) (since : List Entry) (from place : ℕ) (numbers own more : List ℕ) → AreToldUpto runs since from place numbers → IsDecided runs since place own → more ≡ numbers ++ own
+pub told_more : (runs : List PendingRun) (since : List Entry) (from place : ℕ) (numbers own more : List ℕ)
+    → AreToldUpto runs since from place numbers → IsDecided runs since place own → more ≡ numbers ++ own
     → AreToldUpto runs since from (place + 1) more
 told_more runs since from place numbers own more told decided is =
     let split : (i : ℕ) → times i more ≡ times i numbers + times i own = λ i. ap (times i) is ∙ times_append i numbers own in
@@ -66,8 +74,10 @@ told_more runs since from place numbers own more told decided is =
     record {
       ordered = omega arith;
       refuted = record {
-        before = λ i lt. let s = split i in let apart : i ≢ place = omega arith in let none = decided.elsewhere i apart in let old = told.refuted.before i lt in omega arith;
-        beyond = λ i le. let s = split i in let apart : i ≢ place = omega arith in let none = decided.elsewhere i apart in let old = told.refuted.beyond i (omega arith) in omega arith;
+        before = λ i lt. let s = split i in let apart : i ≢ place = omega arith in let none = decided.elsewhere i apart in
+            let old = told.refuted.before i lt in omega arith;
+        beyond = λ i le. let s = split i in let apart : i ≢ place = omega arith in let none = decided.elsewhere i apart in
+            let old = told.refuted.beyond i (omega arith) in omega arith;
         each = λ i d low high. elim (ℕ_discrete i place) [
           | yes here ↦
               let s = split i in

@@ -28,7 +28,8 @@ net-le taken (Aborted reason) = omega arith
 
 -- ---- what transactions leave is no more than their operations
 
-operations_from : (blocks : List Block) (b : ℕ) → operations (block_at blocks b) + all_operations (drop (suc b) blocks) ≤ all_operations (drop b blocks)
+operations_from : (blocks : List Block) (b : ℕ) → operations (block_at blocks b) + all_operations (drop (suc b) blocks) ≤ all_operations
+    (drop b blocks)
 operations_from [] b = omega arith
 operations_from (block ∷ blocks) zero = omega arith
 operations_from (block ∷ blocks) (suc b) = operations_from blocks b
@@ -39,7 +40,8 @@ operations_split [] (suc b) = refl
 operations_split (block ∷ blocks) zero = omega arith
 operations_split (block ∷ blocks) (suc b) = let rest = operations_split blocks b in omega arith
 
-operations_before : (blocks : List Block) (b i : ℕ) → b ≤ i → all_operations (take b blocks) + operations (block_at blocks i) ≤ all_operations blocks
+operations_before : (blocks : List Block) (b i : ℕ) → b ≤ i → all_operations (take b blocks) + operations
+    (block_at blocks i) ≤ all_operations blocks
 operations_before blocks zero i le = omega (arith, operations_at blocks i)
 operations_before [] (suc b) i le = omega arith
 operations_before (block ∷ blocks) (suc b) zero le = absurd (omega arith)
@@ -73,8 +75,12 @@ module _ (batch : Batch) (b : ℕ) (within : b ≤ length (blocks_of batch)) whe
       }
 
   -- what later transactions leave has room
-  pub nets_have_room : (count : ℕ) → AreLegal (state_at (start_of batch) (blocks_of batch) b) (nets (start_of batch) (blocks_of batch) b count) → AllHaveRoom (state_at (start_of batch) (blocks_of batch) b) (nets (start_of batch) (blocks_of batch) b count)
+  pub nets_have_room : (count : ℕ) → AreLegal (state_at (start_of batch) (blocks_of batch) b)
+      (nets (start_of batch) (blocks_of batch) b count) → AllHaveRoom (state_at (start_of batch) (blocks_of batch) b)
+      (nets (start_of batch) (blocks_of batch) b count)
   nets_have_room count legal =
       let keeps = batch_keeps (start_of batch) (blocks_of batch) b within in
       legal_has_room _ _ (all_operations (drop b (blocks_of batch))) legal (nets_few (start_of batch) (blocks_of batch) b count)
-      (limit _ (all_operations (take b (blocks_of batch))) (all_operations (drop b (blocks_of batch))) (omega (arith, keeps.growth, batch.is_batch.small)) (omega (arith, operations_split (blocks_of batch) b, batch.is_batch.few_operations)))
+      (limit _ (all_operations (take b (blocks_of batch))) (all_operations (drop b (blocks_of batch)))
+      (omega (arith, keeps.growth, batch.is_batch.small))
+      (omega (arith, operations_split (blocks_of batch) b, batch.is_batch.few_operations)))

@@ -1,5 +1,6 @@
 -- The loop of openings from one opening to the next.
-use Rattle.std.proofs.Common.{◌≡◌, ℕ, zero, suc, ◌+◌, ◌-◌, ◌<◌, ◌≤◌, ◌⊎◌, inl, inr, ⊎_elim, List, [], length, get_or, take, drop, refl, sym, ap, ◌∙◌, subst, arith}
+use Rattle.std.proofs.Common.{◌≡◌, ℕ, zero, suc, ◌+◌, ◌-◌, ◌<◌, ◌≤◌, ◌⊎◌, inl, inr, ⊎_elim, List, [], length, get_or, take, drop, refl, sym}
+use Rattle.std.proofs.Common.{ap, ◌∙◌, subst, arith}
 use Rattle.std.proofs.lemmas.List.{get_or_past, get_or-drop, take_all}
 use Rattle.std.proofs.Math.ListN.{length-drop}
 use native.Mathlib.Decide.{dec_le}
@@ -31,7 +32,10 @@ none_or_some zero = inl refl
 none_or_some (suc n) = inr (omega arith)
 
 -- before the first round every number is stale
-pub starts : (batch : Batch) (state : State) (runs : List PendingRun) (counts stale : List ℕ) → state ≡ start_of batch → length runs ≡ length (blocks_of batch) → length counts ≡ length (blocks_of batch) → ((i : ℕ) → get_or counts i 0 ≡ 0) → ((i : ℕ) → i < length (blocks_of batch) → times i stale ≡ 1) → ((i : ℕ) → length (blocks_of batch) ≤ i → times i stale ≡ 0) → AtOpening batch 0 0 state runs counts stale
+pub starts : (batch : Batch) (state : State) (runs : List PendingRun) (counts stale : List ℕ) → state ≡ start_of batch
+    → length runs ≡ length (blocks_of batch) → length counts ≡ length (blocks_of batch) → ((i : ℕ) → get_or counts i 0 ≡ 0)
+    → ((i : ℕ) → i < length (blocks_of batch) → times i stale ≡ 1) → ((i : ℕ) → length (blocks_of batch) ≤ i → times i stale ≡ 0)
+    → AtOpening batch 0 0 state runs counts stale
 unfolding state_at
 starts batch state runs counts stale is all counted none once past = record {
   within = omega arith;
@@ -40,32 +44,51 @@ starts batch state runs counts stale is all counted none once past = record {
   reached = is;
   committed = λ i d lt. absurd (omega arith);
   pending = λ i d low lt fresh. let o = once i lt in absurd (omega arith);
-  numbers = λ i some. (omega arith, elim (dec_le (length (blocks_of batch)) i) [ yes le ↦ let p = past i le in absurd (omega arith) | no lt ↦ omega arith ]);
+  numbers = λ i some. (
+    omega arith,
+    elim (dec_le (length (blocks_of batch)) i) [
+      | yes le ↦ let p = past i le in
+          absurd (omega arith)
+      | no lt ↦ omega arith
+    ],
+  );
   few_rounds = omega arith;
-  few_runs = λ i. let z = none i in elim (dec_le (length (blocks_of batch)) i) [ yes le ↦ let p = past i le in omega arith | no lt ↦ let o = once i (omega arith) in omega arith ];
+  few_runs = λ i. let z = none i in elim (dec_le (length (blocks_of batch)) i) [
+    | yes le ↦ let p = past i le in
+        omega arith
+    | no lt ↦ let o = once i (omega arith) in omega arith
+  ];
   all_rounds = λ more from. let same : more ≡ 0 + more = omega arith in subst (Rounds (start_of batch) (blocks_of batch)) same from;
   committed_counts = λ i lt. absurd (omega arith);
-  pending_counts = λ i more low lt from. let z = none i in let o = once i lt in let same : suc more ≡ get_or counts i 0 + times i stale + more = omega arith in subst (Count (start_of batch) (blocks_of batch) i) same from;
+  pending_counts = λ i more low lt from. let z = none i in let o = once i lt in
+      let same : suc more ≡ get_or counts i 0 + times i stale + more = omega arith in
+      subst (Count (start_of batch) (blocks_of batch) i) same from;
 }
 
 -- a committed number isn't stale
-old_fresh : (batch : Batch) (b rounds : ℕ) (state : State) (runs : List PendingRun) (counts stale : List ℕ) → AtOpening batch b rounds state runs counts stale → (i : ℕ) → i < b → times i stale ≡ 0
+old_fresh : (batch : Batch) (b rounds : ℕ) (state : State) (runs : List PendingRun) (counts stale : List ℕ)
+    → AtOpening batch b rounds state runs counts stale → (i : ℕ) → i < b → times i stale ≡ 0
 old_fresh batch b rounds state runs counts stale at i lt = ⊎_elim
     (λ (none : times i stale ≡ 0). none)
     (λ (some : 0 < times i stale). let from = (at.numbers i some).0 in absurd (omega arith))
     (none_or_some (times i stale))
 
 -- the stale runs are made again, so none is stale
-pub renewed : (batch : Batch) (b rounds : ℕ) (state : State) (runs new : List PendingRun) (was counts stale : List ℕ) → AtOpening batch b rounds state runs was stale → AreRenewed batch state stale runs new was counts → AtOpening batch b rounds state new counts []
+pub renewed : (batch : Batch) (b rounds : ℕ) (state : State) (runs new : List PendingRun) (was counts stale : List ℕ)
+    → AtOpening batch b rounds state runs was stale → AreRenewed batch state stale runs new was counts
+    → AtOpening batch b rounds state new counts []
 renewed batch b rounds state runs new was counts stale at put = record {
   within = at.within;
   all = put.runs ∙ at.all;
   counted = put.counted ∙ at.counted;
   reached = at.reached;
-  committed = λ i d lt. subst (IsPendingOf (answer (start_of batch) (blocks_of batch) i)) (sym (put.same i d (old_fresh batch b rounds state runs was stale at i lt))) (at.committed i d lt);
+  committed = λ i d lt. subst (IsPendingOf (answer (start_of batch) (blocks_of batch) i))
+      (sym (put.same i d (old_fresh batch b rounds state runs was stale at i lt))) (at.committed i d lt);
   pending = λ i d low lt fresh. ⊎_elim
-      (λ (none : times i stale ≡ 0). subst (IsPendingOf (alone (start_of batch) (blocks_of batch) i b)) (sym (put.same i d none)) (at.pending i d low lt none))
-      (λ (some : 0 < times i stale). subst (λ s. IsPendingOf (one (block_at (blocks_of batch) i) [] s) (get_or new i d)) at.reached (put.made i d some))
+      (λ (none : times i stale ≡ 0). subst (IsPendingOf (alone (start_of batch) (blocks_of batch) i b)) (sym (put.same i d none))
+      (at.pending i d low lt none))
+      (λ (some : 0 < times i stale). subst (λ s. IsPendingOf (one (block_at (blocks_of batch) i) [] s) (get_or new i d)) at.reached
+      (put.made i d some))
       (none_or_some (times i stale));
   numbers = λ i some. absurd (omega arith);
   few_rounds = at.few_rounds;
@@ -74,33 +97,45 @@ renewed batch b rounds state runs new was counts stale at put = record {
     | no lt ↦ let told = put.told i (let all = put.counted in omega arith) in let few = at.few_runs i in omega arith
   ];
   all_rounds = at.all_rounds;
-  committed_counts = λ i lt. let told = put.told i (let le = at.within in let all = at.counted in omega arith) in let none = old_fresh batch b rounds state runs was stale at i lt in let same : get_or was i 0 ≡ get_or counts i 0 = omega arith in subst (Count (start_of batch) (blocks_of batch) i) same (at.committed_counts i lt);
-  pending_counts = λ i more low lt from. let told = put.told i (let all = at.counted in omega arith) in let same : get_or was i 0 + times i stale + more ≡ get_or counts i 0 + times i [] + more = omega arith in subst (Count (start_of batch) (blocks_of batch) i) same (at.pending_counts i more low lt from);
+  committed_counts = λ i lt. let told = put.told i (let le = at.within in let all = at.counted in omega arith) in
+      let none = old_fresh batch b rounds state runs was stale at i lt in let same : get_or was i 0 ≡ get_or counts i 0 = omega arith in
+      subst (Count (start_of batch) (blocks_of batch) i) same (at.committed_counts i lt);
+  pending_counts = λ i more low lt from. let told = put.told i (let all = at.counted in omega arith) in
+      let same : get_or was i 0 + times i stale + more ≡ get_or counts i 0 + times i [] + more = omega arith in
+      subst (Count (start_of batch) (blocks_of batch) i) same (at.pending_counts i more low lt from);
 }
 
 -- the pending runs of an opening, by number from it on
-pub alone_from : (batch : Batch) (b rounds : ℕ) (state : State) (runs : List PendingRun) (counts : List ℕ) → AtOpening batch b rounds state runs counts [] → AreAlone (start_of batch) (blocks_of batch) b (drop b runs)
+pub alone_from : (batch : Batch) (b rounds : ℕ) (state : State) (runs : List PendingRun) (counts : List ℕ)
+    → AtOpening batch b rounds state runs counts [] → AreAlone (start_of batch) (blocks_of batch) b (drop b runs)
 alone_from batch b rounds state runs counts at k d lt =
     let size = length-drop b runs in
     let all = at.all in
-    subst (IsPendingOf (alone (start_of batch) (blocks_of batch) (b + k) b)) (sym (get_or-drop b runs k d)) (at.pending (b + k) d (omega arith) (omega arith) refl)
+    subst (IsPendingOf (alone (start_of batch) (blocks_of batch) (b + k) b)) (sym (get_or-drop b runs k d))
+    (at.pending (b + k) d (omega arith) (omega arith) refl)
 
-pub opens : (batch : Batch) (b rounds first : ℕ) (state : State) (runs : List PendingRun) (counts : List ℕ) → AtOpening batch b rounds state runs counts [] → IsFirstFrom (drop b runs) 0 first → IsNextOpening (start_of batch) (blocks_of batch) b (b + first)
+pub opens : (batch : Batch) (b rounds first : ℕ) (state : State) (runs : List PendingRun) (counts : List ℕ)
+    → AtOpening batch b rounds state runs counts [] → IsFirstFrom (drop b runs) 0 first
+    → IsNextOpening (start_of batch) (blocks_of batch) b (b + first)
 opens batch b rounds first state runs counts at conflict =
     let size = length-drop b runs in
     let all = at.all in
     let within = at.within in
-    next_opening (start_of batch) (blocks_of batch) b (drop b runs) first (omega arith) (alone_from batch b rounds state runs counts at) conflict
+    next_opening (start_of batch) (blocks_of batch) b (drop b runs) first (omega arith) (alone_from batch b rounds state runs counts at)
+    conflict
 
 kept_once : (since : List Entry) (told : ℕ) (run : PendingRun) → Kept since told run → told ≤ 1
-kept_once since told run kept = ⊎_elim (λ (stands : HoldsPast since run × (told ≡ 0)). omega arith) (λ (fails : (¬ HoldsPast since run) × (told ≡ 1)). omega arith) kept
+kept_once since told run kept = ⊎_elim (λ (stands : HoldsPast since run × (told ≡ 0)). omega arith)
+    (λ (fails : (¬ HoldsPast since run) × (told ≡ 1)). omega arith) kept
 
-module _ (batch : Batch) (b m : ℕ) (rounds : ℕ) (state next : State) (runs : List PendingRun) (counts stale : List ℕ) (since : List Entry) where
+module _ (batch : Batch) (b m : ℕ) (rounds : ℕ) (state next : State) (runs : List PendingRun) (counts stale : List ℕ)
+    (since : List Entry) where
   few_stale : AreRefuted runs since m (length runs) stale → (i : ℕ) → times i stale ≤ 1
   few_stale told i = elim (dec_le (length runs) i) [
     | yes beyond ↦ let none = told.beyond i beyond in omega arith
     | no within ↦ elim (dec_le m i) [
-      | yes from ↦ let lt : i < length runs = omega arith in some_run (times i stale ≤ 1) runs i lt (λ d. kept_once since (times i stale) (get_or runs i d) (told.each i d from lt))
+      | yes from ↦ let lt : i < length runs = omega arith in some_run (times i stale ≤ 1) runs i lt
+          (λ d. kept_once since (times i stale) (get_or runs i d) (told.each i d from lt))
       | no before ↦ let none = told.before i (omega arith) in omega arith
     ]
   ]
@@ -112,20 +147,27 @@ module _ (batch : Batch) (b m : ℕ) (rounds : ℕ) (state next : State) (runs :
   )
 
   -- a run that isn't stale is a run at the next opening
-  kept_pending : AtOpening batch b rounds state runs counts [] → IsSummary since (nets (start_of batch) (blocks_of batch) b (m - b)) → b ≤ m → AreRefuted runs since m (length runs) stale → (i : ℕ) (d : PendingRun) → m ≤ i → i < length (blocks_of batch) → times i stale ≡ 0 → IsPendingOf (alone (start_of batch) (blocks_of batch) i m) (get_or runs i d)
+  kept_pending : AtOpening batch b rounds state runs counts [] → IsSummary since (nets (start_of batch) (blocks_of batch) b (m - b))
+      → b ≤ m → AreRefuted runs since m (length runs) stale → (i : ℕ) (d : PendingRun) → m ≤ i → i < length (blocks_of batch)
+      → times i stale ≡ 0 → IsPendingOf (alone (start_of batch) (blocks_of batch) i m) (get_or runs i d)
   kept_pending at left on told i d from lt fresh =
       let all = at.all in
       let here = at.pending i d (omega arith) lt refl in
       ⊎_elim
       (λ (stands : HoldsPast since (get_or runs i d) × (times i stale ≡ 0)).
-      let past = (holds_past (start_of batch) (blocks_of batch) i b since (nets (start_of batch) (blocks_of batch) b (m - b)) (get_or runs i d) here left).0 stands.0 in
+      let past = (holds_past (start_of batch) (blocks_of batch) i b since (nets (start_of batch) (blocks_of batch) b (m - b))
+      (get_or runs i d) here left).0 stands.0 in
       let same : b + (m - b) ≡ m = omega arith in
-      subst (λ j. IsPendingOf (alone (start_of batch) (blocks_of batch) i j) (get_or runs i d)) same (still_stands (start_of batch) (blocks_of batch) i b (m - b) (get_or runs i d) here past))
+      subst (λ j. IsPendingOf (alone (start_of batch) (blocks_of batch) i j) (get_or runs i d)) same
+      (still_stands (start_of batch) (blocks_of batch) i b (m - b) (get_or runs i d) here past))
       (λ (fails : (¬ HoldsPast since (get_or runs i d)) × (times i stale ≡ 1)). absurd (omega arith))
       (told.each i d from (omega arith))
 
   -- its count goes on
-  counts_on : AtOpening batch b rounds state runs counts [] → IsNextOpening (start_of batch) (blocks_of batch) b m → IsSummary since (nets (start_of batch) (blocks_of batch) b (m - b)) → b ≤ m → AreRefuted runs since m (length runs) stale → (i more : ℕ) → m ≤ i → i < length (blocks_of batch) → CountFrom (start_of batch) (blocks_of batch) i m (suc more) → Count (start_of batch) (blocks_of batch) i (get_or counts i 0 + times i stale + more)
+  counts_on : AtOpening batch b rounds state runs counts [] → IsNextOpening (start_of batch) (blocks_of batch) b m
+      → IsSummary since (nets (start_of batch) (blocks_of batch) b (m - b)) → b ≤ m → AreRefuted runs since m (length runs) stale
+      → (i more : ℕ) → m ≤ i → i < length (blocks_of batch) → CountFrom (start_of batch) (blocks_of batch) i m (suc more)
+      → Count (start_of batch) (blocks_of batch) i (get_or counts i 0 + times i stale + more)
   counts_on at opening left on told i more from lt rest =
       let all = at.all in
       let within : i < length runs = omega arith in
@@ -133,16 +175,25 @@ module _ (batch : Batch) (b m : ℕ) (rounds : ℕ) (state next : State) (runs :
       let here = at.pending i d (omega arith) lt refl in
       ⊎_elim
       (λ (stands : HoldsPast since (get_or runs i d) × (times i stale ≡ 0)).
-      let past = (holds_past (start_of batch) (blocks_of batch) i b since (nets (start_of batch) (blocks_of batch) b (m - b)) (get_or runs i d) here left).0 stands.0 in
+      let past = (holds_past (start_of batch) (blocks_of batch) i b since (nets (start_of batch) (blocks_of batch) b (m - b))
+      (get_or runs i d) here left).0 stands.0 in
       let same : get_or counts i 0 + times i [] + more ≡ get_or counts i 0 + times i stale + more = omega arith in
-      subst (Count (start_of batch) (blocks_of batch) i) same (at.pending_counts i more (omega arith) lt (StillStands opening from past rest)))
+      subst (Count (start_of batch) (blocks_of batch) i) same
+      (at.pending_counts i more (omega arith) lt (StillStands opening from past rest)))
       (λ (fails : (¬ HoldsPast since (get_or runs i d)) × (times i stale ≡ 1)).
       let same : get_or counts i 0 + times i [] + suc more ≡ get_or counts i 0 + times i stale + more = omega arith in
-      subst (Count (start_of batch) (blocks_of batch) i) same (at.pending_counts i (suc more) (omega arith) lt (IsRefuted opening from (λ commute. fails.0 ((holds_past (start_of batch) (blocks_of batch) i b since (nets (start_of batch) (blocks_of batch) b (m - b)) (get_or runs i d) here left).1 commute)) rest)))
+      subst (Count (start_of batch) (blocks_of batch) i) same
+      (at.pending_counts i (suc more) (omega arith) lt
+      (IsRefuted opening from
+      (λ commute. fails.0 ((holds_past (start_of batch) (blocks_of batch) i b since (nets (start_of batch) (blocks_of batch) b (m - b))
+      (get_or runs i d) here left).1 commute)) rest)))
       (told.each i d from within))
 
   -- the prefix is committed
-  pub moves_on : AtOpening batch b rounds state runs counts [] → b < length (blocks_of batch) → IsNextOpening (start_of batch) (blocks_of batch) b m → IsSummary since (nets (start_of batch) (blocks_of batch) b (m - b)) → next ≡ after state (nets (start_of batch) (blocks_of batch) b (m - b)) → AreRefuted runs since m (length runs) stale → AtOpening batch m (rounds + 1) next runs counts stale
+  pub moves_on : AtOpening batch b rounds state runs counts [] → b < length (blocks_of batch)
+      → IsNextOpening (start_of batch) (blocks_of batch) b m → IsSummary since (nets (start_of batch) (blocks_of batch) b (m - b))
+      → next ≡ after state (nets (start_of batch) (blocks_of batch) b (m - b)) → AreRefuted runs since m (length runs) stale
+      → AtOpening batch m (rounds + 1) next runs counts stale
   moves_on at going opening left on told =
       let later = comes_on (start_of batch) (blocks_of batch) b m going opening in
       let few = at.few_rounds in
@@ -153,18 +204,23 @@ module _ (batch : Batch) (b m : ℕ) (rounds : ℕ) (state next : State) (runs :
         counted = at.counted;
         reached =
             let same : b + (m - b) ≡ m = omega arith in
-            on ∙ (ap (λ s. after s (nets (start_of batch) (blocks_of batch) b (m - b))) at.reached ∙ (sym (batch_leads (start_of batch) (blocks_of batch) b (m - b)).1 ∙ ap (state_at (start_of batch) (blocks_of batch)) same));
+            on ∙ (ap (λ s. after s (nets (start_of batch) (blocks_of batch) b (m - b))) at.reached
+            ∙ (sym (batch_leads (start_of batch) (blocks_of batch) b (m - b)).1
+            ∙ ap (state_at (start_of batch) (blocks_of batch)) same));
         committed = λ i d lt. elim (dec_le b i) [
-          | yes le ↦ let within = opening.within in keeps_answers (start_of batch) (blocks_of batch) i b (get_or runs i d) le (at.pending i d le (omega arith) refl) (opening.all_keep i le lt)
+          | yes le ↦ let within = opening.within in keeps_answers (start_of batch) (blocks_of batch) i b (get_or runs i d) le
+              (at.pending i d le (omega arith) refl) (opening.all_keep i le lt)
           | no less ↦ at.committed i d (omega arith)
         ];
         pending = kept_pending at left (omega arith) told;
         numbers = λ i some. let there = stale_within told i some in (there.0, omega arith);
         few_rounds = omega arith;
         few_runs = λ i. let few_runs = at.few_runs i in let once = few_stale told i in omega arith;
-        all_rounds = λ more from. let same : rounds + suc more ≡ (rounds + 1) + more = omega arith in subst (Rounds (start_of batch) (blocks_of batch)) same (at.all_rounds (suc more) (going, m, opening, from));
+        all_rounds = λ more from. let same : rounds + suc more ≡ (rounds + 1) + more = omega arith in
+            subst (Rounds (start_of batch) (blocks_of batch)) same (at.all_rounds (suc more) (going, m, opening, from));
         committed_counts = λ i lt. elim (dec_le b i) [
-          | yes le ↦ let within = opening.within in let same : get_or counts i 0 + times i [] + 0 ≡ get_or counts i 0 = omega arith in let one : suc 0 ≡ 1 = refl in
+          | yes le ↦ let within = opening.within in let same : get_or counts i 0 + times i [] + 0 ≡ get_or counts i 0 = omega arith in
+              let one : suc 0 ≡ 1 = refl in
               subst (Count (start_of batch) (blocks_of batch) i) same (at.pending_counts i 0 le (omega arith) (IsCommitted opening lt))
           | no less ↦ at.committed_counts i (omega arith)
         ];
@@ -179,49 +235,62 @@ pub listed_nets : (b : ℕ) (seen : Seen) (new first_of kept_of : List PendingRu
     → first_of ≡ new
     → IsSeen (take (length first_of - b) (drop b first_of)) seen
     → kept_of ≡ new
-    → take seen.upto seen.nets ≡ all_left (take ((b + seen.first) - ((b + seen.first) - seen.first)) (drop ((b + seen.first) - seen.first) kept_of))
+    → take seen.upto seen.nets ≡ all_left (take ((b + seen.first) - ((b + seen.first) - seen.first))
+    (drop ((b + seen.first) - seen.first) kept_of))
 listed_nets b seen new first_of kept_of first_is saw kept_is =
     let first = seen.first in
     let here = subst (λ rs. IsSeen rs seen) (rest_of new b) (subst (λ rs. IsSeen (take (length rs - b) (drop b rs)) seen) first_is saw) in
     let start : b ≡ (b + first) - first = omega arith in
     let size : first ≡ (b + first) - ((b + first) - first) = omega arith in
-    here.nets ∙ (ap (λ n. all_left (take n (drop b new))) size ∙ (ap (λ n. all_left (take ((b + first) - ((b + first) - first)) (drop n new))) start
+    here.nets ∙ (ap (λ n. all_left (take n (drop b new))) size
+    ∙ (ap (λ n. all_left (take ((b + first) - ((b + first) - first)) (drop n new))) start
     ∙ ap (λ rs. all_left (take ((b + first) - ((b + first) - first)) (drop ((b + first) - first) rs))) (sym kept_is)))
 
 -- what a round commits is legal on the objects of its opening, and has room
-pub round_commits : (batch : Batch) (b rounds passed : ℕ) (state : State) (old new first_of prefix_of : List PendingRun) (was counts given stale : List ℕ)
+pub round_commits : (batch : Batch) (b rounds passed : ℕ) (state : State) (old new first_of prefix_of : List PendingRun)
+    (was counts given stale : List ℕ)
     → AtOpening batch b rounds state old was stale
     → given ≡ stale
     → AreRenewed batch state given old new was counts
     → first_of ≡ new
     → IsFirstFrom (take (length first_of - b) (drop b first_of)) 0 passed
     → prefix_of ≡ new
-    → AreLegal state (own_nets (take ((b + passed) - b) (drop b prefix_of))) × AllHaveRoom state (own_nets (take ((b + passed) - b) (drop b prefix_of)))
+    → AreLegal state (own_nets (take ((b + passed) - b) (drop b prefix_of)))
+    × AllHaveRoom state (own_nets (take ((b + passed) - b) (drop b prefix_of)))
 round_commits batch b rounds passed state old new first_of prefix_of was counts given stale at stale_is put first_is first prefix_is =
-    let fresh = renewed batch b rounds state old new was counts stale at (subst (λ ns. AreRenewed batch state ns old new was counts) stale_is put) in
-    let conflict = subst (λ rs. IsFirstFrom rs 0 passed) (rest_of new b) (subst (λ rs. IsFirstFrom (take (length rs - b) (drop b rs)) 0 passed) first_is first) in
+    let fresh = renewed batch b rounds state old new was counts stale at
+    (subst (λ ns. AreRenewed batch state ns old new was counts) stale_is put) in
+    let conflict = subst (λ rs. IsFirstFrom rs 0 passed) (rest_of new b)
+    (subst (λ rs. IsFirstFrom (take (length rs - b) (drop b rs)) 0 passed) first_is first) in
     let count : (b + passed) - b ≡ passed = omega arith in
-    let prefix : own_nets (take ((b + passed) - b) (drop b prefix_of)) ≡ own_nets (take passed (drop b new)) = ap (λ k. own_nets (take k (drop b prefix_of))) count ∙ ap (λ rs. own_nets (take passed (drop b rs))) prefix_is in
-    let one_thread = prefix ∙ (left (start_of batch) (blocks_of batch) b (drop b new) passed (alone_from batch b rounds state new counts fresh) conflict).0 in
+    let prefix : own_nets (take ((b + passed) - b) (drop b prefix_of)) ≡ own_nets (take passed (drop b new)) =
+    ap (λ k. own_nets (take k (drop b prefix_of))) count ∙ ap (λ rs. own_nets (take passed (drop b rs))) prefix_is in
+    let one_thread = prefix
+    ∙ (left (start_of batch) (blocks_of batch) b (drop b new) passed (alone_from batch b rounds state new counts fresh) conflict).0 in
     let legal = (batch_leads (start_of batch) (blocks_of batch) b passed).0 in
     let room = nets_have_room batch b at.within passed legal in (
-      subst (λ s. AreLegal s (own_nets (take ((b + passed) - b) (drop b prefix_of)))) (sym at.reached) (subst (AreLegal (state_at (start_of batch) (blocks_of batch) b)) (sym one_thread) legal),
-      subst (λ s. AllHaveRoom s (own_nets (take ((b + passed) - b) (drop b prefix_of)))) (sym at.reached) (subst (AllHaveRoom (state_at (start_of batch) (blocks_of batch) b)) (sym one_thread) room),
+      subst (λ s. AreLegal s (own_nets (take ((b + passed) - b) (drop b prefix_of)))) (sym at.reached)
+          (subst (AreLegal (state_at (start_of batch) (blocks_of batch) b)) (sym one_thread) legal),
+      subst (λ s. AllHaveRoom s (own_nets (take ((b + passed) - b) (drop b prefix_of)))) (sym at.reached)
+          (subst (AllHaveRoom (state_at (start_of batch) (blocks_of batch) b)) (sym one_thread) room),
     )
 
 -- every stale transaction can be run on the objects of the opening
-pub stale_can_be_made : (batch : Batch) (b rounds : ℕ) (state : State) (runs : List PendingRun) (counts stale given : List ℕ) → AtOpening batch b rounds state runs counts stale → given ≡ stale → All (λ n. CanBeMade batch state n) given
+pub stale_can_be_made : (batch : Batch) (b rounds : ℕ) (state : State) (runs : List PendingRun) (counts stale given : List ℕ)
+    → AtOpening batch b rounds state runs counts stale → given ≡ stale → All (λ n. CanBeMade batch state n) given
 stale_can_be_made batch b rounds state runs counts stale given at is k d lt =
     let number = get_or given k d in
     let stands : 0 < times number given = times_read given k d lt in
     let there = at.numbers number (subst (λ ns. 0 < times number ns) is stands) in
     subst (λ s. CanBeMade batch s number) (sym at.reached) (made_at batch b at.within number there.0 there.1)
 
-pub same_kinds : (batch : Batch) (b rounds : ℕ) (state : State) (runs : List PendingRun) (counts stale : List ℕ) → AtOpening batch b rounds state runs counts stale → kinds state ≡ kinds (start_of batch)
+pub same_kinds : (batch : Batch) (b rounds : ℕ) (state : State) (runs : List PendingRun) (counts stale : List ℕ)
+    → AtOpening batch b rounds state runs counts stale → kinds state ≡ kinds (start_of batch)
 same_kinds batch b rounds state runs counts stale at = ap kinds at.reached ∙ kinds_at batch b at.within
 
 -- one round: runs are made, the first that doesn't stand is sought, those before it are committed, and the kept are told
-pub one_round : (batch : Batch) (b rounds : ℕ) (seen : Seen) (state next : State) (old new first_of prefix_of kept_of : List PendingRun) (was counts given stale later : List ℕ)
+pub one_round : (batch : Batch) (b rounds : ℕ) (seen : Seen) (state next : State) (old new first_of prefix_of kept_of : List PendingRun)
+    (was counts given stale later : List ℕ)
     → AtOpening batch b rounds state old was stale
     → given ≡ stale
     → AreRenewed batch state given old new was counts
@@ -232,19 +301,25 @@ pub one_round : (batch : Batch) (b rounds : ℕ) (seen : Seen) (state next : Sta
     → kept_of ≡ new
     → AreRefuted kept_of (take seen.upto seen.nets) (b + seen.first) (length kept_of) later
     → b < length (blocks_of batch)
-    → IsNextOpening (start_of batch) (blocks_of batch) b (b + seen.first) × AtOpening batch (b + seen.first) (rounds + 1) next new counts later
-one_round batch b rounds seen state next old new first_of prefix_of kept_of was counts given stale later at stale_is put first_is saw prefix_is moved kept_is told going =
-    let fresh = renewed batch b rounds state old new was counts stale at (subst (λ ns. AreRenewed batch state ns old new was counts) stale_is put) in
+    → IsNextOpening (start_of batch) (blocks_of batch) b (b + seen.first) × AtOpening batch (b + seen.first)
+    (rounds + 1) next new counts later
+one_round batch b rounds seen state next old new first_of prefix_of kept_of was counts given stale later at stale_is put first_is saw
+    prefix_is moved kept_is told going =
+    let fresh = renewed batch b rounds state old new was counts stale at
+    (subst (λ ns. AreRenewed batch state ns old new was counts) stale_is put) in
     let here = subst (λ rs. IsSeen rs seen) (rest_of new b) (subst (λ rs. IsSeen (take (length rs - b) (drop b rs)) seen) first_is saw) in
     let opening = opens batch b rounds seen.first state new counts fresh here.first in
     let count : (b + seen.first) - b ≡ seen.first = omega arith in
-    let prefix : own_nets (take ((b + seen.first) - b) (drop b prefix_of)) ≡ own_nets (take seen.first (drop b new)) = ap (λ k. own_nets (take k (drop b prefix_of))) count ∙ ap (λ rs. own_nets (take seen.first (drop b rs))) prefix_is in
-    let here_left = left (start_of batch) (blocks_of batch) b (drop b new) seen.first (alone_from batch b rounds state new counts fresh) here.first in
+    let prefix : own_nets (take ((b + seen.first) - b) (drop b prefix_of)) ≡ own_nets (take seen.first (drop b new)) =
+    ap (λ k. own_nets (take k (drop b prefix_of))) count ∙ ap (λ rs. own_nets (take seen.first (drop b rs))) prefix_is in
+    let here_left = left (start_of batch) (blocks_of batch) b (drop b new) seen.first (alone_from batch b rounds state new counts fresh)
+    here.first in
     let counted = ap (nets (start_of batch) (blocks_of batch) b) (sym count) in
     let summed = subst (IsSummary (all_left (take seen.first (drop b new)))) counted here_left.1 in
     let told_here = subst (λ ns. AreRefuted new ns (b + seen.first) (length new) later) here.nets
     (subst (λ rs. AreRefuted rs (take seen.upto seen.nets) (b + seen.first) (length rs) later) kept_is told) in (
       opening,
-      moves_on batch b (b + seen.first) rounds state next new counts later (all_left (take seen.first (drop b new))) fresh going opening summed
+      moves_on batch b (b + seen.first) rounds state next new counts later (all_left (take seen.first (drop b new))) fresh going opening
+          summed
           (moved ∙ ap (after state) (prefix ∙ (here_left.0 ∙ counted))) told_here,
     )

@@ -1,5 +1,6 @@
 -- Pending runs that have the sums of runs conflict where these do.
-use Rattle.std.proofs.Common.{◌≡◌, ℕ, zero, suc, ◌+◌, ◌<◌, ◌≤◌, ◌↔◌, List, [], ◌∷◌, ◌++◌, length, get_or, take, true, refl, sym, ap, ◌∙◌, subst, arith}
+use Rattle.std.proofs.Common.{◌≡◌, ℕ, zero, suc, ◌+◌, ◌<◌, ◌≤◌, ◌↔◌, List, [], ◌∷◌, ◌++◌, length, get_or, take, true, refl, sym, ap, ◌∙◌}
+use Rattle.std.proofs.Common.{subst, arith}
 use Rattle.std.proofs.lemmas.List.{length_push, length-take-le, get_or-take, get_or_default}
 use Rattle.std.proofs.Math.Seq.{get_or-append_seam}
 use Rattle.std.proofs.Math.ListN.{get_or-append}
@@ -27,8 +28,10 @@ same_entries (x ∷ xs) (y ∷ ys) so =
     ap (λ z. z ∷ xs) (same_entry x y parts.0) ∙ ap (λ zs. y ∷ zs) (same_entries xs ys parts.1)
 
 -- the sums of one run more
-pub summed_more : (runs : List Run) (pending more : List PendingRun) (k : ℕ) (next : PendingRun) (run : Run) → k < length runs → more ≡ pending ++ next ∷ []
-    → run ≡ get_or runs k run → AreSumsOf next.sums run.entries.items run.net.items → AreSummed (take k runs) pending → AreSummed (take (k + 1) runs) more
+pub summed_more : (runs : List Run) (pending more : List PendingRun) (k : ℕ) (next : PendingRun) (run : Run) → k < length runs
+    → more ≡ pending ++ next ∷ []
+    → run ≡ get_or runs k run → AreSumsOf next.sums run.entries.items run.net.items → AreSummed (take k runs) pending
+    → AreSummed (take (k + 1) runs) more
 summed_more runs pending more k next run lt pushed is sums so_far =
     let size : length pending ≡ k = so_far.all ∙ length-take-le k runs (omega arith) in
     record {
@@ -40,12 +43,15 @@ summed_more runs pending more k next run lt pushed is sums so_far =
             | yes le ↦
                 let last : length pending ≡ i = omega arith in
                 let same : k ≡ i = omega arith in
-                let here : get_or more i d ≡ next = ap (λ xs. get_or xs i d) pushed ∙ (ap (λ n. get_or (pending ++ next ∷ []) n d) (sym last) ∙ get_or-append_seam pending next [] d) in
+                let here : get_or more i d ≡ next = ap (λ xs. get_or xs i d) pushed
+                ∙ (ap (λ n. get_or (pending ++ next ∷ []) n d) (sym last) ∙ get_or-append_seam pending next [] d) in
                 subst (λ p. AreSumsOf p.sums (get_or runs i r).entries.items (get_or runs i r).net.items) (sym here)
-                (subst (λ o. AreSumsOf next.sums o.entries.items o.net.items) (is ∙ (sym (get_or_default runs k r run lt) ∙ ap (λ n. get_or runs n r) same)) sums)
+                (subst (λ o. AreSumsOf next.sums o.entries.items o.net.items)
+                (is ∙ (sym (get_or_default runs k r run lt) ∙ ap (λ n. get_or runs n r) same)) sums)
             | no less ↦
                 let early : i < k = omega arith in
-                let before : get_or more i d ≡ get_or pending i d = ap (λ xs. get_or xs i d) pushed ∙ get_or-append pending (next ∷ []) d i (omega arith) in
+                let before : get_or more i d ≡ get_or pending i d = ap (λ xs. get_or xs i d) pushed ∙ get_or-append pending (next ∷ []) d i
+                (omega arith) in
                 subst (λ p. AreSumsOf p.sums (get_or runs i r).entries.items (get_or runs i r).net.items) (sym before)
                 (subst (λ o. AreSumsOf (get_or pending i d).sums o.entries.items o.net.items) (get_or-take k runs i r early)
                 (so_far.each i d r (omega (arith, early, length-take-le k runs (omega arith)))))
@@ -54,7 +60,8 @@ summed_more runs pending more k next run lt pushed is sums so_far =
 
 -- what the first pending runs leave sums up what the first runs leave
 left_summed : (runs : List Run) (pending : List PendingRun) (j : ℕ) → j ≤ length runs → length pending ≡ length runs
-    → ((i : ℕ) (d : PendingRun) (r : Run) → i < length runs → AreSumsOf (get_or pending i d).sums (get_or runs i r).entries.items (get_or runs i r).net.items)
+    → ((i : ℕ) (d : PendingRun) (r : Run) → i < length runs → AreSumsOf (get_or pending i d).sums (get_or runs i r).entries.items
+    (get_or runs i r).net.items)
     → IsSummary (all_left (take j pending)) (nets_of (take j runs))
 left_summed runs pending zero le size each = summary-nil
 left_summed [] pending (suc j) le size each = absurd (omega arith)
@@ -65,11 +72,13 @@ left_summed (r ∷ runs) (p ∷ pending) (suc j) le size each =
 
 module _ (runs : List Run) (pending : List PendingRun) (are : AreSummed runs pending) where
   -- a pending run holds past those before it exactly where the run stands past those before it
-  holds_or_stands : (i : ℕ) (d : PendingRun) (r : Run) → i < length runs → HoldsPast (all_left (take i pending)) (get_or pending i d) ↔ StandsPast (nets_of (take i runs)) (get_or runs i r)
+  holds_or_stands : (i : ℕ) (d : PendingRun) (r : Run) → i < length runs → HoldsPast (all_left (take i pending)) (get_or pending i d)
+      ↔ StandsPast (nets_of (take i runs)) (get_or runs i r)
   holds_or_stands i d r lt =
       let summary = entries_of (get_or pending i d).sums.entries.items in
       let by_summary = stands-summary summary (get_or runs i r).entries.items (nets_of (take i runs)) (are.each i d r lt).entries_are in
-      let by_since = past-summary summary (all_left (take i pending)) (nets_of (take i runs)) (left_summed runs pending i (omega arith) are.all are.each) in
+      let by_since = past-summary summary (all_left (take i pending)) (nets_of (take i runs))
+      (left_summed runs pending i (omega arith) are.all are.each) in
       (λ holds. by_summary.0 (by_since.0 holds), λ stands. by_since.1 (by_summary.1 stands))
 
   -- so the first conflict is the same

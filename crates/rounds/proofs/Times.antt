@@ -35,14 +35,18 @@ times_read (x ∷ xs) zero d lt = omega (arith, bit_same x)
 times_read (x ∷ xs) (suc k) d lt = omega (arith, times_read xs k d (omega arith))
 
 -- the numbers below i, and then i
-pub below_push : (i : ℕ) (numbers more : List ℕ) → more ≡ numbers ++ i ∷ [] → ((j : ℕ) → j < i → times j numbers ≡ 1) → ((j : ℕ) → i ≤ j → times j numbers ≡ 0) → (j : ℕ) → j < i + 1 → times j more ≡ 1
+pub below_push : (i : ℕ) (numbers more : List ℕ) → more ≡ numbers ++ i ∷ [] → ((j : ℕ) → j < i → times j numbers ≡ 1)
+    → ((j : ℕ) → i ≤ j → times j numbers ≡ 0) → (j : ℕ) → j < i + 1 → times j more ≡ 1
 below_push i numbers more pushed below beyond j lt = elim (ℕ_discrete i j) [
-  | yes same ↦ let once = times_push j numbers in let none = beyond j (omega arith) in ap (times j) pushed ∙ (ap (λ n. times j (numbers ++ n ∷ [])) same ∙ (let one : times j (numbers ++ j ∷ []) ≡ 1 = omega arith in one))
+  | yes same ↦ let once = times_push j numbers in let none = beyond j (omega arith) in ap (times j) pushed
+      ∙ (ap (λ n. times j (numbers ++ n ∷ [])) same ∙ (let one : times j (numbers ++ j ∷ []) ≡ 1 = omega arith in one))
   | no other ↦ ap (times j) pushed ∙ (times_push_other j i numbers other ∙ below j (omega arith))
 ]
 
-pub beyond_push : (i : ℕ) (numbers more : List ℕ) → more ≡ numbers ++ i ∷ [] → ((j : ℕ) → i ≤ j → times j numbers ≡ 0) → (j : ℕ) → i + 1 ≤ j → times j more ≡ 0
-beyond_push i numbers more pushed beyond j le = let other : i ≢ j = omega arith in ap (times j) pushed ∙ (times_push_other j i numbers other ∙ beyond j (omega arith))
+pub beyond_push : (i : ℕ) (numbers more : List ℕ) → more ≡ numbers ++ i ∷ [] → ((j : ℕ) → i ≤ j → times j numbers ≡ 0) → (j : ℕ)
+    → i + 1 ≤ j → times j more ≡ 0
+beyond_push i numbers more pushed beyond j le = let other : i ≢ j = omega arith in ap (times j) pushed
+    ∙ (times_push_other j i numbers other ∙ beyond j (omega arith))
 
 -- as a sum over the list
 pub times_sum : (x : ℕ) (ys : List ℕ) → times x ys ≡ sum_by (λ y. bit (y == x)) ys

@@ -1,5 +1,6 @@
 -- Numbers that stand in a list once, and what is told of the runs of these numbers.
-use Rattle.std.proofs.Common.{◌≡◌, ◌≢◌, ◌⊎◌, ℕ, zero, suc, ◌+◌, ◌<◌, ◌≤◌, inl, inr, List, [], ◌∷◌, ◌++◌, length, get_or, take, length-append, refl, sym, ap, ◌∙◌, subst, arith}
+use Rattle.std.proofs.Common.{◌≡◌, ◌≢◌, ◌⊎◌, ℕ, zero, suc, ◌+◌, ◌<◌, ◌≤◌, inl, inr, List, [], ◌∷◌, ◌++◌, length, get_or, take}
+use Rattle.std.proofs.Common.{length-append, refl, sym, ap, ◌∙◌, subst, arith}
 use native.Mathlib.Decide.{ℕ_discrete}
 use Rattle.committed.specs.Summaries.{entries_of}
 use Rattle.committed.specs.Watching.{Watches}
@@ -59,7 +60,8 @@ times_distinct (n ∷ numbers) distinct i = elim (ℕ_discrete n i) [
         omega arith
   ]
   | no other ↦
-      let rest = times_distinct numbers (λ a b low high is. let next : suc a ≡ suc b = distinct (suc a) (suc b) (omega arith) (omega arith) is in omega arith) i in
+      let rest = times_distinct numbers (λ a b low high is. let next : suc a ≡ suc b = distinct (suc a) (suc b) (omega arith)
+      (omega arith) is in omega arith) i in
       omega (arith, times_none i n other)
 ]
 
@@ -123,7 +125,8 @@ module _ (runs : List PendingRun) (since : List Entry) (places : List ℕ) where
 
   -- one place more
   pub told_of_more : AreDistinct places → (upto place : ℕ) (numbers own more : List ℕ) → upto < length places → place ≡ get_or places upto 0
-      → AreToldOf runs since places upto numbers → IsDecided runs since place own → more ≡ numbers ++ own → AreToldOf runs since places (upto + 1) more
+      → AreToldOf runs since places upto numbers → IsDecided runs since place own → more ≡ numbers ++ own
+      → AreToldOf runs since places (upto + 1) more
   told_of_more distinct upto place numbers own more lt at told decided is =
       let split : (i : ℕ) → times i more ≡ times i numbers + times i own = λ i. ap (times i) is ∙ times_append i numbers own in
       let size : length more ≡ length numbers + length own = ap (λ ns. length ns) is ∙ length-append numbers own in
@@ -165,7 +168,8 @@ module _ (runs : List PendingRun) (since : List Entry) (places : List ℕ) where
   IsToldAt piece told = (piece < length places) × IsDecided runs since (get_or places piece 0) told
 
   -- all places, side by side
-  pub given_of_all : AreDistinct places → (numbers : List ℕ) → AreGivenOnce IsToldAt (length places) numbers → AreRefutedAmong runs since places numbers
+  pub given_of_all : AreDistinct places → (numbers : List ℕ) → AreGivenOnce IsToldAt (length places) numbers
+      → AreRefutedAmong runs since places numbers
   given_of_all distinct numbers given = record {
     elsewhere = λ i out.
         given_nowhere IsToldAt (times i) refl (times_append i) (length places) numbers
@@ -204,11 +208,13 @@ touched_places shown touched from upto is distinct within low = record {
 -- ---- what is watched
 
 -- where all are watched, so are all but some
-pub tells_all : (pending : Pending) (runs : List PendingRun) (from : ℕ) (made : List ℕ) → WatchesAll pending.watch runs from → Tells pending runs from made
+pub tells_all : (pending : Pending) (runs : List PendingRun) (from : ℕ) (made : List ℕ) → WatchesAll pending.watch runs from
+    → Tells pending runs from made
 tells_all pending runs from made watches = record { all = watches.all; watched = λ run d low high out. watches.each run d low high }
 
 -- those that weren't made anew are watched as before
-pub tells_renewed : (batch : Batch) (state : State) (pending : Pending) (runs new : List PendingRun) (made : List ℕ) (was counts : List ℕ) (from : ℕ)
+pub tells_renewed : (batch : Batch) (state : State) (pending : Pending) (runs new : List PendingRun) (made : List ℕ) (was counts : List ℕ)
+    (from : ℕ)
     → Tells pending runs from made → AreRenewed batch state made runs new was counts → Tells pending new from made
 tells_renewed batch state pending runs new made was counts from tells put =
     let sizes = put.runs in
@@ -221,7 +227,8 @@ tells_renewed batch state pending runs new made was counts from tells put =
     }
 
 -- once those that were made anew are put in, all are watched
-pub all_put : (pending : Pending) (watch : Watch) (runs : List PendingRun) (opened from : ℕ) (made : List ℕ) → opened ≤ from → Tells pending runs opened made
+pub all_put : (pending : Pending) (watch : Watch) (runs : List PendingRun) (opened from : ℕ) (made : List ℕ) → opened ≤ from
+    → Tells pending runs opened made
     → watch.count ≡ pending.watch.count
     → ((run : ℕ) (d : PendingRun) → from ≤ run → Has made run → IsIn watch runs run d)
     → ((run : ℕ) (d : PendingRun) → IsIn pending.watch runs run d → IsIn watch runs run d) → WatchesAll watch runs from
@@ -257,8 +264,10 @@ none_touched touched runs from empty = record {
 }
 
 -- one run more is committed
-pub touched_more : (watch : Watch) (touched found : List ℕ) (runs : List PendingRun) (from : ℕ) (done : List PendingRun) (k : ℕ) (run : PendingRun) (net : List Entry)
-    → k < length done → run ≡ get_or done k run → net ≡ left_by run.sums → WatchesAll watch runs from → AreTouched touched runs from (all_left (take k done))
+pub touched_more : (watch : Watch) (touched found : List ℕ) (runs : List PendingRun) (from : ℕ) (done : List PendingRun) (k : ℕ)
+    (run : PendingRun) (net : List Entry)
+    → k < length done → run ≡ get_or done k run → net ≡ left_by run.sums → WatchesAll watch runs from
+    → AreTouched touched runs from (all_left (take k done))
     → ((r : ℕ) → Has touched r → Has found r)
     → ((r : ℕ) → Has found r → Has touched r ⊎ ((from ≤ r) × (r < watch.count)))
     → ((r : ℕ) (others : List Entry) → from ≤ r → ¬ Has found r → Watches watch r others → AllCommute others net)
@@ -274,5 +283,6 @@ touched_more watch touched found runs from done k run net lt is net_is watches a
       ];
       hold = λ r d low high out.
           let others = entries_of (get_or runs r d).sums.entries.items in
-          past_both others (all_left (take k done)) net (are.hold r d low high (λ has. out (more r has))) (stand r others low out (watches.each r d low high));
+          past_both others (all_left (take k done)) net (are.hold r d low high (λ has. out (more r has)))
+          (stand r others low out (watches.each r d low high));
     })

@@ -1,5 +1,7 @@
--- Pending runs, and what the passes over them return: which is the first that doesn't hold, which are to be made again, those that were made.
-use Rattle.std.specs.Prelude.{◌≡◌, ◌≢◌, ℕ, ◌+◌, ◌<◌, ◌≤◌, ◌⊎◌, ◌==◌, Bool, cond, Option, Some, None, List, [], ◌∷◌, ◌++◌, length, map, take, slice_index_or}
+-- Pending runs, and what the passes over them return: which is the first that doesn't hold, which are to be made again,
+-- those that were made.
+use Rattle.std.specs.Prelude.{◌≡◌, ◌≢◌, ℕ, ◌+◌, ◌<◌, ◌≤◌, ◌⊎◌, ◌==◌, Bool, cond, Option, Some, None, List, [], ◌∷◌, ◌++◌, length, map, take}
+use Rattle.std.specs.Prelude.{slice_index_or}
 use Rattle.std.specs.List.{All}
 use Rattle.std.specs.declared.vec.Vec.{Vec}
 use Rattle.std.specs.declared.alloc.Global.{Global}
@@ -107,7 +109,8 @@ pub record AreRefuted (runs : List PendingRun) (since : List Entry) (from upto :
 -- those of these places whose runs don't stand past these entries, each once
 pub record AreRefutedAmong (runs : List PendingRun) (since : List Entry) (places numbers : List ℕ) : Type 0 where
   pub elsewhere : (i : ℕ) → ¬ Has places i → times i numbers ≡ 0
-  pub each : (k : ℕ) (d : PendingRun) → k < length places → Kept since (times (slice_index_or places k 0) numbers) (slice_index_or runs (slice_index_or places k 0) d)
+  pub each : (k : ℕ) (d : PendingRun) → k < length places → Kept since (times (slice_index_or places k 0) numbers)
+      (slice_index_or runs (slice_index_or places k 0) d)
   pub few : length numbers ≤ length places
 
 abbrev pub numbers_of : List Made → List ℕ

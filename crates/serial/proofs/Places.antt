@@ -49,21 +49,25 @@ module _ {V C R : Type 0} (one : Serial V C (Option R)) where
   reply-found : (vs : List V) (o : ℕ) (v : V) (c : C) → slice_get vs o ≡ Some v → (at_places one).reply vs (o, c) ≡ one.reply v c
   reply-found vs o v c e = ap (option_and_then (λ w. one.reply w c)) e
 
-  after-found : (vs : List V) (o : ℕ) (v : V) (c : C) → slice_get vs o ≡ Some v → (at_places one).after vs (o, c) ≡ slice_set vs o (one.after v c)
+  after-found : (vs : List V) (o : ℕ) (v : V) (c : C) → slice_get vs o ≡ Some v → (at_places one).after vs (o, c) ≡ slice_set vs o
+      (one.after v c)
   after-found vs o v c e = ap (after_found one vs o c) e
 
   -- the call at the same place next
-  get-after_same : (vs : List V) (o : ℕ) (v : V) (c : C) → slice_get vs o ≡ Some v → slice_get ((at_places one).after vs (o, c)) o ≡ Some (one.after v c)
+  get-after_same : (vs : List V) (o : ℕ) (v : V) (c : C) → slice_get vs o ≡ Some v → slice_get ((at_places one).after vs (o, c)) o ≡ Some
+      (one.after v c)
   get-after_same vs o v c e = ap (λ ws. slice_get ws o) (after-found vs o v c e) ∙ get_set_same vs o v (one.after v c) e
 
-  after_after_same : (vs : List V) (o : ℕ) (v : V) (c d : C) → slice_get vs o ≡ Some v → (at_places one).after ((at_places one).after vs (o, c)) (o, d) ≡ slice_set vs o (one.after (one.after v c) d)
+  after_after_same : (vs : List V) (o : ℕ) (v : V) (c d : C) → slice_get vs o ≡ Some v
+      → (at_places one).after ((at_places one).after vs (o, c)) (o, d) ≡ slice_set vs o (one.after (one.after v c) d)
   after_after_same vs o v c d e =
       after-found ((at_places one).after vs (o, c)) o (one.after v c) d (get-after_same vs o v c e)
       ∙ ap (λ ws. slice_set ws o (one.after (one.after v c) d)) (after-found vs o v c e)
       ∙ set-set vs o (one.after v c) (one.after (one.after v c) d)
 
   -- the call at another place next
-  get-after_other : (vs : List V) (o k : ℕ) (v : V) (c : C) → o ≢ k → slice_get vs o ≡ Some v → slice_get ((at_places one).after vs (o, c)) k ≡ slice_get vs k
+  get-after_other : (vs : List V) (o k : ℕ) (v : V) (c : C) → o ≢ k → slice_get vs o ≡ Some v
+      → slice_get ((at_places one).after vs (o, c)) k ≡ slice_get vs k
   get-after_other vs o k v c ne e = ap (λ ws. slice_get ws k) (after-found vs o v c e) ∙ get_set_other vs o k (one.after v c) ne
 
   after_after_other : (vs : List V) (o k : ℕ) (v w : V) (c d : C) → o ≢ k → slice_get vs o ≡ Some v → slice_get vs k ≡ Some w
@@ -80,7 +84,8 @@ module _ {V C R : Type 0} (one : Serial V C (Option R)) where
   abbrev pub single : Operation C R → Operation C (Option R)
   single p = (p.0, Some p.1)
 
-  same_place : (o : ℕ) (p q : Operation C R) → CommuteForward one (single p) (single q) → CommuteForward (at_places one) (placed o p) (placed o q)
+  same_place : (o : ℕ) (p q : Operation C R) → CommuteForward one (single p) (single q) → CommuteForward (at_places one) (placed o p)
+      (placed o q)
   same_place o p q h vs legal_p legal_q =
       let at : Found (slice_get vs o) (λ w. one.reply w p.0) p.1 = found (slice_get vs o) (λ w. one.reply w p.0) p.1 legal_p in
       let v : V = at.value in
@@ -105,11 +110,13 @@ module _ {V C R : Type 0} (one : Serial V C (Option R)) where
             ∙ sym (after_after_other vs k o to.value at.value q.0 p.0 en to.is at.is);
       }
 
-  from_same_place : (o : ℕ) (p q : Operation C R) → CommuteForward (at_places one) (placed o p) (placed o q) → CommuteForward one (single p) (single q)
+  from_same_place : (o : ℕ) (p q : Operation C R) → CommuteForward (at_places one) (placed o p) (placed o q)
+      → CommuteForward one (single p) (single q)
   from_same_place o p q h v legal_p legal_q =
       let vs = holding o v in
       let e : slice_get vs o ≡ Some v = get-holding o v in
-      let both : BothOrders (at_places one) vs (placed o p) (placed o q) = h vs (reply-found vs o v p.0 e ∙ legal_p) (reply-found vs o v q.0 e ∙ legal_q) in
+      let both : BothOrders (at_places one) vs (placed o p) (placed o q) = h vs (reply-found vs o v p.0 e ∙ legal_p)
+      (reply-found vs o v q.0 e ∙ legal_q) in
       let then_p = get-after_same vs o v p.0 e in
       let then_q = get-after_same vs o v q.0 e in
       let ends : slice_set vs o (one.after (one.after v p.0) q.0) ≡ slice_set vs o (one.after (one.after v q.0) p.0) =
@@ -123,7 +130,8 @@ module _ {V C R : Type 0} (one : Serial V C (Option R)) where
       }
 
   -- at one place, operations commute forward exactly where they do over one value; at two places always
-  pub exact_at_places : (o k : ℕ) (p q : Operation C R) → (o ≡ k → CommuteForward one (single p) (single q)) ↔ CommuteForward (at_places one) (placed o p) (placed k q)
+  pub exact_at_places : (o k : ℕ) (p q : Operation C R) → (o ≡ k → CommuteForward one (single p) (single q))
+      ↔ CommuteForward (at_places one) (placed o p) (placed k q)
   exact_at_places o k p q = (
     λ h. elim (cases_eq o k) [
       | inl e ↦ subst (λ k. CommuteForward (at_places one) (placed o p) (placed k q)) e (same_place o p q (h e))

@@ -8,13 +8,15 @@ use Rattle.intentions.proofs.EntriesLemmas.{after-append}
 
 pub absorbed-none : (v : View) → v ≡ absorbed v [] []
 absorbed-none v =
-    ap (λ es. record v { entries = es }) (sym (append-nil v.entries)) ∙ ap (λ ns. record v { entries = v.entries ++ []; net = ns }) (sym (append-nil v.net))
+    ap (λ es. record v { entries = es }) (sym (append-nil v.entries)) ∙ ap (λ ns. record v { entries = v.entries ++ []; net = ns })
+    (sym (append-nil v.net))
 
 pub absorbed-then : (v : View) (es ns fs ms : List Entry) → absorbed (absorbed v es ns) fs ms ≡ absorbed v (es ++ fs) (ns ++ ms)
 absorbed-then v es ns fs ms = let e = append_assoc v.entries es fs in let n = append_assoc v.net ns ms in cc
 
 pub shown-absorbed : (v : View) (es ns : List Entry) → shown (absorbed v es ns) ≡ after (shown v) ns
-shown-absorbed v es ns = ap (after v.snapshot) (sym (append_assoc (joined v.outer) v.net ns)) ∙ after-append v.snapshot (joined v.outer ++ v.net) ns
+shown-absorbed v es ns = ap (after v.snapshot) (sym (append_assoc (joined v.outer) v.net ns))
+    ∙ after-append v.snapshot (joined v.outer ++ v.net) ns
 
 pub shown-begun : (v : View) → shown (begun v) ≡ shown v
 shown-begun v = ap (after v.snapshot) (append-nil (joined v.outer ++ v.net))

@@ -20,20 +20,30 @@ ground = record {
 }
 
 -- the run of a body in a level of its own is that on what the parent shows
-in_level : (child : Tried) (held : List Held) (before mid : View) (body : Record) → ShowsRun in_view (one child.body held (shown (begun before))) body (begun before) mid → ShowsRun in_view (one child.body held (shown before)) body (begun before) mid
-in_level child held before mid body shows = subst (λ s. ShowsRun in_view (one child.body held s) body (begun before) mid) (shown-begun before) shows
+in_level : (child : Tried) (held : List Held) (before mid : View) (body : Record)
+    → ShowsRun in_view (one child.body held (shown (begun before))) body (begun before) mid
+    → ShowsRun in_view (one child.body held (shown before)) body (begun before) mid
+in_level child held before mid body shows = subst (λ s. ShowsRun in_view (one child.body held s) body (begun before) mid)
+    (shown-begun before) shows
 
 -- a level that is committed
-pub committed_level : (child : Tried) (held : List Held) (before mid now : View) (body : Record) → ShowsRun in_view (one child.body held (shown (begun before))) body (begun before) mid → now ≡ committed mid
+pub committed_level : (child : Tried) (held : List Held) (before mid now : View) (body : Record)
+    → ShowsRun in_view (one child.body held (shown (begun before))) body (begun before) mid → now ≡ committed mid
     → ShowsRun in_view (one child.body held (shown before)) body before now
 committed_level child held before mid now body shows_there is =
     let shows = in_level child held before mid body shows_there in
     record { tree = shows.tree; end = shows.end; took = is ∙ ap committed shows.took ∙ committed-begun before _ _ }
 
 -- a level that is aborted
-pub aborted_level : (child : Tried) (held : List Held) (before mid next : View) (body : Record) → ShowsRun in_view (one child.body held (shown (begun before))) body (begun before) mid → next ≡ aborted mid
+pub aborted_level : (child : Tried) (held : List Held) (before mid next : View) (body : Record)
+    → ShowsRun in_view (one child.body held (shown (begun before))) body (begun before) mid → next ≡ aborted mid
     → IsUndone in_view (one child.body held (shown before)) body before next
 aborted_level child held before mid next body shows_there is =
     let shows = in_level child held before mid body shows_there in
     let run = one child.body held (shown before) in
-    record { tree = shows.tree; end = shows.end; took = is ∙ ap aborted shows.took ∙ aborted-begun before (entries (record_of run)) (kept (record_of run)) }
+    record {
+      tree = shows.tree;
+      end = shows.end;
+      took = is ∙ ap aborted shows.took ∙ aborted-begun before (entries (record_of run))
+          (kept (record_of run));
+    }

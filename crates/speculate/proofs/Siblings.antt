@@ -1,5 +1,7 @@
 -- Runs of children that were made ahead, and what keeping them shows.
-use Rattle.std.proofs.Common.{◌≡◌, ℕ, zero, suc, ◌+◌, ◌-◌, ◌<◌, ◌≤◌, List, [], ◌∷◌, ◌++◌, length, get_or, take, drop, refl, sym, ap, subst, ◌∙◌, arith, add-one, drop-cons, drop-drop, take-add, length-append, Option, Some, None, Bool, true, ◌↔◌, Global}
+use Rattle.std.proofs.Common.{◌≡◌, ℕ, zero, suc, ◌+◌, ◌-◌, ◌<◌, ◌≤◌, List, [], ◌∷◌, ◌++◌, length, get_or, take, drop, refl, sym, ap, subst}
+use Rattle.std.proofs.Common.{◌∙◌, arith, add-one, drop-cons, drop-drop, take-add, length-append, Option, Some, None, Bool, true, ◌↔◌}
+use Rattle.std.proofs.Common.{Global}
 use Rattle.std.proofs.lemmas.List.{append-nil}
 use Rattle.std.proofs.Math.Seq.{drop-append_seam, take-length}
 use Rattle.std.specs.Vec.Iter.{into_iter_items, into_iter_len, into_iter_steps}
@@ -56,9 +58,11 @@ alone child = Child child.body child.handlers child.labelled NoChild
 
 is_alone : (child : Tried) (held : List Held) (state : State) → IsAlone (acted child held state) (one_children (alone child) held state)
 is_alone child held state =
-    subst (IsAlone (acted child held state)) (sym (one_children-Child child.body child.handlers child.labelled NoChild held state)) (go_on-alone (acted child held state) held)
+    subst (IsAlone (acted child held state)) (sym (one_children-Child child.body child.handlers child.labelled NoChild held state))
+    (go_on-alone (acted child held state) held)
 
-same_first : (child other : TakenChild) → TakenChildren.Child child TakenChildren.NoChild ≡ TakenChildren.Child other TakenChildren.NoChild → child ≡ other
+same_first : (child other : TakenChild) → TakenChildren.Child child TakenChildren.NoChild ≡ TakenChildren.Child other TakenChildren.NoChild
+    → child ≡ other
 same_first child other same = cc
 
 -- the second run is the first one, made elsewhere
@@ -68,15 +72,19 @@ record IsSameRun (here there : Run TakenChild) : Type 0 where
   labels : outcome_of here ≡ Ended → labels_of there ≡ labels_of here
 
 -- a child moves past entries with which each of its own commutes forward
-child_moves : (child : Tried) (held : List Held) (state : State) (since : List Entry) → AreLegal state since → AllCommute (entries_of_child (record_of (acted child held state))) since
+child_moves : (child : Tried) (held : List Held) (state : State) (since : List Entry) → AreLegal state since
+    → AllCommute (entries_of_child (record_of (acted child held state))) since
     → IsSameRun (acted child held state) (acted child held (after state since))
 child_moves child held state since legal commute =
     let here = is_alone child held state in
     let there = is_alone child held (after state since) in
     let all : AllCommute (entries_of_children (record_of (one_children (alone child) held state))) since =
-    subst (λ taken. AllCommute (entries_of_children taken) since) (sym here.taken) (subst (λ es. AllCommute es since) (sym (append-nil (entries_of_child (record_of (acted child held state))))) commute) in
-    let moved : one_children (alone child) held (after state since) ≡ carried since (one_children (alone child) held state) = (children_shift (alone child) held state since legal all).1 in
-    let outcome : outcome_of (acted child held (after state since)) ≡ outcome_of (acted child held state) = sym there.outcome ∙ ap outcome_of moved ∙ here.outcome in
+    subst (λ taken. AllCommute (entries_of_children taken) since) (sym here.taken)
+    (subst (λ es. AllCommute es since) (sym (append-nil (entries_of_child (record_of (acted child held state))))) commute) in
+    let moved : one_children (alone child) held (after state since) ≡ carried since (one_children (alone child) held state) =
+    (children_shift (alone child) held state since legal all).1 in
+    let outcome : outcome_of (acted child held (after state since)) ≡ outcome_of (acted child held state) = sym there.outcome
+    ∙ ap outcome_of moved ∙ here.outcome in
     record {
       taken = same_first _ _ (sym there.taken ∙ ap record_of moved ∙ here.taken);
       outcome = outcome;
@@ -84,16 +92,20 @@ child_moves child held state since legal commute =
     }
 
 -- that a test was true of its entries and all that was listed
-pub stand : (run : Ahead) → IsSummary (entries_of run.summary.items) run.entries.items → (since : List Entry) (summary : List MarkedEntry) (count : ℕ) (stands : Bool)
-    → (IsTrue stands ↔ AllCommute (entries_of summary) (take count since)) → stands ≡ true → summary ≡ run.summary.items → count ≡ length since
+pub stand : (run : Ahead) → IsSummary (entries_of run.summary.items) run.entries.items → (since : List Entry) (summary : List MarkedEntry)
+    (count : ℕ) (stands : Bool)
+    → (IsTrue stands ↔ AllCommute (entries_of summary) (take count since)) → stands ≡ true → summary ≡ run.summary.items
+    → count ≡ length since
     → AllCommute run.entries.items since
 stand run sums since summary count stands exact so is all =
     let whole : take count since ≡ since = ap (λ n. take n since) all ∙ take-length since in
-    let summed = subst (AllCommute (entries_of run.summary.items)) whole (subst (λ es. AllCommute (entries_of es) (take count since)) is (exact.0 so)) in
+    let summed = subst (AllCommute (entries_of run.summary.items)) whole (subst (λ es. AllCommute (entries_of es) (take count since)) is
+    (exact.0 so)) in
     (stands-summary (entries_of run.summary.items) run.entries.items since sums).0 summed
 
 -- where its entries stand, a child that was run before is run the same here
-module _ (child : Tried) (held : List Held) (since : List Entry) (state : State) (run : Ahead) (before : IsRunBefore child held since state run) (stand : AllCommute run.entries.items since) where
+module _ (child : Tried) (held : List Held) (since : List Entry) (state : State) (run : Ahead)
+    (before : IsRunBefore child held since state run) (stand : AllCommute run.entries.items since) where
   same_here : IsSameRun (acted child held before.from) (acted child held state)
   same_here =
       let entries = ap (λ (v : View). v.entries) before.ahead.0.took in
@@ -105,7 +117,8 @@ module _ (child : Tried) (held : List Held) (since : List Entry) (state : State)
   net_here = ap (λ (v : View). v.net) before.ahead.0.took ∙ ap kept_of_child (sym same_here.taken)
 
   -- and that is what is added to the list of what siblings left
-  pub net_listed : (net later : List Entry) → net ≡ run.net.items → later ≡ since ++ net → later ≡ since ++ kept_of_child (record_of (acted child held state))
+  pub net_listed : (net later : List Entry) → net ≡ run.net.items → later ≡ since ++ net
+      → later ≡ since ++ kept_of_child (record_of (acted child held state))
   net_listed net later is more = more ∙ ap (λ es. since ++ es) (is ∙ net_here)
 
   entries_here : run.entries.items ≡ entries_of_child (record_of (acted child held state))
@@ -118,30 +131,41 @@ module _ (child : Tried) (held : List Held) (since : List Entry) (state : State)
   net_has_room can = subst (AllHaveRoom state) (sym net_here) (child_has_room child held state can (acted_leads child held state).0)
 
   -- and its run can be taken in
-  pub taken_in : (view next : View) (entries net : List Entry) → entries ≡ run.entries.items → net ≡ run.net.items → next ≡ absorbed view entries net → ShowsTried in_view child (acted child held state) run.tried view next
+  pub taken_in : (view next : View) (entries net : List Entry) → entries ≡ run.entries.items → net ≡ run.net.items
+      → next ≡ absorbed view entries net → ShowsTried in_view child (acted child held state) run.tried view next
   taken_in view next entries net entries_are net_is is =
       let shows = before.ahead.0 in
       record {
         tree = shows.tree ∙ ap shown_child (sym same_here.taken);
         end = shows.end ∙ sym same_here.outcome;
         labels = λ ended. same_here.labels (sym shows.end ∙ ended) ∙ shows.labels ended;
-        took = is ∙ ap (λ es. absorbed view es net) (entries_are ∙ entries_here) ∙ ap (absorbed view (entries_of_child (record_of (acted child held state)))) (net_is ∙ net_here);
+        took = is ∙ ap (λ es. absorbed view es net) (entries_are ∙ entries_here)
+            ∙ ap (absorbed view (entries_of_child (record_of (acted child held state)))) (net_is ∙ net_here);
       }
 
 -- ---- children from place to place
 
 -- each child can be tried on the state of the step
-pub each_can_try : (children : List Subaction) (held : List Held) (state : State) → CanRunAllHere (children_view children) held state → CanAllTry children held state
+pub each_can_try : (children : List Subaction) (held : List Held) (state : State) → CanRunAllHere (children_view children) held state
+    → CanAllTry children held state
 each_can_try [] held state can k d lt = absurd (omega arith)
 each_can_try (child ∷ children) held state can zero d lt = can_try (subaction_view child) (children_view children) held state can
 each_can_try (child ∷ children) held state can (suc k) d lt =
-    each_can_try children held state (record { labels = can.labels; held_by = can.held_by; well_formed = can.well_formed.2; room = omega (arith, can.room) }) k d (omega arith)
+    each_can_try children held state (record {
+      labels = can.labels;
+      held_by = can.held_by;
+      well_formed = can.well_formed.2;
+      room =
+          omega (arith, can.room);
+    }) k d (omega arith)
 
-pub runs-append : (front back : List Subaction) (held : List Held) (state : State) (runs others : List Ahead) → length runs ≡ length front → AreRunAhead front held state runs → AreRunAhead back held state others → AreRunAhead (front ++ back) held state (runs ++ others)
+pub runs-append : (front back : List Subaction) (held : List Held) (state : State) (runs others : List Ahead) → length runs ≡ length front
+    → AreRunAhead front held state runs → AreRunAhead back held state others → AreRunAhead (front ++ back) held state (runs ++ others)
 runs-append [] back held state [] others same first second = second
 runs-append [] back held state (run ∷ runs) others same first second = absurd (omega arith)
 runs-append (child ∷ front) back held state [] others same first second = absurd (omega arith)
-runs-append (child ∷ front) back held state (run ∷ runs) others same first second = (first.0, runs-append front back held state runs others (omega arith) first.1 second)
+runs-append (child ∷ front) back held state (run ∷ runs) others same first second =
+    (first.0, runs-append front back held state runs others (omega arith) first.1 second)
 
 -- what lies from one place to another, and then from there on
 range-append : {X : Type 0} (xs : List X) (a b c : ℕ) → a ≤ b → b ≤ c → slice_range xs a b ++ slice_range xs b c ≡ slice_range xs a c
@@ -149,7 +173,8 @@ range-append xs a b c first second =
     let from_b : a + (b - a) ≡ b = omega arith in
     let to_c : (b - a) + (c - b) ≡ c - a = omega arith in
     let there : drop (b - a) (drop a xs) ≡ drop b xs = drop-drop (b - a) a xs ∙ ap (λ n. drop n xs) from_b in
-    ap (λ ys. slice_range xs a b ++ take (c - b) ys) (sym there) ∙ sym (take-add (b - a) (c - b) (drop a xs)) ∙ ap (λ n. take n (drop a xs)) to_c
+    ap (λ ys. slice_range xs a b ++ take (c - b) ys) (sym there) ∙ sym (take-add (b - a) (c - b) (drop a xs))
+    ∙ ap (λ n. take n (drop a xs)) to_c
 
 range-one : {X : Type 0} (xs : List X) (i : ℕ) (x : X) → i < length xs → x ≡ get_or xs i x → slice_range xs i (i + 1) ≡ x ∷ []
 range-one xs i x lt is =
@@ -157,13 +182,18 @@ range-one xs i x lt is =
     ap (λ n. take n (drop i xs)) one ∙ ap (take 1) (drop-cons xs i x lt) ∙ ap (λ y. y ∷ []) (sym is)
 
 -- two halves
-pub halves : (children : List Subaction) (from middle upto : ℕ) (held : List Held) (state : State) (runs others : List Ahead) → from ≤ middle → middle ≤ upto → upto ≤ length children
-    → length runs ≡ middle - from → AreRunAhead (slice_range children from middle) held state runs → AreRunAhead (slice_range children middle upto) held state others → AreRunAhead (slice_range children from upto) held state (runs ++ others)
+pub halves : (children : List Subaction) (from middle upto : ℕ) (held : List Held) (state : State) (runs others : List Ahead)
+    → from ≤ middle → middle ≤ upto → upto ≤ length children
+    → length runs ≡ middle - from → AreRunAhead (slice_range children from middle) held state runs
+    → AreRunAhead (slice_range children middle upto) held state others → AreRunAhead (slice_range children from upto) held state
+    (runs ++ others)
 halves children from middle upto held state runs others first second within all front back =
     subst (λ cs. AreRunAhead cs held state (runs ++ others)) (range-append children from middle upto first second)
-    (runs-append (slice_range children from middle) (slice_range children middle upto) held state runs others (all ∙ sym (length-range children from middle (omega arith))) front back)
+    (runs-append (slice_range children from middle) (slice_range children middle upto) held state runs others
+    (all ∙ sym (length-range children from middle (omega arith))) front back)
 
-pub both_long : (runs others : List Ahead) (from middle upto : ℕ) → from ≤ middle → middle ≤ upto → length runs ≡ middle - from → length others ≡ upto - middle → length (runs ++ others) ≡ upto - from
+pub both_long : (runs others : List Ahead) (from middle upto : ℕ) → from ≤ middle → middle ≤ upto → length runs ≡ middle - from
+    → length others ≡ upto - middle → length (runs ++ others) ≡ upto - from
 both_long runs others from middle upto first second front back = omega (arith, length-append runs others)
 
 -- the middle lies between
@@ -171,13 +201,17 @@ pub to_middle : (from upto half : ℕ) → from ≤ upto → half ≡ div_ceil (
 to_middle from upto half ordered is = (omega arith, omega (arith, is))
 
 -- one more
-pub one_more : (children : List Subaction) (from place : ℕ) (held : List Held) (state : State) (runs : List Ahead) (child : Subaction) (run : Ahead) → from ≤ place → place < length children → child ≡ get_or children place child
-    → length runs ≡ place - from → AreRunAhead (slice_range children from place) held state runs → IsRunAhead (subaction_view child) held state run → AreRunAhead (slice_range children from (place + 1)) held state (runs ++ run ∷ [])
+pub one_more : (children : List Subaction) (from place : ℕ) (held : List Held) (state : State) (runs : List Ahead) (child : Subaction)
+    (run : Ahead) → from ≤ place → place < length children → child ≡ get_or children place child
+    → length runs ≡ place - from → AreRunAhead (slice_range children from place) held state runs
+    → IsRunAhead (subaction_view child) held state run → AreRunAhead (slice_range children from (place + 1)) held state
+    (runs ++ run ∷ [])
 one_more children from place held state runs child run first lt is all so_far last =
     halves children from place (place + 1) held state runs (run ∷ []) first (omega arith) (omega arith) all so_far
     (subst (λ cs. AreRunAhead cs held state (run ∷ [])) (sym (range-one children place child lt is)) (last, tt))
 
-pub one_longer : (runs : List Ahead) (run : Ahead) (from place : ℕ) → from ≤ place → length runs ≡ place - from → length (runs ++ run ∷ []) ≡ (place + 1) - from
+pub one_longer : (runs : List Ahead) (run : Ahead) (from place : ℕ) → from ≤ place → length runs ≡ place - from
+    → length (runs ++ run ∷ []) ≡ (place + 1) - from
 one_longer runs run from place first all = omega (arith, length-append runs (run ∷ []))
 
 -- ---- children that are kept one after the other
@@ -188,21 +222,33 @@ pub record AreLeft (children : List Subaction) (held : List Held) (since : List 
   pub leads : Leads from since state
   pub ahead : AreRunAhead children held from runs
 
-pub left-start : (children : List Subaction) (held : List Held) (state : State) (runs : List Ahead) → AreRunAhead children held state runs → AreLeft children held [] state runs
+pub left-start : (children : List Subaction) (held : List Held) (state : State) (runs : List Ahead) → AreRunAhead children held state runs
+    → AreLeft children held [] state runs
 left-start children held state runs ahead = record { from = state; leads = (tt, refl); ahead = ahead }
 
-left-others : (child : Subaction) (children : List Subaction) (held : List Held) (since : List Entry) (view next : View) (tried : executed.Tried) (run : Ahead) (runs : List Ahead)
-    → AreLeft (child ∷ children) held since (state_of_view view) (run ∷ runs) → ShowsTried in_view (subaction_view child) (acted (subaction_view child) held (state_of_view view)) tried view next
-    → AreLeft children held (since ++ kept_of_child (record_of (acted (subaction_view child) held (state_of_view view)))) (state_of_view next) runs
+left-others : (child : Subaction) (children : List Subaction) (held : List Held) (since : List Entry) (view next : View)
+    (tried : executed.Tried) (run : Ahead) (runs : List Ahead)
+    → AreLeft (child ∷ children) held since (state_of_view view) (run ∷ runs) → ShowsTried in_view (subaction_view child)
+    (acted (subaction_view child) held (state_of_view view)) tried view next
+    → AreLeft children held (since ++ kept_of_child (record_of (acted (subaction_view child) held (state_of_view view))))
+    (state_of_view next) runs
 left-others child children held since view next tried run runs left shows =
     let here = subaction_view child in
     let net = kept_of_child (record_of (acted here held (state_of_view view))) in
-    let there : state_of_view next ≡ after (state_of_view view) net = ap state_of_view shows.took ∙ shown-absorbed view (entries_of_child (record_of (acted here held (state_of_view view)))) net in
-    record { from = left.from; leads = lead_on left.from (state_of_view view) (state_of_view next) since net left.leads ((acted_leads here held (state_of_view view)).0, there); ahead = left.ahead.1 }
+    let there : state_of_view next ≡ after (state_of_view view) net = ap state_of_view shows.took
+    ∙ shown-absorbed view (entries_of_child (record_of (acted here held (state_of_view view)))) net in
+    record {
+      from = left.from;
+      leads = lead_on left.from (state_of_view view) (state_of_view next) since net left.leads
+          ((acted_leads here held (state_of_view view)).0, there);
+      ahead = left.ahead.1;
+    }
 
 -- what a child adds to the net of its parent's level, listed
-pub added_listed : (child : Tried) (held : List Held) (view next : View) (tried : executed.Tried) (since later was now : List Entry) → ShowsTried in_view child (acted child held (state_of_view view)) tried view next
-    → was ≡ view.net → now ≡ next.net → later ≡ since ++ slice_range now (length was) (length now) → later ≡ since ++ kept_of_child (record_of (acted child held (state_of_view view)))
+pub added_listed : (child : Tried) (held : List Held) (view next : View) (tried : executed.Tried) (since later was now : List Entry)
+    → ShowsTried in_view child (acted child held (state_of_view view)) tried view next
+    → was ≡ view.net → now ≡ next.net → later ≡ since ++ slice_range now (length was) (length now)
+    → later ≡ since ++ kept_of_child (record_of (acted child held (state_of_view view)))
 added_listed child held view next tried since later was now shows was_is now_is listed =
     let net = kept_of_child (record_of (acted child held (state_of_view view))) in
     let more : now ≡ was ++ net = now_is ∙ ap (λ (v : View). v.net) shows.took ∙ ap (λ es. es ++ net) (sym was_is) in
@@ -210,19 +256,25 @@ added_listed child held view next tried since later was now shows was_is now_is 
     listed ∙ ap (λ n. since ++ take n (drop (length was) now)) count ∙ ap (λ es. since ++ take (length net) (drop (length was) es)) more
     ∙ ap (λ es. since ++ take (length net) es) (drop-append_seam was net) ∙ ap (λ es. since ++ es) (take-length net)
 
-next_of : (children : List Subaction) (place : ℕ) (x : Subaction) → place < length children → x ≡ get_or children place x → drop place children ≡ x ∷ drop (place + 1) children
+next_of : (children : List Subaction) (place : ℕ) (x : Subaction) → place < length children → x ≡ get_or children place x
+    → drop place children ≡ x ∷ drop (place + 1) children
 next_of children place x lt is = drop-cons children place x lt ∙ ap (λ y. y ∷ drop (suc place) children) (sym is) ∙ rw add-one refl
 
-module _ (children : List Subaction) (place : ℕ) (x : Subaction) (held : List Held) (since : List Entry) (view : View) (before after : IntoIter Ahead Global)
-    (left : 0 < into_iter_len before → AreLeft (drop place children) held since (state_of_view view) (into_iter_items before)) (within : place < length children) (is : x ≡ get_or children place x) where
-  left_here : (run : Ahead) → into_iter_steps before (Some run) after → AreLeft (x ∷ drop (place + 1) children) held since (state_of_view view) (run ∷ into_iter_items after)
+module _ (children : List Subaction) (place : ℕ) (x : Subaction) (held : List Held) (since : List Entry) (view : View)
+    (before after : IntoIter Ahead Global)
+    (left : 0 < into_iter_len before → AreLeft (drop place children) held since (state_of_view view) (into_iter_items before))
+    (within : place < length children) (is : x ≡ get_or children place x) where
+  left_here : (run : Ahead) → into_iter_steps before (Some run) after → AreLeft (x ∷ drop (place + 1) children) held since
+      (state_of_view view) (run ∷ into_iter_items after)
   left_here run steps =
       subst (λ cs. AreLeft cs held since (state_of_view view) (run ∷ into_iter_items after)) (next_of children place x within is)
       (subst (AreLeft (drop place children) held since (state_of_view view)) steps.0 (left (omega (arith, steps.1))))
 
   -- the runs behind the next one were made of the children behind the next child
-  pub left-more : (ahead : Option Ahead) (next : View) (tried : executed.Tried) (later : List Entry) → into_iter_steps before ahead after → ShowsTried in_view (subaction_view x) (acted (subaction_view x) held (state_of_view view)) tried view next
-      → ForSome ahead (λ _. later ≡ since ++ kept_of_child (record_of (acted (subaction_view x) held (state_of_view view)))) → 0 < into_iter_len after → AreLeft (drop (place + 1) children) held later (state_of_view next) (into_iter_items after)
+  pub left-more : (ahead : Option Ahead) (next : View) (tried : executed.Tried) (later : List Entry) → into_iter_steps before ahead after
+      → ShowsTried in_view (subaction_view x) (acted (subaction_view x) held (state_of_view view)) tried view next
+      → ForSome ahead (λ _. later ≡ since ++ kept_of_child (record_of (acted (subaction_view x) held (state_of_view view))))
+      → 0 < into_iter_len after → AreLeft (drop (place + 1) children) held later (state_of_view next) (into_iter_items after)
   left-more None next tried later steps shows kept some = absurd (omega (arith, steps.1))
   left-more (Some run) next tried later steps shows kept some =
       subst (λ es. AreLeft (drop (place + 1) children) held es (state_of_view next) (into_iter_items after)) (sym (kept run refl))

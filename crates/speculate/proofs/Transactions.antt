@@ -22,15 +22,19 @@ operations_at (block ∷ blocks) zero = omega arith
 operations_at (block ∷ blocks) (suc i) = let rest = operations_at blocks i in omega arith
 
 -- a transaction can be run on objects of the batch's kinds that are no larger than all others can make them
-pub transaction_can_run : (start : State) (texts : Texts) (blocks : List declared_block.Block) (i : ℕ) (state : State) (x : declared_block.Block)
-    → IsBatch start texts (map block_view blocks) → kinds state ≡ kinds start → IsWithinOthers (map block_view blocks) i state → i < length blocks → x ≡ get_or blocks i x → CanRunHere (block_view x) [] state
+pub transaction_can_run : (start : State) (texts : Texts) (blocks : List declared_block.Block) (i : ℕ) (state : State)
+    (x : declared_block.Block)
+    → IsBatch start texts (map block_view blocks) → kinds state ≡ kinds start → IsWithinOthers (map block_view blocks) i state
+    → i < length blocks → x ≡ get_or blocks i x → CanRunHere (block_view x) [] state
 transaction_can_run start texts blocks i state x is same within lt read =
     let size = length-map blocks block_view in
     let few = operations_at (map block_view blocks) i in
     let here : CanRunHere (block_at (map block_view blocks) i) [] state = record {
       labels = [];
       held_by = tt;
-      well_formed = subst (IsWellFormed (block_at (map block_view blocks) i) []) (sym same) (well_formed_at (map block_view blocks) (kinds start) i is.well_formed (omega arith));
-      room = limit state (all_operations (map block_view blocks) - operations (block_at (map block_view blocks) i)) (operations (block_at (map block_view blocks) i)) within (omega (arith, is.few_operations));
+      well_formed = subst (IsWellFormed (block_at (map block_view blocks) i) []) (sym same)
+          (well_formed_at (map block_view blocks) (kinds start) i is.well_formed (omega arith));
+      room = limit state (all_operations (map block_view blocks) - operations (block_at (map block_view blocks) i))
+          (operations (block_at (map block_view blocks) i)) within (omega (arith, is.few_operations));
     } in
     subst (λ b. CanRunHere b [] state) (sym (block_at_view blocks i x lt read)) here

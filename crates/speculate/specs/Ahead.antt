@@ -27,7 +27,8 @@ IsRunAhead child held state run =
 abbrev pub AreRunAhead : List Subaction → List Held → State → List Ahead → Type 0
 AreRunAhead children held state [] = ⊤
 AreRunAhead [] held state (run ∷ runs) = ⊥
-AreRunAhead (child ∷ children) held state (run ∷ runs) = IsRunAhead (subaction_view child) held state run × AreRunAhead children held state runs
+AreRunAhead (child ∷ children) held state (run ∷ runs) = IsRunAhead (subaction_view child) held state run
+    × AreRunAhead children held state runs
 
 -- the entries are legal in one state and lead to the other
 abbrev pub Leads : State → List Entry → State → Type 0

@@ -1,5 +1,6 @@
 -- What the items of some pieces are, and what workers have given once they are back.
-use Rattle.std.proofs.Common.{◌≡◌, ℕ, zero, suc, ◌<◌, Bool, true, false, List, [], ◌∷◌, ◌++◌, length, map, sym, refl, ap, ◌∙◌, subst, append_assoc, append-nil, arith}
+use Rattle.std.proofs.Common.{◌≡◌, ℕ, zero, suc, ◌<◌, Bool, true, false, List, [], ◌∷◌, ◌++◌, length, map, sym, refl, ap, ◌∙◌, subst}
+use Rattle.std.proofs.Common.{append_assoc, append-nil, arith}
 use Rattle.std.proofs.lemmas.Bool.{or_parts}
 use Rattle.std.proofs.lemmas.List.Elements.{All-tail}
 use Rattle.std.proofs.lemmas.List.{length-map}
@@ -19,13 +20,15 @@ use Rattle.workers.proofs.Boards.{all_pieces}
 
 module _ {X : Type 0} (giving : ℕ → List X → Type 0) where
   -- the items of some pieces, and then of others
-  pub given_append : (ks js : List ℕ) (xs ys : List X) → AreGiven giving ks xs → AreGiven giving js ys → AreGiven giving (ks ++ js) (xs ++ ys)
+  pub given_append : (ks js : List ℕ) (xs ys : List X) → AreGiven giving ks xs → AreGiven giving js ys
+      → AreGiven giving (ks ++ js) (xs ++ ys)
   given_append [] js xs ys none given = subst (AreGiven giving js) (ap (λ zs. zs ++ ys) (sym none)) given
   given_append (k ∷ ks) js xs ys (own, rest, is, here, more) given =
       (own, rest ++ ys, ap (λ zs. zs ++ ys) is ∙ append_assoc own rest ys, here, given_append ks js rest ys more given)
 
   -- one piece more
-  pub given_push : (ks : List ℕ) (k : ℕ) (xs own : List X) → AreGiven giving ks xs → giving k own → AreGiven giving (ks ++ k ∷ []) (xs ++ own)
+  pub given_push : (ks : List ℕ) (k : ℕ) (xs own : List X) → AreGiven giving ks xs → giving k own
+      → AreGiven giving (ks ++ k ∷ []) (xs ++ own)
   given_push ks k xs own given here = given_append ks (k ∷ []) xs own given (own, [], sym (append-nil own), here, refl)
 
   -- the seats of workers, none of which raised
@@ -33,10 +36,12 @@ module _ {X : Type 0} (giving : ℕ → List X → Type 0) where
   seats_of = map (λ w. w.seat)
 
   -- where the seats together did not raise, none did
-  none_raised : (all : List (Worked X)) → list_any (λ v. v.raised) (views_of (seats_of all)) ≡ false → All (λ w. w.seat.view.raised ≡ false) all
+  none_raised : (all : List (Worked X)) → list_any (λ v. v.raised) (views_of (seats_of all)) ≡ false
+      → All (λ w. w.seat.view.raised ≡ false) all
   none_raised [] none k d lt = absurd (omega arith)
   none_raised (w ∷ all) none zero d lt = (or_parts w.seat.view.raised (list_any (λ v. v.raised) (views_of (seats_of all))) none).0
-  none_raised (w ∷ all) none (suc k) d lt = none_raised all (or_parts w.seat.view.raised (list_any (λ v. v.raised) (views_of (seats_of all))) none).1 k d (omega arith)
+  none_raised (w ∷ all) none (suc k) d lt =
+      none_raised all (or_parts w.seat.view.raised (list_any (λ v. v.raised) (views_of (seats_of all))) none).1 k d (omega arith)
 
   -- a fact of each worker is one of each seat
   each_seat : (P : Seated → Type 0) (all : List (Worked X)) → All (λ w. P w.seat) all → All P (seats_of all)
@@ -49,25 +54,33 @@ module _ {X : Type 0} (giving : ℕ → List X → Type 0) where
   all_own board all each = each_seat (IsSeatOf board) all (λ k d lt. (each k d lt).own)
 
   -- their items are those of all pieces that they drew
-  all_given : (all : List (Worked X)) → All (λ w. AreGiven giving w.seat.view.drawn w.items.items) all → AreGiven giving (all_drawn (views_of (seats_of all))) (flat_map (λ w. w.items.items) all)
+  all_given : (all : List (Worked X)) → All (λ w. AreGiven giving w.seat.view.drawn w.items.items) all
+      → AreGiven giving (all_drawn (views_of (seats_of all))) (flat_map (λ w. w.items.items) all)
   all_given [] each = refl
   all_given (w ∷ all) each =
-      given_append w.seat.view.drawn (all_drawn (views_of (seats_of all))) w.items.items (flat_map (λ u. u.items.items) all) (each 0 w (omega arith))
+      given_append w.seat.view.drawn (all_drawn (views_of (seats_of all))) w.items.items (flat_map (λ u. u.items.items) all)
+      (each 0 w (omega arith))
       (all_given all (All-tail (λ u. AreGiven giving u.seat.view.drawn u.items.items) w all each))
 
   -- where no worker raised, all pieces were given once
-  pub given_once : (board : Opened) (all : List (Worked X)) (seats : List Seated) (items : List X) (drawn : ℕ) (stopped : Bool) → seats ≡ seats_of all → items ≡ flat_map (λ w. w.items.items) all → All (HasWorked giving board) all
-      → 0 < length all → stopped ≡ false → stopped ≡ list_any (λ v. v.raised) (views_of seats) → HoldsEachBelow drawn (all_drawn (views_of seats)) → All (λ s. 0 < s.view.done → drawn ≡ board.pieces) seats
+  pub given_once : (board : Opened) (all : List (Worked X)) (seats : List Seated) (items : List X) (drawn : ℕ) (stopped : Bool)
+      → seats ≡ seats_of all → items ≡ flat_map (λ w. w.items.items) all → All (HasWorked giving board) all
+      → 0 < length all → stopped ≡ false → stopped ≡ list_any (λ v. v.raised) (views_of seats)
+      → HoldsEachBelow drawn (all_drawn (views_of seats)) → All (λ s. 0 < s.view.done → drawn ≡ board.pieces) seats
       → All (λ s. s.view.stopped ≡ true → stopped ≡ true) seats → AreGivenOnce giving board.pieces items
   given_once board all seats items drawn stopped of_seats of_items each some quiet raised once done told =
-      let calm : All (λ w. w.seat.view.raised ≡ false) all = none_raised all (ap (λ ss. list_any (λ v. v.raised) (views_of ss)) (sym of_seats) ∙ sym raised ∙ quiet) in
-      let over : All (λ s. is_over s.view ≡ true) seats = subst (All (λ s. is_over s.view ≡ true)) (sym of_seats) (each_seat (λ s. is_over s.view ≡ true) all (λ k d lt. (each k d lt).over)) in
+      let calm : All (λ w. w.seat.view.raised ≡ false) all = none_raised all (ap (λ ss. list_any (λ v. v.raised) (views_of ss))
+      (sym of_seats) ∙ sym raised ∙ quiet) in
+      let over : All (λ s. is_over s.view ≡ true) seats = subst (All (λ s. is_over s.view ≡ true)) (sym of_seats)
+      (each_seat (λ s. is_over s.view ≡ true) all (λ k d lt. (each k d lt).over)) in
       let seated : 0 < length seats = omega (arith, some, ap length of_seats ∙ length-map all (λ w. w.seat)) in
       let whole = all_pieces board.pieces drawn stopped seats seated over quiet done told in
       record {
         order = all_drawn (views_of seats);
         once = subst (λ n. HoldsEachBelow n (all_drawn (views_of seats))) whole once;
-        given = subst (λ ss. AreGiven giving (all_drawn (views_of ss)) items) (sym of_seats) (subst (AreGiven giving (all_drawn (views_of (seats_of all)))) (sym of_items) (all_given all (λ k d lt. (each k d lt).given (calm k d lt))));
+        given = subst (λ ss. AreGiven giving (all_drawn (views_of ss)) items) (sym of_seats)
+            (subst (AreGiven giving (all_drawn (views_of (seats_of all)))) (sym of_items)
+            (all_given all (λ k d lt. (each k d lt).given (calm k d lt))));
       }
 
 -- the items of a seat, unless it raised
@@ -87,16 +100,20 @@ given_next giving v mid w k xs ys drew given same done calm =
     (subst (AreGiven giving (v.drawn ++ k ∷ [])) (sym is) (given_push giving v.drawn k xs own before here))
 
 -- items of pieces, of which more is known
-pub given_weaker : {X : Type 0} (giving more : ℕ → List X → Type 0) → ((k : ℕ) (own : List X) → giving k own → more k own) → (ks : List ℕ) (items : List X) → AreGiven giving ks items → AreGiven more ks items
+pub given_weaker : {X : Type 0} (giving more : ℕ → List X → Type 0) → ((k : ℕ) (own : List X) → giving k own → more k own)
+    → (ks : List ℕ) (items : List X) → AreGiven giving ks items → AreGiven more ks items
 given_weaker giving more each [] items none = none
-given_weaker giving more each (k ∷ ks) items (own, rest, is, here, others) = (own, rest, is, each k own here, given_weaker giving more each ks rest others)
+given_weaker giving more each (k ∷ ks) items (own, rest, is, here, others) =
+    (own, rest, is, each k own here, given_weaker giving more each ks rest others)
 
 -- what is known of each result of doing a piece is known of what all pieces give
-pub given_by : {X E : Type 0} (done : ℕ → Result (Vec X Global) NoMemory → Type 0) (n : ℕ) (more : ℕ → List X → Type 0) (r : Result (Vec X Global) E) → IfOk r (λ items. AreGivenOnce (Gives done) n items.items)
+pub given_by : {X E : Type 0} (done : ℕ → Result (Vec X Global) NoMemory → Type 0) (n : ℕ) (more : ℕ → List X → Type 0)
+    (r : Result (Vec X Global) E) → IfOk r (λ items. AreGivenOnce (Gives done) n items.items)
     → ((k : ℕ) (own : Vec X Global) → done k (Ok own) → more k own.items) → IfOk r (λ items. AreGivenOnce more n items.items)
 given_by done n more r all each = IfOk-weaker r _ _
     (λ items given. record {
       order = given.order;
       once = given.once;
-      given = given_weaker (Gives done) more (λ k own here. subst (more k) here.is (each k here.own here.made)) given.order items.items given.given;
+      given = given_weaker (Gives done) more (λ k own here. subst (more k) here.is (each k here.own here.made)) given.order items.items
+          given.given;
     }) all

@@ -6,7 +6,8 @@ use Rattle.std.proofs.lemmas.List.{length-append}
 use Rattle.std.proofs.lemmas.List.Elements.{All-append}
 use Rattle.std.proofs.lemmas.List.FromFn.{length-range_with_len}
 use Rattle.std.proofs.lemmas.List.Sums.{sum_by-cons}
-use Rattle.std.proofs.lemmas.List.Sorted.{IsPermutation-refl, IsPermutation-sym, IsPermutation-trans, IsPermutation-middle, IsPermutation-to_front, IsPermutation-cons, length_permutation, sum_by-IsPermutation}
+use Rattle.std.proofs.lemmas.List.Sorted.{IsPermutation-refl, IsPermutation-sym, IsPermutation-trans, IsPermutation-middle}
+use Rattle.std.proofs.lemmas.List.Sorted.{IsPermutation-to_front, IsPermutation-cons, length_permutation, sum_by-IsPermutation}
 use Rattle.std.specs.List.{All, range_with_len, sum_by}
 use Rattle.std.specs.List.Sorted.{IsPermutation}
 use Rattle.claims.specs.Views.{bit, times, once_below, HoldsEachBelow}
@@ -32,7 +33,8 @@ parted_times x y front back = omega (arith, times-append y front (x ∷ back), t
 -- one number more of a range
 range_next : (a n : ℕ) → range_with_len a (suc n) ≡ range_with_len a n ++ (a + n) ∷ []
 range_next a zero = let same : a ≡ a + 0 = omega arith in ap (λ m. m ∷ []) same
-range_next a (suc n) = let same : (a + 1) + n ≡ a + suc n = omega arith in ap (λ l. a ∷ l) (range_next (a + 1) n ∙ ap (λ m. range_with_len (a + 1) n ++ m ∷ []) same)
+range_next a (suc n) = let same : (a + 1) + n ≡ a + suc n = omega arith in
+    ap (λ l. a ∷ l) (range_next (a + 1) n ∙ ap (λ m. range_with_len (a + 1) n ++ m ∷ []) same)
 
 -- a list in which no number stands
 no_number : (ks : List ℕ) → ((x : ℕ) → times x ks ≡ 0) → ks ≡ []
@@ -48,10 +50,13 @@ without_last : (n : ℕ) (ks front back : List ℕ) → ks ≡ front ++ n ∷ ba
 without_last n ks front back is once x = omega (arith, ap (times x) is, parted_times n x front back, once x, once_below_next x n)
 
 -- an order of the others is one of all
-order_next : (n : ℕ) (ks front back : List ℕ) → ks ≡ front ++ n ∷ back → IsPermutation (range_with_len 0 n) (front ++ back) → IsPermutation (range_with_len 0 n ++ n ∷ []) ks
+order_next : (n : ℕ) (ks front back : List ℕ) → ks ≡ front ++ n ∷ back → IsPermutation (range_with_len 0 n) (front ++ back)
+    → IsPermutation (range_with_len 0 n ++ n ∷ []) ks
 order_next n ks front back is order =
-    let last = IsPermutation-trans _ _ _ (IsPermutation-to_front (range_with_len 0 n) n) (IsPermutation-cons n (range_with_len 0 n) (front ++ back) order) in
-    subst (IsPermutation (range_with_len 0 n ++ n ∷ [])) (sym is) (IsPermutation-trans _ _ _ last (IsPermutation-sym _ _ (IsPermutation-middle front n back)))
+    let last = IsPermutation-trans _ _ _ (IsPermutation-to_front (range_with_len 0 n) n)
+    (IsPermutation-cons n (range_with_len 0 n) (front ++ back) order) in
+    subst (IsPermutation (range_with_len 0 n ++ n ∷ [])) (sym is)
+    (IsPermutation-trans _ _ _ last (IsPermutation-sym _ _ (IsPermutation-middle front n back)))
 
 -- no number is below 0
 below_none : (x : ℕ) → once_below x 0 ≡ 0
@@ -72,51 +77,85 @@ count_once n ks once = length_permutation (range_with_len 0 n) ks (some_order n 
 
 module _ {X : Type 0} (giving : ℕ → List X → Type 0) where
   -- what holds of each item of a piece holds of each item
-  pub each_given : (P : X → Type 0) → ((k : ℕ) (own : List X) → giving k own → All P own) → (ks : List ℕ) (items : List X) → AreGiven giving ks items → All P items
+  pub each_given : (P : X → Type 0) → ((k : ℕ) (own : List X) → giving k own → All P own) → (ks : List ℕ) (items : List X)
+      → AreGiven giving ks items → All P items
   each_given P of_piece [] items none = subst (All P) (sym none) (λ k d lt. absurd (omega arith))
-  each_given P of_piece (k ∷ ks) items (own, rest, is, here, more) = subst (All P) (sym is) (All-append P own rest (of_piece k own here) (each_given P of_piece ks rest more))
+  each_given P of_piece (k ∷ ks) items (own, rest, is, here, more) = subst (All P) (sym is)
+      (All-append P own rest (of_piece k own here) (each_given P of_piece ks rest more))
 
   -- pieces that give an item at most give no more items than there are pieces
-  few_given : ((k : ℕ) (own : List X) → giving k own → length own ≤ 1) → (ks : List ℕ) (items : List X) → AreGiven giving ks items → length items ≤ length ks
+  few_given : ((k : ℕ) (own : List X) → giving k own → length own ≤ 1) → (ks : List ℕ) (items : List X) → AreGiven giving ks items
+      → length items ≤ length ks
   few_given of_piece [] items none = omega (arith, ap length none)
-  few_given of_piece (k ∷ ks) items (own, rest, is, here, more) = omega (arith, ap length is, length-append own rest, of_piece k own here, few_given of_piece ks rest more)
+  few_given of_piece (k ∷ ks) items (own, rest, is, here, more) = omega (
+    arith,
+    ap length is,
+    length-append own rest,
+    of_piece k own here,
+    few_given of_piece ks rest more,
+  )
 
   -- the same of all pieces
-  pub few_given_once : ((k : ℕ) (own : List X) → giving k own → length own ≤ 1) → (n : ℕ) (items : List X) → AreGivenOnce giving n items → length items ≤ n
+  pub few_given_once : ((k : ℕ) (own : List X) → giving k own → length own ≤ 1) → (n : ℕ) (items : List X) → AreGivenOnce giving n items
+      → length items ≤ n
   few_given_once of_piece n items all = omega (arith, few_given of_piece all.order items all.given, count_once n all.order all.once)
 
   -- a number of each list that adds up
   module _ (m : List X → ℕ) (empty : m [] ≡ 0) (sums : (xs ys : List X) → m (xs ++ ys) ≡ m xs + m ys) where
-    sum_given : (f : ℕ → ℕ) → ((k : ℕ) (own : List X) → giving k own → m own ≡ f k) → (ks : List ℕ) (items : List X) → AreGiven giving ks items → m items ≡ sum_by f ks
+    sum_given : (f : ℕ → ℕ) → ((k : ℕ) (own : List X) → giving k own → m own ≡ f k) → (ks : List ℕ) (items : List X)
+        → AreGiven giving ks items → m items ≡ sum_by f ks
     sum_given f of_piece [] items none = ap m none ∙ empty
     sum_given f of_piece (k ∷ ks) items (own, rest, is, here, more) =
         omega (arith, ap m is, sums own rest, of_piece k own here, sum_given f of_piece ks rest more, sum_by-cons f k ks)
 
     -- of all items it is the sum over the pieces
-    pub sum_given_once : (f : ℕ → ℕ) → ((k : ℕ) (own : List X) → giving k own → m own ≡ f k) → (n : ℕ) (items : List X) → AreGivenOnce giving n items → m items ≡ sum_by f (range_with_len 0 n)
-    sum_given_once f of_piece n items all = sum_given f of_piece all.order items all.given ∙ sum_by-IsPermutation f (range_with_len 0 n) all.order (some_order n all.order all.once)
+    pub sum_given_once : (f : ℕ → ℕ) → ((k : ℕ) (own : List X) → giving k own → m own ≡ f k) → (n : ℕ) (items : List X)
+        → AreGivenOnce giving n items → m items ≡ sum_by f (range_with_len 0 n)
+    sum_given_once f of_piece n items all = sum_given f of_piece all.order items all.given
+        ∙ sum_by-IsPermutation f (range_with_len 0 n) all.order (some_order n all.order all.once)
 
     -- where no piece gives any of it, there is none
-    none_given : (ks : List ℕ) (items : List X) → ((j : ℕ) (own : List X) → 0 < times j ks → giving j own → m own ≡ 0) → AreGiven giving ks items → m items ≡ 0
+    none_given : (ks : List ℕ) (items : List X) → ((j : ℕ) (own : List X) → 0 < times j ks → giving j own → m own ≡ 0)
+        → AreGiven giving ks items → m items ≡ 0
     none_given [] items none is = ap m is ∙ empty
     none_given (k ∷ ks) items none (own, rest, is, here, more) =
-        omega (arith, ap m is, sums own rest, none k own (omega (arith, same_once k)) here, none_given ks rest (λ j other in_rest. none j other (omega arith)) more)
+        omega (
+          arith,
+          ap m is,
+          sums own rest,
+          none k own (omega (arith, same_once k)) here,
+          none_given ks rest
+              (λ j other in_rest. none j other (omega arith)) more,
+        )
 
-    pub given_nowhere : (n : ℕ) (items : List X) → ((j : ℕ) (own : List X) → j < n → giving j own → m own ≡ 0) → AreGivenOnce giving n items → m items ≡ 0
-    given_nowhere n items none all = none_given all.order items (λ j own some. none j own (below_of_once j n (omega (arith, all.once j)))) all.given
+    pub given_nowhere : (n : ℕ) (items : List X) → ((j : ℕ) (own : List X) → j < n → giving j own → m own ≡ 0)
+        → AreGivenOnce giving n items → m items ≡ 0
+    given_nowhere n items none all = none_given all.order items (λ j own some. none j own (below_of_once j n (omega (arith, all.once j))))
+        all.given
 
     -- where no other piece gives any of it, it is what one piece gives
-    only_here : (k : ℕ) → ((j : ℕ) (own : List X) → j ≢ k → giving j own → m own ≡ 0) → (ks : List ℕ) (items : List X) → times k ks ≡ 1 → AreGiven giving ks items → (own : List X) × giving k own × (m items ≡ m own)
+    only_here : (k : ℕ) → ((j : ℕ) (own : List X) → j ≢ k → giving j own → m own ≡ 0) → (ks : List ℕ) (items : List X) → times k ks ≡ 1
+        → AreGiven giving ks items → (own : List X) × giving k own × (m items ≡ m own)
     only_here k apart [] items once is = absurd (omega arith)
     only_here k apart (j ∷ ks) items once (own, rest, is, here, more) = elim (ℕ_discrete j k) [
       | yes same ↦
-          let none : times k ks ≡ 0 = omega (arith, same_once k, subst (λ i. bit (eqb i k) + times k ks ≡ 1) same once) in
-          (own, subst (λ i. giving i own) same here, omega (arith, ap m is, sums own rest, none_given ks rest (λ i other some. apart i other (λ e. absurd (omega (arith, none, subst (λ x. 0 < times x ks) e some)))) more))
+          let none : times k ks ≡ 0 = omega (arith, same_once k, subst (λ i. bit (eqb i k) + times k ks ≡ 1) same once) in (
+            own,
+            subst (λ i. giving i own) same here,
+            omega (
+              arith,
+              ap m is,
+              sums own rest,
+              none_given ks rest
+                  (λ i other some. apart i other (λ e. absurd (omega (arith, none, subst (λ x. 0 < times x ks) e some)))) more,
+            ),
+          )
       | no other ↦
           let later = only_here k apart ks rest (omega (arith, bit_other k j other)) more in
           (later.0, later.1, omega (arith, ap m is, sums own rest, apart j own other here, later.2))
     ]
 
     -- the same of all items
-    pub given_here : (k n : ℕ) → k < n → ((j : ℕ) (own : List X) → j ≢ k → giving j own → m own ≡ 0) → (items : List X) → AreGivenOnce giving n items → (own : List X) × giving k own × (m items ≡ m own)
+    pub given_here : (k n : ℕ) → k < n → ((j : ℕ) (own : List X) → j ≢ k → giving j own → m own ≡ 0) → (items : List X)
+        → AreGivenOnce giving n items → (own : List X) × giving k own × (m items ≡ m own)
     given_here k n lt apart items all = only_here k apart all.order items (all.once k ∙ once_here k n lt) all.given

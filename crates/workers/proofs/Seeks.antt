@@ -1,5 +1,6 @@
 -- What seats that seek the least failing piece know once they are back.
-use Rattle.std.proofs.Common.{◌≡◌, ◌⊎◌, ℕ, zero, suc, ◌<◌, ◌≤◌, min, Bool, true, List, [], ◌∷◌, ◌++◌, length, get_or, sym, refl, ap, ◌∙◌, subst, inl, ⊎_elim, arith}
+use Rattle.std.proofs.Common.{◌≡◌, ◌⊎◌, ℕ, zero, suc, ◌<◌, ◌≤◌, min, Bool, true, List, [], ◌∷◌, ◌++◌, length, get_or, sym, refl, ap, ◌∙◌}
+use Rattle.std.proofs.Common.{subst, inl, ⊎_elim, arith}
 use Rattle.std.proofs.lemmas.List.Elements.{All-nil, All-tail}
 use native.Mathlib.Decide.{dec_le}
 use Rattle.std.specs.List.{All, list_any}
@@ -21,10 +22,12 @@ min_either Q m n left right = elim (dec_le m n) [
 ]
 
 -- the least of some numbers is one of them
-attained : (Q : ℕ → Type 0) (pieces : ℕ) (seats : List Seated) → Q pieces → All (λ s. Q s.view.low) seats → Q (least (λ v. v.low) pieces (views_of seats))
+attained : (Q : ℕ → Type 0) (pieces : ℕ) (seats : List Seated) → Q pieces → All (λ s. Q s.view.low) seats
+    → Q (least (λ v. v.low) pieces (views_of seats))
 attained Q pieces [] start each = start
 attained Q pieces (s ∷ seats) start each =
-    min_either Q s.view.low (least (λ v. v.low) pieces (views_of seats)) (each 0 s (omega arith)) (attained Q pieces seats start (All-tail (λ u. Q u.view.low) s seats each))
+    min_either Q s.view.low (least (λ v. v.low) pieces (views_of seats)) (each 0 s (omega arith))
+    (attained Q pieces seats start (All-tail (λ u. Q u.view.low) s seats each))
 
 -- the least is at most each
 least_below : (pieces : ℕ) (seats : List Seated) → All (λ s. least (λ v. v.low) pieces (views_of seats) ≤ s.view.low) seats
@@ -32,7 +35,8 @@ least_below pieces [] k d lt = absurd (omega arith)
 least_below pieces (s ∷ seats) zero d lt = omega arith
 least_below pieces (s ∷ seats) (suc k) d lt = omega (arith, least_below pieces seats k d (omega arith))
 
-module _ (passing failing : ℕ → Type 0) (board : Opened) (seats : List Seated) (first : ℕ) (each : Back passing failing board seats) (is : first ≡ least (λ v. v.low) board.pieces (views_of seats)) where
+module _ (passing failing : ℕ → Type 0) (board : Opened) (seats : List Seated) (first : ℕ) (each : Back passing failing board seats)
+    (is : first ≡ least (λ v. v.low) board.pieces (views_of seats)) where
   -- the least number that a seat lowered to fails
   pub found : first < board.pieces → failing first
   found lt =
@@ -41,20 +45,25 @@ module _ (passing failing : ℕ → Type 0) (board : Opened) (seats : List Seate
       (subst Q (sym is) (attained Q board.pieces seats (inl refl) (λ k d below. (each k d below).0.low)))
 
   -- each piece below it passes: it was judged by the seat that drew it, and no seat lowered to, or was told, a number at or below it
-  pub all_pass : (drawn : ℕ) (stopped : Bool) → stopped ≡ list_any (λ v. v.raised) (views_of seats) → 0 < length seats → HoldsEachBelow drawn (all_drawn (views_of seats))
-      → All (λ s. 0 < s.view.done → drawn ≡ board.pieces) seats → All (λ s. s.view.stopped ≡ true → stopped ≡ true) seats → All (λ s. first ≤ s.view.told) seats → first ≤ board.pieces
+  pub all_pass : (drawn : ℕ) (stopped : Bool) → stopped ≡ list_any (λ v. v.raised) (views_of seats) → 0 < length seats
+      → HoldsEachBelow drawn (all_drawn (views_of seats))
+      → All (λ s. 0 < s.view.done → drawn ≡ board.pieces) seats → All (λ s. s.view.stopped ≡ true → stopped ≡ true) seats
+      → All (λ s. first ≤ s.view.told) seats → first ≤ board.pieces
       → (k : ℕ) → k < first → passing k
   all_pass drawn stopped raised some once done halted told within k lt =
       let quiet = none_raised seats (λ i d below. (each i d below).0.raised) in
-      let all : drawn ≡ board.pieces = all_pieces board.pieces drawn stopped seats some (λ i d below. (each i d below).1) (raised ∙ quiet) done halted in
+      let all : drawn ≡ board.pieces = all_pieces board.pieces drawn stopped seats some (λ i d below. (each i d below).1)
+      (raised ∙ quiet) done halted in
       in_some (passing k) seats k
       (λ i d below here. ⊎_elim (λ (e : passing k). e)
-      (λ (e : ((get_or seats i d).view.low ≤ k) ⊎ ((get_or seats i d).view.told ≤ k)). ⊎_elim (λ low. absurd (omega (arith, is, least_below board.pieces seats i d below))) (λ heard. absurd (omega (arith, told i d below))) e)
+      (λ (e : ((get_or seats i d).view.low ≤ k) ⊎ ((get_or seats i d).view.told ≤ k)). ⊎_elim
+      (λ low. absurd (omega (arith, is, least_below board.pieces seats i d below))) (λ heard. absurd (omega (arith, told i d below))) e)
       (in_list (Judged passing (get_or seats i d).view) (get_or seats i d).view.drawn k (each i d below).0.judged here))
       (omega (arith, once k, once_some k drawn (omega arith)))
 
 -- a seat that has taken no step
-pub sought_none : (passing failing : ℕ → Type 0) (board : Opened) → Sought passing failing board (record { board = board.id; view = fresh 1 board.pieces })
+pub sought_none : (passing failing : ℕ → Type 0) (board : Opened)
+    → Sought passing failing board (record { board = board.id; view = fresh 1 board.pieces })
 sought_none passing failing board = record {
   own = (refl, refl);
   judged = All-nil (Judged passing (fresh 1 board.pieces));
@@ -70,12 +79,16 @@ all_push Q (x ∷ xs) k each here zero d lt = each 0 x (omega arith)
 all_push Q (x ∷ xs) k each here (suc i) d lt = all_push Q xs k (All-tail Q x xs each) here i d (omega arith)
 
 -- a piece more is drawn and judged
-pub sought_next : (passing failing : ℕ → Type 0) (board : Opened) (before mid after : Seated) (k : ℕ) → Sought passing failing board before → mid.view ≡ with_piece before.view k → IsSeatOf board after → LowAndTold mid.view after.view
-    → ((j : ℕ) → Judged passing mid.view j → Judged passing after.view j) → Judged passing after.view k → (LowFails failing board.pieces mid.view → LowFails failing board.pieces after.view) → Sought passing failing board after
+pub sought_next : (passing failing : ℕ → Type 0) (board : Opened) (before mid after : Seated) (k : ℕ) → Sought passing failing board before
+    → mid.view ≡ with_piece before.view k → IsSeatOf board after → LowAndTold mid.view after.view
+    → ((j : ℕ) → Judged passing mid.view j → Judged passing after.view j) → Judged passing after.view k
+    → (LowFails failing board.pieces mid.view → LowFails failing board.pieces after.view) → Sought passing failing board after
 sought_next passing failing board before mid after k was drew own same kept judged low = record {
   own = own;
   judged = subst (All (Judged passing after.view)) (sym (ap (λ v. v.drawn) same ∙ ap (λ v. v.drawn) drew))
-      (all_push (Judged passing after.view) before.view.drawn k (λ i d lt. kept (get_or before.view.drawn i d) (subst (λ v. Judged passing v (get_or before.view.drawn i d)) (sym drew) (was.judged i d lt))) judged);
+      (all_push (Judged passing after.view) before.view.drawn k
+      (λ i d lt. kept (get_or before.view.drawn i d) (subst (λ v. Judged passing v (get_or before.view.drawn i d)) (sym drew)
+      (was.judged i d lt))) judged);
   low = low (subst (LowFails failing board.pieces) (sym drew) was.low);
   raised = ap (λ v. v.raised) same ∙ (ap (λ v. v.raised) drew ∙ was.raised);
 }

@@ -27,7 +27,8 @@ pub record IsGivenBy {X : Type 0} (gives : Seated → Claim → X → Type 0) (x
   pub given : gives seat claim x
 
 -- these seats have still to claim, and there is room for what is given of them beside what was given of others
-pub record AreNext {X : Type 0} (board : Opened) (gives : Seated → Claim → X → Type 0) (seats : List Seated) (given : List X) (capacity : ℕ) : Type 0 where
+pub record AreNext {X : Type 0} (board : Opened) (gives : Seated → Claim → X → Type 0) (seats : List Seated) (given : List X)
+    (capacity : ℕ) : Type 0 where
   pub new : All (IsNewSeat board) seats
   pub room : length given + length seats ≤ capacity
   pub each : All (IsGivenBy gives) given

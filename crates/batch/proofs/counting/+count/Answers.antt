@@ -21,8 +21,10 @@ operations_in_steps-loop-step-init t c = let all = rest_of_steps-start c.args.st
 
 pub operations_in_steps-operations_in_step-count-requires : goal.operations_in_steps-operations_in_step-count-requires
 operations_in_steps-operations_in_step-count-requires t c =
-    let more = rest_of_steps-more c.loop-step.step-index _ _ c.loop-step-test.true c.step-item.is in
-    (omega (arith, among-most size-Step _ _ _ c.loop-step-test.true c.step-item.is, c.decreases), omega (arith, more, c.loop-step.invariant, c.requires))
+    let more = rest_of_steps-more c.loop-step.step-index _ _ c.loop-step-test.true c.step-item.is in (
+      omega (arith, among-most size-Step _ _ _ c.loop-step-test.true c.step-item.is, c.decreases),
+      omega (arith, more, c.loop-step.invariant, c.requires),
+    )
 
 pub operations_in_steps-overflow_add-count : goal.operations_in_steps-overflow_add-count
 operations_in_steps-overflow_add-count t c =
@@ -44,8 +46,10 @@ operations_in_children-loop-child-init t c = let all = rest_of_children-start c.
 
 pub operations_in_children-operations_in_subaction-count-requires : goal.operations_in_children-operations_in_subaction-count-requires
 operations_in_children-operations_in_subaction-count-requires t c =
-    let more = rest_of_children-more c.loop-child.child-index _ _ c.loop-child-test.true c.child-item.is in
-    (omega (arith, among-most size-Subaction _ _ _ c.loop-child-test.true c.child-item.is, c.decreases), omega (arith, more, c.loop-child.invariant, c.requires))
+    let more = rest_of_children-more c.loop-child.child-index _ _ c.loop-child-test.true c.child-item.is in (
+      omega (arith, among-most size-Subaction _ _ _ c.loop-child-test.true c.child-item.is, c.decreases),
+      omega (arith, more, c.loop-child.invariant, c.requires),
+    )
 
 pub operations_in_children-overflow_add-count : goal.operations_in_children-overflow_add-count
 operations_in_children-overflow_add-count t c =
@@ -58,7 +62,8 @@ operations_in_children-loop-child-preserved t c =
     omega (arith, more, c.loop-child.invariant, c.operations_in_subaction-count.ensures)
 
 pub operations_in_children-returns : goal.operations_in_children-returns
-operations_in_children-returns t c = let ended = rest_of_children-end _ _ c.loop-child-test.false in omega (arith, c.loop-child.invariant, ended)
+operations_in_children-returns t c = let ended = rest_of_children-end _ _ c.loop-child-test.false in
+    omega (arith, c.loop-child.invariant, ended)
 
 -- ---- handlers
 
@@ -67,8 +72,15 @@ operations_in_handlers-loop-handler-init t c = let all = rest_of_handlers-start 
 
 pub operations_in_handlers-operations_in-count-requires : goal.operations_in_handlers-operations_in-count-requires
 operations_in_handlers-operations_in-count-requires t c =
-    let more = rest_of_handlers-more c.loop-handler.handler-index _ _ c.loop-handler-test.true c.handler-item.is in
-    (omega (arith, block-is_smaller c.handler-item.result, among-most size-Handler _ _ _ c.loop-handler-test.true c.handler-item.is, c.decreases), omega (arith, more, c.loop-handler.invariant, c.requires))
+    let more = rest_of_handlers-more c.loop-handler.handler-index _ _ c.loop-handler-test.true c.handler-item.is in (
+      omega (
+        arith,
+        block-is_smaller c.handler-item.result,
+        among-most size-Handler _ _ _ c.loop-handler-test.true c.handler-item.is,
+        c.decreases,
+      ),
+      omega (arith, more, c.loop-handler.invariant, c.requires),
+    )
 
 pub operations_in_handlers-overflow_add-count : goal.operations_in_handlers-overflow_add-count
 operations_in_handlers-overflow_add-count t c =
@@ -81,11 +93,13 @@ operations_in_handlers-loop-handler-preserved t c =
     omega (arith, more, c.loop-handler.invariant, c.operations_in-count.ensures)
 
 pub operations_in_handlers-returns : goal.operations_in_handlers-returns
-operations_in_handlers-returns t c = let ended = rest_of_handlers-end _ _ c.loop-handler-test.false in omega (arith, c.loop-handler.invariant, ended)
+operations_in_handlers-returns t c = let ended = rest_of_handlers-end _ _ c.loop-handler-test.false in
+    omega (arith, c.loop-handler.invariant, ended)
 
 -- ---- a subaction
 
-pub operations_in_subaction-operations_in_handlers-by_reason-requires : goal.operations_in_subaction-operations_in_handlers-by_reason-requires
+pub operations_in_subaction-operations_in_handlers-by_reason-requires :
+    goal.operations_in_subaction-operations_in_handlers-by_reason-requires
 operations_in_subaction-operations_in_handlers-by_reason-requires t c =
     let parts = operations_of-parts c.args.child.now in
     let smaller = handlers-are_smaller c.args.child.now in

@@ -9,7 +9,8 @@ abbrev pub invariant-operations_in_steps-loop-step : goal.invariant-operations_i
 invariant-operations_in_steps-loop-step l = l.count + rest_of_steps l.step-index l.steps ≡ operations (steps_view l.fn.steps)
 
 abbrev pub invariant-operations_in_children-loop-child : goal.invariant-operations_in_children-loop-child
-invariant-operations_in_children-loop-child l = l.count + rest_of_children l.child-index l.children ≡ operations_of_children (children_view l.fn.children)
+invariant-operations_in_children-loop-child l = l.count + rest_of_children l.child-index l.children ≡ operations_of_children
+    (children_view l.fn.children)
 
 abbrev pub invariant-operations_in_handlers-loop-handler : goal.invariant-operations_in_handlers-loop-handler
 invariant-operations_in_handlers-loop-handler l =

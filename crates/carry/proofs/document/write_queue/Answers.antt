@@ -11,7 +11,8 @@ loop-item-init c =
     let same = ap deque_iter_rest c.into_iter-item-iterator.ensures.into_iter_gives ∙ c.iter-item-items.ensures.rest ∙ c.items.ensures in (
       ([], (refl, refl)),
       ap (λ text. string_bytes c.args.out.now ++ text)
-          (joined_behind-nothing (codes ", ") (map (item_text (names_of c.args.names.now)) (deque_iter_rest c.into_iter-item-iterator.result))
+          (joined_behind-nothing (codes ", ")
+          (map (item_text (names_of c.args.names.now)) (deque_iter_rest c.into_iter-item-iterator.result))
           ∙ ap (λ xs. joined (codes ", ") (map (item_text (names_of c.args.names.now)) xs)) same),
     )
 

@@ -30,7 +30,8 @@ loop-place-preserved c =
       passed = λ k from before. elim (cases_lt k place) [
         | inl earlier ↦ c.loop-place.invariant.passed k from earlier
         | inr here ↦ (let same : place ≡ k = omega arith in
-            subst (λ n. CommuteForward e (get_or es n e)) same (subst (CommuteForward e) (sym read) (c.commute.ensures.0 c.if-not-commute.false)))
+            subst (λ n. CommuteForward e (get_or es n e)) same
+            (subst (CommuteForward e) (sym read) (c.commute.ensures.0 c.if-not-commute.false)))
       ];
     }
 

@@ -12,6 +12,8 @@ returns-then-is_as_strict-2 c = elim c.if-is_as_strict.branch [
 
 pub returns-then-second-third : goal.returns-then-second-third
 returns-then-second-third c = elim c.if-first-third.branch [
-  | then-first-third w ↦ λ h. c.together_as_strict.ensures w.if-first-third.true (let same = w.value-is in let is = c.if-second-third.true in grind (arith, nat_tests)) h
-  | else-first-third w ↦ λ h. absurd (w.if-first-third.false (eqb-true c.args.first.now.object c.args.third.now.object (sym w.value-is ∙ c.if-second-third.true)))
+  | then-first-third w ↦ λ h. c.together_as_strict.ensures w.if-first-third.true (let same = w.value-is in
+      let is = c.if-second-third.true in grind (arith, nat_tests)) h
+  | else-first-third w ↦ λ h. absurd
+      (w.if-first-third.false (eqb-true c.args.first.now.object c.args.third.now.object (sym w.value-is ∙ c.if-second-third.true)))
 ]

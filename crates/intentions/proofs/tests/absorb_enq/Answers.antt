@@ -11,16 +11,19 @@ use Rattle.intentions.specs.Levels.{shown}
 use Rattle.intentions.proofs.tests.absorb_enq.Goals as goal
 
 -- an enqueueing on any queue has room and is answered by ok
-value_enq : (v : Value) (x : Item) → kind_of_value v ≡ kind_of_call (queue_call (Enq x)) → one_value.reply v (queue_call (Enq x)) ≡ Some (queue_reply Ok)
+value_enq : (v : Value) (x : Item) → kind_of_value v ≡ kind_of_call (queue_call (Enq x)) → one_value.reply v (queue_call (Enq x)) ≡ Some
+    (queue_reply Ok)
 value_enq (queue_value v) x h = refl
 value_enq v x h = cc
 
-enq : (values : List Value) (object : ℕ) (x : Item) → Fits values object (queue_call (Enq x)) → objects.reply values (object, queue_call (Enq x)) ≡ Some (queue_reply Ok)
+enq : (values : List Value) (object : ℕ) (x : Item) → Fits values object (queue_call (Enq x))
+    → objects.reply values (object, queue_call (Enq x)) ≡ Some (queue_reply Ok)
 enq [] object x h = absurd h
 enq (v ∷ values) zero x h = value_enq v x h
 enq (v ∷ values) (suc object) x h = enq values object x h
 
-enq_room : (values : List Value) (object : ℕ) (x : Item) → Fits values object (queue_call (Enq x)) → ObjectHasRoom values object (queue_call (Enq x))
+enq_room : (values : List Value) (object : ℕ) (x : Item) → Fits values object (queue_call (Enq x))
+    → ObjectHasRoom values object (queue_call (Enq x))
 enq_room [] object x h = absurd h
 enq_room (queue_value v ∷ values) zero x h = tt
 enq_room (v ∷ values) zero x h = cc

@@ -7,20 +7,23 @@ use Rattle.intentions.proofs.view.perform_each.Goals as goal
 pub perform-requires-clause-fits : goal.perform-requires-clause-fits
 perform-requires-clause-fits c =
     let e = c.entry-item.result in
-    let next = next_entry c.loop-entry.state c.args.entries.now c.loop-entry.entry-index e c.loop-entry-test.true c.entry-item.is c.loop-entry.invariant.legal c.loop-entry.invariant.room in
+    let next = next_entry c.loop-entry.state c.args.entries.now c.loop-entry.entry-index e c.loop-entry-test.true c.entry-item.is
+    c.loop-entry.invariant.legal c.loop-entry.invariant.room in
     legal-fits c.loop-entry.state e.object e.call e.reply next.legal
 
 pub perform-requires-clause-room : goal.perform-requires-clause-room
 perform-requires-clause-room c =
     let e = c.entry-item.result in
-    let next = next_entry c.loop-entry.state c.args.entries.now c.loop-entry.entry-index e c.loop-entry-test.true c.entry-item.is c.loop-entry.invariant.legal c.loop-entry.invariant.room in
+    let next = next_entry c.loop-entry.state c.args.entries.now c.loop-entry.entry-index e c.loop-entry-test.true c.entry-item.is
+    c.loop-entry.invariant.legal c.loop-entry.invariant.room in
     next.room
 
 pub loop-entry-preserved : goal.loop-entry-preserved
 loop-entry-preserved c =
     let e = c.entry-item.result in
     let rest = drop (c.loop-entry.entry-index + 1) c.args.entries.now in
-    let next = next_entry c.loop-entry.state c.args.entries.now c.loop-entry.entry-index e c.loop-entry-test.true c.entry-item.is c.loop-entry.invariant.legal c.loop-entry.invariant.room in
+    let next = next_entry c.loop-entry.state c.args.entries.now c.loop-entry.entry-index e c.loop-entry-test.true c.entry-item.is
+    c.loop-entry.invariant.legal c.loop-entry.invariant.room in
     let same = c.in_ok-_reply.ensures.ok in
     record {
       legal = subst (λ ws. AreLegal ws rest) (sym same) next.rest_legal;

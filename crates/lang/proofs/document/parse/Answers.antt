@@ -14,5 +14,6 @@ returns-in-Ok-clause-value c = rw (is_utf8-from_IsUtf8 c.args.bytes.now c.in-Ok.
 
 pub returns-else-is_memory-clause-fault : goal.returns-else-is_memory-clause-fault
 returns-else-is_memory-clause-fault c other =
-    let refused = λ (m : IsMemory c.in-Err.error). true≢false (sym (subst (λ b. IsTrue b) c.if-is_memory.false (c.is_memory.ensures.1 m))) in
+    let refused = λ (m : IsMemory c.in-Err.error). true≢false
+    (sym (subst (λ b. IsTrue b) c.if-is_memory.false (c.is_memory.ensures.1 m))) in
     (no_value c.args.bytes.now (is_utf8 c.args.bytes.now) refl (c.in-Err.ensures.err refused), c.outside-else-is_memory.ensures)

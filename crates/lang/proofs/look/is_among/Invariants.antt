@@ -3,4 +3,5 @@ use Rattle.lang.specs.Look.{is_among}
 use Rattle.lang.proofs.look.is_among.Given as goal
 
 abbrev pub invariant-loop-name : goal.invariant-loop-name
-invariant-loop-name l = is_among l.text (map (λ name. name.now) l.names) ≡ is_among l.text (map (λ name. name.now) (drop l.name-index l.names))
+invariant-loop-name l = is_among l.text (map (λ name. name.now) l.names) ≡ is_among l.text
+    (map (λ name. name.now) (drop l.name-index l.names))

@@ -9,7 +9,8 @@ use Rattle.lang.proofs.notes.note_members.Goals as goal
 pub returns-in_err-name-clause-err : goal.returns-in_err-name-clause-err
 returns-in_err-name-clause-err c =
     let l = c.members in
-    each_err c.from_residual.result _ (l.invariant.3 ∙ key_refused (value 126) l.invariant.1 l.invariant.0 l.reader c.in_err-name.ensures.value)
+    each_err c.from_residual.result _
+    (l.invariant.3 ∙ key_refused (value 126) l.invariant.1 l.invariant.0 l.reader c.in_err-name.ensures.value)
 
 pub returns-in_err-seen-clause-err : goal.returns-in_err-seen-clause-err
 returns-in_err-seen-clause-err c =
@@ -40,7 +41,8 @@ members-preserved c =
       n - 1,
       put k done.0 l.invariant.1,
       omega (arith, less, lesser, l.invariant.2),
-      l.invariant.3 ∙ member_read p l.invariant.1 n k l.reader s new done.0 (omega (arith, less, l.invariant.2)) named (done.1 126 (omega arith)),
+      l.invariant.3 ∙ member_read p l.invariant.1 n k l.reader s new done.0 (omega (arith, less, l.invariant.2)) named
+          (done.1 126 (omega arith)),
       c.with-notes.ensures done.0 l.invariant.1 done.2 l.invariant.4,
       λ ms rest reads. l.invariant.5 ms rest (reads_member 126 l.invariant.1 k l.reader s new rest done.0 ms named less done.1 reads),
     )

@@ -13,7 +13,8 @@ returns-in_err-call-clause-first c =
     let scope = scope_of c.args.state.now.labels.entries in
     let d = view c.args.step.now in
     let e = c.in_err-call.field-0.0 in
-    passed_on c.from_residual-in_err-call.result (IsFirst c.args.state.now.counts (operation_asked setting scope d)) e c.from_residual-in_err-call.ensures.1
+    passed_on c.from_residual-in_err-call.result (IsFirst c.args.state.now.counts (operation_asked setting scope d)) e
+    c.from_residual-in_err-call.ensures.1
     (λ other. let failed = c.in_err-call.ensures.first other in grind (arith, parts))
 
 pub returns-in_err-add_new_label-clause-first : goal.returns-in_err-add_new_label-clause-first
@@ -23,5 +24,6 @@ returns-in_err-add_new_label-clause-first c =
     let scope = scope_of c.args.state.now.labels.entries in
     let d = view c.args.step.now in
     let e = c.in_err-add_new_label.field-0.0 in
-    passed_on c.from_residual-in_err-add_new_label.result (IsFirst c.args.state.now.counts (operation_asked setting scope d)) e c.from_residual-in_err-add_new_label.ensures.1
+    passed_on c.from_residual-in_err-add_new_label.result (IsFirst c.args.state.now.counts (operation_asked setting scope d)) e
+    c.from_residual-in_err-add_new_label.ensures.1
     (λ other. let failed = c.in_err-add_new_label.ensures.first other in grind (arith, parts))

@@ -1,4 +1,5 @@
-use Rattle.std.proofs.Common.{◌≡◌, ℕ, suc, ◌+◌, ◌-◌, ◌<◌, [], ◌∷◌, length, List, Bool, Some, None, ◌⊎◌, inl, inr, w64, Bor, refl, sym, subst, ap, ap₂, ◌∙◌, arith, rules}
+use Rattle.std.proofs.Common.{◌≡◌, ℕ, suc, ◌+◌, ◌-◌, ◌<◌, [], ◌∷◌, length, List, Bool, Some, None, ◌⊎◌, inl, inr, w64, Bor, refl, sym}
+use Rattle.std.proofs.Common.{subst, ap, ap₂, ◌∙◌, arith, rules}
 use mir.Val.{of_z, to_z}
 use Rattle.json.specs.Token.{Token}
 use Rattle.json.specs.Json.{after_end_array, parse_map, read_key, value}
@@ -16,8 +17,10 @@ use Rattle.lang.specs.declared.pass.Seen.TheVariants as seen
 use Rattle.lang.specs.Passed.{seen_as, whole_or_other}
 use Rattle.lang.specs.Scope.{fit}
 use Rattle.lang.specs.Pulled.{ReadsValue}
-use Rattle.lang.proofs.PulledLemmas.{reads_array, reads_boolean, reads_deeper, reads_item, reads_member, reads_no_items, reads_no_members, reads_null, reads_number, reads_object, reads_shorter, reads_string}
-use Rattle.lang.proofs.PassLemmas.{array_opened, each_err, item_behind, item_read, item_refused, key_refused, member_read, member_refused, none_before, object_opened}
+use Rattle.lang.proofs.PulledLemmas.{reads_array, reads_boolean, reads_deeper, reads_item, reads_member, reads_no_items, reads_no_members}
+use Rattle.lang.proofs.PulledLemmas.{reads_null, reads_number, reads_object, reads_shorter, reads_string}
+use Rattle.lang.proofs.PassLemmas.{array_opened, each_err, item_behind, item_read, item_refused, key_refused, member_read, member_refused}
+use Rattle.lang.proofs.PassLemmas.{none_before, object_opened}
 use Rattle.lang.proofs.pass.+pass.Goals as goal
 
 -- a value of one token that is no number
@@ -137,7 +140,16 @@ pass_from-returns-in_ok-pass_members-in-BeginObject-clause-ok t c =
     )
 
 pub pass_items-items-init : goal.pass_items-items-init
-pass_items-items-init t c = (length c.args.reader.now, 0, λ ds. ds, omega arith, none_before _, λ ds new reads. reads, λ ds. omega arith, refl)
+pass_items-items-init t c = (
+  length c.args.reader.now,
+  0,
+  λ ds. ds,
+  omega arith,
+  none_before _,
+  λ ds new reads. reads,
+  λ ds. omega arith,
+  refl,
+)
 
 pub pass_items-returns-in_err-pass_value-clause-err : goal.pass_items-returns-in_err-pass_value-clause-err
 pass_items-returns-in_err-pass_value-clause-err t c =
@@ -224,7 +236,8 @@ pass_members-members-preserved t c =
       put k done.0 l.invariant.1,
       omega (arith, less, lesser, l.invariant.2),
       l.invariant.3
-          ∙ member_read p l.invariant.1 n k l.reader s new done.0 (omega (arith, less, l.invariant.2)) named (done.1 c.args.depth (omega arith)),
+          ∙ member_read p l.invariant.1 n k l.reader s new done.0 (omega (arith, less, l.invariant.2)) named
+          (done.1 c.args.depth (omega arith)),
       λ ms rest reads. l.invariant.4 ms rest
           (reads_member c.args.depth l.invariant.1 k l.reader s new rest done.0 ms named less done.1 reads),
     )

@@ -16,7 +16,8 @@ no_value bytes false is h = refl
 
 pub returns-in-Err-clause-place : goal.returns-in-Err-clause-place
 returns-in-Err-clause-place c =
-    let refused = λ (m : IsMemory c.in-Err.error). true≢false (sym (subst (λ b. IsTrue b) c.if-is_memory.false (c.is_memory.ensures.1 m))) in
+    let refused = λ (m : IsMemory c.in-Err.error). true≢false
+    (sym (subst (λ b. IsTrue b) c.if-is_memory.false (c.is_memory.ensures.1 m))) in
     (omega (arith, c.if-bytes-gt-MAX_BYTES.false), no_value c.args.bytes.now (is_utf8 c.args.bytes.now) refl (c.in-Err.ensures.err refused))
 
 pub returns-in-Ok-seek_document-clause-place : goal.returns-in-Ok-seek_document-clause-place
@@ -24,7 +25,8 @@ returns-in-Ok-seek_document-clause-place c =
     let bytes = c.args.bytes.now in
     let d = view c.in-Ok.value in
     let known : value_of bytes ≡ Some d = rw (is_utf8-from_IsUtf8 bytes c.in-Ok.ensures.ok.0) c.in-Ok.ensures.ok.1 in
-    absurd (not_all_met bytes d c.args.fault _ _ c.requires (omega (arith, c.if-bytes-gt-MAX_BYTES.false)) known c.new-state.ensures.counts c.in-Ok-seek_document.ensures.met)
+    absurd (not_all_met bytes d c.args.fault _ _ c.requires (omega (arith, c.if-bytes-gt-MAX_BYTES.false)) known c.new-state.ensures.counts
+    c.in-Ok-seek_document.ensures.met)
 
 pub returns-clause-place : goal.returns-clause-place
 returns-clause-place c =
@@ -32,5 +34,6 @@ returns-clause-place c =
     let d = view c.in-Ok.value in
     let unmet = c.in-Err-seek_document.unmet in
     let known : value_of bytes ≡ Some d = rw (is_utf8-from_IsUtf8 bytes c.in-Ok.ensures.ok.0) c.in-Ok.ensures.ok.1 in
-    IfOk-weaker c.place_of.result _ _ (λ place shown. place_shown bytes d c.args.fault unmet.fault (pointer_text unmet.pointer) place _ c.requires (omega (arith, c.if-bytes-gt-MAX_BYTES.false)) known
+    IfOk-weaker c.place_of.result _ _ (λ place shown. place_shown bytes d c.args.fault unmet.fault (pointer_text unmet.pointer) place _
+    c.requires (omega (arith, c.if-bytes-gt-MAX_BYTES.false)) known
     c.new-state.ensures.counts (c.in-Err-seek_document.ensures.unmet shown.0) shown.1) c.place_of.ensures.place

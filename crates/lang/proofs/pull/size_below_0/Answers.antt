@@ -1,4 +1,5 @@
-use Rattle.std.proofs.Common.{◌≡◌, ◌<◌, ◌-◌, length, ◌≤◌, ◌^◌, ℕ, get_or, drop, true, ◌==◌, Some, refl, sym, ap, ◌∙◌, lt-ltb, le-leb, arith, rules}
+use Rattle.std.proofs.Common.{◌≡◌, ◌<◌, ◌-◌, length, ◌≤◌, ◌^◌, ℕ, get_or, drop, true, ◌==◌, Some, refl, sym, ap, ◌∙◌, lt-ltb, le-leb, arith}
+use Rattle.std.proofs.Common.{rules}
 use Rattle.std.proofs.lemmas.List.{length-drop, take_all}
 use Rattle.fast_float.specs.Text.{Parts, scan, IsInteger, digits_of, with_sign}
 use Rattle.serde_json.specs.Data.{negative}

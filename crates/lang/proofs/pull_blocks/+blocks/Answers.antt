@@ -1,18 +1,23 @@
-use Rattle.std.proofs.Common.{◌≡◌, ℕ, true, Ok, List, [], ◌∷◌, ◌++◌, Some, None, map, length, refl, sym, subst, ap, ap₂, ◌∙◌, ◌+◌, ◌*◌, append-nil, arith, rules, ◌-◌, suc, option_map, le-leb, Vec, Global}
+use Rattle.std.proofs.Common.{◌≡◌, ℕ, true, Ok, List, [], ◌∷◌, ◌++◌, Some, None, map, length, refl, sym, subst, ap, ap₂, ◌∙◌, ◌+◌, ◌*◌}
+use Rattle.std.proofs.Common.{append-nil, arith, rules, ◌-◌, suc, option_map, le-leb, Vec, Global}
 use Rattle.std.proofs.lemmas.List.{map-append}
 use Rattle.json.specs.Json.{after_end_array, read_key}
 use Rattle.serde_json.specs.Data.{Items, no_items, item, array, no_members, object, member, put, string}
 use Rattle.meaning.specs.Trees as tree
 use Rattle.batch.specs.Views.{block_view, step_view, steps_of, Tried, handler_view, otherwise_view, subaction_view, children_of}
-use Rattle.lang.specs.Asked.{label_asked, block_asked, scope_after, step_asked, steps_asked, label_in, member_asked, members_asked, children_asked, labels_of, sub_asked, block_asked_if, seen_asked, subject_of, test_asked}
+use Rattle.lang.specs.Asked.{label_asked, block_asked, scope_after, step_asked, steps_asked, label_in, member_asked, members_asked}
+use Rattle.lang.specs.Asked.{children_asked, labels_of, sub_asked, block_asked_if, seen_asked, subject_of, test_asked}
 use Rattle.lang.specs.Demand.{check, holds, one_more_node}
-use Rattle.lang.specs.Scope.{AreUnseen, Extends, Numbers, Scope, Table, number_of, numbers_of, scope_of, setting_of, with_label, with_labels, with_text, label_number}
-use Rattle.lang.specs.Spelled.{block_of, steps_spelled, spelled_map, member_of, members_of, sub_step, tried, children_spelled, sub_of, block_of_if, or_no_step, test_of}
+use Rattle.lang.specs.Scope.{AreUnseen, Extends, Numbers, Scope, Table, number_of, numbers_of, scope_of, setting_of, with_label}
+use Rattle.lang.specs.Scope.{with_labels, with_text, label_number}
+use Rattle.lang.specs.Spelled.{block_of, steps_spelled, spelled_map, member_of, members_of, sub_step, tried, children_spelled, sub_of}
+use Rattle.lang.specs.Spelled.{block_of_if, or_no_step, test_of}
 use Rattle.lang.specs.Pulled.{IsAfter, ReadsValue, SubTail, sub_members, ReadsMembers, if_step, test_key, with_else}
 use Rattle.lang.proofs.Checks.{check_met}
 use Rattle.lang.proofs.ListLemmas.{in_front, in_front_none, in_front_push}
 use Rattle.lang.proofs.LabelLemmas.{child_label_met, extends_twice, scope_after_extends, cut_back}
-use Rattle.lang.proofs.PulledLemmas.{reads_item, reads_no_items, reads_shorter, reads_array, reads_deeper, reads_member, reads_no_members, reads_object, reads_string}
+use Rattle.lang.proofs.PulledLemmas.{reads_item, reads_no_items, reads_shorter, reads_array, reads_deeper, reads_member, reads_no_members}
+use Rattle.lang.proofs.PulledLemmas.{reads_object, reads_string}
 use Rattle.json.specs.Token.{Token}
 use Rattle.batch.specs.declared.tree.Block.{roll-Block}
 use Rattle.batch.proofs.ViewLemmas.{block_view-is, step_view-If, step_view-Sub, step_view-Parallel}
@@ -23,7 +28,9 @@ use Rattle.batch.specs.declared.tree.Handler.{Handler, roll-Handler, the_lemmas 
 use Rattle.batch.specs.declared.tree.Subaction.{roll-Subaction, the_lemmas}
 use Rattle.meaning.specs.Trees.{for_reasons, handlers_of}
 use Rattle.lang.specs.Answer.{IsMet}
-use Rattle.lang.proofs.PulledSubs.{label_anywhere, sub_label, sub_met, sub_sort, sub_spelled, sub_step_met, sub_step_scope, sub_step_spelled, tail_handler, tail_handlers, tail_label, tail_none, parallel_met, parallel_scope, parallel_spelled, parallel_step}
+use Rattle.lang.proofs.PulledSubs.{label_anywhere, sub_label, sub_met, sub_sort, sub_spelled, sub_step_met, sub_step_scope}
+use Rattle.lang.proofs.PulledSubs.{sub_step_spelled, tail_handler, tail_handlers, tail_label, tail_none, parallel_met, parallel_scope}
+use Rattle.lang.proofs.PulledSubs.{parallel_spelled, parallel_step}
 use Rattle.lang.specs.declared.words.Subject.TheVariants.{Outcome}
 use Rattle.std.proofs.lemmas.Option.{IfSome_then}
 use Rattle.batch.specs.declared.tree.Step.{If}
@@ -204,7 +211,8 @@ pull_ascending-loop-handlers-preserved t c =
       λ ds. l.invariant.3 (member reason d ds)
           ∙ check_met l.state.counts counts (member_asked asks scope reason d) (members_asked asks scope ds) met,
       λ ds. l.invariant.4 (member reason d ds)
-          ∙ ap (λ (p : (ℕ × tree.Block) × Numbers). in_front read (p.0 ∷ (members_of block scope p.1 ds).0, (members_of block scope p.1 ds).1))
+          ∙ ap (λ (p : (ℕ × tree.Block) × Numbers). in_front read
+          (p.0 ∷ (members_of block scope p.1 ds).0, (members_of block scope p.1 ds).1))
           (sym value)
           ∙ sym (in_front_push read (handler_view x) (members_of block scope after ds))
           ∙ ap (λ ys. in_front ys (members_of block scope after ds))

@@ -40,22 +40,29 @@ decreases-seek_block l = 10 * l.levels
 
 abbrev pub invariant-seek_steps-loop-index : goal.invariant-seek_steps-loop-index
 invariant-seek_steps-loop-index l = record {
-  asked : seek l.initial.state.counts (steps_placed (block_placed (setting_of l.declared) l.levels) (setting_of l.declared) (scope_of l.initial.state.labels.entries) 0 (items_view l.step-items))
-      ≡ seek l.state.counts (steps_placed (block_placed (setting_of l.declared) l.levels) (setting_of l.declared) (scope_of l.state.labels.entries) l.index (items_view (drop l.index l.step-items)));
+  asked : seek l.initial.state.counts (steps_placed (block_placed (setting_of l.declared) l.levels) (setting_of l.declared)
+      (scope_of l.initial.state.labels.entries) 0 (items_view l.step-items))
+      ≡ seek l.state.counts (steps_placed (block_placed (setting_of l.declared) l.levels) (setting_of l.declared)
+      (scope_of l.state.labels.entries) l.index (items_view (drop l.index l.step-items)));
   labels : Extends (scope_of l.initial.state.labels.entries) (scope_of l.state.labels.entries);
 }
 
 abbrev pub invariant-seek_children-loop-index : goal.invariant-seek_children-loop-index
 invariant-seek_children-loop-index l = record {
-  asked : seek l.initial.state.counts (children_placed l.declared.version (block_placed (setting_of l.declared) l.levels) (scope_of l.initial.state.labels.entries) (scope_of l.initial.elder.entries) 0 (items_view l.child-items))
-      ≡ seek l.state.counts (children_placed l.declared.version (block_placed (setting_of l.declared) l.levels) (scope_of l.initial.state.labels.entries) (scope_of l.elder.entries) l.index (items_view (drop l.index l.child-items)));
-  added : labels_of (scope_of l.initial.elder.entries) (items_view l.child-items) ≡ labels_of (scope_of l.elder.entries) (items_view (drop l.index l.child-items));
+  asked : seek l.initial.state.counts (children_placed l.declared.version (block_placed (setting_of l.declared) l.levels)
+      (scope_of l.initial.state.labels.entries) (scope_of l.initial.elder.entries) 0 (items_view l.child-items))
+      ≡ seek l.state.counts (children_placed l.declared.version (block_placed (setting_of l.declared) l.levels)
+      (scope_of l.initial.state.labels.entries) (scope_of l.elder.entries) l.index (items_view (drop l.index l.child-items)));
+  added : labels_of (scope_of l.initial.elder.entries) (items_view l.child-items) ≡ labels_of (scope_of l.elder.entries)
+      (items_view (drop l.index l.child-items));
   labels : scope_of l.state.labels.entries ≡ scope_of l.initial.state.labels.entries;
 }
 
 abbrev pub invariant-seek_members-loop-reason : goal.invariant-seek_members-loop-reason
 invariant-seek_members-loop-reason l = record {
-  asked : seek l.initial.state.counts (members_placed (block_placed (setting_of l.declared) l.levels) (scope_of l.initial.state.labels.entries) (members_view l.members.entries))
-      ≡ seek l.state.counts (members_placed (block_placed (setting_of l.declared) l.levels) (scope_of l.initial.state.labels.entries) (members_view l.reason-iterator));
+  asked : seek l.initial.state.counts (members_placed (block_placed (setting_of l.declared) l.levels)
+      (scope_of l.initial.state.labels.entries) (members_view l.members.entries))
+      ≡ seek l.state.counts (members_placed (block_placed (setting_of l.declared) l.levels) (scope_of l.initial.state.labels.entries)
+      (members_view l.reason-iterator));
   labels : scope_of l.state.labels.entries ≡ scope_of l.initial.state.labels.entries;
 }

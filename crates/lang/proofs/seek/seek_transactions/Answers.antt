@@ -16,7 +16,9 @@ loop-index-preserved c =
     let rest = items_view (drop (l.index + 1) xs) in
     let done = c.in_default.ensures in
     record {
-      asked = l.invariant.asked ∙ ap (λ ds. seek l.state.counts (transactions_placed setting l.index ds)) (items_from xs l.index x (omega arith) c.transaction-item.is)
-          ∙ part_met l.state.counts next (item_at l.index) (transaction_placed (l.index + 1) setting (view x)) (transactions_placed setting (l.index + 1) rest) done.met;
+      asked = l.invariant.asked ∙ ap (λ ds. seek l.state.counts (transactions_placed setting l.index ds))
+          (items_from xs l.index x (omega arith) c.transaction-item.is)
+          ∙ part_met l.state.counts next (item_at l.index) (transaction_placed (l.index + 1) setting (view x))
+          (transactions_placed setting (l.index + 1) rest) done.met;
       labels = done.labels;
     }

@@ -17,5 +17,6 @@ loop-index-preserved c =
     let x = c.object-item.result in
     let rest = items_view (drop (l.index + 1) xs) in
     l.invariant ∙ ap (λ ds. seek l.counts (objects_placed version here l.index ds)) (items_from xs l.index x (omega arith) c.object-item.is)
-    ∙ part_met l.counts next (item_at l.index) (object_placed version here (view x)) (objects_placed version (here ++ object_name (view x) ∷ []) (l.index + 1) rest) c.in_default.ensures.met
+    ∙ part_met l.counts next (item_at l.index) (object_placed version here (view x))
+    (objects_placed version (here ++ object_name (view x) ∷ []) (l.index + 1) rest) c.in_default.ensures.met
     ∙ ap (λ names. seek next (objects_placed version names (l.index + 1) rest)) (sym c.in_default.ensures.names)

@@ -15,4 +15,5 @@ loop-index-preserved c =
     let rest = items_view (drop (l.index + 1) xs) in
     let asked = entry_asked (view x) in
     l.invariant ∙ ap (λ ds. seek l.counts (entries_placed l.index ds)) (items_from xs l.index x (omega arith) c.entry-item.is)
-    ∙ part_met l.counts next (item_at l.index) (itself asked nothing) (entries_placed (l.index + 1) rest) (own_met l.counts next asked c.in_default.ensures.met)
+    ∙ part_met l.counts next (item_at l.index) (itself asked nothing) (entries_placed (l.index + 1) rest)
+    (own_met l.counts next asked c.in_default.ensures.met)

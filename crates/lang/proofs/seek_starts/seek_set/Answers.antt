@@ -18,5 +18,6 @@ loop-index-preserved c =
     let rest = items_view (drop (l.index + 1) xs) in
     let asked = element_asked here (view x) in
     l.invariant ∙ ap (λ ds. seek l.counts (elements_placed here l.index ds)) (items_from xs l.index x (omega arith) c.element-item.is)
-    ∙ part_met l.counts next (item_at l.index) (itself asked nothing) (elements_placed (with_text (text_of (view x)) here) (l.index + 1) rest) (own_met l.counts next asked c.in_default.ensures.met)
+    ∙ part_met l.counts next (item_at l.index) (itself asked nothing) (elements_placed (with_text (text_of (view x)) here)
+    (l.index + 1) rest) (own_met l.counts next asked c.in_default.ensures.met)
     ∙ ap (λ earlier. seek next (elements_placed earlier (l.index + 1) rest)) (sym c.in_default.ensures.earlier)

@@ -22,10 +22,12 @@ returns-in_err-key-clause-first c =
     let x = c.pair-item.result in
     let rest = items_view (drop (l.pair-index + 1) xs) in
     let e = c.in_err-key.field-0.0 in
-    passed_on c.from_residual-in_err-key.result (IsFirst c.args.counts.now (pairs_asked [] (items_view c.args.list.now.items))) e c.from_residual-in_err-key.ensures.1
+    passed_on c.from_residual-in_err-key.result (IsFirst c.args.counts.now (pairs_asked [] (items_view c.args.list.now.items))) e
+    c.from_residual-in_err-key.ensures.1
     (λ other. ap (λ vs. check c.args.counts.now (pairs_asked [] (items_view vs))) (sym c.deref-pair-items.ensures.value) ∙ l.invariant.asked
     ∙ ap (λ ds. check l.counts (pairs_asked here ds)) (items_from xs l.pair-index x (omega arith) c.pair-item.is)
-    ∙ check_failed l.counts e (pair_asked here (view x)) (pairs_asked (with_text (key_of (view x)) here) rest) (c.in_err-key.ensures.first other))
+    ∙ check_failed l.counts e (pair_asked here (view x)) (pairs_asked (with_text (key_of (view x)) here) rest)
+    (c.in_err-key.ensures.first other))
 
 pub loop-pair-preserved : goal.loop-pair-preserved
 loop-pair-preserved c =
@@ -38,16 +40,23 @@ loop-pair-preserved c =
     let done = c.in_ok-key.ensures in
     record {
       asked = l.invariant.asked ∙ ap (λ ds. check l.counts (pairs_asked here ds)) split
-          ∙ check_met l.counts c.read_pair.new.counts (pair_asked here (view x)) (pairs_asked (with_text (key_of (view x)) here) rest) done.met
+          ∙ check_met l.counts c.read_pair.new.counts (pair_asked here (view x)) (pairs_asked (with_text (key_of (view x)) here) rest)
+          done.met
           ∙ ap (λ earlier. check c.read_pair.new.counts (pairs_asked earlier rest)) (sym done.earlier);
       spelled = l.invariant.spelled ∙ ap (λ ds. spelled_map (bind_all l.directory) (pairs_of (numbers_of l.numbering) ds)) split
-          ∙ ap (λ (p : (Item × Item) × Numbers). (bind_all (finite_map.insert l.directory p.0.0 p.0.1) (pairs_of p.1 rest).0, (pairs_of p.1 rest).1)) (sym done.pair)
-          ∙ ap (λ (m : finite_map.FinMap item_cmp Item). spelled_map (bind_all m) (pairs_of (numbers_of c.read_pair.new.numbering) rest)) (sym c.in_ok-put.ensures.ok);
+          ∙ ap (λ (p : (Item × Item) × Numbers). (
+            bind_all (finite_map.insert l.directory p.0.0 p.0.1) (pairs_of p.1 rest).0,
+            (pairs_of p.1 rest).1,
+          )) (sym done.pair)
+          ∙ ap (λ (m : finite_map.FinMap item_cmp Item). spelled_map (bind_all m) (pairs_of (numbers_of c.read_pair.new.numbering) rest))
+          (sym c.in_ok-put.ensures.ok);
     }
 
 pub returns-clause-value : goal.returns-clause-value
 returns-clause-value c =
     let l = c.loop-pair in
     let xs = c.deref-pair-items.result.now in
-    sym (ap (λ vs. spelled_map (bind_all finite_map.empty) (pairs_of (numbers_of c.args.numbering.now) (items_view vs))) (sym c.deref-pair-items.ensures.value) ∙ l.invariant.spelled
-    ∙ ap (λ vs. spelled_map (bind_all l.directory) (pairs_of (numbers_of l.numbering) (items_view vs))) (drop_all l.pair-index xs c.loop-pair-test.false))
+    sym (ap (λ vs. spelled_map (bind_all finite_map.empty) (pairs_of (numbers_of c.args.numbering.now) (items_view vs)))
+    (sym c.deref-pair-items.ensures.value) ∙ l.invariant.spelled
+    ∙ ap (λ vs. spelled_map (bind_all l.directory) (pairs_of (numbers_of l.numbering) (items_view vs)))
+    (drop_all l.pair-index xs c.loop-pair-test.false))

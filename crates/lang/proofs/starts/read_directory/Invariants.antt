@@ -10,6 +10,8 @@ use Rattle.lang.proofs.starts.read_directory.Given as goal
 
 abbrev pub invariant-loop-pair : goal.invariant-loop-pair
 invariant-loop-pair l = record {
-  asked : check l.initial.counts (pairs_asked [] (items_view l.pair-items)) ≡ check l.counts (pairs_asked (texts_of l.earlier.keys) (items_view (drop l.pair-index l.pair-items)));
-  spelled : spelled_map (bind_all finite_map.empty) (pairs_of (numbers_of l.initial.numbering) (items_view l.pair-items)) ≡ spelled_map (bind_all l.directory) (pairs_of (numbers_of l.numbering) (items_view (drop l.pair-index l.pair-items)));
+  asked : check l.initial.counts (pairs_asked [] (items_view l.pair-items)) ≡ check l.counts
+      (pairs_asked (texts_of l.earlier.keys) (items_view (drop l.pair-index l.pair-items)));
+  spelled : spelled_map (bind_all finite_map.empty) (pairs_of (numbers_of l.initial.numbering) (items_view l.pair-items)) ≡ spelled_map
+      (bind_all l.directory) (pairs_of (numbers_of l.numbering) (items_view (drop l.pair-index l.pair-items)));
 }

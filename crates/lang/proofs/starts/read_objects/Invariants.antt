@@ -10,7 +10,9 @@ use Rattle.lang.proofs.starts.read_objects.Given as goal
 
 abbrev pub invariant-loop-object : goal.invariant-loop-object
 invariant-loop-object l = record {
-  asked : check l.initial.counts (objects_asked l.version [] (items_view l.object-items)) ≡ check l.counts (objects_asked l.version (texts_of l.names.keys) (items_view (drop l.object-index l.object-items)));
+  asked : check l.initial.counts (objects_asked l.version [] (items_view l.object-items)) ≡ check l.counts
+      (objects_asked l.version (texts_of l.names.keys) (items_view (drop l.object-index l.object-items)));
   named : names_of (items_view l.object-items) ≡ texts_of l.names.keys ++ names_of (items_view (drop l.object-index l.object-items));
-  started : starts_of l.version (numbers_of l.initial.numbering) (items_view l.object-items) ≡ in_front l.objects (starts_of l.version (numbers_of l.numbering) (items_view (drop l.object-index l.object-items)));
+  started : starts_of l.version (numbers_of l.initial.numbering) (items_view l.object-items) ≡ in_front l.objects
+      (starts_of l.version (numbers_of l.numbering) (items_view (drop l.object-index l.object-items)));
 }

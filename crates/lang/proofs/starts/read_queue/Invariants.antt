@@ -9,6 +9,8 @@ use Rattle.lang.proofs.starts.read_queue.Given as goal
 
 abbrev pub invariant-loop-entry : goal.invariant-loop-entry
 invariant-loop-entry l = record {
-  asked : check l.initial.counts (entries_asked (items_view l.entry-items)) ≡ check l.counts (entries_asked (items_view (drop l.entry-index l.entry-items)));
-  spelled : entries_of (numbers_of l.initial.numbering) (items_view l.entry-items) ≡ in_front l.queue (entries_of (numbers_of l.numbering) (items_view (drop l.entry-index l.entry-items)));
+  asked : check l.initial.counts (entries_asked (items_view l.entry-items)) ≡ check l.counts
+      (entries_asked (items_view (drop l.entry-index l.entry-items)));
+  spelled : entries_of (numbers_of l.initial.numbering) (items_view l.entry-items) ≡ in_front l.queue
+      (entries_of (numbers_of l.numbering) (items_view (drop l.entry-index l.entry-items)));
 }

@@ -22,10 +22,13 @@ returns-in_err-item-clause-first c =
     let x = c.element-item.result in
     let rest = items_view (drop (l.element-index + 1) xs) in
     let e = c.in_err-item.field-0.0 in
-    passed_on c.from_residual-in_err-item.result (IsFirst c.args.counts.now (elements_asked [] (items_view c.args.list.now.items))) e c.from_residual-in_err-item.ensures.1
-    (λ other. ap (λ vs. check c.args.counts.now (elements_asked [] (items_view vs))) (sym c.deref-element-items.ensures.value) ∙ l.invariant.asked
+    passed_on c.from_residual-in_err-item.result (IsFirst c.args.counts.now (elements_asked [] (items_view c.args.list.now.items))) e
+    c.from_residual-in_err-item.ensures.1
+    (λ other. ap (λ vs. check c.args.counts.now (elements_asked [] (items_view vs))) (sym c.deref-element-items.ensures.value)
+    ∙ l.invariant.asked
     ∙ ap (λ ds. check l.counts (elements_asked here ds)) (items_from xs l.element-index x (omega arith) c.element-item.is)
-    ∙ check_failed l.counts e (element_asked here (view x)) (elements_asked (with_text (text_of (view x)) here) rest) (c.in_err-item.ensures.first other))
+    ∙ check_failed l.counts e (element_asked here (view x)) (elements_asked (with_text (text_of (view x)) here) rest)
+    (c.in_err-item.ensures.first other))
 
 pub loop-element-preserved : goal.loop-element-preserved
 loop-element-preserved c =
@@ -38,16 +41,21 @@ loop-element-preserved c =
     let done = c.in_ok-item.ensures in
     record {
       asked = l.invariant.asked ∙ ap (λ ds. check l.counts (elements_asked here ds)) split
-          ∙ check_met l.counts c.read_element.new.counts (element_asked here (view x)) (elements_asked (with_text (text_of (view x)) here) rest) done.met
+          ∙ check_met l.counts c.read_element.new.counts (element_asked here (view x))
+          (elements_asked (with_text (text_of (view x)) here) rest) done.met
           ∙ ap (λ earlier. check c.read_element.new.counts (elements_asked earlier rest)) (sym done.earlier);
       spelled = l.invariant.spelled ∙ ap (λ ds. spelled_map (put_all l.set) (entries_of (numbers_of l.numbering) ds)) split
-          ∙ ap₂ (λ (i : Item) (n : Numbers). (put_all (finite_set.insert l.set i) (entries_of n rest).0, (entries_of n rest).1)) (sym done.item) (sym done.numbers)
-          ∙ ap (λ (s : finite_set.FinSet item_cmp). spelled_map (put_all s) (entries_of (numbers_of c.read_element.new.numbering) rest)) (sym c.in_ok-insert.ensures.ok);
+          ∙ ap₂ (λ (i : Item) (n : Numbers). (put_all (finite_set.insert l.set i) (entries_of n rest).0, (entries_of n rest).1))
+          (sym done.item) (sym done.numbers)
+          ∙ ap (λ (s : finite_set.FinSet item_cmp). spelled_map (put_all s) (entries_of (numbers_of c.read_element.new.numbering) rest))
+          (sym c.in_ok-insert.ensures.ok);
     }
 
 pub returns-clause-value : goal.returns-clause-value
 returns-clause-value c =
     let l = c.loop-element in
     let xs = c.deref-element-items.result.now in
-    sym (ap (λ vs. spelled_map (put_all finite_set.empty) (entries_of (numbers_of c.args.numbering.now) (items_view vs))) (sym c.deref-element-items.ensures.value) ∙ l.invariant.spelled
-    ∙ ap (λ vs. spelled_map (put_all l.set) (entries_of (numbers_of l.numbering) (items_view vs))) (drop_all l.element-index xs c.loop-element-test.false))
+    sym (ap (λ vs. spelled_map (put_all finite_set.empty) (entries_of (numbers_of c.args.numbering.now) (items_view vs)))
+    (sym c.deref-element-items.ensures.value) ∙ l.invariant.spelled
+    ∙ ap (λ vs. spelled_map (put_all l.set) (entries_of (numbers_of l.numbering) (items_view vs)))
+    (drop_all l.element-index xs c.loop-element-test.false))

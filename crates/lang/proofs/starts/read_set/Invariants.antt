@@ -10,6 +10,8 @@ use Rattle.lang.proofs.starts.read_set.Given as goal
 
 abbrev pub invariant-loop-element : goal.invariant-loop-element
 invariant-loop-element l = record {
-  asked : check l.initial.counts (elements_asked [] (items_view l.element-items)) ≡ check l.counts (elements_asked (texts_of l.earlier.keys) (items_view (drop l.element-index l.element-items)));
-  spelled : spelled_map (put_all finite_set.empty) (entries_of (numbers_of l.initial.numbering) (items_view l.element-items)) ≡ spelled_map (put_all l.set) (entries_of (numbers_of l.numbering) (items_view (drop l.element-index l.element-items)));
+  asked : check l.initial.counts (elements_asked [] (items_view l.element-items)) ≡ check l.counts
+      (elements_asked (texts_of l.earlier.keys) (items_view (drop l.element-index l.element-items)));
+  spelled : spelled_map (put_all finite_set.empty) (entries_of (numbers_of l.initial.numbering) (items_view l.element-items)) ≡ spelled_map
+      (put_all l.set) (entries_of (numbers_of l.numbering) (items_view (drop l.element-index l.element-items)));
 }

@@ -5,7 +5,8 @@ use Rattle.serde_json.specs.View.{items_view, members_view, view}
 use Rattle.meaning.specs.Trees as tree
 use Rattle.batch.specs.Views.{Tried, handler_view, step_view, steps_of, subaction_view, children_of}
 use Rattle.lang.specs.Answer.{IsFirst}
-use Rattle.lang.specs.Asked.{block_asked, children_asked, label_in, labels_of, member_asked, members_asked, scope_after, step_asked, steps_asked, sub_asked}
+use Rattle.lang.specs.Asked.{block_asked, children_asked, label_in, labels_of, member_asked, members_asked, scope_after, step_asked}
+use Rattle.lang.specs.Asked.{steps_asked, sub_asked}
 use Rattle.lang.specs.Demand.{check}
 use Rattle.lang.specs.Scope.{Extends, Numbers, Scope, numbers_of, scope_of, setting_of, with_label}
 use Rattle.lang.specs.Spelled.{block_of, children_spelled, spelled_map, steps_spelled}
@@ -22,11 +23,13 @@ use Rattle.lang.proofs.steps.+steps.Goals as goal
 pub read_block-returns-in_default-clause-first : goal.read_block-returns-in_default-clause-first
 read_block-returns-in_default-clause-first t c other =
     let none : as_array (view c.args.value.now) ≡ None = search rules in
-    no_array (setting_of c.args.declared.now) (scope_of c.args.state.now.labels.entries) (view c.args.value.now) c.args.levels c.args.state.now.counts none ∙ ap (λ e. Err e) (sym c.fault.ensures)
+    no_array (setting_of c.args.declared.now) (scope_of c.args.state.now.labels.entries) (view c.args.value.now) c.args.levels
+    c.args.state.now.counts none ∙ ap (λ e. Err e) (sym c.fault.ensures)
 
 pub read_block-returns-then-levels-eq0-clause-first : goal.read_block-returns-then-levels-eq0-clause-first
 read_block-returns-then-levels-eq0-clause-first t c other =
-    too_deep (setting_of c.args.declared.now) (scope_of c.args.state.now.labels.entries) (view c.args.value.now) c.args.levels c.args.state.now.counts (items_view c.in-Some.list.now.items) (omega arith) c.in-Some.ensures
+    too_deep (setting_of c.args.declared.now) (scope_of c.args.state.now.labels.entries) (view c.args.value.now) c.args.levels
+    c.args.state.now.counts (items_view c.in-Some.list.now.items) (omega arith) c.in-Some.ensures
     ∙ ap (λ e. Err e) (sym c.fault-then-levels-eq0.ensures)
 
 pub read_block-returns-in_err-steps-clause-first : goal.read_block-returns-in_err-steps-clause-first
@@ -36,13 +39,15 @@ read_block-returns-in_err-steps-clause-first t c =
     let d = view c.args.value.now in
     let start = c.args.state.now.counts in
     let e = c.in_err-steps.field-0.0 in
-    let asks = block_asks setting scope d (c.args.levels - 1) c.args.levels (items_view c.in-Some.list.now.items) (omega arith) c.in-Some.ensures in
+    let asks = block_asks setting scope d (c.args.levels - 1) c.args.levels (items_view c.in-Some.list.now.items)
+    (omega arith) c.in-Some.ensures in
     passed_on c.from_residual.result (IsFirst start (block_asked setting c.args.levels scope d)) e c.from_residual.ensures.1
     (λ other. ap (check start) asks ∙ c.in_err-steps.ensures.first other)
 
 pub read_block-returns-clause-met : goal.read_block-returns-clause-met
 read_block-returns-clause-met t c =
-    ap (check c.args.state.now.counts) (block_asks (setting_of c.args.declared.now) (scope_of c.args.state.now.labels.entries) (view c.args.value.now) (c.args.levels - 1) c.args.levels (items_view c.in-Some.list.now.items) (omega arith) c.in-Some.ensures)
+    ap (check c.args.state.now.counts) (block_asks (setting_of c.args.declared.now) (scope_of c.args.state.now.labels.entries)
+    (view c.args.value.now) (c.args.levels - 1) c.args.levels (items_view c.in-Some.list.now.items) (omega arith) c.in-Some.ensures)
     ∙ c.in_ok-steps.ensures.met
 
 pub read_block-returns-clause-value : goal.read_block-returns-clause-value
@@ -50,12 +55,15 @@ read_block-returns-clause-value t c =
     let shown = block_view-is (roll-Block (record { steps = c.in_ok-steps.steps })) in
     ap (λ (b : tree.Block). (b, numbers_of c.read_steps.new.state.numbering)) shown
     ∙ ap (spelled_map steps_of) c.in_ok-steps.ensures.value
-    ∙ sym (block_spells (setting_of c.args.declared.now) (scope_of c.args.state.now.labels.entries) (view c.args.value.now) (c.args.levels - 1) c.args.levels (numbers_of c.args.state.now.numbering) (items_view c.in-Some.list.now.items) (omega arith) c.in-Some.ensures)
+    ∙ sym (block_spells (setting_of c.args.declared.now) (scope_of c.args.state.now.labels.entries) (view c.args.value.now)
+    (c.args.levels - 1) c.args.levels (numbers_of c.args.state.now.numbering) (items_view c.in-Some.list.now.items)
+    (omega arith) c.in-Some.ensures)
 
 pub read_block-returns-clause-labels : goal.read_block-returns-clause-labels
 read_block-returns-clause-labels t c =
     let longer = c.in_ok-steps.ensures.labels in
-    ap scope_of c.truncate.ensures.entries ∙ rw c.len-seen.ensures.len (cut_back c.args.state.now.labels.entries c.read_steps.new.state.labels.entries longer.0 longer.1)
+    ap scope_of c.truncate.ensures.entries
+    ∙ rw c.len-seen.ensures.len (cut_back c.args.state.now.labels.entries c.read_steps.new.state.labels.entries longer.0 longer.1)
 
 pub read_steps-returns-in_err-read_step-clause-first : goal.read_steps-returns-in_err-read_step-clause-first
 read_steps-returns-in_err-read_step-clause-first t c =
@@ -69,10 +77,14 @@ read_steps-returns-in_err-read_step-clause-first t c =
     let x = c.step-item.result in
     let rest = items_view (drop (l.step-index + 1) xs) in
     let e = c.in_err-read_step.field-0.0 in
-    passed_on c.from_residual-in_err-read_step.result (IsFirst c.args.state.now.counts (steps_asked asks setting scope (items_view c.args.list.now.items))) e c.from_residual-in_err-read_step.ensures.1
-    (λ other. ap (λ vs. check c.args.state.now.counts (steps_asked asks setting scope (items_view vs))) (sym c.deref-step-items.ensures.value) ∙ l.invariant.asked
+    passed_on c.from_residual-in_err-read_step.result
+    (IsFirst c.args.state.now.counts (steps_asked asks setting scope (items_view c.args.list.now.items))) e
+    c.from_residual-in_err-read_step.ensures.1
+    (λ other. ap (λ vs. check c.args.state.now.counts (steps_asked asks setting scope (items_view vs)))
+    (sym c.deref-step-items.ensures.value) ∙ l.invariant.asked
     ∙ ap (λ ds. check l.state.counts (steps_asked asks setting here ds)) (items_from xs l.step-index x (omega arith) c.step-item.is)
-    ∙ check_failed l.state.counts e (step_asked asks setting here (view x)) (steps_asked asks setting (scope_after setting here (view x)) rest) (c.in_err-read_step.ensures.first other))
+    ∙ check_failed l.state.counts e (step_asked asks setting here (view x))
+    (steps_asked asks setting (scope_after setting here (view x)) rest) (c.in_err-read_step.ensures.first other))
 
 pub read_steps-loop-step-preserved : goal.read_steps-loop-step-preserved
 read_steps-loop-step-preserved t c =
@@ -95,13 +107,19 @@ read_steps-loop-step-preserved t c =
     let read = map step_view l.steps.items in
     record {
       asked = l.invariant.asked ∙ ap (λ ds. check l.state.counts (steps_asked asks setting here ds)) split
-          ∙ check_met l.state.counts counts (step_asked asks setting here (view x)) (steps_asked asks setting (scope_after setting here (view x)) rest) done.met
+          ∙ check_met l.state.counts counts (step_asked asks setting here (view x))
+          (steps_asked asks setting (scope_after setting here (view x)) rest) done.met
           ∙ ap (λ (s : Scope). check counts (steps_asked asks setting s rest)) (sym done.labels);
       spelled = l.invariant.spelled ∙ ap (λ ds. in_front read (steps_spelled block setting here numbers ds)) split
-          ∙ ap₂ (λ (s : Scope) (p : tree.Step × Numbers). in_front read (p.0 ∷ (steps_spelled block setting s p.1 rest).0, (steps_spelled block setting s p.1 rest).1)) (sym done.labels) (sym done.value)
+          ∙ ap₂ (λ (s : Scope) (p : tree.Step × Numbers). in_front read (
+            p.0 ∷ (steps_spelled block setting s p.1 rest).0,
+            (steps_spelled block setting s p.1 rest).1,
+          )) (sym done.labels) (sym done.value)
           ∙ sym (in_front_push read (step_view c.in_ok-read_step.field-0) later)
-          ∙ ap (λ ys. in_front ys later) (sym (map-append step_view l.steps.items (c.in_ok-read_step.field-0 ∷ [])) ∙ ap (map step_view) (sym c.in_ok-push.ensures.items));
-      labels = extends_twice scope here next l.invariant.labels (subst (λ s. Extends here s) (sym done.labels) (scope_after_extends setting here (view x)));
+          ∙ ap (λ ys. in_front ys later) (sym (map-append step_view l.steps.items (c.in_ok-read_step.field-0 ∷ []))
+          ∙ ap (map step_view) (sym c.in_ok-push.ensures.items));
+      labels = extends_twice scope here next l.invariant.labels
+          (subst (λ s. Extends here s) (sym done.labels) (scope_after_extends setting here (view x)));
     }
 
 pub read_children-returns-in_err-read_sub-clause-first : goal.read_children-returns-in_err-read_sub-clause-first
@@ -118,10 +136,16 @@ read_children-returns-in_err-read_sub-clause-first t c =
     let x = c.child-item.result in
     let rest = items_view (drop (l.child-index + 1) xs) in
     let e = c.in_err-read_sub.field-0.0 in
-    passed_on c.from_residual-in_err-read_sub.result (IsFirst c.args.state.now.counts (children_asked version asks scope elder (items_view c.args.list.now.items))) e c.from_residual-in_err-read_sub.ensures.1
-    (λ other. ap (λ vs. check c.args.state.now.counts (children_asked version asks scope elder (items_view vs))) (sym c.deref-child-items.ensures.value) ∙ l.invariant.asked
-    ∙ ap (λ ds. check l.state.counts (children_asked version asks scope here ds)) (items_from xs l.child-index x (omega arith) c.child-item.is)
-    ∙ check_failed l.state.counts e (sub_asked version asks scope here (view x)) (children_asked version asks scope (with_label (label_in (view x)) Outcome here) rest) (rw l.invariant.labels at (c.in_err-read_sub.ensures.first other)))
+    passed_on c.from_residual-in_err-read_sub.result
+    (IsFirst c.args.state.now.counts (children_asked version asks scope elder (items_view c.args.list.now.items))) e
+    c.from_residual-in_err-read_sub.ensures.1
+    (λ other. ap (λ vs. check c.args.state.now.counts (children_asked version asks scope elder (items_view vs)))
+    (sym c.deref-child-items.ensures.value) ∙ l.invariant.asked
+    ∙ ap (λ ds. check l.state.counts (children_asked version asks scope here ds))
+    (items_from xs l.child-index x (omega arith) c.child-item.is)
+    ∙ check_failed l.state.counts e (sub_asked version asks scope here (view x))
+    (children_asked version asks scope (with_label (label_in (view x)) Outcome here) rest)
+    (rw l.invariant.labels at (c.in_err-read_sub.ensures.first other)))
 
 pub read_children-loop-child-preserved : goal.read_children-loop-child-preserved
 read_children-loop-child-preserved t c =
@@ -144,15 +168,19 @@ read_children-loop-child-preserved t c =
     let value = rw l.invariant.labels at done.value in
     let read = map subaction_view l.children.items in
     let later : List Tried × Numbers = children_spelled block scope after rest in
-    let added : scope_of c.add_label.new.labels.entries ≡ with_label (label_in (view x)) Outcome here = c.in_ok-add_label.ensures.ok ∙ ap (λ o. with_label o Outcome here) c.text_member.ensures in
+    let added : scope_of c.add_label.new.labels.entries ≡ with_label (label_in (view x)) Outcome here = c.in_ok-add_label.ensures.ok
+    ∙ ap (λ o. with_label o Outcome here) c.text_member.ensures in
     record {
       asked = l.invariant.asked ∙ ap (λ ds. check l.state.counts (children_asked version asks scope here ds)) split
-          ∙ check_met l.state.counts counts (sub_asked version asks scope here (view x)) (children_asked version asks scope (with_label (label_in (view x)) Outcome here) rest) met
+          ∙ check_met l.state.counts counts (sub_asked version asks scope here (view x))
+          (children_asked version asks scope (with_label (label_in (view x)) Outcome here) rest) met
           ∙ ap (λ (s : Scope). check counts (children_asked version asks scope s rest)) (sym added);
       spelled = l.invariant.spelled ∙ ap (λ ds. in_front read (children_spelled block scope numbers ds)) split
-          ∙ ap (λ (p : Tried × Numbers). in_front read (p.0 ∷ (children_spelled block scope p.1 rest).0, (children_spelled block scope p.1 rest).1)) (sym value)
+          ∙ ap (λ (p : Tried × Numbers). in_front read
+          (p.0 ∷ (children_spelled block scope p.1 rest).0, (children_spelled block scope p.1 rest).1)) (sym value)
           ∙ sym (in_front_push read (subaction_view c.in_ok-read_sub.field-0) later)
-          ∙ ap (λ ys. in_front ys later) (sym (map-append subaction_view l.children.items (c.in_ok-read_sub.field-0 ∷ [])) ∙ ap (map subaction_view) (sym c.in_ok-push.ensures.items));
+          ∙ ap (λ ys. in_front ys later) (sym (map-append subaction_view l.children.items (c.in_ok-read_sub.field-0 ∷ []))
+          ∙ ap (map subaction_view) (sym c.in_ok-push.ensures.items));
       added = l.invariant.added ∙ ap (labels_of here) split ∙ ap (λ (s : Scope). labels_of s rest) (sym added);
       labels = done.labels ∙ l.invariant.labels;
     }
@@ -179,9 +207,12 @@ read_members-returns-in_err-read_handler-clause-first t c =
     let d = view c.in-Some.value.now in
     let rest = members_view c.next.new.self in
     let e = c.in_err-read_handler.field-0.0 in
-    passed_on c.from_residual-in_err-read_handler.result (IsFirst c.args.state.now.counts (members_asked asks scope (members_view c.args.members.now.entries))) e c.from_residual-in_err-read_handler.ensures.1
+    passed_on c.from_residual-in_err-read_handler.result
+    (IsFirst c.args.state.now.counts (members_asked asks scope (members_view c.args.members.now.entries))) e
+    c.from_residual-in_err-read_handler.ensures.1
     (λ other. l.invariant.asked ∙ ap (λ es. check l.state.counts (members_asked asks scope (members_view es))) c.in-Some.ensures.steps
-    ∙ check_failed l.state.counts e (member_asked asks scope reason d) (members_asked asks scope rest) (rw (l.invariant.labels, c.as_str.ensures.value) at (c.in_err-read_handler.ensures.first other)))
+    ∙ check_failed l.state.counts e (member_asked asks scope reason d) (members_asked asks scope rest)
+    (rw (l.invariant.labels, c.as_str.ensures.value) at (c.in_err-read_handler.ensures.first other)))
 
 pub read_members-loop-reason-preserved : goal.read_members-loop-reason-preserved
 read_members-loop-reason-preserved t c =
@@ -204,8 +235,10 @@ read_members-loop-reason-preserved t c =
       asked = l.invariant.asked ∙ ap (λ es. check l.state.counts (members_asked asks scope (members_view es))) c.in-Some.ensures.steps
           ∙ check_met l.state.counts c.read_handler.new.state.counts (member_asked asks scope reason d) (members_asked asks scope rest) met;
       spelled = l.invariant.spelled ∙ ap (λ es. in_front read (members_of block scope numbers (members_view es))) c.in-Some.ensures.steps
-          ∙ ap (λ (p : (ℕ × tree.Block) × Numbers). in_front read (p.0 ∷ (members_of block scope p.1 rest).0, (members_of block scope p.1 rest).1)) (sym value)
+          ∙ ap (λ (p : (ℕ × tree.Block) × Numbers). in_front read
+          (p.0 ∷ (members_of block scope p.1 rest).0, (members_of block scope p.1 rest).1)) (sym value)
           ∙ sym (in_front_push read (handler_view c.in_ok-read_handler.field-0) later)
-          ∙ ap (λ ys. in_front ys later) (sym (map-append handler_view l.handlers.items (c.in_ok-read_handler.field-0 ∷ [])) ∙ ap (map handler_view) (sym c.in_ok-push.ensures.items));
+          ∙ ap (λ ys. in_front ys later) (sym (map-append handler_view l.handlers.items (c.in_ok-read_handler.field-0 ∷ []))
+          ∙ ap (map handler_view) (sym c.in_ok-push.ensures.items));
       labels = done.labels ∙ l.invariant.labels;
     }

@@ -46,28 +46,41 @@ decreases-read_block l = 10 * l.levels
 
 abbrev pub invariant-read_steps-loop-step : goal.invariant-read_steps-loop-step
 invariant-read_steps-loop-step l = record {
-  asked : check l.initial.state.counts (steps_asked (block_asked (setting_of l.declared) l.levels) (setting_of l.declared) (scope_of l.initial.state.labels.entries) (items_view l.step-items))
-      ≡ check l.state.counts (steps_asked (block_asked (setting_of l.declared) l.levels) (setting_of l.declared) (scope_of l.state.labels.entries) (items_view (drop l.step-index l.step-items)));
-  spelled : steps_spelled (block_of (setting_of l.declared) l.levels) (setting_of l.declared) (scope_of l.initial.state.labels.entries) (numbers_of l.initial.state.numbering) (items_view l.step-items)
-      ≡ in_front (map step_view l.steps.items) (steps_spelled (block_of (setting_of l.declared) l.levels) (setting_of l.declared) (scope_of l.state.labels.entries) (numbers_of l.state.numbering) (items_view (drop l.step-index l.step-items)));
+  asked : check l.initial.state.counts (steps_asked (block_asked (setting_of l.declared) l.levels) (setting_of l.declared)
+      (scope_of l.initial.state.labels.entries) (items_view l.step-items))
+      ≡ check l.state.counts (steps_asked (block_asked (setting_of l.declared) l.levels) (setting_of l.declared)
+      (scope_of l.state.labels.entries) (items_view (drop l.step-index l.step-items)));
+  spelled : steps_spelled (block_of (setting_of l.declared) l.levels) (setting_of l.declared) (scope_of l.initial.state.labels.entries)
+      (numbers_of l.initial.state.numbering) (items_view l.step-items)
+      ≡ in_front (map step_view l.steps.items) (steps_spelled (block_of (setting_of l.declared) l.levels) (setting_of l.declared)
+      (scope_of l.state.labels.entries) (numbers_of l.state.numbering) (items_view (drop l.step-index l.step-items)));
   labels : Extends (scope_of l.initial.state.labels.entries) (scope_of l.state.labels.entries);
 }
 
 abbrev pub invariant-read_children-loop-child : goal.invariant-read_children-loop-child
 invariant-read_children-loop-child l = record {
-  asked : check l.initial.state.counts (children_asked l.declared.version (block_asked (setting_of l.declared) l.levels) (scope_of l.initial.state.labels.entries) (scope_of l.initial.elder.entries) (items_view l.child-items))
-      ≡ check l.state.counts (children_asked l.declared.version (block_asked (setting_of l.declared) l.levels) (scope_of l.initial.state.labels.entries) (scope_of l.elder.entries) (items_view (drop l.child-index l.child-items)));
-  spelled : children_spelled (block_of (setting_of l.declared) l.levels) (scope_of l.initial.state.labels.entries) (numbers_of l.initial.state.numbering) (items_view l.child-items)
-      ≡ in_front (map subaction_view l.children.items) (children_spelled (block_of (setting_of l.declared) l.levels) (scope_of l.initial.state.labels.entries) (numbers_of l.state.numbering) (items_view (drop l.child-index l.child-items)));
-  added : labels_of (scope_of l.initial.elder.entries) (items_view l.child-items) ≡ labels_of (scope_of l.elder.entries) (items_view (drop l.child-index l.child-items));
+  asked : check l.initial.state.counts (children_asked l.declared.version (block_asked (setting_of l.declared) l.levels)
+      (scope_of l.initial.state.labels.entries) (scope_of l.initial.elder.entries) (items_view l.child-items))
+      ≡ check l.state.counts (children_asked l.declared.version (block_asked (setting_of l.declared) l.levels)
+      (scope_of l.initial.state.labels.entries) (scope_of l.elder.entries) (items_view (drop l.child-index l.child-items)));
+  spelled : children_spelled (block_of (setting_of l.declared) l.levels) (scope_of l.initial.state.labels.entries)
+      (numbers_of l.initial.state.numbering) (items_view l.child-items)
+      ≡ in_front (map subaction_view l.children.items) (children_spelled (block_of (setting_of l.declared) l.levels)
+      (scope_of l.initial.state.labels.entries) (numbers_of l.state.numbering) (items_view (drop l.child-index l.child-items)));
+  added : labels_of (scope_of l.initial.elder.entries) (items_view l.child-items) ≡ labels_of (scope_of l.elder.entries)
+      (items_view (drop l.child-index l.child-items));
   labels : scope_of l.state.labels.entries ≡ scope_of l.initial.state.labels.entries;
 }
 
 abbrev pub invariant-read_members-loop-reason : goal.invariant-read_members-loop-reason
 invariant-read_members-loop-reason l = record {
-  asked : check l.initial.state.counts (members_asked (block_asked (setting_of l.declared) l.levels) (scope_of l.initial.state.labels.entries) (members_view l.members.entries))
-      ≡ check l.state.counts (members_asked (block_asked (setting_of l.declared) l.levels) (scope_of l.initial.state.labels.entries) (members_view l.reason-iterator));
-  spelled : members_of (block_of (setting_of l.declared) l.levels) (scope_of l.initial.state.labels.entries) (numbers_of l.initial.state.numbering) (members_view l.members.entries)
-      ≡ in_front (map handler_view l.handlers.items) (members_of (block_of (setting_of l.declared) l.levels) (scope_of l.initial.state.labels.entries) (numbers_of l.state.numbering) (members_view l.reason-iterator));
+  asked : check l.initial.state.counts (members_asked (block_asked (setting_of l.declared) l.levels)
+      (scope_of l.initial.state.labels.entries) (members_view l.members.entries))
+      ≡ check l.state.counts (members_asked (block_asked (setting_of l.declared) l.levels) (scope_of l.initial.state.labels.entries)
+      (members_view l.reason-iterator));
+  spelled : members_of (block_of (setting_of l.declared) l.levels) (scope_of l.initial.state.labels.entries)
+      (numbers_of l.initial.state.numbering) (members_view l.members.entries)
+      ≡ in_front (map handler_view l.handlers.items) (members_of (block_of (setting_of l.declared) l.levels)
+      (scope_of l.initial.state.labels.entries) (numbers_of l.state.numbering) (members_view l.reason-iterator));
   labels : scope_of l.state.labels.entries ≡ scope_of l.initial.state.labels.entries;
 }

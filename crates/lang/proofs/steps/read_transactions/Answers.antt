@@ -20,10 +20,15 @@ returns-in_err-block-clause-first c =
     let x = c.transaction-item.result in
     let rest = items_view (drop (l.transaction-index + 1) xs) in
     let e = c.in_err-block.field-0.0 in
-    passed_on c.from_residual-in_err-block.result (IsFirst c.args.state.now.counts (transactions_asked 1 setting (items_view c.args.list.now.items))) e c.from_residual-in_err-block.ensures.1
-    (λ other. ap (λ vs. check c.args.state.now.counts (transactions_asked 1 setting (items_view vs))) (sym c.deref-transaction-items.ensures.value) ∙ l.invariant.asked
-    ∙ ap (λ ds. check l.state.counts (transactions_asked (l.number + 1) setting ds)) (items_from xs l.transaction-index x (omega arith) c.transaction-item.is)
-    ∙ check_failed l.state.counts e (transaction_asked (l.number + 1) setting (view x)) (transactions_asked (l.number + 1 + 1) setting rest) (c.in_err-block.ensures.first other))
+    passed_on c.from_residual-in_err-block.result
+    (IsFirst c.args.state.now.counts (transactions_asked 1 setting (items_view c.args.list.now.items))) e
+    c.from_residual-in_err-block.ensures.1
+    (λ other. ap (λ vs. check c.args.state.now.counts (transactions_asked 1 setting (items_view vs)))
+    (sym c.deref-transaction-items.ensures.value) ∙ l.invariant.asked
+    ∙ ap (λ ds. check l.state.counts (transactions_asked (l.number + 1) setting ds))
+    (items_from xs l.transaction-index x (omega arith) c.transaction-item.is)
+    ∙ check_failed l.state.counts e (transaction_asked (l.number + 1) setting (view x))
+    (transactions_asked (l.number + 1 + 1) setting rest) (c.in_err-block.ensures.first other))
 
 pub loop-transaction-preserved : goal.loop-transaction-preserved
 loop-transaction-preserved c =
@@ -38,11 +43,14 @@ loop-transaction-preserved c =
     let later : List tree.Block × Numbers = blocks_of setting (numbers_of c.read_transaction.new.state.numbering) rest in
     record {
       asked = l.invariant.asked ∙ ap (λ ds. check l.state.counts (transactions_asked (l.number + 1) setting ds)) split
-          ∙ check_met l.state.counts c.read_transaction.new.state.counts (transaction_asked (l.number + 1) setting (view x)) (transactions_asked (l.number + 1 + 1) setting rest) done.met;
+          ∙ check_met l.state.counts c.read_transaction.new.state.counts (transaction_asked (l.number + 1) setting (view x))
+          (transactions_asked (l.number + 1 + 1) setting rest) done.met;
       spelled = l.invariant.spelled ∙ ap (λ ds. in_front read (blocks_of setting (numbers_of l.state.numbering) ds)) split
-          ∙ ap (λ (p : tree.Block × Numbers). in_front read (p.0 ∷ (blocks_of setting p.1 rest).0, (blocks_of setting p.1 rest).1)) (sym done.value)
+          ∙ ap (λ (p : tree.Block × Numbers). in_front read (p.0 ∷ (blocks_of setting p.1 rest).0, (blocks_of setting p.1 rest).1))
+          (sym done.value)
           ∙ sym (in_front_push read (block_view c.in_ok-block.block) later)
-          ∙ ap (λ ys. in_front ys later) (sym (map-append block_view l.blocks.items (c.in_ok-block.block ∷ [])) ∙ ap (map block_view) (sym c.in_ok-push.ensures.items));
+          ∙ ap (λ ys. in_front ys later) (sym (map-append block_view l.blocks.items (c.in_ok-block.block ∷ []))
+          ∙ ap (map block_view) (sym c.in_ok-push.ensures.items));
       labels = done.labels;
       numbered = omega arith;
     }

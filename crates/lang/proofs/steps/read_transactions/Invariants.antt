@@ -10,8 +10,12 @@ use Rattle.lang.proofs.steps.read_transactions.Given as goal
 
 abbrev pub invariant-loop-transaction : goal.invariant-loop-transaction
 invariant-loop-transaction l = record {
-  asked : check l.initial.state.counts (transactions_asked 1 (setting_of l.declared) (items_view l.transaction-items)) ≡ check l.state.counts (transactions_asked (l.number + 1) (setting_of l.declared) (items_view (drop l.transaction-index l.transaction-items)));
-  spelled : blocks_of (setting_of l.declared) (numbers_of l.initial.state.numbering) (items_view l.transaction-items) ≡ in_front (map block_view l.blocks.items) (blocks_of (setting_of l.declared) (numbers_of l.state.numbering) (items_view (drop l.transaction-index l.transaction-items)));
+  asked : check l.initial.state.counts (transactions_asked 1 (setting_of l.declared) (items_view l.transaction-items))
+      ≡ check l.state.counts (transactions_asked (l.number + 1) (setting_of l.declared)
+      (items_view (drop l.transaction-index l.transaction-items)));
+  spelled : blocks_of (setting_of l.declared) (numbers_of l.initial.state.numbering) (items_view l.transaction-items) ≡ in_front
+      (map block_view l.blocks.items) (blocks_of (setting_of l.declared) (numbers_of l.state.numbering)
+      (items_view (drop l.transaction-index l.transaction-items)));
   labels : scope_of l.state.labels.entries ≡ [];
   numbered : l.number ≡ l.transaction-index;
 }

@@ -15,15 +15,19 @@ use Rattle.one_thread.proofs.executor.+run.Goals.{run_step-then-holds, run_step-
 -- ---- steps one after the other
 
 pub run_steps-loop-step-init : goal.run_steps-loop-step-init
-run_steps-loop-step-init t c = rw c.in_ok-taken.ensures.items (part_run-start ground c.args.steps.now c.args.labels.now.items c.args.workspace.now c.requires)
+run_steps-loop-step-init t c = rw c.in_ok-taken.ensures.items
+    (part_run-start ground c.args.steps.now c.args.labels.now.items c.args.workspace.now c.requires)
 
 pub run_steps-returns-in-Aborted-clause-shows : goal.run_steps-returns-in-Aborted-clause-shows
 run_steps-returns-in-Aborted-clause-shows t c =
-    part_run-aborted ground _ _ _ _ _ _ _ c.step-item.result c.in_ok-done.done c.in_ok-done.end _ _ c.in-Aborted.field-0 _ c.loop-step.invariant c.loop-step-test.true c.step-item.is c.in_ok-done.ensures.shows c.in-Aborted.is c.in_ok-push.ensures.items refl
+    part_run-aborted ground _ _ _ _ _ _ _ c.step-item.result c.in_ok-done.done c.in_ok-done.end _ _ c.in-Aborted.field-0 _
+    c.loop-step.invariant c.loop-step-test.true c.step-item.is c.in_ok-done.ensures.shows c.in-Aborted.is c.in_ok-push.ensures.items
+    refl
 
 pub run_steps-loop-step-preserved : goal.run_steps-loop-step-preserved
 run_steps-loop-step-preserved t c =
-    rw c.in_ok-push.ensures.items (part_run-more ground _ _ _ _ _ _ _ c.step-item.result c.in_ok-done.done c.in_ok-done.end _ _ c.loop-step.invariant c.loop-step-test.true c.step-item.is c.in_ok-done.ensures.shows c.in-Ended.is c.in_ok-done.ensures.labels)
+    rw c.in_ok-push.ensures.items (part_run-more ground _ _ _ _ _ _ _ c.step-item.result c.in_ok-done.done c.in_ok-done.end _ _
+    c.loop-step.invariant c.loop-step-test.true c.step-item.is c.in_ok-done.ensures.shows c.in-Ended.is c.in_ok-done.ensures.labels)
 
 pub run_steps-returns-clause-shows : goal.run_steps-returns-clause-shows
 run_steps-returns-clause-shows t c = part_run-ended ground _ _ _ _ _ _ _ _ c.loop-step.invariant c.loop-step-test.false refl refl
@@ -34,19 +38,25 @@ pub run_step-perform-requires : goal.run_step-perform-requires
 run_step-perform-requires t c = op-can c.args.step.now _ _ _ _ _ c.in-Op.is c.requires
 
 pub run_step-index-requires : goal.run_step-index-requires
-run_step-index-requires t c = let below = if-bound c.args.step.now c.in-If.label c.in-If.test c.in-If.then c.in-If.otherwise c.args.labels.now.items _ c.in-If.is c.requires in omega arith
+run_step-index-requires t c = let below = if-bound c.args.step.now c.in-If.label c.in-If.test c.in-If.then c.in-If.otherwise
+    c.args.labels.now.items _ c.in-If.is c.requires in omega arith
 
 pub run_step-returns-in_ok-add_label-in-Op-clause-shows : goal.run_step-returns-in_ok-add_label-in-Op-clause-shows
 run_step-returns-in_ok-add_label-in-Op-clause-shows t c =
-    op-shows ground c.args.step.now _ _ _ _ _ _ _ _ c.in-Op.is c.in_ok-reply-in-Op.ensures.reply (call_took _ _ _ _ c.in_ok-reply-in-Op.reply c.in_ok-reply-in-Op.ensures.ok) c.in_ok-add_label-in-Op.ensures.ok
+    op-shows ground c.args.step.now _ _ _ _ _ _ _ _ c.in-Op.is c.in_ok-reply-in-Op.ensures.reply
+    (call_took _ _ _ _ c.in_ok-reply-in-Op.reply c.in_ok-reply-in-Op.ensures.ok) c.in_ok-add_label-in-Op.ensures.ok
 
 pub run_step-returns-in_ok-new-in-If-clause-shows : goal.run_step-returns-in_ok-new-in-If-clause-shows
 run_step-returns-in_ok-new-in-If-clause-shows t c =
     let ran = c.in_ok-record-in-If in
     elim c.if-holds.branch [
-      | run_step-then-holds w ↦ if-shows_then ground c.args.step.now c.in-If.label c.in-If.test c.in-If.then c.in-If.otherwise c.args.labels.now.items _ c.args.workspace.now _ c.index.result.now c.test_holds-holds.result _ _ c.in-If.is c.requires c.index.ensures c.test_holds-holds.ensures w.if-holds.true
+      | run_step-then-holds w ↦ if-shows_then ground c.args.step.now c.in-If.label c.in-If.test c.in-If.then c.in-If.otherwise
+          c.args.labels.now.items _ c.args.workspace.now _ c.index.result.now c.test_holds-holds.result _ _ c.in-If.is c.requires
+          c.index.ensures c.test_holds-holds.ensures w.if-holds.true
           (rw (c.deref.ensures, w.branch'-is) at ran.ensures.shows) ran.ensures.labels c.in_ok-new-in-If.ensures.ok
-      | run_step-else-holds w ↦ if-shows_else ground c.args.step.now c.in-If.label c.in-If.test c.in-If.then c.in-If.otherwise c.args.labels.now.items _ c.args.workspace.now _ c.index.result.now c.test_holds-holds.result _ _ c.in-If.is c.requires c.index.ensures c.test_holds-holds.ensures w.if-holds.false
+      | run_step-else-holds w ↦ if-shows_else ground c.args.step.now c.in-If.label c.in-If.test c.in-If.then c.in-If.otherwise
+          c.args.labels.now.items _ c.args.workspace.now _ c.index.result.now c.test_holds-holds.result _ _ c.in-If.is c.requires
+          c.index.ensures c.test_holds-holds.ensures w.if-holds.false
           (rw (c.deref.ensures, w.branch'-is) at ran.ensures.shows) ran.ensures.labels c.in_ok-new-in-If.ensures.ok
     ]
 
@@ -54,35 +64,54 @@ pub run_step-returns-in_ok-into_taken-in-Sub-clause-shows : goal.run_step-return
 run_step-returns-in_ok-into_taken-in-Sub-clause-shows t c =
     let child = c.in-Sub.child in
     let tried = c.in_ok-tried-in-Sub in
-    sub-shows ground c.args.step.now child c.args.labels.now.items _ c.args.workspace.now _ tried.tried _ c.in-Sub.is (rw c.deref-in-Sub.ensures at tried.ensures.shows)
-    (rw (c.in_ok-add_label-in-Sub.ensures.ok, tried.ensures.labels, c.deref-in-Sub-2.ensures, subaction_view-labelled child.value) refl) c.in_ok-into_taken-in-Sub.ensures
+    sub-shows ground c.args.step.now child c.args.labels.now.items _ c.args.workspace.now _ tried.tried _ c.in-Sub.is
+    (rw c.deref-in-Sub.ensures at tried.ensures.shows)
+    (rw (c.in_ok-add_label-in-Sub.ensures.ok, tried.ensures.labels, c.deref-in-Sub-2.ensures, subaction_view-labelled child.value) refl)
+    c.in_ok-into_taken-in-Sub.ensures
 
 pub run_step-returns-in-Abort-clause-shows : goal.run_step-returns-in-Abort-clause-shows
-run_step-returns-in-Abort-clause-shows t c = abort-shows ground c.args.step.now c.in-Abort.reason c.args.labels.now.items c.args.workspace.now c.in-Abort.is
+run_step-returns-in-Abort-clause-shows t c = abort-shows ground c.args.step.now c.in-Abort.reason c.args.labels.now.items
+    c.args.workspace.now c.in-Abort.is
 
 pub run_step-returns-in_ok-append-in-Parallel-clause-shows : goal.run_step-returns-in_ok-append-in-Parallel-clause-shows
 run_step-returns-in_ok-append-in-Parallel-clause-shows t c =
-    parallel-shows ground c.args.step.now c.in-Parallel.children c.args.labels.now.items _ c.run_children.new.outcomes.items c.args.workspace.now _ c.in_ok-tried-in-Parallel.tried c.in_ok-tried-in-Parallel.end c.in-Parallel.is (rw c.deref-in-Parallel.ensures.value at c.in_ok-tried-in-Parallel.ensures.shows)
+    parallel-shows ground c.args.step.now c.in-Parallel.children c.args.labels.now.items _ c.run_children.new.outcomes.items
+    c.args.workspace.now _ c.in_ok-tried-in-Parallel.tried c.in_ok-tried-in-Parallel.end c.in-Parallel.is
+    (rw c.deref-in-Parallel.ensures.value at c.in_ok-tried-in-Parallel.ensures.shows)
     (c.in_ok-append-in-Parallel.ensures.items ∙ ap (λ ls. ls ++ c.run_children.new.outcomes.items) c.in_ok-tried-in-Parallel.ensures.labels)
 
 -- ---- children one after the other
 
 pub run_children-loop-child-init : goal.run_children-loop-child-init
 run_children-loop-child-init t c =
-    record { same = refl; part = rw (c.in_ok-all.ensures.items, c.requires.none_yet) (part_tried-start ground c.args.children.now c.args.labels.now.items c.args.workspace.now c.requires.can) }
+    record {
+      same = refl;
+      part = rw (c.in_ok-all.ensures.items, c.requires.none_yet)
+          (part_tried-start ground c.args.children.now c.args.labels.now.items c.args.workspace.now c.requires.can);
+    }
 
 pub run_children-returns-in-Aborted-clause-shows : goal.run_children-returns-in-Aborted-clause-shows
 run_children-returns-in-Aborted-clause-shows t c =
     rw (c.in_ok-push.ensures.items, ← c.loop-child.invariant.same)
-    (part_tried-aborted ground _ _ _ _ _ _ _ c.child-item.result c.in_ok-tried.tried _ c.in-Aborted.field-0 (c.in_ok-tried.tried.body, c.in_ok-tried.tried.handler) _ c.loop-child.invariant.part c.loop-child-test.true c.child-item.is c.in_ok-tried.ensures.shows c.in-Aborted.is refl)
+    (part_tried-aborted ground _ _ _ _ _ _ _ c.child-item.result c.in_ok-tried.tried _ c.in-Aborted.field-0
+    (c.in_ok-tried.tried.body, c.in_ok-tried.tried.handler) _ c.loop-child.invariant.part c.loop-child-test.true c.child-item.is
+    c.in_ok-tried.ensures.shows c.in-Aborted.is refl)
 
 pub run_children-loop-child-preserved : goal.run_children-loop-child-preserved
 run_children-loop-child-preserved t c =
-    let more = part_tried-more ground _ _ _ _ _ _ _ c.child-item.result c.in_ok-tried.tried _ (c.in_ok-tried.tried.body, c.in_ok-tried.tried.handler) _ c.loop-child.invariant.part c.loop-child-test.true c.child-item.is c.in_ok-tried.ensures.shows c.in-Ended.is refl (ap (λ b. label_if b (Outcome c.in_ok-tried.tried.body.outcome)) (sym (subaction_view-labelled c.child-item.result))) in
-    record { same = c.in_ok-tried.ensures.labels ∙ c.loop-child.invariant.same; part = rw (c.in_ok-push.ensures.items, c.in_ok-add_label.ensures.ok, c.in_ok-tried.ensures.labels) more }
+    let more = part_tried-more ground _ _ _ _ _ _ _ c.child-item.result c.in_ok-tried.tried _
+    (c.in_ok-tried.tried.body, c.in_ok-tried.tried.handler) _ c.loop-child.invariant.part c.loop-child-test.true c.child-item.is
+    c.in_ok-tried.ensures.shows c.in-Ended.is refl (ap (λ b. label_if b (Outcome c.in_ok-tried.tried.body.outcome))
+    (sym (subaction_view-labelled c.child-item.result))) in
+    record {
+      same = c.in_ok-tried.ensures.labels ∙ c.loop-child.invariant.same;
+      part =
+          rw (c.in_ok-push.ensures.items, c.in_ok-add_label.ensures.ok, c.in_ok-tried.ensures.labels) more;
+    }
 
 pub run_children-returns-clause-shows : goal.run_children-returns-clause-shows
-run_children-returns-clause-shows t c = rw (← c.loop-child.invariant.same) (part_tried-ended ground _ _ _ _ _ _ _ c.loop-child.invariant.part c.loop-child-test.false)
+run_children-returns-clause-shows t c = rw (← c.loop-child.invariant.same)
+    (part_tried-ended ground _ _ _ _ _ _ _ c.loop-child.invariant.part c.loop-child-test.false)
 
 -- ---- what takes an abort
 

@@ -8,12 +8,16 @@ use Rattle.ordtx.proofs.command_line.held_number.Goals as goal
 
 pub returns-in-Ok-Some : goal.returns-in-Ok-Some
 returns-in-Ok-Some c =
-    subst (λ (text : Option (List ℕ)). HoldsNumber text c.args.default c.in-Ok-Some.number) (one_text-rows (found_of c.args.held.now) c.args.id.now)
-    (read_number (λ t r. ParsesUnsigned 32 10 t r × ExplainsUnsignedError 10 t r × HasUnsignedDigitsIfOk t r) _ c.try_get_one.result c.args.default c.in-Ok-Some.number
+    subst (λ (text : Option (List ℕ)). HoldsNumber text c.args.default c.in-Ok-Some.number)
+    (one_text-rows (found_of c.args.held.now) c.args.id.now)
+    (read_number (λ t r. ParsesUnsigned 32 10 t r × ExplainsUnsignedError 10 t r × HasUnsignedDigitsIfOk t r) _ c.try_get_one.result
+    c.args.default c.in-Ok-Some.number
     c.try_get_one.ensures.none c.try_get_one.ensures.value (λ t x given. (given.0.0.0, given.0.1)) (search rules))
 
 pub returns-in-Ok-None : goal.returns-in-Ok-None
 returns-in-Ok-None c =
-    subst (λ (text : Option (List ℕ)). HoldsNumber text c.args.default c.args.default) (one_text-rows (found_of c.args.held.now) c.args.id.now)
-    (read_none (λ t r. ParsesUnsigned 32 10 t r × ExplainsUnsignedError 10 t r × HasUnsignedDigitsIfOk t r) _ c.try_get_one.result c.args.default
+    subst (λ (text : Option (List ℕ)). HoldsNumber text c.args.default c.args.default)
+    (one_text-rows (found_of c.args.held.now) c.args.id.now)
+    (read_none (λ t r. ParsesUnsigned 32 10 t r × ExplainsUnsignedError 10 t r × HasUnsignedDigitsIfOk t r) _ c.try_get_one.result
+    c.args.default
     c.try_get_one.ensures.value (search rules))

@@ -1,4 +1,5 @@
-use Rattle.ordtx.proofs.OneAnswer.{one_fault, report_faultless, audit_faultless, plain_faultless, check_faultless, one_carry_fault, carried_faultless}
+use Rattle.ordtx.proofs.OneAnswer.{one_fault, report_faultless, audit_faultless, plain_faultless, check_faultless, one_carry_fault}
+use Rattle.ordtx.proofs.OneAnswer.{carried_faultless}
 use Rattle.ordtx.proofs.laws.faults_are_determined.Goals as goal
 
 pub returns-clause-faults : goal.returns-clause-faults

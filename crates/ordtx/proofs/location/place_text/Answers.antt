@@ -8,5 +8,6 @@ use Rattle.ordtx.proofs.location.place_text.Goals as goal
 pub returns-in-LineColumn : goal.returns-in-LineColumn
 returns-in-LineColumn c =
     IfOk-weaker c.format-in-LineColumn.result _ _
-    (λ text wrote. wrote ∙ sym (four_parts (codes " line ") (decimal c.in-LineColumn.line) (codes " column ") (decimal c.in-LineColumn.column)) ∙ ap place_text (sym c.in-LineColumn.is))
+    (λ text wrote. wrote ∙ sym (four_parts (codes " line ") (decimal c.in-LineColumn.line) (codes " column ")
+    (decimal c.in-LineColumn.column)) ∙ ap place_text (sym c.in-LineColumn.is))
     c.format-in-LineColumn.ensures.ok

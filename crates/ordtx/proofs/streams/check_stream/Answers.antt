@@ -7,7 +7,8 @@ use Rattle.ordtx.proofs.streams.check_stream.Goals as goal
 pub returns-clause-written : goal.returns-clause-written
 returns-clause-written g c =
     let is : IsCheckOf c.in_ok-document.document.items c.as_bytes.result.now = search rules in
-    IfOk-weaker c.write_text.result _ _ (λ _ written. writes_answer IsCheckOf _ _ _ _ _ _ c.in_ok-document.ensures.bytes is written) c.write_text.ensures.whole
+    IfOk-weaker c.write_text.result _ _ (λ _ written. writes_answer IsCheckOf _ _ _ _ _ _ c.in_ok-document.ensures.bytes is written)
+    c.write_text.ensures.whole
 
 pub returns-clause-beginning : goal.returns-clause-beginning
 returns-clause-beginning g c = λ failed.

@@ -12,7 +12,8 @@ returns-in_err-text-clause-fault g c =
 
 pub returns-in_err-text-clause-code : goal.returns-in_err-text-clause-code
 returns-in_err-text-clause-code g c =
-    passed_on c.from_residual-in_err-text.result (λ fault. number_of fault.code ≤ 20) memory_fault c.from_residual-in_err-text.ensures.1 (omega arith)
+    passed_on c.from_residual-in_err-text.result (λ fault. number_of fault.code ≤ 20) memory_fault c.from_residual-in_err-text.ensures.1
+    (omega arith)
 
 pub render_audit-requires : goal.render_audit-requires
 render_audit-requires g c = few_objects c.in_ok-batch.batch c.in_ok-outcome.outcome.objects c.in_ok-outcome.ensures.objects

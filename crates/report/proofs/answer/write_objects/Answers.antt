@@ -7,5 +7,6 @@ use Rattle.report.proofs.answer.write_objects.Goals as goal
 
 pub loop-object-preserved : goal.loop-object-preserved
 loop-object-preserved c =
-    let splits = objects_text-more (names_of c.args.names.now) c.loop-object.object _ c.in-Some.value.now (sym c.value.ensures ∙ ap option_copied c.in-Some.is) in
+    let splits = objects_text-more (names_of c.args.names.now) c.loop-object.object _ c.in-Some.value.now (sym c.value.ensures
+    ∙ ap option_copied c.in-Some.is) in
     after_text _ _ _ _ _ _ c.loop-object.invariant c.in_ok-write_object-in-Some.ensures splits

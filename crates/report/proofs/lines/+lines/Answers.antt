@@ -23,7 +23,8 @@ write_block-loop-index-preserved t c =
     let is = rw c.deref-taken-items.ensures.value at c.taken-item.is in
     let lt' : c.loop-index.index < length steps.items = omega (arith, c.if-index-len.false, c.len.ensures, steps.ok.0) in
     let path : c.as_str.result.now ≡ part c.args.path.now (c.loop-index.index + 1) = c.as_str.ensures.value ∙ c.in_ok-step_path.ensures in
-    let splits = rest_text-more _ c.args.path.now c.loop-index.index steps.items _ c.args.done.now.outcome _ _ lt' c.index-step.ensures lt is in
+    let splits = rest_text-more _ c.args.path.now c.loop-index.index steps.items _ c.args.done.now.outcome _ _ lt' c.index-step.ensures lt
+    is in
     after_text _ _ _ _ _ _ c.loop-index.invariant (rw path at c.in_ok-write_step.ensures) splits
 
 pub write_block-returns-then-index-len : goal.write_block-returns-then-index-len
@@ -45,7 +46,8 @@ write_children-loop-index-init t c = rw rest_children_text-start refl
 pub write_children-loop-index-preserved : goal.write_children-loop-index-preserved
 write_children-loop-index-preserved t c =
     let path : c.as_str.result.now ≡ part c.args.path.now (c.loop-index.index + 1) = c.as_str.ensures.value ∙ c.in_ok-child_path.ensures in
-    let splits = rest_children_text-more _ c.args.path.now c.loop-index.index _ _ _ _ c.if-index-children.false c.index-children-index.is c.loop-index-test.true c.index-all_tried-index.is in
+    let splits = rest_children_text-more _ c.args.path.now c.loop-index.index _ _ _ _ c.if-index-children.false c.index-children-index.is
+    c.loop-index-test.true c.index-all_tried-index.is in
     after_text _ _ _ _ _ _ c.loop-index.invariant (rw (path, c.as_ref.ensures.value) at c.in_ok-write_child.ensures) splits
 
 pub write_children-returns-then-index-children : goal.write_children-returns-then-index-children
@@ -58,7 +60,8 @@ write_children-returns t c =
 
 pub write_step-returns-in-Parallel-Parallel : goal.write_step-returns-in-Parallel-Parallel
 write_step-returns-in-Parallel-Parallel t c =
-    rw (c.in-Parallel-Parallel.is-0, c.in-Parallel-Parallel.is-1, step_view-Parallel, taken_view-Parallel) (rw (c.deref-in-Parallel-Parallel.ensures.value, c.deref-in-Parallel-Parallel-2.ensures.value) at c.write_children.ensures)
+    rw (c.in-Parallel-Parallel.is-0, c.in-Parallel-Parallel.is-1, step_view-Parallel, taken_view-Parallel)
+    (rw (c.deref-in-Parallel-Parallel.ensures.value, c.deref-in-Parallel-Parallel-2.ensures.value) at c.write_children.ensures)
 
 -- ---- a subaction
 
@@ -66,16 +69,25 @@ pub write_child-returns : goal.write_child-returns
 write_child-returns t c =
     let path : c.as_str.result.now ≡ c.args.path.now ++ codes ".b" = c.as_str.ensures.value ∙ c.in_ok-body_path.ensures.ok in
     after_two _ _ _ _ _ c.in_ok-write_outcome.ensures (rw path at c.in_ok-write_block.ensures)
-    ∙ ap (λ text. string_bytes c.args.out.now ++ text) (sym (child_text-body _ c.args.path.now c.args.child.now c.args.body.now (option_copied c.args.handler) (ap option_copied c.in-None.is)))
+    ∙ ap (λ text. string_bytes c.args.out.now ++ text)
+    (sym (child_text-body _ c.args.path.now c.args.child.now c.args.body.now (option_copied c.args.handler)
+    (ap option_copied c.in-None.is)))
 
 pub write_child-returns-in-Some : goal.write_child-returns-in-Some
 write_child-returns-in-Some t c =
     let path : c.as_str.result.now ≡ c.args.path.now ++ codes ".b" = c.as_str.ensures.value ∙ c.in_ok-body_path.ensures.ok in
     let names = names_of c.args.names.now in
     let lines = body_lines names c.args.path.now c.args.child.now c.args.body.now in
-    let wrote : string_bytes c.write_block.new.out ≡ string_bytes c.args.out.now ++ lines = after_two _ _ _ _ _ c.in_ok-write_outcome.ensures (rw path at c.in_ok-write_block.ensures) in
-    let handled = handled_text names c.args.path.now (reason_of c.args.body.now.outcome) (record_view c.in-Some.done.now) (subaction_view c.args.child.now).handlers in
-    rw (child_text-handler names c.args.path.now c.args.child.now c.args.body.now (option_copied c.args.handler) c.in-Some.done.now (ap option_copied c.in-Some.is), sym (append_assoc (string_bytes c.args.out.now) lines handled)) (rw (wrote, c.reason_of.ensures) at c.write_handler.ensures)
+    let wrote : string_bytes c.write_block.new.out ≡ string_bytes c.args.out.now ++ lines =
+    after_two _ _ _ _ _ c.in_ok-write_outcome.ensures (rw path at c.in_ok-write_block.ensures) in
+    let handled = handled_text names c.args.path.now (reason_of c.args.body.now.outcome) (record_view c.in-Some.done.now)
+    (subaction_view c.args.child.now).handlers in
+    rw (
+      child_text-handler names c.args.path.now c.args.child.now c.args.body.now (option_copied c.args.handler) c.in-Some.done.now
+          (ap option_copied c.in-Some.is),
+      sym (append_assoc (string_bytes c.args.out.now) lines handled),
+    )
+    (rw (wrote, c.reason_of.ensures) at c.write_handler.ensures)
 
 -- ---- what takes an abort
 

@@ -7,11 +7,17 @@ use Rattle.report.proofs.values.write_members.Goals as goal
 
 pub loop-member-init : goal.loop-member-init
 loop-member-init c =
-    let same = c.into_iter-member-iterator.ensures.into_iter_gives ∙ c.iter-member-items.ensures.rest ∙ sym (members-sorted _ c.iter-member-items.ensures.ordered) ∙ ap members c.items.ensures in
-    (([], (refl, refl)), ap (λ text. string_bytes c.args.out.now ++ text) (spaced_behind-nothing _ ∙ ap (λ xs. spaced (map (names_of c.args.names.now).item xs)) same))
+    let same = c.into_iter-member-iterator.ensures.into_iter_gives ∙ c.iter-member-items.ensures.rest
+    ∙ sym (members-sorted _ c.iter-member-items.ensures.ordered) ∙ ap members c.items.ensures in (
+      ([], (refl, refl)),
+      ap (λ text. string_bytes c.args.out.now ++ text) (spaced_behind-nothing _
+          ∙ ap (λ xs. spaced (map (names_of c.args.names.now).item xs)) same),
+    )
 
 pub loop-member-preserved : goal.loop-member-preserved
 unfolding lib.Utf8.encode
 loop-member-preserved c =
-    let more = next_name (names_of c.args.names.now).item (string_bytes c.loop-member.out) _ c.loop-member.space.now c.item_name-name.result.now c.loop-member.member-iterator c.next.new.self c.in-Some.member.now _ c.in-Some.ensures.steps c.item_name-name.ensures c.in_ok-write.ensures.bytes c.loop-member.invariant.1 in
+    let more = next_name (names_of c.args.names.now).item (string_bytes c.loop-member.out) _ c.loop-member.space.now
+    c.item_name-name.result.now c.loop-member.member-iterator c.next.new.self c.in-Some.member.now _ c.in-Some.ensures.steps
+    c.item_name-name.ensures c.in_ok-write.ensures.bytes c.loop-member.invariant.1 in
     ((32 ∷ [], (refl, refl)), more)

@@ -4,7 +4,8 @@ use Rattle.rounds.proofs.check.seek_in_blocks.Goals as goal
 
 pub returns-then-first-end : goal.returns-then-first-end
 returns-then-first-end g c =
-    block_seen c.args.runs.now c.min-end.result c.looking.from c.in_ok-first.first c.index-upto.result.now c.list_nets.new.nets c.list_nets.new.starts.items (omega (arith, c.min-end.ensures)) c.if-first-end.true
+    block_seen c.args.runs.now c.min-end.result c.looking.from c.in_ok-first.first c.index-upto.result.now c.list_nets.new.nets
+    c.list_nets.new.starts.items (omega (arith, c.min-end.ensures)) c.if-first-end.true
     c.in_ok-list_nets.ensures.nets c.in_ok-list_nets.ensures.starts c.index-upto.ensures c.looking.invariant.clear c.in_ok-first.ensures
 
 pub looking-preserved : goal.looking-preserved
@@ -14,5 +15,6 @@ looking-preserved g c =
       within = within;
       nets = c.in_ok-list_nets.ensures.nets;
       starts = c.in_ok-list_nets.ensures.starts;
-      clear = λ k lt. block_clear c.args.runs.now c.min-end.result c.looking.from c.in_ok-first.first c.looking.invariant.clear c.in_ok-first.ensures k lt (omega (arith, c.if-first-end.false, lt));
+      clear = λ k lt. block_clear c.args.runs.now c.min-end.result c.looking.from c.in_ok-first.first c.looking.invariant.clear
+          c.in_ok-first.ensures k lt (omega (arith, c.if-first-end.false, lt));
     }

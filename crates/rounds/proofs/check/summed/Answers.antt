@@ -8,6 +8,7 @@ loop-run-preserved c =
     let sums = c.in_ok-sums.sums in
     let run = c.run-item.result in
     summed_more c.args.runs.now c.loop-run.pending.items c.push.new.self.items c.loop-run.run-index
-    (record { tree = c.empty-tree.result.tree; net = c.empty-tree.result.net; sums = sums }) run c.loop-run-test.true c.in_ok-push.ensures.items c.run-item.is
+    (record { tree = c.empty-tree.result.tree; net = c.empty-tree.result.net; sums = sums }) run c.loop-run-test.true
+    c.in_ok-push.ensures.items c.run-item.is
     (subst (λ es. AreSumsOf sums es run.net.items) c.deref.ensures.value
     (subst (AreSumsOf sums c.deref.result.now) c.deref-in-loop-run.ensures.value c.in_ok-sums.ensures)) c.loop-run.invariant

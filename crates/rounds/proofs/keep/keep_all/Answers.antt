@@ -31,4 +31,5 @@ returns-clause-few g c =
 pub returns-clause-tells : goal.returns-clause-tells
 returns-clause-tells g c =
     IfOk-weaker c.refuted_of.result _ _
-    (λ numbers among. tells_all c.touch.new.self c.args.runs.now c.args.from numbers.items c.in_ok-touch.ensures.watches) c.refuted_of.ensures
+    (λ numbers among. tells_all c.touch.new.self c.args.runs.now c.args.from numbers.items c.in_ok-touch.ensures.watches)
+    c.refuted_of.ensures

@@ -10,7 +10,8 @@ returns g c =
     let since = take c.args.upto c.args.nets.now in
     let places = c.args.touched.now in
     let decided = given_by _ _ (IsToldAt runs since places) c.give_all.result c.give_all.ensures (λ k own done. search rules) in
-    IfOk-weaker c.give_all.result _ _ (λ numbers given. given_of_all runs since places c.requires.places.distinct numbers.items given) decided
+    IfOk-weaker c.give_all.result _ _ (λ numbers given. given_of_all runs since places c.requires.places.distinct numbers.items given)
+    decided
 
 pub overflow_cast-touched : goal.overflow_cast-touched
 overflow_cast-touched g c =

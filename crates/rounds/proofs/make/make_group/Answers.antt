@@ -15,7 +15,8 @@ loop-number-preserved g c =
     let is_made : IsMade batch c.args.objects.now (record { number = number; run = run }) =
     subst (λ s. IsPendingOf (meaning batch number s) run) shown c.in_ok-run.ensures.made in
     record {
-      all_made = made_more batch c.args.objects.now c.args.group.now c.loop-number.number-index (record { number = number; run = run }) c.loop-number.all.items
+      all_made = made_more batch c.args.objects.now c.args.group.now c.loop-number.number-index (record { number = number; run = run })
+          c.loop-number.all.items
           c.push.new.self.items c.loop-number-test.true refl c.in_ok-push.ensures.items so_far.all_made is_made;
       as_opened = c.in_ok-run.ensures.again ∙ so_far.as_opened;
       unlabelled = c.in_ok-run.ensures.unlabelled;

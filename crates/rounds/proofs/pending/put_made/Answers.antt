@@ -33,9 +33,11 @@ loop-number-preserved c =
               | yes same ↦ subst (λ j. IsIn new runs (get_or c.args.made.now j 0) d) (sym same) (here d)
               | no other ↦
                   let other_run = get_or c.args.made.now k 0 in
-                  w.in_ok-put.ensures.others other_run (entries_of (get_or runs other_run d).sums.entries.items) (so_far.put k d (omega arith) from)
+                  w.in_ok-put.ensures.others other_run (entries_of (get_or runs other_run d).sums.entries.items)
+                  (so_far.put k d (omega arith) from)
             ];
-            others = λ other d before. w.in_ok-put.ensures.others other (entries_of (get_or runs other d).sums.entries.items) (so_far.others other d before);
+            others = λ other d before. w.in_ok-put.ensures.others other (entries_of (get_or runs other d).sums.entries.items)
+                (so_far.others other d before);
           })
       | else-number-from w ↦
           let early = w.if-number-from.false in

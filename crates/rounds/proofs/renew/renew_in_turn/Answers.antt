@@ -14,7 +14,8 @@ overflow_add-index_mut g c =
     let all = c.requires.counted in
     let same = c.loop-number.invariant.renewed.counted in
     let lt : place < length c.loop-number.counts.items = omega arith in
-    let read = get_or_read c.loop-number.counts.items place c.index_mut-in-loop-number-2.result.now lt c.index_mut-in-loop-number-2.ensures.value 0 in
+    let read = get_or_read c.loop-number.counts.items place c.index_mut-in-loop-number-2.result.now lt
+    c.index_mut-in-loop-number-2.ensures.value 0 in
     let told = c.loop-number.invariant.renewed.told place (omega arith) in
     let few = times_take place c.loop-number.number-index c.args.stale.now in
     let room = c.requires.room place in
@@ -39,10 +40,13 @@ loop-number-preserved g c =
     let shown : c.loop-number.desk.view.snapshot ≡ objects = ap (λ (v : View). v.snapshot) so_far.as_opened in
     let made = c.in_ok-run.run' in
     let is_made = subst (λ s. IsPendingOf (meaning batch place s) made) shown c.in_ok-run.ensures.made in
-    let more = renewed_more batch objects c.args.stale.now at place made c.args.runs.now.items c.loop-number.runs.items c.args.counts.now.items counts
+    let more = renewed_more batch objects c.args.stale.now at place made c.args.runs.now.items c.loop-number.runs.items
+    c.args.counts.now.items counts
     c.loop-number-test.true refl sizes in_runs is_made so_far.renewed in
     record {
-      renewed = rw (set-set c.loop-number.runs.items place) (subst (λ n. AreRenewed batch objects (take (at + 1) c.args.stale.now) c.args.runs.now.items (set c.loop-number.runs.items place made)
+      renewed = rw (set-set c.loop-number.runs.items place)
+          (subst (λ n. AreRenewed batch objects (take (at + 1) c.args.stale.now) c.args.runs.now.items
+          (set c.loop-number.runs.items place made)
           c.args.counts.now.items (set counts place (n + 1))) (sym read) more);
       as_opened = c.in_ok-run.ensures.again ∙ so_far.as_opened;
       unlabelled = c.in_ok-run.ensures.unlabelled;

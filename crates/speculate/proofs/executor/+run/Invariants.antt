@@ -63,7 +63,8 @@ abbrev pub invariant-run_children-loop-place : goal.invariant-run_children-loop-
 invariant-run_children-loop-place g l = record {
   same : l.labels.items ≡ l.fn.labels.items;
   part : ArePartTried in_view l.children l.labels.items l.fn.view l.place l.all.items l.outcomes.items l.view;
-  left : 0 < into_iter_len l.ahead → AreLeft (drop l.place l.children) l.labels.items l.kept (state_of_view l.view) (into_iter_items l.ahead);
+  left : 0 < into_iter_len l.ahead → AreLeft (drop l.place l.children) l.labels.items l.kept (state_of_view l.view)
+      (into_iter_items l.ahead);
 }
 
 abbrev pub invariant-run_part-loop-place : goal.invariant-run_part-loop-place

@@ -9,5 +9,8 @@ pub run_block-requires-after_bounds : goal.run_block-requires-after_bounds
 run_block-requires-after_bounds g c κs within =
     let state = c.args.view.now.snapshot in
     let below : c.args.number - 1 < length c.args.batch.now.transactions.items = omega (arith, c.requires.first, c.requires.last) in
-    let can = transaction_can_run c.args.batch.now.objects c.args.batch.now.names c.args.batch.now.transactions.items (c.args.number - 1) state c.index-block.result.now c.args.batch.now.is_batch c.requires.same_kinds c.requires.room below c.index-block.ensures in
-    rw c.requires.unlabelled (subst (λ v. CanRunHere (block_view c.index-block.result.now) [] (state_of_view v)) (sym c.requires.opened) can)
+    let can = transaction_can_run c.args.batch.now.objects c.args.batch.now.names c.args.batch.now.transactions.items
+    (c.args.number - 1) state c.index-block.result.now c.args.batch.now.is_batch c.requires.same_kinds c.requires.room below
+    c.index-block.ensures in
+    rw c.requires.unlabelled (subst (λ v. CanRunHere (block_view c.index-block.result.now) [] (state_of_view v))
+    (sym c.requires.opened) can)

@@ -3,7 +3,8 @@ use Rattle.batch.proofs.CountLemmas.{rest_of_blocks-start, rest_of_blocks-more, 
 use Rattle.batch.proofs.batch.Batch.operations.Goals as goal
 
 pub loop-block-init : goal.loop-block-init
-loop-block-init c = rw c.deref-block-items.ensures.value (let all = rest_of_blocks-start c.args.self.now.transactions.items in omega (arith, all))
+loop-block-init c = rw c.deref-block-items.ensures.value (let all = rest_of_blocks-start c.args.self.now.transactions.items in
+    omega (arith, all))
 
 pub operations_in-count-requires : goal.operations_in-count-requires
 operations_in-count-requires c =

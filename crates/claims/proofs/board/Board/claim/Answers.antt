@@ -11,5 +11,6 @@ pub fetch_add-found-requires : goal.fetch_add-found-requires
 fetch_add-found-requires c =
     let same : c.load-stopped.new.seat.me ≡ c.seat.inside.token.me = c.load-stopped.ensures.2.1 c.if-stopped.false in
     let share : c.load-stopped.new.seat.me.0.shares ≡ 1 = ap (λ m. m.0.shares) same ∙ c.seat.invariant.1 in
-    let new : c.load-stopped.new.seat.me.0.done ≡ 0 = none_done c.load-stopped.new.seat.me.0 (ap (λ m. is_over m.0) same ∙ ap (λ s. is_over s.view) c.seat.view_is ∙ c.requires.going) in
+    let new : c.load-stopped.new.seat.me.0.done ≡ 0 = none_done c.load-stopped.new.seat.me.0 (ap (λ m. is_over m.0) same
+    ∙ ap (λ s. is_over s.view) c.seat.view_is ∙ c.requires.going) in
     (search rules, omega arith, draws _ _ _ _ _ (omega arith) new)

@@ -21,7 +21,8 @@ returns-then-not-commutes c =
     let read : c.deref.result.now ≡ c.args.self.now = c.deref.ensures.value ∙ c.self.view_is in (
       λ h. absurd (false≢true h),
       λ h. absurd (false≢true (sym c.if-not-commutes.true ∙ c.commutes.ensures.all (λ k before.
-          subst (λ es. CommuteForward e (get_or es k e)) (sym read) (each_first e c.args.self.now c.args.upto c.requires.within h k before)))),
+          subst (λ es. CommuteForward e (get_or es k e)) (sym read)
+          (each_first e c.args.self.now c.args.upto c.requires.within h k before)))),
     )
 
 pub loop-class-preserved : goal.loop-class-preserved

@@ -4,4 +4,5 @@ use Rattle.committed.specs.Summaries.{entries_of}
 use Rattle.committed.proofs.committed.Committed.stands.Given as goal
 
 abbrev pub invariant-loop-marked : goal.invariant-loop-marked
-invariant-loop-marked l = AllCommute (entries_of (drop l.marked-index l.entries)) (take l.upto l.self) ↔ AllCommute (entries_of l.entries) (take l.upto l.self)
+invariant-loop-marked l = AllCommute (entries_of (drop l.marked-index l.entries)) (take l.upto l.self) ↔ AllCommute (entries_of l.entries)
+    (take l.upto l.self)

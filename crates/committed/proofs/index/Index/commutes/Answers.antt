@@ -41,7 +41,8 @@ loop-at-preserved c =
     let read : get_or es found.strictest e ≡ c.index-entries-found.result =
     get_or_default es found.strictest e c.index-entries-found.result within
     ∙ ap (λ (y : Link). get_or es y.strictest c.index-entries-found.result) (sym c.get-found.ensures) ∙ sym c.index-entries-found.is in
-    let commutes : CommuteForward e (get_or es found.strictest e) = subst (CommuteForward e) (sym read) (c.commute.ensures.0 c.if-not-commute.false) in
+    let commutes : CommuteForward e (get_or es found.strictest e) = subst (CommuteForward e) (sym read)
+    (c.commute.ensures.0 c.if-not-commute.false) in
     let is : c.get-found.result.now.span ≡ found.span = ap (λ (y : Link). y.span) c.get-found.ensures in
     record {
       end = subst (IsEnd (slot_in index) links (length links) (slot_in index c.args.key)) (sym is)

@@ -16,13 +16,18 @@ loop-marked-preserved c =
     let at = c.loop-marked.marked-index in
     let so_far = c.loop-marked.invariant in
     let found = c.find_one.new.found in
-    let step : IsMore from watch.count c.loop-marked.found found = record { more = c.in_ok-find_one.ensures.more; only = c.in_ok-find_one.ensures.only } in
+    let step : IsMore from watch.count c.loop-marked.found found = record {
+      more = c.in_ok-find_one.ensures.more;
+      only =
+          c.in_ok-find_one.ensures.only;
+    } in
     record {
       found = more_more from watch.count c.args.found.now c.loop-marked.found found so_far.found step;
       stand = below_more (λ (j : ℕ). (e other : Entry) (run : ℕ) → from ≤ run → ¬ Has found run → IsWatched watch run other
           → CommuteForward other (get_or (entries_of all) j e)) at
           (λ j low e other run late none. so_far.stand j low e other run late (λ has. none (step.more run has)))
-          (λ e other run late none watched. subst (CommuteForward other) (entry_at all at c.marked-item.result e c.loop-marked-test.true c.marked-item.is)
+          (λ e other run late none watched. subst (CommuteForward other)
+          (entry_at all at c.marked-item.result e c.loop-marked-test.true c.marked-item.is)
           (c.in_ok-find_one.ensures.stand run other late none watched));
     }
 
@@ -30,4 +35,5 @@ pub returns-clause-stand : goal.returns-clause-stand
 unfolding Watches
 returns-clause-stand c = λ run others late none watched.
     all_stand others (entries_of c.args.entries.now) (λ i j d e low high.
-    c.loop-marked.invariant.stand j (omega (arith, high, length-map c.args.entries.now (λ m. m.entry), c.loop-marked-test.false)) e (get_or others i d) run late none (watched i d low))
+    c.loop-marked.invariant.stand j (omega (arith, high, length-map c.args.entries.now (λ m. m.entry), c.loop-marked-test.false)) e
+    (get_or others i d) run late none (watched i d low))

@@ -22,20 +22,30 @@ loop-class-preserved c =
     elim c.if-met-bit-ne0.branch [
       | then-met-bit-ne0+in_ok-find_in w ↦
           let found = w.find_in.new.found in
-          let second : IsMore from watch.count c.loop-class.found found = record { more = w.in_ok-find_in.ensures.more; only = w.in_ok-find_in.ensures.only } in
-          let slot_is : slot_of size (key_against mark class) ≡ w.slot-slot.result = sym (w.slot-slot.ensures.is ∙ ap (slot_of size) w.key_against.ensures) in
+          let second : IsMore from watch.count c.loop-class.found found = record {
+            more = w.in_ok-find_in.ensures.more;
+            only =
+                w.in_ok-find_in.ensures.only;
+          } in
+          let slot_is : slot_of size (key_against mark class) ≡ w.slot-slot.result =
+          sym (w.slot-slot.ensures.is ∙ ap (slot_of size) w.key_against.ensures) in
           rw w.found-is (record {
             found = more_more from watch.count c.args.found.now c.loop-class.found found c.loop-class.invariant.found second;
             sought = below_more (λ (n : ℕ). IsSought links size from found mark met (get_or classes n Deposit)) c.loop-class.class-index
-                (λ n low. still_sought links size from c.loop-class.found found mark met (get_or classes n Deposit) second.more (c.loop-class.invariant.sought n low))
+                (λ n low. still_sought links size from c.loop-class.found found mark met (get_or classes n Deposit) second.more
+                (c.loop-class.invariant.sought n low))
                 (record { all = λ bit run late has. w.in_ok-find_in.ensures.all run late (subst (HasLink links run) slot_is has) });
           })
       | else-met-bit-ne0 w ↦
           rw w.found-is (record {
             found = c.loop-class.invariant.found;
-            sought = below_more (λ (n : ℕ). IsSought links size from c.loop-class.found mark met (get_or classes n Deposit)) c.loop-class.class-index
+            sought = below_more (λ (n : ℕ). IsSought links size from c.loop-class.found mark met (get_or classes n Deposit))
+                c.loop-class.class-index
                 c.loop-class.invariant.sought
-                (record { all = λ bit run late has. absurd (is_met met (number_of class) bit (ap (bit_and met) (sym c.bit.ensures) ∙ w.if-met-bit-ne0.false)) });
+                (record {
+                  all = λ bit run late has. absurd (is_met met (number_of class) bit (ap (bit_and met) (sym c.bit.ensures)
+                      ∙ w.if-met-bit-ne0.false));
+                });
           })
     ]
 
@@ -45,8 +55,10 @@ returns-clause-stand c = λ run other late none watched.
     let marked = c.args.marked.now in
     let found = c.loop-class.found in
     let met = c.met-met.result in
-    not_found_commutes watch c.args.from found run marked.entry other met late none watched (c.met-met.ensures marked.entry other marked.is_marked)
+    not_found_commutes watch c.args.from found run marked.entry other met late none watched
+    (c.met-met.ensures marked.entry other marked.is_marked)
     (λ class.
     let there : number_of class < c.loop-class.class-index = omega (arith, number-bound class, c.loop-class-test.false) in
     subst (λ m. IsSought watch.links.items (length watch.last.items) c.args.from found m met class) marked.is_marked
-    (subst (IsSought watch.links.items (length watch.last.items) c.args.from found marked.mark met) (class_at class) (c.loop-class.invariant.sought (number_of class) there)))
+    (subst (IsSought watch.links.items (length watch.last.items) c.args.from found marked.mark met) (class_at class)
+    (c.loop-class.invariant.sought (number_of class) there)))

@@ -17,13 +17,15 @@ loop-marked-preserved c =
       count = put.count ∙ so_far.count;
       put = below_more (λ (k : ℕ). (e : Entry) → IsWatched new run (get_or (entries_of all) k e)) c.loop-marked.marked-index
           (λ k low e. put.others run (get_or (entries_of all) k e) (so_far.put k low e))
-          (λ e. subst (IsWatched new run) (entry_at all c.loop-marked.marked-index c.marked-item.result e c.loop-marked-test.true c.marked-item.is) put.own);
+          (λ e. subst (IsWatched new run) (entry_at all c.loop-marked.marked-index c.marked-item.result e c.loop-marked-test.true
+          c.marked-item.is) put.own);
       others = λ other e watched. put.others other e (so_far.others other e watched);
     }
 
 pub returns-clause-put : goal.returns-clause-put
 unfolding Watches
-returns-clause-put c = λ k e low. c.loop-marked.invariant.put k (omega (arith, low, length-map c.args.entries.now (λ m. m.entry), c.loop-marked-test.false)) e
+returns-clause-put c = λ k e low. c.loop-marked.invariant.put k
+    (omega (arith, low, length-map c.args.entries.now (λ m. m.entry), c.loop-marked-test.false)) e
 
 pub returns-clause-others : goal.returns-clause-others
 unfolding Watches

@@ -25,7 +25,8 @@ returns-in_ok-link-2-clause-own c =
         by_object = subst (HasLink links run) by_object (second.others run c.slot-by_object.result c.in_ok-link.ensures.own);
         by_item = subst (HasLink links run) by_item second.own;
       });
-      marked = subst (λ f. IsMarked f marked.entry) (sym (second.filter ∙ c.in_ok-link.ensures.filter)) (c.mark.ensures.own marked.entry marked.is_marked);
+      marked = subst (λ f. IsMarked f marked.entry) (sym (second.filter ∙ c.in_ok-link.ensures.filter))
+          (c.mark.ensures.own marked.entry marked.is_marked);
     }
 
 pub returns-in_ok-link-2-clause-others : goal.returns-in_ok-link-2-clause-others

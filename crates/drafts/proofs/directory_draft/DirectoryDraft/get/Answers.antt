@@ -11,11 +11,13 @@ returns-in-Some c =
     let lent = c.self.inside.lent.now in
     let slots = c.self.inside.touched.entries in
     let there : Some c.in-Some.bound.now ≡ slot_at slots c.args.key = c.in-Some.ensures.value in
-    ap (λ o. slot_or o (map.get lent c.args.key)) there ∙ sym (get-over lent slots c.args.key) ∙ ap (λ (h : History Directories). map.get h.value c.args.key) c.self.view_is
+    ap (λ o. slot_or o (map.get lent c.args.key)) there ∙ sym (get-over lent slots c.args.key)
+    ∙ ap (λ (h : History Directories). map.get h.value c.args.key) c.self.view_is
 
 pub returns-in-None : goal.returns-in-None
 returns-in-None c =
     let lent = c.self.inside.lent.now in
     let slots = c.self.inside.touched.entries in
     let there : None ≡ slot_at slots c.args.key = c.in-None.ensures.value in
-    c.get-in-None.ensures ∙ ap (λ o. slot_or o (map.get lent c.args.key)) there ∙ sym (get-over lent slots c.args.key) ∙ ap (λ (h : History Directories). map.get h.value c.args.key) c.self.view_is
+    c.get-in-None.ensures ∙ ap (λ o. slot_or o (map.get lent c.args.key)) there ∙ sym (get-over lent slots c.args.key)
+    ∙ ap (λ (h : History Directories). map.get h.value c.args.key) c.self.view_is

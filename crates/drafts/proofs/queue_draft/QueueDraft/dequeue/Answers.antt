@@ -12,7 +12,8 @@ pub overflow_add-self : goal.overflow_add-self
 overflow_add-self c =
     let lent = c.self.inside.lent.now in
     let added = c.self.inside.added.items in
-    let some : IsSome (slice_get (between lent (ends_at c.self.inside.taken added)) 0) = subst (λ (h : History (List Item)). IsSome (slice_get h.value 0)) (sym c.self.view_is) c.requires in
+    let some : IsSome (slice_get (between lent (ends_at c.self.inside.taken added)) 0) =
+    subst (λ (h : History (List Item)). IsSome (slice_get h.value 0)) (sym c.self.view_is) c.requires in
     let left : c.self.inside.taken < length (lent ++ added) = some_left (lent ++ added) c.self.inside.taken some in
     let size = length-append lent added in
     let came : length c.items.result.now.items ≡ length lent = ap length c.items.ensures in
@@ -22,11 +23,13 @@ pub invariant_of-self-2 : goal.invariant_of-self-2
 invariant_of-self-2 c =
     let some : IsSome (slice_get (between c.self.inside.lent.now (ends_at c.self.inside.taken c.self.inside.added.items)) 0) =
     subst (λ (h : History (List Item)). IsSome (slice_get h.value 0)) (sym c.self.view_is) c.requires in
-    within_dequeued c.self.inside.lent.now c.self.inside.added.items c.self.inside.taken (reverse c.self.inside.journal.items) (reverse c.push.new.self.items) c.self.invariant some
+    within_dequeued c.self.inside.lent.now c.self.inside.added.items c.self.inside.taken (reverse c.self.inside.journal.items)
+    (reverse c.push.new.self.items) c.self.invariant some
     (reverse_push _ _ (Dequeued c.self.inside.taken) c.in_ok-push.ensures.items)
 
 pub returns-clause-ok : goal.returns-clause-ok
 returns-clause-ok c =
-    history_dequeued c.self.inside.lent.now c.self.inside.added.items c.self.inside.taken (reverse c.self.inside.journal.items) (reverse c.push.new.self.items)
+    history_dequeued c.self.inside.lent.now c.self.inside.added.items c.self.inside.taken (reverse c.self.inside.journal.items)
+    (reverse c.push.new.self.items)
     (reverse_push _ _ (Dequeued c.self.inside.taken) c.in_ok-push.ensures.items)
     ∙ ap (λ (h : History (List Item)). changed h (drop 1 h.value)) c.self.view_is

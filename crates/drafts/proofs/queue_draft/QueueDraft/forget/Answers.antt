@@ -7,4 +7,5 @@ pub invariant_of-self : goal.invariant_of-self
 invariant_of-self c =
     let inside = c.self.inside in
     let ends = ends_at inside.taken inside.added.items in
-    subst (λ (changes : _). AreWithin inside.lent.now ends (reverse changes)) (sym c.truncate.ensures.items) (within_now inside.lent.now ends (reverse inside.journal.items) c.self.invariant)
+    subst (λ (changes : _). AreWithin inside.lent.now ends (reverse changes)) (sym c.truncate.ensures.items)
+    (within_now inside.lent.now ends (reverse inside.journal.items) c.self.invariant)

@@ -24,6 +24,8 @@ loop-place-preserved c =
     let here : item ≡ get_or lent place item = c.index.ensures ∙ ap (λ xs. get_or xs place item) c.items-lent.ensures in
     let size : length c.items-lent.result.now.items ≡ length lent = ap length c.items-lent.ensures in
     let within : place < length lent = omega (arith, c.len-place-end.ensures, c.items-lent.result.now.ok) in
-    let more : drop place lent ≡ item ∷ drop (place + 1) lent = drop_more lent place item within ∙ ap (λ x. x ∷ drop (place + 1) lent) (sym here) in
-    ap (λ xs. xs ++ (drop (place + 1) lent ++ rest)) c.in_ok-push_back.ensures.ok ∙ append_assoc whole (item ∷ []) (drop (place + 1) lent ++ rest)
+    let more : drop place lent ≡ item ∷ drop (place + 1) lent = drop_more lent place item within ∙ ap (λ x. x ∷ drop (place + 1) lent)
+    (sym here) in
+    ap (λ xs. xs ++ (drop (place + 1) lent ++ rest)) c.in_ok-push_back.ensures.ok
+    ∙ append_assoc whole (item ∷ []) (drop (place + 1) lent ++ rest)
     ∙ sym (ap (λ xs. whole ++ (xs ++ rest)) more) ∙ c.loop-place.invariant

@@ -14,9 +14,12 @@ overflow_add-self c =
     let lent = c.self.inside.lent.now in
     let slots = c.self.inside.touched.entries in
     let written = c.insert.new.self.entries in
-    let new : set.contains (over_set lent slots) c.args.item ≡ false = ap (λ (h : History Sets). set.contains h.value c.args.item) c.self.view_is ∙ c.requires in
-    let now : over_set lent written ≡ set.insert (over_set lent slots) c.args.item = over_set-write lent slots written c.args.item true c.in_ok-insert.ensures.updates.0 in
-    let size : c.self.inside.size + 1 ≡ set.len (over_set lent written) = size-inserted lent slots written c.args.item c.self.inside.size c.self.invariant.counted new now in
+    let new : set.contains (over_set lent slots) c.args.item ≡ false = ap (λ (h : History Sets). set.contains h.value c.args.item)
+    c.self.view_is ∙ c.requires in
+    let now : over_set lent written ≡ set.insert (over_set lent slots) c.args.item = over_set-write lent slots written c.args.item true
+    c.in_ok-insert.ensures.updates.0 in
+    let size : c.self.inside.size + 1 ≡ set.len (over_set lent written) = size-inserted lent slots written c.args.item c.self.inside.size
+    c.self.invariant.counted new now in
     let most : set.len (over_set lent written) ≤ set.len lent + length written = len-over lent written in
     let small : set.len lent < 2 ^ 63 = c.self.invariant.small in
     let few : length written < 2 ^ 63 = subst (λ n. n < 2 ^ 63) c.len-touched.ensures.len c.len-touched.ensures.small in
@@ -27,9 +30,12 @@ invariant_of-self-2 c =
     let lent = c.self.inside.lent.now in
     let slots = c.self.inside.touched.entries in
     let written = c.insert.new.self.entries in
-    let new : set.contains (over_set lent slots) c.args.item ≡ false = ap (λ (h : History Sets). set.contains h.value c.args.item) c.self.view_is ∙ c.requires in
-    let now : over_set lent written ≡ set.insert (over_set lent slots) c.args.item = over_set-write lent slots written c.args.item true c.in_ok-insert.ensures.updates.0 in
-    set_kept_more lent slots written c.self.inside.size (c.self.inside.size + 1) (reverse c.self.inside.journal.items) (reverse c.push_reserved.new.self.items) (Added c.args.item) c.self.invariant
+    let new : set.contains (over_set lent slots) c.args.item ≡ false = ap (λ (h : History Sets). set.contains h.value c.args.item)
+    c.self.view_is ∙ c.requires in
+    let now : over_set lent written ≡ set.insert (over_set lent slots) c.args.item = over_set-write lent slots written c.args.item true
+    c.in_ok-insert.ensures.updates.0 in
+    set_kept_more lent slots written c.self.inside.size (c.self.inside.size + 1) (reverse c.self.inside.journal.items)
+    (reverse c.push_reserved.new.self.items) (Added c.args.item) c.self.invariant
     new c.in_ok-insert.ensures.updates.0 (size-inserted lent slots written c.args.item c.self.inside.size c.self.invariant.counted new now)
     (journal_push _ _ _ (Added c.args.item) c.push_reserved.ensures.items c.reserve.ensures.items)
 
@@ -38,7 +44,9 @@ returns-clause-ok c =
     let lent = c.self.inside.lent.now in
     let slots = c.self.inside.touched.entries in
     let written = c.insert.new.self.entries in
-    let new : set.contains (over_set lent slots) c.args.item ≡ false = ap (λ (h : History Sets). set.contains h.value c.args.item) c.self.view_is ∙ c.requires in
-    set_history_more lent slots written (reverse c.self.inside.journal.items) (reverse c.push_reserved.new.self.items) (Added c.args.item) new c.in_ok-insert.ensures.updates.0
+    let new : set.contains (over_set lent slots) c.args.item ≡ false = ap (λ (h : History Sets). set.contains h.value c.args.item)
+    c.self.view_is ∙ c.requires in
+    set_history_more lent slots written (reverse c.self.inside.journal.items) (reverse c.push_reserved.new.self.items)
+    (Added c.args.item) new c.in_ok-insert.ensures.updates.0
     (journal_push _ _ _ (Added c.args.item) c.push_reserved.ensures.items c.reserve.ensures.items)
     ∙ ap (λ (h : History Sets). changed h (set.insert h.value c.args.item)) c.self.view_is

@@ -11,7 +11,8 @@ use Rattle.committed.proofs.ListsLemmas.{on_err}
 use Rattle.intentions.specs.DraftTables.{drafts_of, IsPut}
 use Rattle.intentions.specs.Layers.{States, histories, layered}
 use Rattle.intentions.proofs.StartsLemmas.{nested_more}
-use Rattle.intentions.proofs.LayersLemmas.{found_none, fits_found, room_found, change_found, histories-put, histories-same, added, performed, layered-base, settled}
+use Rattle.intentions.proofs.LayersLemmas.{found_none, fits_found, room_found, change_found, histories-put, histories-same, added}
+use Rattle.intentions.proofs.LayersLemmas.{performed, layered-base, settled}
 use Rattle.intentions.proofs.layers.Layers.perform.Goals as goal
 
 pub unreachable-requires : goal.unreachable-requires
@@ -138,8 +139,10 @@ pub invariant_of-self-2 : goal.invariant_of-self-2
 invariant_of-self-2 c =
     let starts = reverse c.self.inside.starts.items in
     let n = length c.self.inside.journal.items in
-    let pushed : c.push_reserved.new.self.items ≡ c.self.inside.journal.items ++ c.args.object ∷ [] = c.push_reserved.ensures.items ∙ ap (λ js. js ++ c.args.object ∷ []) c.reserve.ensures.items in
-    let size : length c.push_reserved.new.self.items ≡ n + 1 = ap length pushed ∙ length-append c.self.inside.journal.items (c.args.object ∷ []) in
+    let pushed : c.push_reserved.new.self.items ≡ c.self.inside.journal.items ++ c.args.object ∷ [] = c.push_reserved.ensures.items
+    ∙ ap (λ js. js ++ c.args.object ∷ []) c.reserve.ensures.items in
+    let size : length c.push_reserved.new.self.items ≡ n + 1 = ap length pushed ∙ length-append c.self.inside.journal.items
+    (c.args.object ∷ []) in
     nested_more starts n (length c.push_reserved.new.self.items) c.self.invariant (omega arith)
 
 pub returns-clause-reply : goal.returns-clause-reply

@@ -10,6 +10,8 @@ pub loop-object-preserved : goal.loop-object-preserved
 loop-object-preserved c =
     let shown = c.args.self.now.shown in
     let value = c.in_ok-whole-in-Some.field-0 in
-    let found = get_or-found shown c.loop-object.object value (sym c.in-Some.ensures ∙ ap (λ v. Some v) (sym c.in_ok-whole-in-Some.ensures.value)) in
-    c.in_ok-push-in-Some.ensures.ok ∙ ap (λ ws. ws ++ value ∷ []) c.loop-object.invariant ∙ ap (λ v. take c.loop-object.object shown ++ v ∷ []) (sym found)
+    let found = get_or-found shown c.loop-object.object value (sym c.in-Some.ensures
+    ∙ ap (λ v. Some v) (sym c.in_ok-whole-in-Some.ensures.value)) in
+    c.in_ok-push-in-Some.ensures.ok ∙ ap (λ ws. ws ++ value ∷ []) c.loop-object.invariant
+    ∙ ap (λ v. take c.loop-object.object shown ++ v ∷ []) (sym found)
     ∙ sym (take_more shown c.loop-object.object value (omega arith))

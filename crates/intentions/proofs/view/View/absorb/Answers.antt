@@ -16,7 +16,9 @@ perform_whole-requires-clause-room c =
 pub invariant_of-self-2 : goal.invariant_of-self-2
 invariant_of-self-2 c =
     let same = same_shown c.self.inside c.args.self.now c.self.view_is c.self.invariant in
-    kept_absorbing c.self.inside.snapshot.now c.self.inside.net.items c.args.net.now c.extend_reserved-2.new.list.items (reverse c.self.inside.marks.items) c.self.inside.layers c.perform_whole.new.self
-    c.self.invariant (subst (λ ws. AreLegal ws c.args.net.now) same c.requires.legal) (subst (λ ws. AllHaveRoom ws c.args.net.now) same c.requires.room)
+    kept_absorbing c.self.inside.snapshot.now c.self.inside.net.items c.args.net.now c.extend_reserved-2.new.list.items
+    (reverse c.self.inside.marks.items) c.self.inside.layers c.perform_whole.new.self
+    c.self.invariant (subst (λ ws. AreLegal ws c.args.net.now) same c.requires.legal)
+    (subst (λ ws. AllHaveRoom ws c.args.net.now) same c.requires.room)
     (ap (λ (s : States). s.shown) c.in_ok-perform_whole.ensures.ok) (ap (λ (s : States). s.begun) c.in_ok-perform_whole.ensures.ok)
     (c.extend_reserved-2.ensures ∙ ap (λ es. es ++ c.args.net.now) c.reserve-2.ensures.items)

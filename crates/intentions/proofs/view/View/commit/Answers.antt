@@ -12,4 +12,5 @@ returns-clause-committed c =
     let net = c.self.inside.net.items in
     let is : reverse c.self.inside.marks.items ≡ c.in-Some._mark ∷ starts = reverse_push _ _ _ c.in-Some.ensures.items in
     let nested : IsNested (c.in-Some._mark ∷ starts) (length net) = subst (λ ss. IsNested ss (length net)) is c.self.invariant.nested in
-    committed_view values entries net c.in-Some._mark starts c.args.self.now (ap (view_parts values entries net) (sym is) ∙ c.self.view_is) nested
+    committed_view values entries net c.in-Some._mark starts c.args.self.now (ap (view_parts values entries net) (sym is) ∙ c.self.view_is)
+    nested

@@ -18,7 +18,8 @@ returns-then-eq-2 c d ms is noted =
 
 pub returns-then-eq-3 : goal.returns-then-eq-3
 returns-then-eq-3 c d ms is noted =
-    transactions_noted c.args.self c.args.name.now d ms c.args.seen is noted (named c.args.name.now (codes "transactions") c.if-eq-3.ensures)
+    transactions_noted c.args.self c.args.name.now d ms c.args.seen is noted
+    (named c.args.name.now (codes "transactions") c.if-eq-3.ensures)
 
 pub returns : goal.returns
 returns c d ms is noted =

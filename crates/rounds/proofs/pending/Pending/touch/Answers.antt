@@ -15,8 +15,10 @@ loop-run-preserved c =
     record {
       watches = so_far.watches;
       touched = touched_more c.loop-run.self.watch c.loop-run.self.touched c.find.new.found c.args.runs.now c.args.from
-          (slice_range c.args.runs.now c.args.opened c.args.from) c.loop-run.run-index c.run-item.result (entries_of c.net.result.now) c.loop-run-test.true
-          c.run-item.is c.net.ensures so_far.watches so_far.touched c.in_ok-find.ensures.more c.in_ok-find.ensures.only c.in_ok-find.ensures.stand;
+          (slice_range c.args.runs.now c.args.opened c.args.from) c.loop-run.run-index c.run-item.result
+          (entries_of c.net.result.now) c.loop-run-test.true
+          c.run-item.is c.net.ensures so_far.watches so_far.touched c.in_ok-find.ensures.more c.in_ok-find.ensures.only
+          c.in_ok-find.ensures.stand;
     }
 
 pub returns-clause-watches : goal.returns-clause-watches

@@ -12,7 +12,11 @@ returns c =
     elim c.if-eq.branch [
       | then-eq w ↦
           let same : entries ≡ net = sym (same_entries net entries (sym c.eq.ensures ∙ w.if-eq.true)) in
-          rw w.of_net-is (record { entries_are = c.in_ok-summary_of-2.ensures; net_is = subst (IsSummary summary) same c.in_ok-summary_of-2.ensures })
+          rw w.of_net-is (record {
+            entries_are = c.in_ok-summary_of-2.ensures;
+            net_is =
+                subst (IsSummary summary) same c.in_ok-summary_of-2.ensures;
+          })
       | else-eq+in_ok-summary_of w ↦
           rw w.of_net-is (record { entries_are = c.in_ok-summary_of-2.ensures; net_is = w.in_ok-summary_of.ensures })
     ]
