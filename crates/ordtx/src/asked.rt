@@ -30,6 +30,8 @@ pub struct Line {
     pub plan: Plan,
     /// Whether the report says how often each transaction was run.
     pub audit: bool,
+    /// Whether standard error shows how far the run is.
+    pub progress: bool,
 }
 
 /// Why a command line is refused, with the text to print.

@@ -108,6 +108,7 @@ fn line_of(alloc: Global, name: &str, held: &ArgMatches<'_>) -> Result<Line, Ref
         file,
         plan,
         audit: is_held(held, "audit"),
+        progress: is_held(held, "progress"),
     })
 }
 
@@ -236,6 +237,10 @@ fn run_command<'a>(alloc: Global) -> Result<clap::Command<'a>, AllocError>
         .long("audit")
         .action(ArgAction::SetTrue)
         .help("Print also how often each transaction was run");
+    let progress = Arg::new(alloc, "progress")
+        .long("progress")
+        .action(ArgAction::SetTrue)
+        .help("Show on standard error how far the run is");
     file_command(
         alloc,
         "run",
@@ -243,7 +248,8 @@ fn run_command<'a>(alloc: Global) -> Result<clap::Command<'a>, AllocError>
     )?
     .arg(workers)?
     .arg(cut)?
-    .arg(audit)
+    .arg(audit)?
+    .arg(progress)
 }
 
 // A command that takes a file.

@@ -22,7 +22,7 @@ pub use memory::{TestSink, TestSource};
 pub use rounds::Plan;
 pub use sink::Sink;
 pub use source::{Failed, Source};
-pub use speculate::{Gate, NoGate};
+pub use speculate::{Gate, NoGate, Progress, Run};
 pub use streams::{
     audit_stream, carry_stream, check_stream, locate_stream, run_stream, serial_stream,
 };

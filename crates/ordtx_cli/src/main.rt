@@ -3,6 +3,7 @@
 #![tactic(auto)]
 
 mod program;
+mod progress;
 
 use program::answer_words;
 use std::process::ExitCode;

@@ -1,9 +1,10 @@
 //! What the program does with its words, and how it ends.
 ghost use Rattle.std.specs.Prelude.{◌≡◌, false};
 
+use crate::progress::ProgressLine;
 use ordtx::{
-    Code, Command, Fault, Line, Marked, NoGate, Refused, Source, audit_stream, carry_stream,
-    check_stream, line, locate_stream, run_stream, serial_stream,
+    Code, Command, Fault, Gate, Line, Marked, NoGate, Refused, Sink, Source, audit_stream,
+    carry_stream, check_stream, line, locate_stream, run_stream, serial_stream,
 };
 use std::alloc::{AllocError, Global};
 use std::fs::File;
@@ -79,7 +80,7 @@ fn answer_line<T: Threads + Sync>(rt: &HostRuntime, threads: &T, line: &Line) ->
             Ok(file) => {
                 let mut source = Marked::new(file);
                 let answer = answer_source(rt, threads, line, &mut source);
-                if source.failed() {
+                if Source::failed(&source) {
                     let _ = eprintln!(rt; "ordtx: cannot read '{path}'");
                 }
                 answer
@@ -104,15 +105,36 @@ fn answer_source<T: Threads + Sync, R: Source>(
     let alloc = rt.alloc();
     let mut sink = Marked::new(rt.stdout());
     match line.command {
-        Command::Run if line.audit => {
-            audit_stream(threads, alloc, source, &mut sink, line.plan, &NoGate)
+        Command::Run if line.progress => {
+            let shown = ProgressLine::new(rt);
+            let answer = run_seen(threads, alloc, line, source, &mut sink, &shown);
+            shown.end();
+            answer
         }
-        Command::Run => run_stream(threads, alloc, source, &mut sink, line.plan, &NoGate),
+        Command::Run => run_seen(threads, alloc, line, source, &mut sink, &NoGate),
         Command::Serial => serial_stream(alloc, source, &mut sink),
         Command::Carry => carry_stream(alloc, source, &mut sink),
         Command::Check => check_stream(alloc, source, &mut sink),
         Command::Locate => locate_stream(alloc, source, &mut sink),
     }
+}
+
+// Runs a document, with the gate that sees its rounds.
+fn run_seen<T: Threads + Sync, R: Source, W: Sink, G: Gate>(
+    threads: &T,
+    alloc: Global,
+    line: &Line,
+    source: &mut R,
+    sink: &mut W,
+    gate: &G,
+) -> Result<(), Fault>
+    requires unread { R.has_failed source.old ≡ false }
+    requires unwritten { W.has_failed sink.old ≡ false }
+{
+    if line.audit {
+        return audit_stream(threads, alloc, source, sink, line.plan, gate);
+    }
+    run_stream(threads, alloc, source, sink, line.plan, gate)
 }
 
 fn print_help(rt: &HostRuntime, text: &str) -> Result<(), Fault> {

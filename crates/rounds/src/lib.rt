@@ -18,7 +18,7 @@ pub use batch::{Batch, Outcome, Record};
 pub use check::first_conflict;
 pub use openings::execute;
 pub use plan::Plan;
-pub use speculate::{Entry, Gate, NoGate, NoMemory, Objects, Run};
+pub use speculate::{Entry, Gate, NoGate, NoMemory, Objects, Progress, Run};
 
 #[cfg(test)]
 mod tests;

@@ -19,7 +19,7 @@ use crate::plan::Plan;
 use crate::renew::renew;
 use batch::{Batch, Outcome, Record};
 use intentions::perform_each;
-use speculate::{Gate, NoMemory, Objects};
+use speculate::{Gate, NoMemory, Objects, Progress};
 use std::alloc::Global;
 use std::thread::Threads;
 
@@ -125,6 +125,12 @@ pub fn execute<R: Threads + Sync, G: Gate>(
         commit(&runs[opened..opened + passed], &mut objects)?;
         opened += passed;
         rounds += 1;
+        gate.ended(&Progress {
+            round: rounds,
+            before: opened - passed,
+            committed: opened,
+            transactions: count,
+        });
         stale = keep_all(
             &crew,
             &runs,

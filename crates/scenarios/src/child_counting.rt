@@ -1,5 +1,5 @@
 //! A gate that counts how often a child starts.
-use speculate::{Gate, Run};
+use speculate::{Gate, Progress, Run};
 use std::sync::atomic::{AtomicU32, Ordering};
 
 /// Counts the calls of `Gate::pass` with this transaction and child.
@@ -32,4 +32,6 @@ impl Gate for ChildCounting {
     }
 
     fn made(&self, _transaction: u32, _run: &Run) {}
+
+    fn ended(&self, _progress: &Progress) {}
 }

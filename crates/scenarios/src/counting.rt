@@ -3,7 +3,7 @@ ghost use Rattle.std.specs.Prelude.{◌<◌, IfSome};
 
 use batch::Taken;
 use objects::{AccountReply, Reply};
-use speculate::{Gate, Run};
+use speculate::{Gate, Progress, Run};
 use std::sync::atomic::{AtomicU32, Ordering};
 
 /// How many transactions are counted.
@@ -90,4 +90,6 @@ impl Gate for Counting {
             self.refused[i].store(before.saturating_add(1), Ordering::SeqCst);
         }
     }
+
+    fn ended(&self, _progress: &Progress) {}
 }

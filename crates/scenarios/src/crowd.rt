@@ -1,5 +1,5 @@
 //! A gate that finds how many children are inside at once.
-use speculate::{Gate, Run};
+use speculate::{Gate, Progress, Run};
 use std::hint;
 use std::sync::atomic::{AtomicBool, AtomicU32, Ordering};
 
@@ -63,4 +63,6 @@ impl Gate for Crowd {
     }
 
     fn made(&self, _transaction: u32, _run: &Run) {}
+
+    fn ended(&self, _progress: &Progress) {}
 }

@@ -1,5 +1,5 @@
 //! A gate that holds one call until another comes.
-use speculate::{Gate, Run};
+use speculate::{Gate, Progress, Run};
 use std::hint;
 use std::sync::atomic::{AtomicBool, Ordering};
 
@@ -54,4 +54,6 @@ impl Gate for Meeting {
     }
 
     fn made(&self, _transaction: u32, _run: &Run) {}
+
+    fn ended(&self, _progress: &Progress) {}
 }

@@ -1,5 +1,5 @@
 //! A gate that counts the runs of each transaction.
-use speculate::{Gate, Run};
+use speculate::{Gate, Progress, Run};
 use std::alloc::{AllocError, Global};
 use std::sync::atomic::{AtomicU32, Ordering};
 
@@ -63,4 +63,6 @@ impl Gate for Tally {
     fn made(&self, transaction: u32, _run: &Run) {
         add(&self.made, transaction);
     }
+
+    fn ended(&self, _progress: &Progress) {}
 }

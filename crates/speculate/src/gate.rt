@@ -1,8 +1,21 @@
 //! The hook through which a caller sees what the executor does.
 use crate::speculated::Run;
 
-/// Sees runs and checks begin, and runs end, from the threads that they are made on. It changes no
-/// result.
+/// How far a batch is as one of its rounds ends.
+#[derive(Clone, Copy, Debug)]
+pub struct Progress {
+    /// The number of the round, from 1.
+    pub round: u32,
+    /// How many transactions were committed before it.
+    pub before: usize,
+    /// How many are committed now.
+    pub committed: usize,
+    /// How many the batch has.
+    pub transactions: usize,
+}
+
+/// Sees runs and checks begin, and runs end, from the threads that they are made on. It sees rounds
+/// end. It changes no result.
 ///
 /// - `pass(t, 0)` is called as a run of transaction `t` starts.
 /// - `pass(t, c)` is called as child `c` (from 1) of one of its parallel blocks starts, and once
@@ -15,6 +28,9 @@ pub trait Gate: Sync {
 
     /// Called when a run of the transaction has been made.
     fn made(&self, transaction: u32, run: &Run);
+
+    /// Called as a round ends, from the thread that runs the batch.
+    fn ended(&self, progress: &Progress);
 }
 
 /// A gate that does nothing.
@@ -25,4 +41,6 @@ impl Gate for NoGate {
     fn pass(&self, _transaction: u32, _child: u32) {}
 
     fn made(&self, _transaction: u32, _run: &Run) {}
+
+    fn ended(&self, _progress: &Progress) {}
 }

@@ -11,7 +11,7 @@ mod transaction;
 mod worth;
 
 pub use batch::{Batch, Block, Names, Outcome, Plain, Record, Step, Subaction, Taken};
-pub use gate::{Gate, NoGate};
+pub use gate::{Gate, NoGate, Progress};
 pub use intentions::{Entry, NoMemory, Objects, View};
 pub use meaning::{End, Held};
 pub use one_thread::plain;
