@@ -21,7 +21,7 @@ _ordtx() {
     COMPREPLY=()
     case $command in
         '') options='--help --version -h -V' words='run serial carry check locate help' ;;
-        run) options='--workers --cut --audit --progress --help --version -h -V' ;;
+        run) options='--workers --cut --audit --why --progress --help --version -h -V' ;;
         serial | carry | check | locate) options='--help --version -h -V' ;;
         help) words='run serial carry check locate help' ;;
     esac

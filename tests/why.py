@@ -1,0 +1,111 @@
+"""`run --why`: the lines, beside those that follow from other commands and from the tables of `docs/DOCUMENT.md`.
+
+A run of a transaction at an opening is what `serial` prints of it on the objects that `carry` prints of the transactions
+before the opening. Its operations are compared by the tables with what the earlier runs of the round leave.
+"""
+
+import functools
+import json
+import pathlib
+import random
+
+import commuting
+import randoms
+
+EXAMPLES = pathlib.Path(__file__).resolve().parent.parent / "examples"
+TITLES = {kind: title for title, kind, _, _ in commuting.TABLES}
+PLANS = ([], ["--workers", "1"], ["--workers", "64", "--cut", "1"])
+
+
+@functools.cache
+def table_of(kind):
+    return commuting.table_of(TITLES[kind])
+
+
+def commute(kind, one, other):
+    """Whether two operations on one object, with their replies, commute by the table."""
+    (first, reply), (second, answer) = one, other
+    if kind in ("set", "directory") and len({operation[1] for operation in (first, second) if len(operation) > 1}) > 1:
+        return True
+    table = table_of(kind)
+    row = [table[heading] for heading in table if commuting.is_under(heading, first, reply)][0]
+    cell = [row[heading] for heading in row if commuting.is_under(heading, second, answer)][0]
+    return commuting.commute(cell, (first, second), (reply, answer)) is not False
+
+
+class Run:
+    """The operations of a run, each as path, object, operation and reply; and those that the run leaves."""
+
+    def __init__(self, number, report):
+        lines = [line.split(" ", 2) for line in report.splitlines() if line[0] in "TSO"]
+        undone = [path + ".b." for sort, path, rest in lines if sort == "S" and rest.startswith("aborted")]
+        left = lines[0][2].startswith("committed")
+        self.entries, self.net = [], []
+        for sort, path, rest in lines:
+            if sort == "O":
+                call, reply = rest.split(" = ")
+                words = call.split()
+                entry = ("%d%s" % (number, path[1:]), words[0],
+                         (tuple(int(word) if word.isdigit() and k else word for k, word in enumerate(words[1:])), reply), rest)
+                self.entries.append(entry)
+                if left and not any(path.startswith(body) for body in undone):
+                    self.net.append(entry)
+
+
+def text_of(program, command, document):
+    out, status, _ = program.run([command], json.dumps(document).encode())
+    return out.decode() if status == 0 else None
+
+
+def first_conflict(kinds, run, nets):
+    for entry in run.entries:
+        for earlier in nets:
+            if entry[1] == earlier[1] and not commute(kinds[entry[1]], entry[2], earlier[2]):
+                return entry, earlier
+    return None
+
+
+def lines_of(program, document):
+    """The lines that follow, or None where some objects of an opening can't be carried."""
+    kinds = {one["name"]: one["kind"] for one in document["objects"]}
+    transactions, lines, opening = document["transactions"], [], 0
+    while opening < len(transactions):
+        carried = text_of(program, "carry", dict(document, transactions=transactions[:opening]))
+        if carried is None:
+            return None
+        at, nets, place, met = dict(json.loads(carried), ordtx=document["ordtx"]), [], opening, None
+        while place < len(transactions):
+            run = Run(place + 1, text_of(program, "serial", dict(at, transactions=[transactions[place]])))
+            met = first_conflict(kinds, run, nets)
+            if met:
+                break
+            nets += run.net
+            place += 1
+        if met:
+            lines.append("why %d %s %s after %s %s\n" % (len(lines) + 1, met[0][0], met[0][3], met[1][0], met[1][3]))
+        opening = place
+    return "".join(lines)
+
+
+def try_document(program, name, document):
+    given = json.dumps(document).encode()
+    report, status, _ = program.run(["run"], given)
+    lines = lines_of(program, document) if status == 0 else None
+    if lines is None:
+        return
+    for plan in PLANS:
+        program.expect(name, ["run", "--why", *plan], given, report + lines.encode())
+    audit = program.run(["run", "--audit"], given)[0]
+    program.expect(name, ["run", "--audit", "--why"], given, audit + lines.encode())
+
+
+def try_all(program, cases):
+    for file in sorted(cases.glob("*.json")) + sorted(EXAMPLES.glob("*.json")):
+        if file.with_suffix(".report").exists():
+            document = json.loads(file.read_bytes())
+            if len(document["transactions"]) <= 40:
+                try_document(program, file.stem, document)
+    chance = random.Random(7)
+    for number in range(150):
+        try_document(program, "a random document, %d" % number, randoms.whole(chance))
+    program.expect("a refused document", ["run", "--why"], b"{", b"", 1, b"fault 1 transaction 0\n")
