@@ -1,5 +1,5 @@
 -- What is written is one function of the bytes.
-use Rattle.std.proofs.Common.{◌≡◌, ℕ, ◌<◌, List, Option, Some, None, Result, Ok, Err, inl, inr, length, sym, ap, subst, ◌∙◌, arith}
+use Rattle.std.proofs.Common.{◌≡◌, ℕ, ◌<◌, Bool, true, false, List, ◌++◌, Option, Some, None, Result, Ok, Err, inl, inr, length, sym, ap, subst, ◌∙◌, arith}
 use Rattle.std.specs.Prelude.{slice_index_or}
 use Rattle.std.proofs.lemmas.Grind.{same_number_lists}
 use Rattle.objects.specs.Entries.{State}
@@ -11,11 +11,13 @@ use Rattle.meaning.proofs.Openings.{one_number, one_count}
 use Rattle.batch.specs.Names.{names_of}
 use Rattle.carry.specs.Carried.{carried_text, first_unfit}
 use Rattle.carry.specs.declared.document.Unfit.{Unfit}
+use Rattle.why.specs.Why.{IsWhyText}
+use Rattle.why.proofs.Determined.{determined}
 use Rattle.lang.specs.Faults.{fault_outside}
 use Rattle.lang.specs.Reading.{Document, reading}
 use Rattle.lang.specs.declared.fault.Fault.{Fault}
 use Rattle.ordtx.specs.Answers.{IsReportOf, IsAuditOf, IsPlainReportOf, IsCheckOf, IsFaultOf, IsCarriedOf, IsUnfitOf, IsCarryFaultOf}
-use Rattle.ordtx.specs.Answers.{end_of, unfit_code}
+use Rattle.ordtx.specs.Answers.{end_of, unfit_code, IsShownOf, IsWhyOf, IsExplainedOf}
 use Rattle.ordtx.specs.Laws.{OneTextLaw, OneFaultLaw, FaultlessLaw}
 
 -- one document
@@ -62,6 +64,24 @@ one_audit bytes first second a b =
     ∙ ap (λ e. audit_report (names_of e.texts) e.start e.transactions b.rounds b.counts) (sym same)
     ∙ sym b.is
 
+one_why : OneTextLaw IsWhyOf
+one_why bytes first second a b =
+    let same : a.document ≡ b.document = documents_alike (reading bytes) a.document b.document a.reads b.reads in
+    let d = b.document in
+    determined (names_of d.texts) d.start d.transactions second first b.is
+    (subst (λ e. IsWhyText (names_of e.texts) e.start e.transactions first) same a.is)
+
+one_shown : (audit : Bool) → OneTextLaw (IsShownOf audit)
+one_shown false = one_report
+one_shown true = one_audit
+
+pub one_explained : (audit : Bool) → OneTextLaw (IsExplainedOf audit)
+one_explained audit bytes first second a b =
+    a.is
+    ∙ ap (λ front. front ++ a.why) (one_shown audit bytes a.shown b.shown a.shown_is b.shown_is)
+    ∙ ap (λ back. b.shown ++ back) (one_why bytes a.why b.why a.why_is b.why_is)
+    ∙ sym b.is
+
 pub one_plain : OneTextLaw IsPlainReportOf
 one_plain bytes first second a b =
     let same : a.document ≡ b.document = documents_alike (reading bytes) a.document b.document a.reads b.reads in
@@ -89,6 +109,9 @@ report_faultless bytes text fault a refused = read_no_fault (reading bytes) a.do
 
 pub audit_faultless : FaultlessLaw IsAuditOf IsFaultOf
 audit_faultless bytes text fault a refused = read_no_fault (reading bytes) a.document fault a.reads refused
+
+pub explained_faultless : (audit : Bool) → FaultlessLaw (IsExplainedOf audit) IsFaultOf
+explained_faultless audit bytes text fault a refused = read_no_fault (reading bytes) a.why_is.document fault a.why_is.reads refused
 
 pub plain_faultless : FaultlessLaw IsPlainReportOf IsFaultOf
 plain_faultless bytes text fault a refused = read_no_fault (reading bytes) a.document fault a.reads refused

@@ -1,5 +1,5 @@
 -- What is written for a document, and its fault.
-use Rattle.std.specs.Prelude.{◌≡◌, ℕ, ◌<◌, ◌≤◌, ◌⊎◌, ◌++◌, List, [], codes, length, slice_index_or, string_bytes, Ok, Err, Some, None}
+use Rattle.std.specs.Prelude.{◌≡◌, ℕ, Bool, true, false, ◌<◌, ◌≤◌, ◌⊎◌, ◌++◌, List, [], codes, length, slice_index_or, string_bytes, Ok, Err, Some, None}
 use Rattle.std.specs.Fmt.{decimal}
 use Rattle.objects.specs.Entries.{State}
 use Rattle.meaning.specs.Batch.{final_state}
@@ -12,6 +12,7 @@ use Rattle.carry.specs.Carried.{carried_text, first_unfit}
 use Rattle.carry.specs.declared.document.Unfit.{Unfit}
 use Rattle.carry.specs.declared.document.Unfit.TheVariants as unfit
 use Rattle.lang.specs.Faults.{fault_outside, number_of}
+use Rattle.why.specs.Why.{IsWhyText}
 use Rattle.lang.specs.Found.{IsPlaceOf}
 use Rattle.lang.specs.declared.fault.Code.{Code}
 use Rattle.lang.specs.declared.fault.Code.TheVariants as code
@@ -40,6 +41,25 @@ pub record IsAuditOf (bytes text : List ℕ) : Type 0 where
   pub all : length counts ≡ length document.transactions
   pub each : (i : ℕ) → i < length document.transactions → Count document.start document.transactions i (slice_index_or counts i 0)
   pub is : text ≡ audit_report (names_of document.texts) document.start document.transactions rounds counts
+
+-- The bytes spell a document, and the text says which operations ended each of its rounds but the last.
+pub record IsWhyOf (bytes text : List ℕ) : Type 0 where
+  pub document : Document
+  pub reads : reading bytes ≡ Ok document
+  pub is : IsWhyText (names_of document.texts) document.start document.transactions text
+
+-- the report, with the run counts where an audit is asked for
+abbrev pub IsShownOf : Bool → List ℕ → List ℕ → Type 0
+IsShownOf false = IsReportOf
+IsShownOf true = IsAuditOf
+
+-- The text is that one, and after it comes which operations ended the rounds.
+pub record IsExplainedOf (audit : Bool) (bytes text : List ℕ) : Type 0 where
+  pub shown : List ℕ
+  pub why : List ℕ
+  pub shown_is : IsShownOf audit bytes shown
+  pub why_is : IsWhyOf bytes why
+  pub is : text ≡ shown ++ why
 
 -- The bytes spell a document, and the text is that report without its rounds.
 pub record IsPlainReportOf (bytes text : List ℕ) : Type 0 where

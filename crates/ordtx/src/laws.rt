@@ -1,14 +1,17 @@
 //! The laws of what is written: it is determined by the bytes of the document.
-ghost use Rattle.ordtx.specs.Answers.{IsAuditOf, IsCarriedOf, IsCarryFaultOf, IsCheckOf, IsFaultOf, IsPlainReportOf, IsReportOf};
+ghost use Rattle.std.specs.Prelude.{Bool};
+ghost use Rattle.ordtx.specs.Answers.{IsAuditOf, IsCarriedOf, IsCarryFaultOf, IsCheckOf, IsExplainedOf, IsFaultOf, IsPlainReportOf, IsReportOf};
 ghost use Rattle.ordtx.specs.Laws.{FaultlessLaw, OneFaultLaw, OneTextLaw};
 
-/// The same bytes have at most one report, one report with run counts, one report without rounds,
-/// one document of the objects at the end, and one line of how much they have. The line of a fault's
+/// The same bytes have at most one report, one report with run counts, each of these with what ended
+/// the rounds, one report without rounds, one document of the objects at the end, and one line of how
+/// much they have. The line of a fault's
 /// place isn't among them: the definition of a place leaves open which line and column it is where
 /// the bytes are no JSON.
 pub fn answers_are_determined()
     ensures reports { OneTextLaw IsReportOf }
     ensures audits { OneTextLaw IsAuditOf }
+    ensures explained { (audit : Bool) → OneTextLaw (IsExplainedOf audit) }
     ensures plain { OneTextLaw IsPlainReportOf }
     ensures carried { OneTextLaw IsCarriedOf }
     ensures checks { OneTextLaw IsCheckOf }
@@ -20,6 +23,7 @@ pub fn faults_are_determined()
     ensures faults { OneFaultLaw IsFaultOf }
     ensures reports { FaultlessLaw IsReportOf IsFaultOf }
     ensures audits { FaultlessLaw IsAuditOf IsFaultOf }
+    ensures explained { (audit : Bool) → FaultlessLaw (IsExplainedOf audit) IsFaultOf }
     ensures plain { FaultlessLaw IsPlainReportOf IsFaultOf }
     ensures checks { FaultlessLaw IsCheckOf IsFaultOf }
     ensures carry_faults { OneFaultLaw IsCarryFaultOf }

@@ -1,17 +1,18 @@
 //! The texts that a document gives.
-ghost use Rattle.std.specs.Prelude.{◌≡◌, ◌≢◌, ◌≤◌, IfErr, IfOk, Ok, string_bytes};
+ghost use Rattle.std.specs.Prelude.{◌≡◌, ◌≢◌, ◌≤◌, ℕ, List, IfErr, IfOk, Ok, string_bytes};
 ghost use Rattle.lang.specs.Faults.{memory_fault, number_of};
 ghost use Rattle.lang.specs.Reading.{document_of, reading};
-ghost use Rattle.ordtx.specs.Answers.{IsAuditOf, IsCarriedOf, IsCarryFaultOf, IsCheckOf, IsFaultOf, IsPlainReportOf, IsReportOf, unfit_code};
+ghost use Rattle.ordtx.specs.Answers.{IsAuditOf, IsCarriedOf, IsCarryFaultOf, IsCheckOf, IsExplainedOf, IsFaultOf, IsPlainReportOf, IsReportOf, IsShownOf, unfit_code};
 
 use batch::Batch;
 use carry::{Unfit, carried, first_unfit};
 use lang::{Code, Fault, read};
 use report::{render, render_audit, render_check, render_plain};
 use rounds::{Plan, execute};
-use speculate::{Gate, plain};
+use speculate::{Gate, NoMemory, plain};
 use std::alloc::Global;
 use std::thread::Threads;
+use why::render_why;
 
 // The batch of a document, whose bytes are freed: what comes next takes memory.
 fn batch_of(alloc: Global, document: Vec<u8>) -> Result<Batch, Fault>
@@ -55,6 +56,45 @@ pub(crate) fn audit_of<T: Threads + Sync, G: Gate>(
     let batch = batch_of(alloc, document)?;
     let outcome = execute(threads, alloc, &batch, plan, gate)?;
     let text = render_audit(alloc, &batch, &outcome)?;
+    Ok(text)
+}
+
+// The report, or the report with the run counts, of a batch that was read.
+fn shown_of<T: Threads + Sync, G: Gate>(
+    threads: &T,
+    alloc: Global,
+    batch: &Batch,
+    plan: Plan,
+    audit: bool,
+    gate: &G,
+) -> Result<String, NoMemory>
+    ensures { IfOk result (λ text. (bytes : List ℕ) → reading bytes ≡ Ok (document_of batch.now) → IsShownOf audit bytes (string_bytes text)) }
+{
+    let outcome = execute(threads, alloc, batch, plan, gate)?;
+    if audit {
+        return render_audit(alloc, batch, &outcome);
+    }
+    render(alloc, batch, &outcome)
+}
+
+// The report, with the run counts where an audit is asked for, and which operations ended the
+// rounds.
+pub(crate) fn explained_of<T: Threads + Sync, G: Gate>(
+    threads: &T,
+    alloc: Global,
+    document: Vec<u8>,
+    plan: Plan,
+    audit: bool,
+    gate: &G,
+) -> Result<String, Fault>
+    ensures text { IfOk result (λ text. IsExplainedOf audit document.items (string_bytes text)) }
+    ensures fault { IfErr result (λ fault. fault ≢ memory_fault → IsFaultOf document.items fault) }
+    ensures code { IfErr result (λ fault. number_of fault.code ≤ 20) }
+{
+    let batch = batch_of(alloc, document)?;
+    let mut text = shown_of(threads, alloc, &batch, plan, audit, gate)?;
+    let why = render_why(threads, alloc, &batch)?;
+    text.push_str(why.as_str())?;
     Ok(text)
 }
 

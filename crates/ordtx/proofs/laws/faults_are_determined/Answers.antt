@@ -1,5 +1,5 @@
 use Rattle.ordtx.proofs.OneAnswer.{one_fault, report_faultless, audit_faultless, plain_faultless, check_faultless, one_carry_fault}
-use Rattle.ordtx.proofs.OneAnswer.{carried_faultless}
+use Rattle.ordtx.proofs.OneAnswer.{carried_faultless, explained_faultless}
 use Rattle.ordtx.proofs.laws.faults_are_determined.Goals as goal
 
 pub returns-clause-faults : goal.returns-clause-faults
@@ -10,6 +10,9 @@ returns-clause-reports c = report_faultless
 
 pub returns-clause-audits : goal.returns-clause-audits
 returns-clause-audits c = audit_faultless
+
+pub returns-clause-explained : goal.returns-clause-explained
+returns-clause-explained c = explained_faultless
 
 pub returns-clause-plain : goal.returns-clause-plain
 returns-clause-plain c = plain_faultless
