@@ -5,8 +5,9 @@ ghost use Rattle.batch.specs.Names.{names_of};
 use batch::Names;
 use objects::Item;
 
+/// The name of an object.
 #[tactic(auto, using(crate::proofs::NameLemmas::no_name))]
-pub(crate) fn object_name(names: &Names, object: u32) -> &str
+pub fn object_name(names: &Names, object: u32) -> &str
     ensures { result.now ≡ (names_of names.now).object object }
 {
     match names.object(object) {
@@ -25,8 +26,9 @@ pub(crate) fn item_name(names: &Names, item: Item) -> &str
     }
 }
 
+/// The name of the reason of an abort.
 #[tactic(auto, using(crate::proofs::NameLemmas::no_name))]
-pub(crate) fn reason_name(names: &Names, reason: u32) -> &str
+pub fn reason_name(names: &Names, reason: u32) -> &str
     ensures { result.now ≡ (names_of names.now).reason reason }
 {
     match names.reason(reason) {

@@ -26,7 +26,7 @@ pub(crate) fn kind_word(kind: Kind) -> &'static str
 }
 
 /// Writes the words of a call.
-pub(crate) fn write_call(out: &mut String, names: &Names, call: &Call) -> Result<(), NoMemory>
+pub fn write_call(out: &mut String, names: &Names, call: &Call) -> Result<(), NoMemory>
     ensures { OnOk result (string_bytes out.new ≡ string_bytes out.old ++ call_text (names_of names.now) call.now) }
 {
     match call {
@@ -59,7 +59,7 @@ pub(crate) fn write_call(out: &mut String, names: &Names, call: &Call) -> Result
 }
 
 /// Writes the words of a reply.
-pub(crate) fn write_reply(out: &mut String, names: &Names, reply: &Reply) -> Result<(), NoMemory>
+pub fn write_reply(out: &mut String, names: &Names, reply: &Reply) -> Result<(), NoMemory>
     ensures { OnOk result (string_bytes out.new ≡ string_bytes out.old ++ reply_text (names_of names.now) reply.now) }
 {
     match reply {

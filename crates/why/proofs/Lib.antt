@@ -1,0 +1,10 @@
+pub mod Placing
+pub mod HandlerPlaces
+pub mod Linked
+pub mod Searching
+pub mod Room
+pub mod Passing
+pub mod Earliest
+pub mod Ending
+pub mod Reaching
+pub mod Determined

@@ -1,0 +1,131 @@
+use Rattle.std.proofs.Common.{◌≡◌, ◌<◌, ◌≤◌, ◌+◌, ◌++◌, length, refl, sym, ap, ◌∙◌, arith, append-nil, append_assoc, Some, None}
+use Rattle.std.specs.Prelude.{codes, option_copied}
+use Rattle.meaning.specs.Texts.{part, reason_of}
+use Rattle.batch.specs.Names.{names_of}
+use Rattle.batch.specs.Views.{record_view, subaction_view}
+use Rattle.batch.proofs.ViewLemmas.{block_view-is, record_view-is, step_view-Parallel, taken_view-Parallel}
+use Rattle.why.specs.Places.{places_view}
+use Rattle.why.proofs.Placing.{rest_placed-start, rest_placed-more, rest_placed-no_step, rest_placed-end, rest_children_placed-start}
+use Rattle.why.proofs.Placing.{rest_children_placed-more, rest_children_placed-no_child, rest_children_placed-end, after_more}
+use Rattle.why.proofs.Placing.{body_placed, placed_child-body, placed_child-handler}
+use Rattle.why.proofs.HandlerPlaces.{handled_places, handled_places-is, otherwise_places-Run, otherwise_places-GoOn, otherwise_places-Pass}
+use Rattle.why.proofs.places.+places.Goals as goal
+
+-- ---- steps one after the other
+
+pub place_block-loop-index-init : goal.place_block-loop-index-init
+place_block-loop-index-init t c = rw (rest_placed-start, record_view-is c.args.done.now, block_view-is c.args.block.now) refl
+
+pub place_block-loop-index-preserved : goal.place_block-loop-index-preserved
+place_block-loop-index-preserved t c =
+    let steps = c.args.block.now.steps in
+    let lt : c.loop-index.index < length c.args.done.now.taken.items = rw c.deref-taken-items.ensures.value at c.loop-index-test.true in
+    let is = rw c.deref-taken-items.ensures.value at c.taken-item.is in
+    let lt' : c.loop-index.index < length steps.items = omega (arith, c.if-index-len.false, c.len.ensures, steps.ok.0) in
+    let path : c.as_str.result.now ≡ part c.args.path.now (c.loop-index.index + 1) = c.as_str.ensures.value ∙ c.in_ok-step_path.ensures in
+    let splits = rest_placed-more _ c.args.path.now c.args.left c.loop-index.index steps.items _ c.args.done.now.outcome _ _ lt'
+    c.index-step.ensures lt is in
+    after_more _ _ _ _ _ _ c.loop-index.invariant (rw path at c.in_ok-place_step.ensures) splits
+
+pub place_block-returns-then-index-len : goal.place_block-returns-then-index-len
+place_block-returns-then-index-len t c =
+    let steps = c.args.block.now.steps in
+    let le : length steps.items ≤ c.loop-index.index = omega (arith, c.if-index-len.true, c.len.ensures, steps.ok.0) in
+    sym (append-nil _) ∙ rw (rest_placed-no_step _ _ _ _ _ _ _ le) at c.loop-index.invariant
+
+pub place_block-returns : goal.place_block-returns
+place_block-returns t c =
+    let le = rw c.deref-taken-items.ensures.value at c.loop-index-test.false in
+    sym (append-nil _) ∙ rw (rest_placed-end _ _ _ _ _ _ _ le) at c.loop-index.invariant
+
+-- ---- children one after the other
+
+pub place_children-loop-index-init : goal.place_children-loop-index-init
+place_children-loop-index-init t c = rw rest_children_placed-start refl
+
+pub place_children-loop-index-preserved : goal.place_children-loop-index-preserved
+place_children-loop-index-preserved t c =
+    let path : c.as_str.result.now ≡ part c.args.path.now (c.loop-index.index + 1) = c.as_str.ensures.value ∙ c.in_ok-child_path.ensures in
+    let splits = rest_children_placed-more _ c.args.path.now c.args.left c.loop-index.index _ _ _ _ c.if-index-children.false
+    c.index-children-index.is c.loop-index-test.true c.index-all_tried-index.is in
+    after_more _ _ _ _ _ _ c.loop-index.invariant (rw (path, c.as_ref.ensures.value) at c.in_ok-place_child.ensures) splits
+
+pub place_children-returns-then-index-children : goal.place_children-returns-then-index-children
+place_children-returns-then-index-children t c =
+    sym (append-nil _) ∙ rw (rest_children_placed-no_child _ _ _ _ _ _ c.if-index-children.true) at c.loop-index.invariant
+
+pub place_children-returns : goal.place_children-returns
+place_children-returns t c =
+    sym (append-nil _) ∙ rw (rest_children_placed-end _ _ _ _ _ _ c.loop-index-test.false) at c.loop-index.invariant
+
+pub place_step-returns-in-Parallel-Parallel : goal.place_step-returns-in-Parallel-Parallel
+place_step-returns-in-Parallel-Parallel t c =
+    rw (c.in-Parallel-Parallel.is-0, c.in-Parallel-Parallel.is-1, step_view-Parallel, taken_view-Parallel)
+    (rw (c.deref-in-Parallel-Parallel.ensures.value, c.deref-in-Parallel-Parallel-2.ensures.value) at c.place_children.ensures)
+
+-- ---- a subaction
+
+pub place_child-returns : goal.place_child-returns
+place_child-returns t c =
+    let names = names_of c.args.names.now in
+    let path : c.as_str.result.now ≡ c.args.path.now ++ codes ".b" = c.as_str.ensures.value ∙ c.in_ok-body_path.ensures.ok in
+    rw (placed_child-body names c.args.path.now c.args.left c.args.child.now c.args.body.now (option_copied c.args.handler)
+    (ap option_copied c.in-None.is))
+    (rw (path, c.is_left-stays.ensures) at c.in_ok-place_block.ensures)
+
+pub place_child-returns-in-Some : goal.place_child-returns-in-Some
+place_child-returns-in-Some t c =
+    let names = names_of c.args.names.now in
+    let path : c.as_str.result.now ≡ c.args.path.now ++ codes ".b" = c.as_str.ensures.value ∙ c.in_ok-body_path.ensures.ok in
+    let these = body_placed names c.args.path.now c.args.left c.args.child.now c.args.body.now in
+    let made : places_view c.place_block.new.places.items ≡ places_view c.args.places.now.items ++ these =
+    rw (path, c.is_left-stays.ensures) at c.in_ok-place_block.ensures in
+    let handled = handled_places names c.args.path.now c.args.left (reason_of c.args.body.now.outcome) (record_view c.in-Some.done.now)
+    (subaction_view c.args.child.now).handlers in
+    rw (
+      placed_child-handler names c.args.path.now c.args.left c.args.child.now c.args.body.now (option_copied c.args.handler)
+          c.in-Some.done.now (ap option_copied c.in-Some.is),
+      sym (append_assoc (places_view c.args.places.now.items) these handled),
+    )
+    (rw (made, c.reason_of.ensures) at c.place_handler.ensures)
+
+-- ---- what takes an abort
+
+pub place_handler-returns-in_ok-handler_path-in-Some : goal.place_handler-returns-in_ok-handler_path-in-Some
+place_handler-returns-in_ok-handler_path-in-Some t c =
+    let names = names_of c.args.names.now in
+    let here = c.args.path.now in
+    let handler = c.in-Some.handler.now in
+    let name = c.reason_name-name.ensures in
+    let path : c.as_str.result.now ≡ here ++ codes ".h:" ++ names.reason handler.reason =
+    c.as_str.ensures.value ∙ c.in_ok-handler_path-in-Some.ensures.ok ∙ ap (λ text. here ++ (codes ".h:" ++ text)) name
+    ∙ sym (append_assoc here (codes ".h:") (names.reason handler.reason)) in
+    let done = record_view c.args.done.now in
+    let places = handled_places-is names here c.args.left c.args.reason done c.args.child.now (Some handler) c.in-Some.ensures.first in
+    rw places (rw path at c.place_block.ensures)
+
+pub place_handler-returns-in_ok-handler_path-in-Run : goal.place_handler-returns-in_ok-handler_path-in-Run
+place_handler-returns-in_ok-handler_path-in-Run t c =
+    let names = names_of c.args.names.now in
+    let here = c.args.path.now in
+    let done = record_view c.args.done.now in
+    let path : c.as_str-in-Run.result.now ≡ here ++ codes ".h" = c.as_str-in-Run.ensures.value ∙ c.in_ok-handler_path-in-Run.ensures.ok in
+    let places = handled_places-is names here c.args.left c.args.reason done c.args.child.now None c.in-None.ensures.first in
+    let last = otherwise_places-Run names here c.args.left c.args.reason done c.args.child.now c.in-Run.block c.in-Run.is in
+    rw (places ∙ last) (rw path at c.place_block-in-Run.ensures)
+
+pub place_handler-returns-in-GoOn : goal.place_handler-returns-in-GoOn
+place_handler-returns-in-GoOn t c =
+    let names = names_of c.args.names.now in
+    let done = record_view c.args.done.now in
+    let places = handled_places-is names c.args.path.now c.args.left c.args.reason done c.args.child.now None c.in-None.ensures.first in
+    let last = otherwise_places-GoOn names c.args.path.now c.args.left c.args.reason done c.args.child.now c.in-GoOn.is in
+    rw (places ∙ last) (sym (append-nil _))
+
+pub place_handler-returns-in-Pass : goal.place_handler-returns-in-Pass
+place_handler-returns-in-Pass t c =
+    let names = names_of c.args.names.now in
+    let done = record_view c.args.done.now in
+    let places = handled_places-is names c.args.path.now c.args.left c.args.reason done c.args.child.now None c.in-None.ensures.first in
+    let last = otherwise_places-Pass names c.args.path.now c.args.left c.args.reason done c.args.child.now c.in-Pass.is in
+    rw (places ∙ last) (sym (append-nil _))

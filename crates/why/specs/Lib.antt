@@ -1,0 +1,4 @@
+pub mod Why
+pub mod Places
+pub mod Rounds
+pub mod Laws

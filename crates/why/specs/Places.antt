@@ -1,0 +1,10 @@
+-- The operations of a run in memory.
+use Rattle.std.specs.Prelude.{List, map, string_bytes}
+use Rattle.why.specs.Why.{Placed}
+use Rattle.why.specs.declared.places.Place.{Place}
+
+abbrev pub place_view : Place → Placed
+place_view place = record { path = string_bytes place.path; entry = place.entry; left = place.left }
+
+abbrev pub places_view : List Place → List Placed
+places_view places = map place_view places

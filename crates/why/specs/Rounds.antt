@@ -1,0 +1,49 @@
+-- What is known of the runs of a round.
+use Rattle.std.specs.Prelude.{◌≡◌, ℕ, ◌+◌, ◌<◌, List, ◌++◌, length, Option, Some, None, slice_index_or}
+use Rattle.objects.specs.Entries.{AllCommute, CommuteForward}
+use Rattle.objects.specs.declared.entry.Entry.{Entry}
+use Rattle.meaning.specs.Batch.{alone, nets}
+use Rattle.meaning.specs.Rounds.{IsNextOpening}
+use Rattle.batch.specs.Names.{names_of}
+use Rattle.batch.specs.Parts.{start_of, blocks_of}
+use Rattle.batch.specs.declared.batch.Batch.{Batch}
+use Rattle.speculate.specs.Runs.{IsRunOf}
+use Rattle.speculate.specs.declared.speculated.Run.{Run}
+use Rattle.why.specs.Why.{Placed, IsFirstWithout, IsConflict, place_text, placed_nets, why_line}
+use Rattle.why.specs.declared.round.Round.{Round}
+
+-- the runs of the transactions from number b on, on the state after the first b
+abbrev pub AreRuns : Batch → ℕ → List Run → Type 0
+AreRuns batch b runs = (k : ℕ) (d : Run) → k < length runs → IsRunOf (alone (start_of batch) (blocks_of batch) (b + k) b)
+    (slice_index_or runs k d)
+
+-- the run of transaction m on that state doesn't stand past these entries
+pub record IsStopped (batch : Batch) (b m : ℕ) (round : Round) (run : Run) : Type 0 where
+  pub within : m < length (blocks_of batch)
+  pub run_is : IsRunOf (alone (start_of batch) (blocks_of batch) m b) run
+  pub stops : ¬ AllCommute run.entries.items round.nets
+
+abbrev pub IsStoppedBy : Batch → ℕ → ℕ → Round → Option Run → Type 0
+IsStoppedBy batch b m round None = m ≡ length (blocks_of batch)
+IsStoppedBy batch b m round (Some run) = IsStopped batch b m round run
+
+-- the round from opening b on
+pub record IsRound (batch : Batch) (b : ℕ) (round : Round) : Type 0 where
+  pub opens : IsNextOpening (start_of batch) (blocks_of batch) b (b + length round.passed.items)
+  pub passed_are : AreRuns batch b round.passed.items
+  pub nets_are : round.nets ≡ nets (start_of batch) (blocks_of batch) b (length round.passed.items)
+  pub stopped : IsStoppedBy batch b (b + length round.passed.items) round round.conflict
+
+-- the text goes on with the earliest operation that count runs from opening b on leave with which an entry doesn't commute forward
+pub record IsEarliest (batch : Batch) (b count : ℕ) (late : Entry) (old new : List ℕ) : Type 0 where
+  pub early : Placed
+  pub is : IsFirstWithout (λ p. CommuteForward late p.entry)
+      (placed_nets (names_of batch.names) (start_of batch) (blocks_of batch) b b count) early
+  pub text : new ≡ old ++ place_text (names_of batch.names) early
+
+-- the text goes on with the line of the round from opening b on, which ends before m
+pub record IsWritten (batch : Batch) (b m number : ℕ) (old new : List ℕ) : Type 0 where
+  pub late : Placed
+  pub early : Placed
+  pub is : IsConflict (names_of batch.names) (start_of batch) (blocks_of batch) b m late early
+  pub text : new ≡ old ++ why_line (names_of batch.names) number late early

@@ -1,0 +1,119 @@
+//! The lines that say why each round but the last ended.
+ghost use Rattle.std.specs.Prelude.{◌≡◌, ◌++◌, ◌+◌, ◌<◌, IfOk, OnOk, length, string_bytes};
+ghost use Rattle.meaning.specs.Batch.{state_at, run_nets};
+ghost use Rattle.objects.specs.Entries.{CommuteForward, CommutesWith};
+ghost use Rattle.batch.specs.Names.{names_of};
+ghost use Rattle.batch.specs.Parts.{start_of, blocks_of};
+ghost use Rattle.why.specs.Why.{IsConflict, IsFirstWithout, IsWhyText, place_text, placed_nets, why_line};
+ghost use Rattle.why.specs.Places.{place_view};
+ghost use Rattle.why.specs.Rounds.{AreRuns, IsRound, IsStopped, IsEarliest, IsWritten};
+
+use crate::places::{Place, places_of};
+use crate::round::{Round, round_from};
+use crate::search::{first_early, first_late};
+use batch::{Batch, Names, NoMemory};
+use intentions::perform_each;
+use objects::Entry;
+use report::{object_name, write_call, write_reply};
+use speculate::Run;
+use std::alloc::Global;
+use std::thread::Threads;
+
+/// The lines `why ROUND LATER after EARLIER` of a batch: one for each round but the last.
+///
+/// LATER is an operation of the run that ends the round. It is the first of them that doesn't
+/// commute forward with all that the earlier runs of the round leave. EARLIER is the earliest of
+/// these that it doesn't commute forward with. Each has the form `PATH OBJECT CALL = REPLY` of its
+/// line in the report, with the reply that it has on the objects of the round's opening.
+///
+/// Each transaction is run on this thread. Returns `NoMemory` where a request for memory was
+/// refused.
+pub fn render_why<T: Threads + Sync>(
+    threads: &T,
+    alloc: Global,
+    batch: &Batch,
+) -> Result<String, NoMemory>
+    ensures { IfOk result (λ t. IsWhyText (names_of batch.now.names) (start_of batch.now) (blocks_of batch.now) (string_bytes t)) }
+{
+    let mut out = String::new(alloc);
+    let mut objects = batch.objects.copy()?;
+    let mut opened: usize = 0;
+    let mut number: usize = 1;
+    'opening: while opened < batch.transactions.len() {
+        let round = round_from(threads, alloc, batch, &objects, opened)?;
+        let Some(stopped) = &round.conflict else {
+            return Ok(out);
+        };
+        write_round(alloc, &mut out, batch, opened, number, &round, stopped)?;
+        perform_each(&mut objects, round.nets.entries())?;
+        opened += round.passed.len();
+        number += 1;
+    }
+    Ok(out)
+}
+
+// Writes the line of the round from an opening on, which this run ends.
+fn write_round(
+    alloc: Global,
+    out: &mut String,
+    batch: &Batch,
+    opened: usize,
+    number: usize,
+    round: &Round,
+    stopped: &Run,
+) -> Result<(), NoMemory>
+    requires round { IsRound batch.now opened round.now }
+    requires stopped { IsStopped batch.now opened (opened + length round.now.passed.items) round.now stopped.now }
+    ensures { OnOk result (IsWritten batch.now opened (opened + length round.now.passed.items) number (string_bytes out.old) (string_bytes out.new)) }
+{
+    let place = opened + round.passed.len();
+    let block = &batch.transactions[place];
+    let places = places_of(alloc, &batch.names, place + 1, block, &stopped.tree)?;
+    let Some(late) = first_late(&places, &round.nets) else {
+        unreachable!()
+    };
+    write!(out, "why {number} ")?;
+    write_place(out, &batch.names, late)?;
+    write!(out, " after ")?;
+    write_earliest(alloc, out, batch, opened, &round.passed, &late.entry)?;
+    write!(out, "\n")?;
+    Ok(())
+}
+
+// Writes the earliest operation that these runs leave with which the entry doesn't commute forward.
+fn write_earliest(
+    alloc: Global,
+    out: &mut String,
+    batch: &Batch,
+    opened: usize,
+    passed: &[Run],
+    late: &Entry,
+) -> Result<(), NoMemory>
+    requires runs { AreRuns batch.now opened passed.now }
+    requires within { opened + length passed.now < length (blocks_of batch.now) }
+    requires conflicts { ¬ CommutesWith late.now (run_nets (start_of batch.now) (blocks_of batch.now) opened opened (length passed.now)) }
+    ensures { OnOk result (IsEarliest batch.now opened (length passed.now) late.now (string_bytes out.old) (string_bytes out.new)) }
+{
+    for (index, run) in passed.iter().enumerate() {
+        let place = opened + index;
+        let block = &batch.transactions[place];
+        let places = places_of(alloc, &batch.names, place + 1, block, &run.tree)?;
+        if let Some(early) = first_early(&places, late) {
+            write_place(out, &batch.names, early)?;
+            return Ok(());
+        }
+    }
+    unreachable!()
+}
+
+fn write_place(out: &mut String, names: &Names, place: &Place) -> Result<(), NoMemory>
+    ensures { OnOk result (string_bytes out.new ≡ string_bytes out.old ++ place_text (names_of names.now) (place_view place.now)) }
+{
+    let path = place.path.as_str();
+    let name = object_name(names, place.entry.object);
+    write!(out, "{path} {name} ")?;
+    write_call(out, names, &place.entry.call)?;
+    write!(out, " = ")?;
+    write_reply(out, names, &place.entry.reply)?;
+    Ok(())
+}

@@ -1,0 +1,304 @@
+//! The operations of a run, each with the path of its step.
+ghost use Rattle.std.specs.Prelude.{◌≡◌, [], ◌∷◌, ◌++◌, ◌&&◌, IfOk, OnOk, map, option_copied, string_bytes};
+ghost use Rattle.std.specs.Fmt.{decimal};
+ghost use Rattle.meaning.specs.Texts.{handler_path, handler_block, part, reason_of};
+ghost use Rattle.batch.specs.Names.{names_of};
+ghost use Rattle.batch.specs.Views.{block_view, record_view, step_view, taken_view, subaction_view, tried_view, children_view, all_tried_view};
+ghost use Rattle.why.specs.Why.{has_ended, placed, placed_step, placed_child, placed_children};
+ghost use Rattle.why.specs.Places.{places_view};
+
+use batch::{Block, Names, NoMemory, Otherwise, Record, Step, Subaction, Taken, handler_for};
+use meaning::End;
+use objects::{Call, Entry, Reply};
+use report::reason_name;
+use std::alloc::Global;
+
+/// An operation of a run with the path of its step, and whether the run leaves it.
+#[derive(Debug, Drop)]
+pub(crate) struct Place {
+    pub(crate) path: String,
+    pub(crate) entry: Entry,
+    pub(crate) left: bool,
+}
+
+/// The operations of the run of the transaction of this number, in order.
+pub(crate) fn places_of(
+    alloc: Global,
+    names: &Names,
+    number: usize,
+    block: &Block,
+    done: &Record,
+) -> Result<Vec<Place>, NoMemory>
+    ensures { IfOk result (λ places. places_view places.items ≡ placed (names_of names.now) (decimal number) 1 (has_ended done.now.outcome) (block_view block.now) (record_view done.now)) }
+{
+    let mut places = Vec::new(alloc);
+    let path = format!(in alloc; "{number}")?;
+    let left = has_ended(done.outcome);
+    place_block(alloc, &mut places, names, path.as_str(), left, block, done)?;
+    Ok(places)
+}
+
+#[cycle(places)]
+fn place_block(
+    alloc: Global,
+    places: &mut Vec<Place>,
+    names: &Names,
+    path: &str,
+    left: bool,
+    block: &Block,
+    done: &Record,
+) -> Result<(), NoMemory>
+    ensures { OnOk result (places_view places.new.items ≡ places_view places.old.items ++ placed (names_of names.now) path.now 1 left (block_view block.now) (record_view done.now)) }
+{
+    for (index, taken) in done.taken.iter().enumerate() {
+        if index >= block.steps.len() {
+            return Ok(());
+        }
+        let step = &block.steps[index];
+        let step_path = part_path(alloc, path, index + 1)?;
+        place_step(alloc, places, names, step_path.as_str(), left, step, taken)?;
+    }
+    Ok(())
+}
+
+#[cycle(places)]
+fn place_step(
+    alloc: Global,
+    places: &mut Vec<Place>,
+    names: &Names,
+    path: &str,
+    left: bool,
+    step: &Step,
+    taken: &Taken,
+) -> Result<(), NoMemory>
+    ensures { OnOk result (places_view places.new.items ≡ places_view places.old.items ++ placed_step (names_of names.now) path.now left (step_view step.now) (taken_view taken.now)) }
+{
+    match (step, taken) {
+        (Step::Op { object, call, .. }, Taken::Op(reply)) => {
+            place_operation(alloc, places, path, left, *object, call, reply)
+        }
+        (
+            Step::If {
+                then,
+                otherwise,
+                ..
+            },
+            Taken::If(holds, record),
+        ) => {
+            if *holds {
+                let branch_path = format!(in alloc; "{path}.t")?;
+                place_block(
+                    alloc,
+                    places,
+                    names,
+                    branch_path.as_str(),
+                    left,
+                    then,
+                    record,
+                )
+            } else {
+                let branch_path = format!(in alloc; "{path}.e")?;
+                place_block(
+                    alloc,
+                    places,
+                    names,
+                    branch_path.as_str(),
+                    left,
+                    otherwise,
+                    record,
+                )
+            }
+        }
+        (Step::Sub(child), Taken::Sub(body, handler)) => {
+            place_child(
+                alloc,
+                places,
+                names,
+                path,
+                left,
+                child,
+                body,
+                handler.as_deref(),
+            )
+        }
+        (Step::Parallel(children), Taken::Parallel(tried)) => {
+            place_children(alloc, places, names, path, left, children, tried)
+        }
+        _ => Ok(()),
+    }
+}
+
+#[cycle(places)]
+fn place_child(
+    alloc: Global,
+    places: &mut Vec<Place>,
+    names: &Names,
+    path: &str,
+    left: bool,
+    child: &Subaction,
+    body: &Record,
+    handler: Option<&Record>,
+) -> Result<(), NoMemory>
+    ensures { OnOk result (let child = subaction_view child.now in
+        places_view places.new.items ≡ places_view places.old.items ++ placed_child (names_of names.now) path.now left child.body child.handlers (tried_view (body.now, option_copied handler.entry))) }
+{
+    let body_path = format!(in alloc; "{path}.b")?;
+    let stays = is_left(left, body.outcome);
+    place_block(
+        alloc,
+        places,
+        names,
+        body_path.as_str(),
+        stays,
+        &child.body,
+        body,
+    )?;
+    match handler {
+        Some(done) => place_handler(
+            alloc,
+            places,
+            names,
+            path,
+            left,
+            child,
+            reason_of(body.outcome),
+            done,
+        ),
+        None => Ok(()),
+    }
+}
+
+// The operations of the handler that takes an abort for this reason.
+#[cycle(places)]
+fn place_handler(
+    alloc: Global,
+    places: &mut Vec<Place>,
+    names: &Names,
+    path: &str,
+    left: bool,
+    child: &Subaction,
+    reason: Option<u32>,
+    done: &Record,
+) -> Result<(), NoMemory>
+    ensures { OnOk result (let handlers = (subaction_view child.now).handlers in
+        places_view places.new.items ≡ places_view places.old.items ++ placed (names_of names.now) (handler_path (names_of names.now) path.now handlers reason) 1 left (handler_block handlers reason) (record_view done.now)) }
+{
+    match handler_for(child, reason) {
+        Some(handler) => {
+            let name = reason_name(names, handler.reason);
+            let handler_path = format!(in alloc; "{path}.h:{name}")?;
+            let block = &handler.block;
+            place_block(
+                alloc,
+                places,
+                names,
+                handler_path.as_str(),
+                left,
+                block,
+                done,
+            )
+        }
+        None => match &child.otherwise {
+            Otherwise::Run(block) => {
+                let handler_path = format!(in alloc; "{path}.h")?;
+                place_block(
+                    alloc,
+                    places,
+                    names,
+                    handler_path.as_str(),
+                    left,
+                    block,
+                    done,
+                )
+            }
+            Otherwise::GoOn => Ok(()),
+            Otherwise::Pass => Ok(()),
+        },
+    }
+}
+
+#[cycle(places)]
+fn place_children(
+    alloc: Global,
+    places: &mut Vec<Place>,
+    names: &Names,
+    path: &str,
+    left: bool,
+    children: &[Subaction],
+    all_tried: &[(Record, Option<Record>)],
+) -> Result<(), NoMemory>
+    ensures { OnOk result (places_view places.new.items ≡ places_view places.old.items ++ placed_children (names_of names.now) path.now 1 left (children_view children.now) (all_tried_view all_tried.now)) }
+{
+    for (index, tried) in all_tried.iter().enumerate() {
+        if index >= children.len() {
+            return Ok(());
+        }
+        let child = &children[index];
+        let child_path = part_path(alloc, path, index + 1)?;
+        let (body, handler) = tried;
+        place_child(
+            alloc,
+            places,
+            names,
+            child_path.as_str(),
+            left,
+            child,
+            body,
+            handler.as_ref(),
+        )?;
+    }
+    Ok(())
+}
+
+fn place_operation(
+    alloc: Global,
+    places: &mut Vec<Place>,
+    path: &str,
+    left: bool,
+    object: u32,
+    call: &Call,
+    reply: &Reply,
+) -> Result<(), NoMemory>
+    ensures { OnOk result (places_view places.new.items ≡ places_view places.old.items ++ record { path = path.now; entry = record { object = object; call = call.now; reply = reply.now }; left = left } ∷ []) }
+{
+    let path = String::from_str(alloc, path)?;
+    let entry = Entry {
+        object,
+        call: *call,
+        reply: *reply,
+    };
+    places.push(Place { path, entry, left })?;
+    Ok(())
+}
+
+// The path of the part of this number.
+fn part_path(alloc: Global, path: &str, number: usize) -> Result<String, NoMemory>
+    ensures { IfOk result (λ t. string_bytes t ≡ part path.now number) }
+{
+    Ok(format!(in alloc; "{path}.{number}")?)
+}
+
+// Whether what a body did is left.
+fn is_left(left: bool, outcome: End) -> bool
+    ensures { result ≡ (left && has_ended outcome) }
+{
+    left && has_ended(outcome)
+}
+
+fn has_ended(outcome: End) -> bool
+    ensures { result ≡ has_ended outcome }
+{
+    match outcome {
+        End::Ended => true,
+        End::Aborted(_) => false,
+    }
+}
+
+fn reason_of(outcome: End) -> Option<u32>
+    ensures { result ≡ reason_of outcome }
+{
+    match outcome {
+        End::Ended => None,
+        End::Aborted(reason) => reason,
+    }
+}
