@@ -30,6 +30,8 @@ pub struct Line {
     pub plan: Plan,
     /// Whether the report says how often each transaction was run.
     pub audit: bool,
+    /// Whether the report says which operations ended each round.
+    pub why: bool,
     /// Whether standard error shows how far the run is.
     pub progress: bool,
 }

@@ -2,7 +2,7 @@
 ghost use Rattle.std.specs.Prelude.{◌≡◌, ◌↔◌, Some, None, codes, map, option_map, IfOk, IfSome, IsErr, IsTrue, false, string_bytes};
 ghost use Rattle.clap.specs.Words.{app_of, first_of, found_of, one_of, rows_of, rule_of};
 ghost use Rattle.clap.specs.declared.builder.command.Command.TheViews.{out-Command};
-ghost use Rattle.ordtx.specs.CommandLine.{HoldsLine, HoldsNumber, IsLineOf, command_name, file_app, number_rule, ordtx_app, run_app};
+ghost use Rattle.ordtx.specs.CommandLine.{HoldsLine, HoldsNumber, IsLineOf, command_name, file_app, flag_rule, number_rule, ordtx_app, run_app};
 
 use crate::asked::{Command, Line, Refused};
 use clap::builder::ValueParser;
@@ -108,6 +108,7 @@ fn line_of(alloc: Global, name: &str, held: &ArgMatches<'_>) -> Result<Line, Ref
         file,
         plan,
         audit: is_held(held, "audit"),
+        why: is_held(held, "why"),
         progress: is_held(held, "progress"),
     })
 }
@@ -233,14 +234,17 @@ fn run_command<'a>(alloc: Global) -> Result<clap::Command<'a>, AllocError>
         MOST_CUT,
         "How many transactions a worker takes at a time at most, 1 to 1000 [default: 16]",
     );
-    let audit = Arg::new(alloc, "audit")
-        .long("audit")
-        .action(ArgAction::SetTrue)
-        .help("Print also how often each transaction was run");
-    let progress = Arg::new(alloc, "progress")
-        .long("progress")
-        .action(ArgAction::SetTrue)
-        .help("Show on standard error how far the run is");
+    let audit = flag_argument(
+        alloc,
+        "audit",
+        "Print also how often each transaction was run",
+    );
+    let why = flag_argument(alloc, "why", "Print also which operations ended each round");
+    let progress = flag_argument(
+        alloc,
+        "progress",
+        "Show on standard error how far the run is",
+    );
     file_command(
         alloc,
         "run",
@@ -249,6 +253,7 @@ fn run_command<'a>(alloc: Global) -> Result<clap::Command<'a>, AllocError>
     .arg(workers)?
     .arg(cut)?
     .arg(audit)?
+    .arg(why)?
     .arg(progress)
 }
 
@@ -265,6 +270,17 @@ fn file_command<'a>(
         .value_name("FILE")
         .help("The document; standard input where no file is given");
     clap::Command::new(alloc, name).about(about).arg(file)
+}
+
+// An option that takes no value.
+fn flag_argument<'a>(alloc: Global, name: &'a str, help: &'a str) -> Arg<'a>
+    ensures rule { rule_of result ≡ flag_rule name.entry.now }
+    ensures local { result.global ≡ false }
+{
+    Arg::new(alloc, name)
+        .long(name)
+        .action(ArgAction::SetTrue)
+        .help(help)
 }
 
 // An option that takes a number from 1 to the most.

@@ -24,7 +24,8 @@ pub use sink::Sink;
 pub use source::{Failed, Source};
 pub use speculate::{Gate, NoGate, Progress, Run};
 pub use streams::{
-    audit_stream, carry_stream, check_stream, locate_stream, run_stream, serial_stream,
+    audit_stream, carry_stream, check_stream, explain_stream, locate_stream, run_stream,
+    serial_stream,
 };
 
 #[cfg(test)]

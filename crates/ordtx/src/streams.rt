@@ -1,7 +1,7 @@
 //! Whole calls, from a source to a sink.
 ghost use Rattle.std.specs.Prelude.{◌≡◌, ◌≢◌, ◌↔◌, ◌⊎◌, true, false, Err, OnOk, IfErr};
 ghost use Rattle.lang.specs.Faults.{input_fault, memory_fault, output_fault};
-ghost use Rattle.ordtx.specs.Answers.{IsAuditOf, IsCarriedOf, IsCarryFaultOf, IsCheckOf, IsFaultOf, IsLocationOf, IsPlainReportOf, IsReportOf};
+ghost use Rattle.ordtx.specs.Answers.{IsAuditOf, IsCarriedOf, IsCarryFaultOf, IsCheckOf, IsExplainedOf, IsFaultOf, IsLocationOf, IsPlainReportOf, IsReportOf};
 ghost use Rattle.ordtx.specs.Streams.{IsRead, WritesAnswer, WritesBeginning, ReadsFault};
 
 use crate::input::read_input;
@@ -9,7 +9,7 @@ use crate::location::location_of;
 use crate::output::write_text;
 use crate::sink::Sink;
 use crate::source::Source;
-use crate::texts::{audit_of, carried_of, check_of, plain_report_of, report_of};
+use crate::texts::{audit_of, carried_of, check_of, explained_of, plain_report_of, report_of};
 use lang::Fault;
 use rounds::Plan;
 use speculate::Gate;
@@ -82,6 +82,41 @@ pub fn audit_stream<T: Threads + Sync, R: Source, W: Sink, G: Gate>(
 {
     let document = read_input(alloc, source)?;
     let text = audit_of(threads, alloc, document, plan, gate)?;
+    write_text(sink, text.as_bytes())
+}
+
+/// Does as [`run_stream`], or with an audit as [`audit_stream`], and writes after it which operations
+/// ended each round but the last.
+///
+/// The faults are those of [`run_stream`].
+pub fn explain_stream<T: Threads + Sync, R: Source, W: Sink, G: Gate>(
+    threads: &T,
+    alloc: Global,
+    source: &mut R,
+    sink: &mut W,
+    plan: Plan,
+    audit: bool,
+    gate: &G,
+) -> Result<(), Fault>
+    requires unread { R.has_failed source.old ≡ false }
+    requires unwritten { W.has_failed sink.old ≡ false }
+    // All bytes are read, but at most 67,108,865.
+    ensures read { OnOk result (IsRead (R.remaining source.old) (R.remaining source.new)) }
+    // Exactly the report of what was read with what ended its rounds was written.
+    ensures written { OnOk result (WritesAnswer (IsExplainedOf audit) (R.remaining source.old) (W.taken sink.old) (W.taken sink.new)) }
+    // A fault of the document is that of what was read.
+    ensures fault { IfErr result (λ fault. fault ≢ memory_fault → fault ≢ input_fault → fault ≢ output_fault
+        → ReadsFault IsFaultOf (R.remaining source.old) fault) }
+    ensures input { R.has_failed source.new ≡ true ↔ result ≡ Err input_fault }
+    ensures output { W.has_failed sink.new ≡ true ↔ result ≡ Err output_fault }
+    // After any fault but that of the output nothing was written.
+    ensures untouched { IfErr result (λ fault. fault ≢ output_fault → sink.new ≡ sink.old) }
+    // After that of the output a beginning of it was written.
+    ensures beginning { result ≡ Err output_fault
+        → WritesBeginning (IsExplainedOf audit) (R.remaining source.old) (W.taken sink.old) (W.taken sink.new) }
+{
+    let document = read_input(alloc, source)?;
+    let text = explained_of(threads, alloc, document, plan, audit, gate)?;
     write_text(sink, text.as_bytes())
 }
 

@@ -4,7 +4,7 @@ ghost use Rattle.std.specs.Prelude.{◌≡◌, false};
 use crate::progress::ProgressLine;
 use ordtx::{
     Code, Command, Fault, Gate, Line, Marked, NoGate, Refused, Sink, Source, audit_stream,
-    carry_stream, check_stream, line, locate_stream, run_stream, serial_stream,
+    carry_stream, check_stream, explain_stream, line, locate_stream, run_stream, serial_stream,
 };
 use std::alloc::{AllocError, Global};
 use std::fs::File;
@@ -131,6 +131,9 @@ fn run_seen<T: Threads + Sync, R: Source, W: Sink, G: Gate>(
     requires unread { R.has_failed source.old ≡ false }
     requires unwritten { W.has_failed sink.old ≡ false }
 {
+    if line.why {
+        return explain_stream(threads, alloc, source, sink, line.plan, line.audit, gate);
+    }
     if line.audit {
         return audit_stream(threads, alloc, source, sink, line.plan, gate);
     }

@@ -1,0 +1,17 @@
+use Rattle.std.proofs.Common.{rules}
+use Rattle.std.proofs.lemmas.Result.{IfOk-weaker}
+use Rattle.ordtx.specs.Answers.{IsExplainedOf}
+use Rattle.ordtx.proofs.Known.{writes_answer, writes_beginning}
+use Rattle.ordtx.proofs.streams.explain_stream.Goals as goal
+
+pub returns-clause-written : goal.returns-clause-written
+returns-clause-written g c =
+    let is : IsExplainedOf c.args.audit c.in_ok-document.document.items c.as_bytes.result.now = search rules in
+    IfOk-weaker c.write_text.result _ _ (λ _ written. writes_answer (IsExplainedOf c.args.audit) _ _ _ _ _ _ c.in_ok-document.ensures.bytes is written)
+    c.write_text.ensures.whole
+
+pub returns-clause-beginning : goal.returns-clause-beginning
+returns-clause-beginning g c = λ failed.
+    let is : IsExplainedOf c.args.audit c.in_ok-document.document.items c.as_bytes.result.now = search rules in
+    let written = rw failed at c.write_text.ensures.beginning in
+    writes_beginning (IsExplainedOf c.args.audit) _ _ _ _ _ _ c.in_ok-document.ensures.bytes is written
