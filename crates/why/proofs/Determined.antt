@@ -34,7 +34,8 @@ same_first P x y [] after (z ∷ others) rest is clear fails clear_too fails_too
 same_first P x y (z ∷ before) after [] rest is clear fails clear_too fails_too =
     absurd (fails_too (subst P (cons_head _ _ _ _ is) (All-head P z before clear)))
 same_first P x y (z ∷ before) after (w ∷ others) rest is clear fails clear_too fails_too =
-    same_first P x y before after others rest (cons_tail _ _ _ _ is) (All-tail P z before clear) fails (All-tail P w others clear_too) fails_too
+    same_first P x y before after others rest (cons_tail _ _ _ _ is) (All-tail P z before clear) fails
+    (All-tail P w others clear_too) fails_too
 
 one_first : {A : Type 0} (P : A → Type 0) (xs : List A) (x y : A) → IsFirstWithout P xs x → IsFirstWithout P xs y → y ≡ x
 one_first P xs x y one other = same_first P x y one.before one.after other.before other.after (sym one.is ∙ other.is) one.clear

@@ -54,7 +54,8 @@ returns-then-not-stands g c =
     let stop = stopped_by c.args.batch.now c.args.opened c.loop-place.place c.loop-place.passed.items c.loop-place.nets at made here
     (record { passed = c.loop-place.passed; nets = c.loop-place.nets; conflict = Some made }) refl refl
     (omega (arith, c.loop-place-test.true, c.len-place-end.ensures, blocks))
-    (λ commute. false≢true (sym c.if-not-stands.true ∙ c.stands.ensures.1 ((with_all _ _ c.loop-place.nets _ same c.len.ensures).1 commute))) in
+    (λ commute. false≢true (sym c.if-not-stands.true
+    ∙ c.stands.ensures.1 ((with_all _ _ c.loop-place.nets _ same c.len.ensures).1 commute))) in
     record {
       opens = stop.0;
       passed_are = at.runs;
