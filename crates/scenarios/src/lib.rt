@@ -21,4 +21,6 @@ mod rounds_tests;
 #[cfg(test)]
 mod sibling_tests;
 #[cfg(test)]
+mod why_tests;
+#[cfg(test)]
 mod workers_tests;
