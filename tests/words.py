@@ -23,6 +23,8 @@ REFUSED = (
     ["locate", "--workers", "1"],
     ["locate", "a", "b"],
     ["place"],
+    ["help", "nosuch"],
+    ["help", "--version"],
 )
 
 # Each is out of its option's range.
@@ -85,6 +87,9 @@ def try_all(program, case):
                    ["run", file, "--workers", "64", "--cut", "1000"], b"", report)
     program.expect("options before a file",
                    ["run", "--workers=2", "--cut=1", file], b"", report)
+    for number in ("1", "33", "63", "+64"):
+        program.expect("a number in range",
+                       ["run", "--workers", number, "--cut", number, file], b"", report)
     for command in ("check", "locate"):
         program.expect("a file", [command, file], b"",
                        case.with_suffix(".check").read_bytes())

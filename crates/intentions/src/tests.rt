@@ -222,3 +222,20 @@ fn a_view_is_used_again(rt: HostRuntime) -> Result<(), Fail> {
     assert_eq!(rt; view.net().len(), 0);
     Ok(())
 }
+
+#[test]
+fn entries_are_performed_in_place(rt: HostRuntime) -> Result<(), Fail> {
+    let mut state = objects(rt.alloc())?;
+    let mut twin = state.copy()?;
+    let call = Call::Account(AccountCall::Deposit(amount(&rt, 5)));
+    assert!(rt; state.fits(0, &call) && state.has_room(0, &call));
+    let reply = twin.perform(0, &call)?;
+    let entry = Entry {
+        object: 0,
+        call,
+        reply,
+    };
+    perform_each(&mut state, &[entry])?;
+    assert!(rt; matches!(state.value(0), Some(Value::Account(105))));
+    Ok(())
+}

@@ -1,4 +1,6 @@
 //! What a command line asks for, and why it is refused.
+ghost use Rattle.std.specs.Prelude.{◌≡◌};
+
 use rounds::Plan;
 use std::alloc::AllocError;
 use thiserror::Error;
@@ -42,15 +44,19 @@ pub enum Refused {
     /// A request for memory was refused.
     #[error("out of memory")]
     Memory,
-    /// Help or the version was asked for.
+    /// Help or the version was asked for. The text is it.
     #[error("{0}")]
     Help(String),
-    /// The words are refused.
+    /// The words have a mistake. The text says which.
     #[error("{0}")]
     Words(String),
 }
 
 impl From<AllocError> for Refused {
+    ghost use Rattle.ordtx.specs.declared.asked.Refused.TheVariants as refusal;
+
+    ghost from_gives = { λ _ refused. refused ≡ refusal.Memory };
+
     fn from(_refused: AllocError) -> Refused {
         Refused::Memory
     }

@@ -1,8 +1,8 @@
 //! Reading the command line.
-ghost use Rattle.std.specs.Prelude.{◌≡◌, ◌↔◌, Some, None, codes, map, option_map, IfOk, IfSome, IsErr, IsTrue, false, string_bytes};
-ghost use Rattle.clap.specs.Words.{app_of, first_of, found_of, one_of, rows_of, rule_of};
+ghost use Rattle.std.specs.Prelude.{◌≡◌, ◌↔◌, [], Some, codes, map, option_map, IfErr, IfOk, IsTrue, OnOk, OnSome, false, string_bytes};
+ghost use Rattle.clap.specs.Words.{IsAmong, app_of, first_of, found_of, kind_of, one_of, rows_of, rule_of};
 ghost use Rattle.clap.specs.declared.builder.command.Command.TheViews.{out-Command};
-ghost use Rattle.ordtx.specs.CommandLine.{HoldsLine, HoldsNumber, IsLineOf, command_name, file_app, flag_rule, number_rule, ordtx_app, run_app};
+ghost use Rattle.ordtx.specs.CommandLine.{CanBeMatched, HoldsFrom1, HoldsLine, HoldsNumber, IsAboutHelp, IsLineOf, IsRefusalBy, IsRefusalOf, IsTaken, NamesCommand, command_name, faults_of, file_app, flag_rule, number_rule, ordtx_app, run_app};
 
 use crate::asked::{Command, Line, Refused};
 use clap::builder::ValueParser;
@@ -50,79 +50,60 @@ transaction NUMBER` on standard error; 2 where the command line is refused.
 /// Reads the words of a command line, of which the first is the program's name, as `clap` reads
 /// them.
 ///
-/// `Refused::Memory` is returned where a request for memory was refused, and `Help` where help or
-/// the version was asked for. `Words` is returned for every other refusal, with the text to print:
-/// no command, an unknown one, or a number of workers or a cut that is out of range. The text names
-/// the option, the value and the range.
+/// Words that `clap` takes are refused with `Memory` alone, where a request for memory was refused.
+/// `Help` is returned only where the words ask for help or the version. `Words` is returned only
+/// where they have a mistake: no command, an unknown one, or a number of workers or a cut that is
+/// out of range. Its text names the option, the value and the range.
 pub fn line<'a>(alloc: Global, words: &'a [&'a str]) -> Result<Line, Refused>
-    ensures { IfOk result (IsLineOf (map (λ word. word.now) words.entry.now)) }
+    ensures line { IfOk result (IsLineOf (map (λ word. word.now) words.entry.now)) }
+    ensures faultless { OnOk result (faults_of (map (λ word. word.now) words.entry.now) ≡ []) }
+    // Words that `clap` takes are refused for want of memory alone.
+    ensures taken { IsTaken (map (λ word. word.now) words.entry.now) → IfErr result (λ refused. refused ≡ Refused.Memory) }
+    // Help is for words that ask for it, and a message for words with a mistake.
+    ensures refused { IfErr result (IsRefusalOf (map (λ word. word.now) words.entry.now)) }
 {
     match ordtx_command(alloc)?.try_get_matches_from(words) {
         Ok(matches) => match matches.subcommand() {
-            Some((name, held)) => line_of(alloc, name, held),
-            None => refuse(alloc, "no command is given"),
+            Some((name, held)) => Ok(line_of(alloc, name, held)?),
+            // `clap` has refused words without a command.
+            None => unreachable!(),
         },
-        Err(error) => match asking_about_help(words) {
-            Some(program) => Err(help_on_help(alloc, program)?),
-            None => Err(refusal(alloc, &error)),
-        },
-    }
-}
-
-// The program's name, where the words are `help` with a flag that asks for help. `clap` takes the
-// flag for a command.
-fn asking_about_help<'a>(words: &[&'a str]) -> Option<&'a str> {
-    match (words.first(), words.get(1), words.get(2)) {
-        (Some(program), Some(name), Some(flag))
-            if *name == "help" && (*flag == "-h" || *flag == "--help") => { Some(*program) }
-        _ => None,
-    }
-}
-
-// The help on the command `help`.
-fn help_on_help(alloc: Global, program: &str) -> Result<Refused, AllocError> {
-    match ordtx_command(alloc)?.try_get_matches_from(&[program, "help", "help"]) {
-        Ok(_) => Ok(Refused::Help(String::from_str(alloc, HELP)?)),
-        Err(error) => Ok(refusal(alloc, &error)),
+        Err(error) => Err(refusal(alloc, words, &error)),
     }
 }
 
 // The line of a command with these matches.
-fn line_of(alloc: Global, name: &str, held: &ArgMatches<'_>) -> Result<Line, Refused>
+fn line_of(alloc: Global, name: &str, held: &ArgMatches<'_>) -> Result<Line, AllocError>
+    requires { CanBeMatched name.now (rows_of (found_of held.now)) }
     ensures { IfOk result (HoldsLine name.now (rows_of (found_of held.now))) }
 {
-    let Some(command) = command_named(name) else {
-        return refuse(alloc, "there is no such command");
-    };
+    let command = command_named(name);
     let file = held_text(alloc, held, "file")?;
-    let workers = held_number(held, "workers", DEFAULT_WORKERS);
-    let cut = held_number(held, "cut", DEFAULT_CUT);
-    let (Some(workers), Some(cut)) = (workers, cut) else {
-        return refuse(alloc, "--workers and --cut take a number");
-    };
-    let Some(plan) = Plan::new(workers, cut) else {
-        return refuse(alloc, "--workers takes 1 to 64, and --cut 1 to 1000");
-    };
+    let plan = held_plan(held);
+    let audit = is_held(held, "audit");
+    let why = is_held(held, "why");
+    let progress = is_held(held, "progress");
     Ok(Line {
         command,
         file,
         plan,
-        audit: is_held(held, "audit"),
-        why: is_held(held, "why"),
-        progress: is_held(held, "progress"),
+        audit,
+        why,
+        progress,
     })
 }
 
-fn command_named(name: &str) -> Option<Command>
-    ensures { IfSome result (λ command. name.now ≡ command_name command) }
+fn command_named(name: &str) -> Command
+    requires { NamesCommand name.now }
+    ensures { name.now ≡ command_name result }
 {
     match name {
-        "run" => Some(Command::Run),
-        "serial" => Some(Command::Serial),
-        "carry" => Some(Command::Carry),
-        "check" => Some(Command::Check),
-        "locate" => Some(Command::Locate),
-        _ => None,
+        "run" => Command::Run,
+        "serial" => Command::Serial,
+        "carry" => Command::Carry,
+        "check" => Command::Check,
+        "locate" => Command::Locate,
+        _ => unreachable!(),
     }
 }
 
@@ -135,15 +116,32 @@ fn held_text(alloc: Global, held: &ArgMatches<'_>, id: &str) -> Result<Option<St
     }
 }
 
-// The number that is held, or the default where there is none. None where what is held is no
-// number.
-fn held_number(held: &ArgMatches<'_>, id: &str, default: u32) -> Option<u32>
-    ensures { IfSome result (HoldsNumber (one_of id.now (rows_of (found_of held.now))) default) }
+// The plan of the numbers that are held.
+fn held_plan(held: &ArgMatches<'_>) -> Plan
+    requires workers { HoldsFrom1 (codes "workers") 64 (rows_of (found_of held.now)) }
+    requires cut { HoldsFrom1 (codes "cut") 1000 (rows_of (found_of held.now)) }
+    ensures workers { HoldsNumber (one_of (codes "workers") (rows_of (found_of held.now))) 4 result.workers }
+    ensures cut { HoldsNumber (one_of (codes "cut") (rows_of (found_of held.now))) 16 result.cut }
+{
+    let workers = held_number(held, "workers", DEFAULT_WORKERS);
+    let cut = held_number(held, "cut", DEFAULT_CUT);
+    match Plan::new(workers, cut) {
+        Some(plan) => plan,
+        // `clap` has refused numbers out of range.
+        None => unreachable!(),
+    }
+}
+
+// The number that is held, or the default where there is none.
+fn held_number(held: &ArgMatches<'_>, id: &str, default: u32) -> u32
+    requires { HoldsFrom1 id.now 1000 (rows_of (found_of held.now)) }
+    ensures { HoldsNumber (one_of id.now (rows_of (found_of held.now))) default result }
 {
     match held.try_get_one::<u32>(id) {
-        Ok(Some(number)) => Some(number),
-        Ok(None) => Some(default),
-        Err(_) => None,
+        Ok(Some(number)) => number,
+        Ok(None) => default,
+        // `clap` has refused what is no number.
+        Err(_) => unreachable!(),
     }
 }
 
@@ -157,15 +155,45 @@ fn is_held(held: &ArgMatches<'_>, id: &str) -> bool
     }
 }
 
-fn refuse(alloc: Global, text: &str) -> Result<Line, Refused>
-    ensures { IsErr result }
+// What `clap`'s error for these words is. It takes a flag after `help` for a command. It is help on
+// help here.
+fn refusal(alloc: Global, words: &[&str], error: &clap::Error) -> Refused
+    ensures memory { kind_of error.now ≡ ErrorKind.OutOfMemory → result ≡ Refused.Memory }
+    ensures refused { IsAmong (kind_of error.now) (faults_of (map (λ word. word.now) words.now))
+        → IsRefusalOf (map (λ word. word.now) words.now) result }
 {
-    let text = format!(in alloc; "error: {text}\n")?;
-    Err(Refused::Words(text))
+    match asking_about_help(words) {
+        Some(program) if error.kind() != ErrorKind::OutOfMemory => help_on_help(alloc, program),
+        _ => refusal_of(alloc, error),
+    }
 }
 
-// What the program prints for an error of `clap`.
-fn refusal(alloc: Global, error: &clap::Error) -> Refused {
+// The program's name, where the words are `help` with a flag that asks for help.
+fn asking_about_help<'a>(words: &[&'a str]) -> Option<&'a str>
+    ensures { OnSome result (IsAboutHelp (map (λ word. word.now) words.now)) }
+{
+    match words {
+        [program, "help", "-h" | "--help", ..] => Some(program),
+        _ => None,
+    }
+}
+
+// The help on the command `help`.
+fn help_on_help(alloc: Global, program: &str) -> Refused {
+    match ordtx_command(alloc) {
+        Ok(command) => match command.try_get_matches_from(&[program, "help", "help"]) {
+            Ok(_) => unreachable!(),
+            Err(error) => refusal_of(alloc, &error),
+        }
+        Err(_) => Refused::Memory,
+    }
+}
+
+// The refusal for an error of `clap`.
+fn refusal_of(alloc: Global, error: &clap::Error) -> Refused
+    ensures memory { kind_of error.now ≡ ErrorKind.OutOfMemory → result ≡ Refused.Memory }
+    ensures kind { IsRefusalBy (kind_of error.now) result }
+{
     let kind = error.kind();
     if kind == ErrorKind::OutOfMemory {
         return Refused::Memory;

@@ -1,5 +1,5 @@
 //! Reading the bytes of a source.
-ghost use Rattle.std.specs.Prelude.{◌≡◌, ◌+◌, ◌<◌, ◌≤◌, ◌⊎◌, ◌↔◌, ◌||◌, true, false, Err, IfOk, OnOk, IfErr, is_err, take, drop, vec_len};
+ghost use Rattle.std.specs.Prelude.{◌≡◌, ◌+◌, ◌<◌, ◌≤◌, ◌⊎◌, ◌↔◌, true, false, Err, IfOk, OnOk, IfErr, is_err, take, drop, vec_len};
 ghost use Rattle.std.specs.Io.KnownBytes.{Consumes, IsAtEnd};
 ghost use Rattle.lang.specs.Faults.{input_fault, memory_fault};
 ghost use Rattle.ordtx.specs.Streams.{ReadsInput};
@@ -16,7 +16,8 @@ const FIRST_ROOM: usize = 65_536;
 /// Reads all bytes to the end of the source, but at most `MOST_READ`. The fault is one of memory,
 /// or of the input where a fetch failed.
 pub fn read_input<R: Source>(alloc: Global, source: &mut R) -> Result<Vec<u8>, Fault>
-    requires { R.has_failed source.old ≡ false }
+    requires unended { R.has_ended source.old ≡ false }
+    requires unread { R.has_failed source.old ≡ false }
     ensures bytes { IfOk result (λ bytes. ReadsInput (R.remaining source.old) (R.remaining source.new) bytes.items) }
     ensures faults { IfErr result (λ fault. (fault ≡ memory_fault) ⊎ (fault ≡ input_fault)) }
     ensures mark { R.has_failed source.new ≡ true ↔ result ≡ Err input_fault }
@@ -53,13 +54,16 @@ fn make_room(bytes: &mut Vec<u8>, filled: usize) -> Result<(), AllocError>
 
 // One fetch to after the filled bytes.
 fn fetch_at<R: Source>(source: &mut R, bytes: &mut Vec<u8>, filled: usize) -> Result<usize, Failed>
-    requires { filled < vec_len bytes.old }
+    requires room { filled < vec_len bytes.old }
+    requires unended { R.has_ended source.old ≡ false }
+    requires sound { R.has_failed source.old ≡ false }
     ensures len { vec_len bytes.new ≡ vec_len bytes.old }
     ensures front { take filled bytes.new.items ≡ take filled bytes.old.items }
     ensures fits { IfOk result (λ count. filled + count ≤ vec_len bytes.new) }
     ensures given { IfOk result (λ count. Consumes (R.remaining source.old) (R.remaining source.new) (take count (drop filled bytes.new.items))) }
     ensures end { IfOk result (λ count. count ≡ 0 → IsAtEnd (R.remaining source.new)) }
-    ensures mark { R.has_failed source.new ≡ (R.has_failed source.old || is_err result) }
+    ensures more { IfOk result (λ count. 0 < count → R.has_ended source.new ≡ false) }
+    ensures mark { R.has_failed source.new ≡ is_err result }
 {
     source.fetch(&mut bytes.as_mut_slice()[filled..])
 }

@@ -11,17 +11,20 @@ use std::io::{Read, Write};
 #[derive(Drop)]
 pub struct Marked<D> {
     device: D,
+    ended: bool,
     failed: bool,
 }
 
 impl<D> Marked<D> {
-    /// This device, of which no call has failed yet.
+    /// This device, of which no call has met the end or failed yet.
     pub fn new(device: D) -> Marked<D>
         ensures device { result.device ≡ device }
+        ensures unended { result.ended ≡ false }
         ensures unmarked { result.failed ≡ false }
     {
         Marked {
             device,
+            ended: false,
             failed: false,
         }
     }
@@ -37,16 +40,25 @@ impl<D> Marked<D> {
 impl<R: Read> Source for Marked<R> {
     ghost remaining = { λ source. R.remaining source.device };
 
+    ghost has_ended = { λ source. source.ended };
+
     ghost has_failed = { λ source. source.failed };
 
     fn fetch(&mut self, piece: &mut [u8]) -> Result<usize, Failed> {
         match self.device.read(piece) {
-            Ok(count) => Ok(count),
+            Ok(count) => {
+                self.ended = !piece.is_empty() && count == 0;
+                Ok(count)
+            }
             Err(_) => {
                 self.failed = true;
                 Err(Failed)
             }
         }
+    }
+
+    fn ended(&self) -> bool {
+        self.ended
     }
 
     fn failed(&self) -> bool {

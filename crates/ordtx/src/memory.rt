@@ -12,6 +12,7 @@ pub struct TestSource<'a> {
     rest: &'a [u8],
     most: usize,
     sound: usize,
+    ended: bool,
     failed: bool,
     pub ghost gives: { 0 < most },
 }
@@ -21,12 +22,14 @@ impl<'a> TestSource<'a> {
     pub fn new(bytes: &'a [u8], most: usize, sound: usize) -> TestSource<'a>
         requires { 0 < most }
         ensures rest { result.rest ≡ bytes.entry }
+        ensures unended { result.ended ≡ false }
         ensures unmarked { result.failed ≡ false }
     {
         TestSource {
             rest: bytes,
             most,
             sound,
+            ended: false,
             failed: false,
         }
     }
@@ -34,6 +37,8 @@ impl<'a> TestSource<'a> {
 
 impl<'a> Source for TestSource<'a> {
     ghost remaining = { λ source. Some source.rest.now };
+
+    ghost has_ended = { λ source. source.ended };
 
     ghost has_failed = { λ source. source.failed };
 
@@ -51,7 +56,12 @@ impl<'a> Source for TestSource<'a> {
         piece[..count].copy_from_slice(given);
         self.rest = rest;
         self.sound -= count;
+        self.ended = !piece.is_empty() && count == 0;
         Ok(count)
+    }
+
+    fn ended(&self) -> bool {
+        self.ended
     }
 
     fn failed(&self) -> bool {

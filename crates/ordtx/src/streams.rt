@@ -18,10 +18,16 @@ use std::thread::Threads;
 
 /// Reads a document from the source, runs its transactions, and writes the report to the sink.
 ///
-/// The source is read to its end, but at most 67,108,865 bytes of it. A fault of the document is that
-/// of what was read. `Memory` is answered where a growth of memory was refused, `Input` where the
-/// source failed, and nothing was written then; `Output` where the sink failed, and a beginning of
-/// the report was written then.
+/// The source is read to its end, but at most 67,108,865 bytes of it.
+///
+/// The errors, and what each leaves:
+///
+/// - `Memory`: a growth of memory was refused. The source was read in part or whole, and nothing was
+///   written.
+/// - `Input`: a fetch failed, and was the last one. Nothing was written.
+/// - `Output`: a put failed, and was the last one. The source was read, and a beginning of the report
+///   was written.
+/// - Any other fault is the first of the document. The source was read, and nothing was written.
 pub fn run_stream<T: Threads + Sync, R: Source, W: Sink, G: Gate>(
     threads: &T,
     alloc: Global,
@@ -30,10 +36,12 @@ pub fn run_stream<T: Threads + Sync, R: Source, W: Sink, G: Gate>(
     plan: Plan,
     gate: &G,
 ) -> Result<(), Fault>
+    requires unended { R.has_ended source.old ≡ false }
     requires unread { R.has_failed source.old ≡ false }
     requires unwritten { W.has_failed sink.old ≡ false }
-    // All bytes are read, but at most 67,108,865.
-    ensures read { OnOk result (IsRead (R.remaining source.old) (R.remaining source.new)) }
+    // All bytes were read, but at most 67,108,865. After a fault of memory or of the input there may be more.
+    ensures read { result ≢ Err memory_fault → result ≢ Err input_fault
+        → IsRead (R.remaining source.old) (R.remaining source.new) }
     // Exactly the report of what was read was written.
     ensures written { OnOk result (WritesAnswer IsReportOf (R.remaining source.old) (W.taken sink.old) (W.taken sink.new)) }
     // A fault of the document is that of what was read.
@@ -52,9 +60,9 @@ pub fn run_stream<T: Threads + Sync, R: Source, W: Sink, G: Gate>(
     write_text(sink, text.as_bytes())
 }
 
-/// Does as [`run_stream`], and writes behind the report how often each transaction was run.
+/// Does as [`run_stream`], and writes after the report how often each transaction was run.
 ///
-/// The faults are those of [`run_stream`].
+/// The errors are those of [`run_stream`], and leave the same.
 pub fn audit_stream<T: Threads + Sync, R: Source, W: Sink, G: Gate>(
     threads: &T,
     alloc: Global,
@@ -63,10 +71,12 @@ pub fn audit_stream<T: Threads + Sync, R: Source, W: Sink, G: Gate>(
     plan: Plan,
     gate: &G,
 ) -> Result<(), Fault>
+    requires unended { R.has_ended source.old ≡ false }
     requires unread { R.has_failed source.old ≡ false }
     requires unwritten { W.has_failed sink.old ≡ false }
-    // All bytes are read, but at most 67,108,865.
-    ensures read { OnOk result (IsRead (R.remaining source.old) (R.remaining source.new)) }
+    // All bytes were read, but at most 67,108,865. After a fault of memory or of the input there may be more.
+    ensures read { result ≢ Err memory_fault → result ≢ Err input_fault
+        → IsRead (R.remaining source.old) (R.remaining source.new) }
     // Exactly the report with the run counts of what was read was written.
     ensures written { OnOk result (WritesAnswer IsAuditOf (R.remaining source.old) (W.taken sink.old) (W.taken sink.new)) }
     // A fault of the document is that of what was read.
@@ -88,7 +98,7 @@ pub fn audit_stream<T: Threads + Sync, R: Source, W: Sink, G: Gate>(
 /// Does as [`run_stream`], or with an audit as [`audit_stream`], and writes after it which operations
 /// ended each round but the last.
 ///
-/// The faults are those of [`run_stream`].
+/// The errors are those of [`run_stream`], and leave the same.
 pub fn explain_stream<T: Threads + Sync, R: Source, W: Sink, G: Gate>(
     threads: &T,
     alloc: Global,
@@ -98,10 +108,12 @@ pub fn explain_stream<T: Threads + Sync, R: Source, W: Sink, G: Gate>(
     audit: bool,
     gate: &G,
 ) -> Result<(), Fault>
+    requires unended { R.has_ended source.old ≡ false }
     requires unread { R.has_failed source.old ≡ false }
     requires unwritten { W.has_failed sink.old ≡ false }
-    // All bytes are read, but at most 67,108,865.
-    ensures read { OnOk result (IsRead (R.remaining source.old) (R.remaining source.new)) }
+    // All bytes were read, but at most 67,108,865. After a fault of memory or of the input there may be more.
+    ensures read { result ≢ Err memory_fault → result ≢ Err input_fault
+        → IsRead (R.remaining source.old) (R.remaining source.new) }
     // Exactly the report of what was read with what ended its rounds was written.
     ensures written { OnOk result (WritesAnswer (IsExplainedOf audit) (R.remaining source.old) (W.taken sink.old) (W.taken sink.new)) }
     // A fault of the document is that of what was read.
@@ -123,16 +135,18 @@ pub fn explain_stream<T: Threads + Sync, R: Source, W: Sink, G: Gate>(
 /// Reads a document from the source, runs its transactions by number on one thread, and writes the
 /// report without the number of rounds to the sink.
 ///
-/// The faults are those of [`run_stream`].
+/// The errors are those of [`run_stream`], and leave the same.
 pub fn serial_stream<R: Source, W: Sink>(
     alloc: Global,
     source: &mut R,
     sink: &mut W,
 ) -> Result<(), Fault>
+    requires unended { R.has_ended source.old ≡ false }
     requires unread { R.has_failed source.old ≡ false }
     requires unwritten { W.has_failed sink.old ≡ false }
-    // All bytes are read, but at most 67,108,865.
-    ensures read { OnOk result (IsRead (R.remaining source.old) (R.remaining source.new)) }
+    // All bytes were read, but at most 67,108,865. After a fault of memory or of the input there may be more.
+    ensures read { result ≢ Err memory_fault → result ≢ Err input_fault
+        → IsRead (R.remaining source.old) (R.remaining source.new) }
     // Exactly the report of one thread of what was read was written.
     ensures written { OnOk result (WritesAnswer IsPlainReportOf (R.remaining source.old) (W.taken sink.old) (W.taken sink.new)) }
     // A fault of the document is that of what was read.
@@ -154,18 +168,20 @@ pub fn serial_stream<R: Source, W: Sink>(
 /// Does as [`serial_stream`], and writes a document of the objects at the end, without a transaction,
 /// in place of the report. A next batch can start with it.
 ///
-/// `Start` is returned where an object's number is too large for a start, and `TooMany` where there
-/// are more entries than a document may start with. Nothing was written then. The other faults are
-/// those of [`run_stream`].
+/// Two errors are of the objects at the end: `Start` where an object's number is too large for a
+/// start, and `TooMany` where there are more entries than a document may start with. The source was
+/// read, and nothing was written. The other errors are those of [`run_stream`], and leave the same.
 pub fn carry_stream<R: Source, W: Sink>(
     alloc: Global,
     source: &mut R,
     sink: &mut W,
 ) -> Result<(), Fault>
+    requires unended { R.has_ended source.old ≡ false }
     requires unread { R.has_failed source.old ≡ false }
     requires unwritten { W.has_failed sink.old ≡ false }
-    // All bytes are read, but at most 67,108,865.
-    ensures read { OnOk result (IsRead (R.remaining source.old) (R.remaining source.new)) }
+    // All bytes were read, but at most 67,108,865. After a fault of memory or of the input there may be more.
+    ensures read { result ≢ Err memory_fault → result ≢ Err input_fault
+        → IsRead (R.remaining source.old) (R.remaining source.new) }
     // Exactly the document of the objects at the end of what was read was written.
     ensures written { OnOk result (WritesAnswer IsCarriedOf (R.remaining source.old) (W.taken sink.old) (W.taken sink.new)) }
     // A fault of the document, or of its objects at the end, is that of what was read.
@@ -187,16 +203,18 @@ pub fn carry_stream<R: Source, W: Sink>(
 /// Reads a document from the source, and writes how many objects, transactions and operations it has
 /// to the sink. Nothing is run.
 ///
-/// The faults are those of [`run_stream`].
+/// The errors are those of [`run_stream`], and leave the same.
 pub fn check_stream<R: Source, W: Sink>(
     alloc: Global,
     source: &mut R,
     sink: &mut W,
 ) -> Result<(), Fault>
+    requires unended { R.has_ended source.old ≡ false }
     requires unread { R.has_failed source.old ≡ false }
     requires unwritten { W.has_failed sink.old ≡ false }
-    // All bytes are read, but at most 67,108,865.
-    ensures read { OnOk result (IsRead (R.remaining source.old) (R.remaining source.new)) }
+    // All bytes were read, but at most 67,108,865. After a fault of memory or of the input there may be more.
+    ensures read { result ≢ Err memory_fault → result ≢ Err input_fault
+        → IsRead (R.remaining source.old) (R.remaining source.new) }
     // Exactly the line of counts of what was read was written.
     ensures written { OnOk result (WritesAnswer IsCheckOf (R.remaining source.old) (W.taken sink.old) (W.taken sink.new)) }
     // A fault of the document is that of what was read.
@@ -222,16 +240,19 @@ pub fn check_stream<R: Source, W: Sink>(
 /// the member or item that the fault is of, or `line NUMBER column NUMBER` where the bytes are no
 /// JSON. It is left out where the fault is of the whole document.
 ///
-/// Only `Memory`, `Input` and `Output` are returned, as by [`run_stream`].
+/// The errors are `Memory`, `Input` and `Output` of [`run_stream`], and leave the same. A fault of the
+/// document is no error here.
 pub fn locate_stream<R: Source, W: Sink>(
     alloc: Global,
     source: &mut R,
     sink: &mut W,
 ) -> Result<(), Fault>
+    requires unended { R.has_ended source.old ≡ false }
     requires unread { R.has_failed source.old ≡ false }
     requires unwritten { W.has_failed sink.old ≡ false }
-    // All bytes are read, but at most 67,108,865.
-    ensures read { OnOk result (IsRead (R.remaining source.old) (R.remaining source.new)) }
+    // All bytes were read, but at most 67,108,865. After a fault of memory or of the input there may be more.
+    ensures read { result ≢ Err memory_fault → result ≢ Err input_fault
+        → IsRead (R.remaining source.old) (R.remaining source.new) }
     // Exactly the line of the fault of what was read was written.
     ensures written { OnOk result (WritesAnswer IsLocationOf (R.remaining source.old) (W.taken sink.old) (W.taken sink.new)) }
     // A fault of the document is no error here.

@@ -4,6 +4,8 @@ use crate::{
     Code, Command, Marked, NoGate, Plan, Refused, Sink, Source, TestSink, TestSource, audit_stream,
     carry_stream, check_stream, line, run_stream, serial_stream,
 };
+use std::io;
+use std::io::{ErrorKind, Read, Write};
 use std::test::Fail;
 
 const DOCUMENT: &[u8] =
@@ -99,6 +101,87 @@ fn fails_to_read(rt: HostRuntime) -> Result<(), Fail> {
     Ok(())
 }
 
+/// A reader and a writer of which one call fails, after some that moved at most 7 bytes each. It
+/// counts the calls after that one, which succeed.
+#[derive(Drop)]
+struct FailsOnce<'a> {
+    rest: &'a [u8],
+    before: usize,
+    failed: bool,
+    after: usize,
+}
+
+impl<'a> FailsOnce<'a> {
+    fn new(rest: &'a [u8], before: usize) -> FailsOnce<'a> {
+        FailsOnce {
+            rest,
+            before,
+            failed: false,
+            after: 0,
+        }
+    }
+
+    // Counts a call, or is the failure.
+    fn pass(&mut self) -> io::Result<()> {
+        if self.failed {
+            self.after = self.after.saturating_add(1);
+        } else if self.before == 0 {
+            self.failed = true;
+            return Err(io::Error::from(ErrorKind::Interrupted));
+        } else {
+            self.before -= 1;
+        }
+        Ok(())
+    }
+}
+
+impl<'a> Read for FailsOnce<'a> {
+    fn read(&mut self, buf: &mut [u8]) -> io::Result<usize> {
+        self.pass()?;
+        let most = buf.len().min(7);
+        self.rest.read(&mut buf[..most])
+    }
+}
+
+impl<'a> Write for FailsOnce<'a> {
+    fn write(&mut self, buf: &[u8]) -> io::Result<usize> {
+        self.pass()?;
+        Ok(buf.len().min(7))
+    }
+
+    fn flush(&mut self) -> io::Result<()> {
+        Ok(())
+    }
+}
+
+#[test]
+fn a_failed_read_is_not_tried_again(rt: HostRuntime) -> Result<(), Fail> {
+    for before in [0, 1, 5] {
+        let mut source = Marked::new(FailsOnce::new(DOCUMENT, before));
+        let mut sink = TestSink::new(Vec::with_capacity(rt.alloc(), 200)?, ALWAYS, ALWAYS);
+        let answer = run_stream(&rt, rt.alloc(), &mut source, &mut sink, plan()?, &NoGate);
+        assert!(rt; answer == Err(Code::Input.outside()));
+        assert!(rt; Source::failed(&source) && !source.ended() && sink.taken().is_empty());
+        let device = source.into_inner();
+        assert!(rt; device.failed && device.after == 0);
+    }
+    Ok(())
+}
+
+#[test]
+fn a_failed_write_is_not_tried_again(rt: HostRuntime) -> Result<(), Fail> {
+    for before in [0, 1, 5] {
+        let mut source = Marked::new(DOCUMENT);
+        let mut sink = Marked::new(FailsOnce::new(b"", before));
+        let answer = run_stream(&rt, rt.alloc(), &mut source, &mut sink, plan()?, &NoGate);
+        assert!(rt; answer == Err(Code::Output.outside()));
+        assert!(rt; source.ended() && !source.failed() && Sink::failed(&sink));
+        let device = sink.into_inner();
+        assert!(rt; device.failed && device.after == 0);
+    }
+    Ok(())
+}
+
 #[test]
 fn writes_nothing_for_a_fault(rt: HostRuntime) -> Result<(), Fail> {
     let documents: [(&[u8], Code); 3] = [
@@ -143,6 +226,8 @@ fn reads_lines(rt: HostRuntime) -> Result<(), Fail> {
     let words = ["ordtx", "run", "f", "--workers", "64", "--cut", "1000"];
     let given = line(rt.alloc(), &words)?;
     assert!(rt; given.plan.workers == 64 && given.plan.cut == 1000);
+    let given = line(rt.alloc(), &["ordtx", "run", "--cut=1", "--workers=33"])?;
+    assert!(rt; given.plan.workers == 33 && given.plan.cut == 1);
     assert!(rt; line(rt.alloc(), &["ordtx", "run", "--audit"])?.audit);
     Ok(())
 }

@@ -100,7 +100,8 @@ fn answer_source<T: Threads + Sync, R: Source>(
     line: &Line,
     source: &mut R,
 ) -> Result<(), Fault>
-    requires { R.has_failed source.old ≡ false }
+    requires unended { R.has_ended source.old ≡ false }
+    requires unread { R.has_failed source.old ≡ false }
 {
     let alloc = rt.alloc();
     let mut sink = Marked::new(rt.stdout());
@@ -128,6 +129,7 @@ fn run_seen<T: Threads + Sync, R: Source, W: Sink, G: Gate>(
     sink: &mut W,
     gate: &G,
 ) -> Result<(), Fault>
+    requires unended { R.has_ended source.old ≡ false }
     requires unread { R.has_failed source.old ≡ false }
     requires unwritten { W.has_failed sink.old ≡ false }
 {
