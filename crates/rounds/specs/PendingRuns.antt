@@ -94,7 +94,7 @@ times x (y ∷ ys) = bit (y == x) + times x ys
 abbrev pub Kept : List Entry → ℕ → PendingRun → Type 0
 Kept since told run = (HoldsPast since run × (told ≡ 0)) ⊎ ((¬ HoldsPast since run) × (told ≡ 1))
 
--- what is told of one place: its number where its run doesn't stand past these entries, and no other number
+-- what is listed of one place: its number where its run doesn't stand past these entries, and no other number
 pub record IsDecided (runs : List PendingRun) (since : List Entry) (place : ℕ) (told : List ℕ) : Type 0 where
   pub here : (d : PendingRun) → Kept since (times place told) (slice_index_or runs place d)
   pub elsewhere : (i : ℕ) → i ≢ place → times i told ≡ 0
