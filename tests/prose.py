@@ -10,7 +10,7 @@ import re
 import sys
 
 ROOT = pathlib.Path(__file__).resolve().parent.parent
-MOST_WORDS = 30
+MOST_WORDS = 25
 
 # A word that has a shorter or plainer one, and that one.
 AVOIDED = (

@@ -18,7 +18,7 @@ items_total = on_total (λ (x : Item). x.0) nat_cmp_total
 pub items_antisymmetric : IsAntisymmetric item_cmp
 items_antisymmetric x y e = one_item x y (nat_cmp-IsAntisymmetric x.0 y.0 e)
 
--- items that the order does not tell apart
+-- items that the order does not distinguish
 pub alike_is : (q k : Item) → eq_by_cmp item_cmp q k ≡ true → q ≡ k
 alike_is q k e = items_antisymmetric q k ((Equal-is (item_cmp q k)).0 e)
 

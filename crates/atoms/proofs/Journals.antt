@@ -66,7 +66,7 @@ rewound-back {V} {C} {D} u before now h =
 pub rewinds : {V C R D : Type 0} (s : Serial V C R) (u : Undoing V C D) → TakesBack s u → Rewinds s u
 rewinds s u h j calls = rewound-back u j (all_performed s u j calls) (leads_back-all s u h j calls)
 
--- ---- a journal of which the newest changes are taken back
+-- ---- a journal of which the latest changes are taken back
 
 pub record ArePartUndone {V C D : Type 0} (u : Undoing V C D) (start : V) (journal : List D) (mark : ℕ) (now : V)
     (rest : List D) : Type 0 where

@@ -23,6 +23,3 @@ pub use objects::{Call, Entry, Item, Kind, NoMemory, Objects, Reply, Value};
 pub use record::{Record, Taken};
 pub use tree::{Block, Handler, Otherwise, Step, Subaction};
 pub use tried::{Tried, handled};
-
-#[cfg(test)]
-mod tests;

@@ -6,6 +6,3 @@ mod document;
 
 pub use batch::{Names, NoMemory, Objects};
 pub use document::{Unfit, carried, first_unfit};
-
-#[cfg(test)]
-mod tests;

@@ -28,6 +28,6 @@ below_of_once x n h = grind (arith, nat_tests)
 pub once_below_next : (x n : ℕ) → once_below x (n + 1) ≡ once_below x n + bit (eqb n x)
 once_below_next x n = grind (arith, nat_tests)
 
--- a seat that is not over was not told Done
+-- a seat that is not over didn't get Done
 pub none_done : (v : View) → is_over v ≡ false → v.done ≡ 0
 none_done v going = grind (arith, nat_tests)

@@ -16,7 +16,7 @@ pub record Kept (size : Size) (words : List ℕ) (views : List View) : Type 0 wh
   pub small : (size.pieces ≤ most_pieces) × (size.seats ≤ most_seats)
   -- the shares add up to the number of seats, so a view that has them all is the only one that is not spent
   pub shares : sum_by (λ v. v.shares) views ≡ size.seats
-  -- a view without a share is one that a join left behind
+  -- a view without a share is one that a join left
   pub idle : All (λ v. v.shares ≡ 0 → v ≡ spent) views
   -- each other view knows the number of pieces
   pub sized : All (λ v. 0 < v.shares → v.pieces ≡ size.pieces) views
@@ -24,19 +24,19 @@ pub record Kept (size : Size) (words : List ℕ) (views : List View) : Type 0 wh
   pub once : HoldsEachBelow (min next size.pieces) (all_drawn views)
   -- they are as many
   pub count : length (all_drawn views) ≡ min next size.pieces
-  -- NEXT counts the draws: those that gave a piece, and those that were told Done
+  -- NEXT counts the draws: those that gave a piece, and those that gave Done
   pub draws : next ≡ length (all_drawn views) + sum_by (λ v. v.done) views
-  -- no view was told Done more often than it has shares, as a seat claims no more once it is over
+  -- no view got Done more often than it has shares, as a seat claims no more once it is over
   pub few_done : All (λ v. v.done ≤ v.shares) views
-  -- where a seat was told Done, NEXT has passed the number of pieces
+  -- where a seat got Done, NEXT has passed the number of pieces
   pub passed : All (λ v. 0 < v.done → size.pieces < next) views
   -- STOP is 1 where some seat raised, else 0
   pub raised : stop ≡ bit (list_any (λ v. v.raised) views)
-  -- where a seat was told Stopped, STOP is 1
+  -- where a seat got Stopped, STOP is 1
   pub stopped : All (λ v. v.stopped ≡ true → stop ≡ 1) views
   -- FIRST is the least low of all seats, or the number of pieces
   pub lowest : first ≡ least (λ v. v.low) size.pieces views
-  -- no seat was told a bound below FIRST, which only falls
+  -- no seat got a bound below FIRST, which only falls
   pub told : All (λ v. first ≤ v.told) views
 
 -- the rule as the table takes it, which has no slots

@@ -1,9 +1,9 @@
--- What each step tells the seat that takes it. A step is one atomic exchange on one word:
---     draw       NEXT rises by 1. Where it held a number below the number of pieces, the seat has drawn that piece, else it is told Done
---     look       STOP is read. Where it is 1, the seat is told Stopped
+-- What each step gives the seat that takes it. A step is one atomic exchange on one word:
+--     draw       NEXT rises by 1. Where it held a number below the number of pieces, the seat has drawn that piece, else it gets Done
+--     look       STOP is read. Where it is 1, the seat gets Stopped
 --     raise      STOP becomes 1. The seat has raised
 --     lower k    FIRST becomes the smaller of itself and k. The seat's low does too
---     bound      FIRST is read. The seat was told it
+--     bound      FIRST is read. The seat got it
 use Rattle.std.specs.Prelude.{◌≡◌, ◌≢◌, ℕ, ◌+◌, ◌<◌, ◌≤◌, min, true, [], ◌∷◌, ◌++◌}
 use Rattle.std.specs.List.{All}
 use Rattle.atomic_table.specs.Table.{Me, Step}
@@ -13,7 +13,7 @@ use Rattle.claims.specs.declared.view.View.{View}
 abbrev pub with_piece : View → ℕ → View
 with_piece v piece = record v { drawn = v.drawn ++ piece ∷ [] }
 
--- it was told Done once more
+-- it got Done once more
 abbrev pub told_done : View → View
 told_done v = record v { done = v.done + 1 }
 
@@ -55,6 +55,6 @@ Raises step me found after = after ≡ (having_raised me.0, me.1)
 abbrev pub Lowers : Tells
 Lowers step me found after = after ≡ (lowered me.0 step.first, me.1)
 
--- FIRST is at most what the seat was told before, and at most its low
+-- FIRST is at most what the seat got before, and at most its low
 abbrev pub Bounds : Tells
 Bounds step me found after = (after ≡ (told_bound me.0 found, me.1)) × (found ≤ me.0.told) × (found ≤ me.0.low) × (found ≤ me.0.pieces)

@@ -23,7 +23,7 @@ fresh shares pieces = record {
   told = pieces;
 }
 
--- the view that a join leaves behind. It has drawn nothing and done nothing, and its low and told are below no number
+-- the view that a join leaves. It has drawn nothing and done nothing, and its low and told are below no number
 -- of pieces, so it counts in nothing
 abbrev pub spent : View
 spent = record { shares = 0; pieces = 0; drawn = []; done = 0; stopped = false; raised = false; low = most_pieces; told = most_pieces }
@@ -45,7 +45,7 @@ joined v w = record {
   told = min v.told w.told;
 }
 
--- the seat was told Done or Stopped
+-- the seat got Done or Stopped
 abbrev pub is_over : View → Bool
 is_over v = nat_lt 0 v.done || v.stopped
 

@@ -1,4 +1,4 @@
--- What a filter has, and which entries it tells of.
+-- What a filter has, and which entries it speaks of.
 use Rattle.std.proofs.Common.{◌&&◌, ◌||◌, nat_eq, zero, suc, ◌≡◌, ◌≢◌, ◌⊎◌, ℕ, ◌^◌, ◌<◌, ◌≤◌, arith, max, Bool, true, false, List, [], ◌∷◌}
 use Rattle.std.proofs.Common.{length, get_or, set, refl, sym, ap, ◌∙◌, subst, inl, inr, bit_and, bit_or}
 use Rattle.std.specs.Prelude.{Option, Some, None, if◌then◌else◌}
@@ -63,7 +63,7 @@ all_in sets hash more past small n wanted =
     by_place (inl low) = bit_at_ones 16 n low
     by_place (inr high) = absurd (omega (arith, wanted, bit_at_above more 16 n small high))
 
--- ---- the entries that a filter tells of
+-- ---- the entries that a filter speaks of
 
 -- a check of all classes, one by one
 every : (Class → Bool) → List Class → Bool
@@ -169,12 +169,12 @@ meets filter p q marked = by_class (always_commute own class) refl (is_compared 
           item = bit_at_or (set_at filter (mark_of p).of_item) 58687 number ∙ in_item compared (is_by_item class) refl;
         })
 
--- what the set of its object tells
+-- what the set of its object says
 pub met_by_object : (filter : Filter) (p q : Entry) → IsMarked filter q
     → Meets (bit_and (set_at filter (mark_of p).of_object) (mark_of p).conflicts) p q
 met_by_object filter p q marked = elim (meets filter p q marked) [ inl commutes ↦ inl commutes | inr is ↦ inr is.object ]
 
--- what that of its item tells too
+-- what that of its item says too
 pub met_by_item : (filter : Filter) (p q : Entry) → IsMarked filter q
     → Meets (bit_and (bit_and (set_at filter (mark_of p).of_object) (mark_of p).conflicts) (bit_or (set_at filter
     (mark_of p).of_item) 58687)) p q

@@ -1,4 +1,4 @@
--- Entries of which the numbers tell that one commutes forward with no more than the other.
+-- Entries of which the numbers show that one commutes forward with no more than the other.
 use Rattle.std.proofs.Common.{◌≡◌, Bool, true, false, nat_eq, refl, sym, ap, ◌∙◌, arith}
 use Rattle.std.proofs.lemmas.Bool.{leb-true, le-leb, ltb-true, lt-ltb}
 use Rattle.std.specs.Prelude.{IsTrue, if◌then◌else◌}
@@ -188,7 +188,7 @@ as_told : (here told : Bool) → here ≡ true → IsTrue (if here then told els
 as_told true told is commutes = commutes
 as_told false told is commutes = absurd cc
 
--- entries on one object of which the numbers tell
+-- entries on one object of which the numbers show it
 pub strict_by_number : (p q : Entry) → p.object ≡ q.object → is_strict_by_number p.call p.reply q.call q.reply ≡ true → IsAsStrict p q
 strict_by_number p q same h e commutes = (entries_exact e q).0 (at_object (nat_eq e.object q.object) refl)
   where

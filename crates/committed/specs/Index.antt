@@ -26,7 +26,7 @@ slot_of seed size key = bit_and (key * seed % 2 ^ 64 / 2 ^ 32) (size - 1)
 abbrev pub slot_in : Index → ℕ → ℕ
 slot_in index key = slot_of index.seed (length index.last.items) key
 
--- what is read behind the end of the links
+-- what is read after the end of the links
 abbrev pub no_link : Link
 no_link = record { key = 0; place = 0; before = 0; span = 0; strictest = 0; skip = 0; rank = 0; turns = 0 }
 

@@ -1,4 +1,4 @@
--- Marks: digests of entries, of which a filter tells that they commute forward with all that it has.
+-- Marks: digests of entries, of which a filter says that they commute forward with all that it has.
 use Rattle.std.specs.Prelude.{ℕ, ◌+◌, ◌*◌, ◌/◌, ◌%◌, ◌^◌, Option, Some, None}
 use Rattle.atoms.specs.declared.item.Item.{Item}
 use Rattle.objects.specs.declared.entry.Entry.{Entry}

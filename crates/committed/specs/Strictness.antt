@@ -51,7 +51,7 @@ max_is_as_strict (max.Raised a) (max.Raised b) = nat_le b.value a.value
 max_is_as_strict (max.Counted m) (max.Counted n) = nat_le m n
 max_is_as_strict e f = false
 
--- of two operations on one object, the numbers tell that the first is as strict
+-- of two operations on one object, the numbers show that the first is as strict
 abbrev pub is_strict_by_number : Call → Reply → Call → Reply → Bool
 is_strict_by_number (call.Account c) (reply.Account r) (call.Account d) (reply.Account s) = account_is_as_strict (account_effect (c, r))
     (account_effect (d, s))

@@ -22,6 +22,3 @@ pub use number_set::NumberSet;
 pub use objects::{Call, Entry, NoMemory, Reply};
 pub use summary::{mark_all, summary_of};
 pub use watch::Watch;
-
-#[cfg(test)]
-mod tests;

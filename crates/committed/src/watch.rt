@@ -14,7 +14,7 @@ const FEWEST: usize = 1024;
 /// How many slots there are at most.
 const MOST: usize = 4194304;
 
-/// How many entries there are for each that the filter is told of. It has 32 sets or more for each
+/// How many entries there are for each that the filter is to know. It has 32 sets or more for each
 /// of these, so two or more for each entry.
 const SHARE: usize = 16;
 

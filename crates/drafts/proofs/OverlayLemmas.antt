@@ -1,4 +1,4 @@
--- What is found in a set or a directory over a lent one.
+-- What is found in a set or a directory over a borrowed one.
 use Rattle.std.specs.Prelude.{◌≡◌, ℕ, ◌+◌, ◌-◌, ◌≤◌, Bool, true, false, cond, not, ◌&&◌, ◌||◌, List, [], ◌∷◌, ◌++◌, length, Option, Some}
 use Rattle.std.specs.Prelude.{None}
 use Rattle.std.proofs.Common.{refl, sym, ap, ◌∙◌, arith, suc, zero}
@@ -16,7 +16,7 @@ use Rattle.std.proofs.lemmas.Bool.{false≢true}
 use Rattle.atoms.proofs.ItemSets.{len_inserted, len_removed, none_in_empty}
 use Rattle.drafts.specs.Overlays.{put_item, over_set, over_directory, slot_at}
 
--- a slot's content, or what is lent
+-- a slot's content, or what is borrowed
 abbrev pub slot_or : {B : Type 0} → Option B → B → B
 slot_or None lent = lent
 slot_or (Some now) lent = now

@@ -1,4 +1,4 @@
--- Queues that differ from a lent one at their ends: one more change.
+-- Queues that differ from a borrowed one at their ends: one more change.
 use Rattle.std.proofs.Common.{◌≡◌, ℕ, zero, suc, ◌+◌, ◌-◌, ◌<◌, ◌≤◌, arith, List, [], ◌∷◌, ◌++◌, length, drop, refl, sym, ap, ◌∙◌, subst}
 use Rattle.std.proofs.Common.{length-append, append_assoc, add-one}
 use Rattle.std.proofs.Math.Nat.{zero-sub, sub-zero}
@@ -81,7 +81,7 @@ history_dequeued lent added taken journal grown more =
     ap (λ js. seen_as (between lent) (journaled queue_back (ends_at (taken + 1) added) js)) more
     ∙ ap (changed (seen_as (between lent) old)) (drop_one_more taken (lent ++ added))
 
--- what is left of the lent items and of those that came
+-- what is left of the borrowed items and of those that came
 pub between_parts : (lent added : List Item) (taken : ℕ) → between lent (ends_at taken added) ≡ drop taken lent ++ drop
     (taken - length lent) added
 between_parts lent added zero = rw zero-sub refl

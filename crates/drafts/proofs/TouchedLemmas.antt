@@ -1,4 +1,4 @@
--- Sets and directories over a lent one, with the changes that led to them: one more change, and one taken back.
+-- Sets and directories over a borrowed one, with the changes that led to them: one more change, and one taken back.
 use Rattle.std.proofs.Common.{◌≡◌, ℕ, Bool, true, false, cond, not, List, [], ◌∷◌, Option, Some, refl, sym, ap, ◌∙◌, subst}
 use Rattle.std.specs.Prelude.{is_some, IsSome}
 use Rattle.std.specs.BTreeMap.{is_at}
@@ -115,7 +115,7 @@ set_history_more lent slots written journal pushed change other h is =
     ap (λ t. journaled set_undone t pushed) now ∙ ap (journaled set_undone (set_done s change)) is
     ∙ journaled_more set_undone s (set_done s change) change journal (set_back s change other)
 
--- the newest change finds its item as it left it
+-- the latest change finds its item as it left it
 pub newest_made : (s : Sets) (journal rest : List SetChange) (change : SetChange) → AreMade s journal → journal ≡ change ∷ rest
     → set.contains s (changed_item change) ≡ is_added change
 newest_made s journal rest change made is = let all : AreMade s (change ∷ rest) = subst (AreMade s) is made in all.0

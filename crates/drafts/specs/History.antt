@@ -1,7 +1,7 @@
 -- Values with what they were before each of their changes.
 use Rattle.std.specs.Prelude.{List, [], ◌∷◌, map}
 
--- a value, and the values before each change that was made to it, the newest first
+-- a value, and the values before each change that was made to it, the latest first
 pub record History (V : Type 0) : Type 0 where
   pub value : V
   pub before : List V
@@ -31,6 +31,6 @@ abbrev pub rewinding : {V D : Type 0} → (V → D → V) → V → List D → L
 rewinding undo v [] = []
 rewinding undo v (change ∷ journal) = undo v change ∷ rewinding undo (undo v change) journal
 
--- a value with the changes that led to it, the newest first
+-- a value with the changes that led to it, the latest first
 abbrev pub journaled : {V D : Type 0} → (V → D → V) → V → List D → History V
 journaled undo v journal = record { value = v; before = rewinding undo v journal }

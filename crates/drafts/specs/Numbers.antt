@@ -3,6 +3,6 @@ use Rattle.std.specs.Prelude.{reverse}
 use Rattle.drafts.specs.declared.number_draft.NumberDraft.{NumberDraft}
 use Rattle.drafts.specs.History.{History}
 
--- the number, and those before each change, the newest first
+-- the number, and those before each change, the latest first
 abbrev pub number_history : {T : Type 0} → NumberDraft T → History T
 number_history draft = record { value = draft.number; before = reverse draft.before.items }

@@ -1,4 +1,4 @@
--- Sets and directories that differ from a lent one at the items that were touched.
+-- Sets and directories that differ from a borrowed one at the items that were touched.
 use Rattle.std.specs.Prelude.{◌≡◌, ◌<◌, ◌^◌, ℕ, Bool, true, false, List, [], ◌∷◌, Option, IsSome}
 use Rattle.std.specs.BTreeMap.{is_at}
 use Rattle.std.specs.Map.{lookup}
@@ -16,12 +16,12 @@ abbrev pub put_item : Sets → Item → Bool → Sets
 put_item s x true = set.insert s x
 put_item s x false = set.remove s x
 
--- a lent set where each touched item is inside or outside
+-- a borrowed set where each touched item is inside or outside
 abbrev pub over_set : Sets → List (Item × Bool) → Sets
 over_set s [] = s
 over_set s (slot ∷ slots) = put_item (over_set s slots) slot.0 slot.1
 
--- a lent directory where each touched key has this
+-- a borrowed directory where each touched key has this
 abbrev pub over_directory : Directories → List (Item × Option Item) → Directories
 over_directory m [] = m
 over_directory m (slot ∷ slots) = put_at (over_directory m slots) slot.0 slot.1
@@ -45,12 +45,12 @@ abbrev pub is_added : SetChange → Bool
 is_added (Added x) = true
 is_added (Removed x) = false
 
--- where changes are taken back, the newest first, each finds the item that came inside, and the one that went outside
+-- where changes are taken back, the latest first, each finds the item that came inside, and the one that went outside
 abbrev pub AreMade : Sets → List SetChange → Type 0
 AreMade s [] = Unit {0}
 AreMade s (change ∷ journal) = (set.contains s (changed_item change) ≡ is_added change) × AreMade (set_undone s change) journal
 
--- what is true of a lent set, the touched items, the size and the changes, the newest first
+-- what is true of a borrowed set, the touched items, the size and the changes, the latest first
 pub record IsSetKept (lent : Sets) (slots : List (Item × Bool)) (size : ℕ) (journal : List SetChange) : Type 0 where
   pub counted : size ≡ set.len (over_set lent slots)
   pub small : set.len lent < 2 ^ 63

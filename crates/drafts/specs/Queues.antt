@@ -1,4 +1,4 @@
--- Queues that differ from a lent one at their ends.
+-- Queues that differ from a borrowed one at their ends.
 use Rattle.std.specs.Prelude.{ℕ, ◌-◌, ◌≤◌, ◌+◌, List, [], ◌∷◌, ◌++◌, length, take, drop}
 use Rattle.atoms.specs.declared.item.Item.{Item}
 use Rattle.drafts.specs.declared.queue_draft.QueueChange.{QueueChange}
@@ -9,7 +9,7 @@ pub record Ends : Type 0 where
   pub taken : ℕ
   pub added : List Item
 
--- the lent items and those that came, without those that went
+-- the borrowed items and those that came, without those that went
 abbrev pub between : List Item → Ends → List Item
 between lent ends = drop ends.taken (lent ++ ends.added)
 
@@ -18,7 +18,7 @@ abbrev pub queue_back : Ends → QueueChange → Ends
 queue_back ends Enqueued = record ends { added = take (length ends.added - 1) ends.added }
 queue_back ends (Dequeued taken) = record ends { taken = taken }
 
--- no more went than there were, now and where changes are taken back, the newest first
+-- no more went than there were, now and where changes are taken back, the latest first
 abbrev pub AreWithin : List Item → Ends → List QueueChange → Type 0
 AreWithin lent ends [] = ends.taken ≤ length lent + length ends.added
 AreWithin lent ends (change ∷ journal) = (ends.taken ≤ length lent + length ends.added) × AreWithin lent (queue_back ends change) journal

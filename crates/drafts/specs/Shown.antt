@@ -1,4 +1,4 @@
--- The value that is lent, as it was or as a draft.
+-- The borrowed value, as it was or as a draft.
 use Rattle.objects.specs.declared.value.Value.{Value}
 use Rattle.drafts.specs.declared.shown.Shown.{Shown}
 use Rattle.drafts.specs.declared.shown.Shown.TheVariants.{Lent, Changed}

@@ -17,6 +17,3 @@ mod slots;
 
 pub use draft::Draft;
 pub use shown::Shown;
-
-#[cfg(test)]
-mod tests;

@@ -29,7 +29,7 @@ states_of p q = cc
 
 -- ---- what each object became
 
--- a draft, or the value that is lent
+-- a draft, or the borrowed value
 abbrev draft_or : Option (History Value) → Value → History Value
 draft_or draft lent = unwrap_or draft (unchanged lent)
 
@@ -102,7 +102,7 @@ get-now [] object h e = cc
 get-now (g ∷ hs) zero h e = let same : g ≡ h = cc in ap (λ (f : History Value). Some f.value) same
 get-now (g ∷ hs) (suc object) h e = get-now hs object h e
 
--- an object that has the draft that it had, or else one of the value that is lent
+-- an object that has the draft that it had, or else one of the borrowed value
 pub record HasDraft (snapshot : List Value) (drafts : Drafts) (starts journal : List ℕ) (state : States) (object : ℕ)
     (h : History Value) : Type 0 where
   pub draft : drafts object ≡ Some h
@@ -110,7 +110,7 @@ pub record HasDraft (snapshot : List Value) (drafts : Drafts) (starts journal : 
   pub there : slice_get state.shown object ≡ Some h.value
   pub shows : layered (histories snapshot drafts) starts journal ≡ state
 
--- nothing else is shown where a draft of the value that is lent is added
+-- nothing else is shown where a draft of the borrowed value is added
 pub added : (snapshot : List Value) (drafts put : Drafts) (starts journal : List ℕ) (state : States) (object : ℕ) (lent : Value)
     → layered (histories snapshot drafts) starts journal ≡ state → slice_get snapshot object ≡ Some lent
     → IsPut drafts put object (draft_or (drafts object) lent)

@@ -13,7 +13,7 @@ pub record States : Type 0 where
   pub shown : List Value
   pub begun : List (List Value)
 
--- what each object became: its draft, or the value that is lent with no change
+-- what each object became: its draft, or the borrowed value with no change
 abbrev pub histories : List Value → Drafts → List (History Value)
 histories [] drafts = []
 histories (lent ∷ snapshot) drafts = unwrap_or (drafts 0) (unchanged lent) ∷ histories snapshot (λ object. drafts (suc object))
@@ -28,7 +28,7 @@ undo_at [] object = []
 undo_at (h ∷ hs) zero = undone h ∷ hs
 undo_at (h ∷ hs) (suc object) = h ∷ undo_at hs object
 
--- changes of these objects taken back, the newest first
+-- changes of these objects taken back, the latest first
 abbrev pub rewound : List (History Value) → List ℕ → List (History Value)
 rewound hs [] = hs
 rewound hs (object ∷ journal) = rewound (undo_at hs object) journal

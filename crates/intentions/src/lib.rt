@@ -13,6 +13,3 @@ mod view;
 pub use committed::{Committed, Mark, MarkedEntry, NumberSet, Watch, mark_all, summary_of};
 pub use objects::{Call, Entry, NoMemory, Objects, Reply, Value};
 pub use view::{Lists, View, perform_each};
-
-#[cfg(test)]
-mod tests;

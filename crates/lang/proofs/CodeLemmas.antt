@@ -315,7 +315,7 @@ document_has d =
 IsSmall : Fault → Type 0
 IsSmall fault = number_of fault.code ≤ 20
 
--- what a test answers where it fails
+-- what a test returns where it fails
 test_answers : (b : Bool) (c : Counts) (fault : Fault) → IsSmall fault → IfErr (cond b (Ok c) (Err fault)) IsSmall
 test_answers true c fault small = tt
 test_answers false c fault small = small

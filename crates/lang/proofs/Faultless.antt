@@ -154,9 +154,9 @@ unfolding reason_asked
 reason_counts x None = refl
 reason_counts x (Some reason) = refl
 
--- ---- labels behind a step
+-- ---- labels after a step
 
--- a checked label is seen neither here nor among the elder
+-- a checked label is seen neither here nor among the earlier siblings'
 label_is_new : (scope elder : Scope) (name : List ℕ) → AllMet (label_asked scope elder (Some name)) → (is_named name scope ≡ false)
     × (is_named name elder ≡ false)
 unfolding label_asked
@@ -202,11 +202,11 @@ with_labels-append : (xs ys scope : Scope) → with_labels (xs ++ ys) scope ≡ 
 with_labels-append [] ys scope = refl
 with_labels-append (x ∷ xs) ys scope = with_labels-append xs ys (with_label (Some x.0) x.1 scope)
 
--- the elder siblings' labels, none of which is seen, stand behind the others
+-- the earlier siblings' labels, none of which is seen, come after the others
 abbrev AreNew : Scope → Scope → Type 0
 AreNew scope elder = with_labels elder scope ≡ scope ++ elder
 
--- a child's label joins its elder siblings'
+-- a child's label joins its earlier siblings'
 new_label : (scope elder : Scope) (o : Option (List ℕ)) → AllMet (label_asked scope elder o) → AreNew scope elder
     → AreNew scope (with_label o Outcome elder)
 new_label scope elder None met new = new

@@ -59,7 +59,7 @@ scope_of-insert_new m k a h =
     ∙ is_absent _ h in
     ap scope_of (insert_entry-new string_eq m k a none) ∙ scope_of-append m.entries k a
 
--- a label that was not seen is seen behind the others
+-- a label that was not seen is seen after the others
 pub scope_of-insert : {S : Type 0} (m : IndexMap (String Global) Subject S) (k : String Global) (a : Subject) (name : List ℕ)
     → string_bytes k ≡ name → is_named name (scope_of m.entries) ≡ false
     → scope_of (insert_entry string_eq m.entries k a) ≡ with_label (Some name) a (scope_of m.entries)
@@ -127,7 +127,7 @@ by_sort (Some Sub) setting scope d = with_label_extends _ _ scope
 by_sort (Some Abort) setting scope d = scope_after_append scope
 by_sort (Some Parallel) setting scope d = with_labels_extends (labels_of [] (children_in d)) scope
 
--- a step adds labels only behind those that are seen
+-- a step adds labels only after those that are seen
 pub scope_after_extends : (setting : Setting) (scope : Scope) (d : Data) → Extends scope (scope_after setting scope d)
 unfolding scope_after
 scope_after_extends setting scope d = by_sort (sort_of d) setting scope d
@@ -169,7 +169,7 @@ unseen_one label a rest scope new later name there = by (bytes_eq name label) re
     by true e h = ap (λ n. is_named n scope) ((bytes_eq-Decides name label).0 e) ∙ new
     by false e h = later name h
 
--- the labels of children stand behind those of their elder siblings
+-- the labels of children come after those of their earlier siblings
 labels_of-extends : (elder : Scope) (ds : Items) → Extends elder (labels_of elder ds)
 labels_of-extends elder no_items = scope_after_append elder
 labels_of-extends elder (item d ds) =
@@ -187,7 +187,7 @@ seen_once_added name a scope = by (is_named name scope) refl
     by true e = e
     by false e = is_named-append name scope ((name, a) ∷ []) ∙ rw (e, itself) refl
 
--- a child's label that is no elder sibling's may be set where none of the children's labels is seen
+-- a child's label that is no earlier sibling's may be set where none of the children's labels is seen
 pub child_label_met : (scope elder : Scope) (label : Option (List ℕ)) (ds : Items) (counts : Counts)
     → AreUnseen (labels_of (with_label label Outcome elder) ds) scope
     → IsMet counts (label_asked elder [] label) counts → IsMet counts (label_asked scope elder label) counts

@@ -28,7 +28,7 @@ pub object_opened : (depth : ℕ) (old : List Token) → 0 < depth
 object_opened depth old some = ap (converted of_json) (value-begin_object depth old some)
     ∙ of_object (json.members (json.value (depth - 1)) (length old) old)
 
--- one more item behind those before
+-- one more item after those before
 pub item_behind : (before : Items → Items) (d : Data) (r : Option (Items × List Token))
     → parse_map before (parse_map (item d) r) ≡ parse_map (λ ds. before (item d ds)) r
 item_behind before d None = refl

@@ -12,7 +12,7 @@ pub after_both : (before : Option (List ℕ)) (reason next : List ℕ) → IsAft
 after_both None reason next first second = tt
 after_both (Some before) reason next first second = nat_list_cmp_total.trans before reason next first second
 
--- a member after another is put behind it
+-- a member after another is put after it
 pub put_after : (reason next : List ℕ) (d e : Data) (ds : Members) → IsAfter next (Some reason)
     → put next e (member reason d ds) ≡ member reason d (put next e ds)
 put_after reason next d e ds after =

@@ -117,7 +117,7 @@ module _ (body : Data) where
   sub_shape (Some hs) (Some d) None version counts h = rw h refl
   sub_shape (Some hs) (Some d) (Some s) version counts h = rw h refl
 
--- ---- what stands behind the body
+-- ---- what comes after the body
 
 -- where no handler was read, there is none
 no_handler : (block : Spelling) (scope : Scope) (before after : Numbers) (every : Option Data)

@@ -11,7 +11,7 @@ use Rattle.lang.specs.Pulled.{in_order}
 use Rattle.lang.proofs.Checks.{check_failed, check_met}
 use Rattle.lang.proofs.PulledDocument.{version_read}
 
--- what is said of an answer that is known
+-- what is said of a result that is known
 pub matched_ok : {T E : Type 0} (r : Result T E) (x : T) (P : T → Type 0) (Q : E → Type 0) → r ≡ Ok x → MatchResult r P Q → P x
 matched_ok r x P Q is said = subst (λ s. MatchResult s P Q) is said
 

@@ -1,4 +1,4 @@
--- What an answer says of what is asked.
+-- What a result says of what is asked.
 use Rattle.std.specs.Prelude.{◌≡◌, ◌≢◌, List, Ok, Err}
 use Rattle.lang.specs.declared.fault.Fault.{Fault}
 use Rattle.lang.specs.declared.counts.Counts.{Counts}

@@ -38,7 +38,7 @@ label_is_text d = not (has (codes "as") d) || is_some (text_member (codes "as") 
 abbrev pub label_in : Data → Option (List ℕ)
 label_in d = text_member (codes "as") d
 
--- a label is a name, and is neither seen nor an elder sibling's
+-- a label is a name, and is neither seen nor an earlier sibling's
 unfoldable pub label_asked : Scope → Scope → Option (List ℕ) → List Demand
 label_asked scope elder None = []
 label_asked scope elder (Some name) = holds (is_name name) Name ∷ holds (not (is_named name scope || is_named name elder)) DuplicateLabel
@@ -209,7 +209,7 @@ unfoldable pub handlers_asked : Asks → Scope → Option Members → List Deman
 handlers_asked asks scope None = []
 handlers_asked asks scope (Some ds) = members_asked asks scope ds
 
--- a subaction, or a child whose elder siblings have these labels
+-- a subaction, or a child whose earlier siblings have these labels
 unfoldable pub sub_asked : ℕ → Asks → Scope → Scope → Data → List Demand
 sub_asked version asks scope elder d =
     sub_shape_asked version d
@@ -237,7 +237,7 @@ abort_asked version d = abort_shape_asked version d ++ reason_asked (as_str (par
 unfoldable pub parallel_shape_asked : Data → List Demand
 parallel_shape_asked d = holds (has_only (codes "parallel" ∷ []) d) Shape ∷ holds (is_some (list_member (codes "parallel") d)) Shape ∷ []
 
--- the children, where their elder siblings have these labels
+-- the children, where their earlier siblings have these labels
 abbrev pub children_asked : ℕ → Asks → Scope → Scope → Items → List Demand
 children_asked version asks scope elder no_items = []
 children_asked version asks scope elder (item d ds) = sub_asked version asks scope elder d ++ children_asked version asks scope

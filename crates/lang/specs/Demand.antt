@@ -5,7 +5,7 @@ use Rattle.lang.specs.declared.fault.Code.TheVariants.{TooMany}
 use Rattle.lang.specs.declared.fault.Fault.{Fault}
 use Rattle.lang.specs.declared.counts.Counts.{Counts}
 
--- A test with the code that is answered where it fails, or one more of what is counted towards a limit.
+-- A test with the code that is returned where it fails, or one more of what is counted towards a limit.
 -- Behind `in_transaction n` stands what is asked of transaction n.
 pub data Demand : Type 0 where
   holds : Bool → Code → Demand

@@ -1,4 +1,4 @@
--- What is told of a fault's place.
+-- What is said of a fault's place.
 use Rattle.std.specs.Prelude.{◌≡◌, ◌≢◌, ◌<◌, ◌≤◌, ◌⊎◌, ℕ, List, [], length, Option, None, Some, Ok, Err, option_map, string_bytes}
 use Rattle.std.specs.Prelude.{unwrap_or, String}
 use Rattle.std.specs.declared.alloc.Global.{Global}
@@ -17,7 +17,7 @@ use Rattle.lang.specs.Reading.{value_of}
 abbrev pub pointer_text : Option (String Global) → List ℕ
 pointer_text pointer = unwrap_or (option_map (λ text. string_bytes text) pointer) []
 
--- what a demand that is not met tells
+-- what a demand that is not met gives
 abbrev pub found_of : Unmet → Found
 found_of unmet = record { fault = unmet.fault; pointer = pointer_text unmet.pointer }
 

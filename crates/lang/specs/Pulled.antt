@@ -65,7 +65,7 @@ abbrev pub are_allowed : ℕ → Option Members → Bool
 are_allowed version None = true
 are_allowed version (Some reasons) = nat_le 3 version
 
--- what was read behind a subaction's body, from the tokens `old` on: `now` are left
+-- what was read after a subaction's body, from the tokens `old` on: `now` are left
 pub record SubTail (k version : ℕ) (asks : Asks) (block : Spelling) (scope : Scope) (old : List Token) (start : Counts) (numbers : Numbers)
     (handlers : Option (List (ℕ × Block))) (handler : Option Block) (label : Option (List ℕ))
     (now : List Token) (next : Counts) (after : Numbers) : Type 0 where

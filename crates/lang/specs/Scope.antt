@@ -84,7 +84,7 @@ is_named name scope = is_some (named name scope)
 abbrev pub label_number : List ℕ → Scope → ℕ
 label_number name scope = fit (position_or_len (bytes_eq name) (keys_of scope))
 
--- with the label behind the others, if there is one and it is not seen yet
+-- with the label after the others, if there is one and it is not seen yet
 abbrev pub with_label : Option (List ℕ) → Subject → Scope → Scope
 with_label None subject scope = scope
 with_label (Some name) subject scope = if is_named name scope then scope else scope ++ (name, subject) ∷ []
@@ -97,7 +97,7 @@ with_labels (label ∷ labels) scope = with_labels labels (with_label (Some labe
 abbrev pub scope_of : List (String Global × Subject) → Scope
 scope_of labels = map (λ label. (string_bytes label.0, label.1)) labels
 
--- the same labels, and perhaps more behind them
+-- the same labels, and perhaps more after them
 abbrev pub Extends : Scope → Scope → Type 0
 Extends old new = (more : Scope) × (new ≡ old ++ more)
 

@@ -222,7 +222,7 @@ pub record Document : Type 0 where
   pub texts : Texts
   pub transactions : List Block
 
--- the starting values and the transactions, with the numbers behind them
+-- the starting values and the transactions, with the numbers after them
 abbrev pub spelled : State → List Block → Numbers → State × List Block × Numbers
 spelled start transactions numbers = (start, transactions, numbers)
 

@@ -1,4 +1,4 @@
-//! Why a document has no answer, and in which transaction.
+//! Why a document has no report, and in which transaction.
 ghost use Rattle.std.specs.Prelude.{◌≡◌};
 ghost use Rattle.lang.specs.Faults.{number_of, fault_outside};
 
@@ -39,7 +39,7 @@ pub enum Code {
     Memory = 20,
     /// The document could not be read.
     Input = 21,
-    /// The answer could not be written.
+    /// The report could not be written.
     Output = 22,
 }
 

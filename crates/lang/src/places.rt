@@ -136,9 +136,9 @@ fn seek_document(alloc: Global, value: &Value, state: &mut State) -> Result<(), 
     Ok(())
 }
 
-/// The place of the fault that [`read`](crate::read) answers for these bytes.
+/// The place of the fault that [`read`](crate::read) returns for these bytes.
 ///
-/// `Memory` is answered where a growth of memory was refused.
+/// `Memory` is returned where a request for memory was refused.
 pub fn locate(alloc: Global, bytes: &[u8], fault: Fault) -> Result<Place, Fault>
     requires { reading bytes.now ≡ Err fault }
     ensures place { IfOk result (IsPlaceOf bytes.now fault) }

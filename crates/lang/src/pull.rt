@@ -2,10 +2,10 @@
 //!
 //! A function `pull_..` takes the next tokens of the reader, each once. `None` says that they are out
 //! of the common form, or that memory was refused; the document is then read otherwise (`document`),
-//! which tells faults.
+//! which finds faults.
 //!
 //! The common form: the members `ordtx`, `objects` and `transactions` in this order; a step's members
-//! as `pull_blocks` tells; in steps, numbers without a point or an exponent. Of the objects a small tree is made
+//! as `pull_blocks` says; in steps, numbers without a point or an exponent. Of the objects a small tree is made
 //! and read as in any other document.
 ghost use Rattle.std.specs.Prelude.{◌≡◌, ℕ, List, [], ◌∷◌, codes, length, map, option_map, true, Some, None, IfSome, ◌<◌, ◌+◌, ◌*◌, ◌≤◌};
 ghost use Rattle.json.specs.Token as token;

@@ -1,7 +1,7 @@
 //! Reads the steps of a block straight from their tokens, where they are in the common form.
 //!
 //! The common form, member by member: an operation's `op`, and its `as`; a subaction's or a child's
-//! `sub`, and then its `as` at any place, its `handlers` and, behind them, its `handler`; `parallel`
+//! `sub`, and then its `as` at any place, its `handlers` and, after them, its `handler`; `parallel`
 //! alone; `if`, one of `is`, `atleast` and `item`, then `then`, and `else`; `abort` alone. What may be
 //! left out may be left out, and no member comes twice.
 //!
@@ -165,7 +165,7 @@ fn pull_handlers(
     }
 }
 
-/// What stands behind the body of a subaction.
+/// What comes after the body of a subaction.
 #[derive(Drop)]
 struct SubRest<'a> {
     handlers: Option<Vec<Handler>>,
@@ -173,7 +173,7 @@ struct SubRest<'a> {
     label: Option<&'a str>,
 }
 
-/// What stands behind the body of a subaction, up to its end.
+/// What comes after the body of a subaction, up to its end.
 #[cycle(blocks)]
 fn pull_sub_rest<'a>(
     alloc: Global,

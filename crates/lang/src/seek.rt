@@ -101,7 +101,7 @@ fn seek_handlers(
     }
 }
 
-/// A subaction, or a child whose elder siblings have these labels. Its own label is not yet seen.
+/// A subaction, or a child whose earlier siblings have these labels. Its own label is not yet seen.
 #[cycle(seek)]
 #[tactic(auto, unfolding(crate::specs::Places::sub_placed))]
 fn seek_sub(

@@ -33,7 +33,7 @@ module _ (start : State) (batch : List Block) where
   abbrev pub alone : ℕ → ℕ → Run Taken
   alone i b = one (block_at batch i) [] (state_at b)
 
-  -- the answer for transaction i
+  -- the one-thread run of transaction i
   abbrev pub answer : ℕ → Run Taken
   answer i = alone i i
 
@@ -47,12 +47,12 @@ module _ (start : State) (batch : List Block) where
   run_nets b i zero = []
   run_nets b i (suc count) = net_of (alone i b) ++ run_nets b (suc i) count
 
-  -- what the answers of the count transactions from number b on show
+  -- what the runs of the count transactions from number b on show
   unfoldable pub shown_from : ℕ → ℕ → List Shown
   shown_from b zero = []
   shown_from b (suc count) = shown_of (answer b) ∷ shown_from (suc b) count
 
-  -- what all answers show, and the state at the end
+  -- what all runs show, and the state at the end
   abbrev pub all_shown : List Shown
   all_shown = shown_from 0 (length batch)
 

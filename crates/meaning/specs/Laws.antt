@@ -87,7 +87,7 @@ StandingRunLaw =
     × (outcome_of (alone start batch i (b + count)) ≡ outcome_of (alone start batch i b))
     × (state_of (alone start batch i (b + count)) ≡ after (state_of (alone start batch i b)) (nets start batch b count))
 
--- So it is the one-thread answer where it keeps.
+-- So it is the one-thread run where it keeps.
 abbrev pub KeptRunLaw : Type 0
 KeptRunLaw =
     (start : State) (batch : List Block) (i b : ℕ)
@@ -97,7 +97,7 @@ KeptRunLaw =
     × (outcome_of (answer start batch i) ≡ outcome_of (alone start batch i b))
     × (state_of (answer start batch i) ≡ after (state_of (alone start batch i b)) (nets start batch b (i - b)))
 
--- Where all from b on and before number b + count keep, their runs on the state of the opening leave what their answers do.
+-- Where all from b on and before number b + count keep, their runs on the state of the opening leave what their one-thread runs do.
 abbrev pub RunNetsLaw : Type 0
 RunNetsLaw =
     (start : State) (batch : List Block) (b count : ℕ)

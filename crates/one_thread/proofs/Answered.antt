@@ -33,7 +33,7 @@ state_at-next : (start : State) (blocks : List meant.Block) (i : ℕ) → settle
 unfolding state_at
 state_at-next start blocks i = ap (state_at start blocks) (sym (add-one i))
 
--- the first i transactions are answered, and nothing of them is to be taken back
+-- the first i transactions were run, and nothing of them is to be taken back
 pub record ArePartAnswered (batch : Batch) (i : ℕ) (records : List Record) (now : Journaled) : Type 0 where
   pub shown : map record_view records ≡ shown_from (start_of batch) (blocks_of batch) 0 i
   pub settled : now ≡ resting (state_at (start_of batch) (blocks_of batch) i)
@@ -53,7 +53,7 @@ module _ (batch : Batch) (items : List Block) (same : items ≡ batch.transactio
   block_here : block_view x ≡ block_at (blocks_of batch) i
   block_here = block_at_view items i x lt read ∙ ap (λ bs. block_at (map block_view bs) i) same
 
-  -- what the next transaction does is its answer
+  -- what the next transaction does is its one-thread run
   runs : one (block_view x) [] now.state ≡ answer (start_of batch) (blocks_of batch) i
   runs = ap (λ b. one b [] now.state) block_here ∙ ap (one (block_at (blocks_of batch) i) []) at_state
 

@@ -15,7 +15,7 @@ Journaled = undo.Journaled State (ℕ × Change)
 abbrev pub performed : Journaled → ℕ → Call → Journaled
 performed j object call = undo.performed objects objects_undoing j (object, call)
 
--- the changes from a place of the journal on are taken back, the newest first
+-- the changes from a place of the journal on are taken back, the latest first
 abbrev pub rewound : Journaled → ℕ → Journaled
 rewound j mark = undo.rewound objects_undoing j mark
 

@@ -30,7 +30,7 @@ pub record IsReportOf (bytes text : List ℕ) : Type 0 where
   pub few : rounds ≤ length document.transactions
   pub is : text ≡ report (names_of document.texts) document.start document.transactions rounds
 
--- So is the text, and behind it stands how often each transaction is run, as it is defined.
+-- So is the text, and after it comes how often each transaction is run, as it is defined.
 pub record IsAuditOf (bytes text : List ℕ) : Type 0 where
   pub document : Document
   pub reads : reading bytes ≡ Ok document

@@ -55,7 +55,7 @@ module _ (start : State) (blocks : List Block) where
       let law = standing_run start blocks i b count commute in
       moved (alone start blocks i b) (alone start blocks i (b + count)) run is law.0 law.1
 
-  -- a run that keeps is a run of the answer
+  -- a run that keeps is a run of one thread
   pub keeps_answers : (i b : ℕ) (run : PendingRun) → b ≤ i → IsPendingOf (alone start blocks i b) run → Keeps start blocks i b
       → IsPendingOf (answer start blocks i) run
   keeps_answers i b run le is keeps =

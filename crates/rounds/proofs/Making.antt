@@ -1,13 +1,13 @@
 -- Runs are made one after the other, and put in their places in any order.
 use Rattle.std.proofs.Common.{◌≡◌, ℕ, zero, suc, ◌+◌, ◌<◌, ◌≤◌, List, [], ◌∷◌, ◌++◌, ◌==◌, map, length, get_or, set, take, refl, sym, ap}
-use Rattle.std.proofs.Common.{◌∙◌, subst, arith}
+use Rattle.std.proofs.Common.{◌∙◌, subst, append-nil, arith}
 use Rattle.std.proofs.lemmas.List.{take_more, map-append, get_or-set_same, get_or-set_other, length-set}
-use Rattle.std.proofs.lemmas.List.Elements.{All-push, All-same}
+use Rattle.std.proofs.lemmas.List.Elements.{All-nil, All-push, All-same}
 use Rattle.std.specs.List.{All, sum_by, range_with_len}
 use native.Mathlib.Decide.{ℕ_discrete}
 use Rattle.objects.specs.Entries.{State}
-use Rattle.meaning.specs.declared.held.Held.{Held}
-use Rattle.intentions.specs.Levels.{Intentions as View, opened}
+use Rattle.rounds.specs.Desks.{IsDeskOn}
+use Rattle.rounds.specs.declared.desk.Desk.{Desk}
 use Rattle.rounds.specs.Views.{meaning}
 use Rattle.meaning.specs.Records.{Taken, entries as entries_in}
 use Rattle.meaning.specs.Batch.{net_of}
@@ -47,12 +47,22 @@ made_more batch state numbers i m made more lt is pushed so_far here = record {
       ∙ sym right));
 }
 
--- runs that were made, and a view and labels that are ready for the next
-pub record IsGroupSoFar (batch : Batch) (state : State) (numbers : List ℕ) (view : View) (labels : List Held)
-    (made : List Made) : Type 0 where
-  pub all_made : AreMade batch state numbers made
-  pub as_opened : view ≡ opened state
-  pub unlabelled : labels ≡ []
+-- runs that were made and added to a list, and a desk that is ready for the next
+pub record IsGroupSoFar (batch : Batch) (state : State) (numbers : List ℕ) (desk : Desk) (before all : List Made) : Type 0 where
+  pub ready : IsDeskOn state desk
+  pub own : List Made
+  pub is : all ≡ before ++ own
+  pub all_made : AreMade batch state numbers own
+
+-- none is made yet
+pub none_made : (batch : Batch) (state : State) (numbers : List ℕ) (desk : Desk) (before : List Made) → IsDeskOn state desk
+    → IsGroupSoFar batch state (take 0 numbers) desk before before
+none_made batch state numbers desk before ready = record {
+  ready = ready;
+  own = [];
+  is = sym (append-nil before);
+  all_made = record { each = All-nil (IsMade batch state); dealt = λ i. refl };
+}
 
 -- a number stands in the chunks of a list, put together, as often as in the list
 times_chunks : (i size count : ℕ) (numbers : List ℕ) → 0 < size → count ≡ div_ceil (length numbers) size

@@ -12,7 +12,7 @@ use Rattle.batch.specs.Views.{record_view}
 use Rattle.batch.specs.declared.batch.Batch.{Batch}
 use Rattle.batch.specs.declared.record.Record.{Record}
 
--- At opening b, after so many rounds: the objects are those after the first b transactions, which have their answers,
+-- At opening b, after so many rounds: the objects are those after the first b transactions, which have their results,
 -- and each later one has a run on this state, or its number is among the stale ones.
 pub record AtOpening (batch : Batch) (b rounds : ℕ) (state : State) (runs : List PendingRun) (counts stale : List ℕ) : Type 0 where
   pub within : b ≤ length (blocks_of batch)
@@ -35,7 +35,7 @@ pub record AtOpening (batch : Batch) (b rounds : ℕ) (state : State) (runs : Li
 abbrev pub IsRecordOf : OneRun Taken → Record → Type 0
 IsRecordOf run made = record_view made ≡ shown_of run
 
--- the records are those of the one-thread answer, by number
+-- the records are those of the one-thread run, by number
 pub record AreAnswers (batch : Batch) (records : List Record) : Type 0 where
   pub all : length records ≡ length (blocks_of batch)
   pub each : (i : ℕ) (d : Record) → i < length (blocks_of batch) → IsRecordOf (answer (start_of batch) (blocks_of batch) i)

@@ -1,4 +1,4 @@
--- The runs that don't stand are told, each once.
+-- The runs that don't stand are listed, each once.
 use Rattle.std.proofs.Common.{◌≡◌, ◌≢◌, ℕ, ◌+◌, ◌-◌, ◌<◌, ◌≤◌, inl, inr, List, [], ◌∷◌, ◌++◌, length, get_or, length-append, refl, sym, ap}
 use Rattle.std.proofs.Common.{◌∙◌, subst, arith}
 use Rattle.std.proofs.lemmas.List.{get_or_default}
@@ -10,7 +10,7 @@ use Rattle.workers.proofs.Once.{given_here, given_nowhere}
 use Rattle.rounds.specs.PendingRuns.{times, HoldsPast, Kept, IsDecided, AreRefuted}
 use Rattle.rounds.proofs.Times.{times_append, times_one, times_none}
 
--- of a run that stands nothing is told
+-- of a run that stands nothing is listed
 pub stands_decided : (runs : List PendingRun) (since : List Entry) (place : ℕ) → ((d : PendingRun) → HoldsPast since (get_or runs place d))
     → IsDecided runs since place []
 stands_decided runs since place stands = record { here = λ d. inl (stands d, refl); elsewhere = λ i other. refl; few = omega arith }
@@ -25,13 +25,13 @@ fails_decided runs since place lt fails = record {
   few = omega arith;
 }
 
--- what one place tells is all that is told of it
+-- what one place lists is all that is listed of it
 told_at : (runs : List PendingRun) (since : List Entry) (place i : ℕ) (own numbers : List ℕ) → place ≡ i → IsDecided runs since place own
     → times i numbers ≡ times i own → (d : PendingRun) → Kept since (times i numbers) (get_or runs i d)
 told_at runs since place i own numbers same decided is d = subst (λ n. Kept since n (get_or runs i d)) (sym is)
     (subst (λ k. Kept since (times k own) (get_or runs k d)) same (decided.here d))
 
--- what all places together tell
+-- what all places together list
 pub all_decided : (runs : List PendingRun) (since : List Entry) (from count : ℕ) (numbers : List ℕ) → from + count ≡ length runs
     → AreGivenOnce (λ piece. IsDecided runs since (from + piece)) count numbers → AreRefuted runs since from (length runs) numbers
 all_decided runs since from count numbers all given = record {
@@ -47,13 +47,13 @@ all_decided runs since from count numbers all given = record {
       told_at runs since (from + piece) i told.0 numbers place told.1 told.2 d;
 }
 
--- what is told of the runs from one place on and before another, of which there are no more numbers than runs
+-- what is listed of the runs from one place on and before another, of which there are no more numbers than runs
 pub record AreToldUpto (runs : List PendingRun) (since : List Entry) (from upto : ℕ) (numbers : List ℕ) : Type 0 where
   pub ordered : from ≤ upto
   pub refuted : AreRefuted runs since from upto numbers
   pub few : length numbers + from ≤ upto
 
--- nothing is told of no run
+-- nothing is listed of no run
 pub none_told : (runs : List PendingRun) (since : List Entry) (from : ℕ) → AreToldUpto runs since from from []
 none_told runs since from = record {
   ordered = omega arith;

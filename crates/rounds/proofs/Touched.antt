@@ -1,4 +1,4 @@
--- Numbers that stand in a list once, and what is told of the runs of these numbers.
+-- Numbers that stand in a list once, and what is listed of the runs of these numbers.
 use Rattle.std.proofs.Common.{◌≡◌, ◌≢◌, ◌⊎◌, ℕ, zero, suc, ◌+◌, ◌<◌, ◌≤◌, inl, inr, List, [], ◌∷◌, ◌++◌, length, get_or, take}
 use Rattle.std.proofs.Common.{length-append, refl, sym, ap, ◌∙◌, subst, arith}
 use native.Mathlib.Decide.{ℕ_discrete}
@@ -110,16 +110,16 @@ few_places numbers from n are =
     let low : i < n = subst (λ k. k < n) has.is (are.high has.at has.within) in
     absurd (omega arith) in omega arith)
 
--- ---- what is told of the runs of these numbers
+-- ---- what is listed of the runs of these numbers
 
--- what is told of the first places of a list
+-- what is listed of the first places of a list
 pub record AreToldOf (runs : List PendingRun) (since : List Entry) (places : List ℕ) (upto : ℕ) (numbers : List ℕ) : Type 0 where
   pub elsewhere : (i : ℕ) → ((k : ℕ) → k < upto → get_or places k 0 ≢ i) → times i numbers ≡ 0
   pub each : (k : ℕ) (d : PendingRun) → k < upto → Kept since (times (get_or places k 0) numbers) (get_or runs (get_or places k 0) d)
   pub few : length numbers ≤ upto
 
 module _ (runs : List PendingRun) (since : List Entry) (places : List ℕ) where
-  -- of none nothing is told
+  -- of none nothing is listed
   pub none_told_of : AreToldOf runs since places 0 []
   none_told_of = record { elsewhere = λ i out. refl; each = λ k d lt. absurd (omega arith); few = omega arith }
 
@@ -163,7 +163,7 @@ module _ (runs : List PendingRun) (since : List Entry) (places : List ℕ) where
     few = told.few;
   }
 
-  -- what is told of the place of a piece
+  -- what is listed of the place of a piece
   abbrev pub IsToldAt : ℕ → List ℕ → Type 0
   IsToldAt piece told = (piece < length places) × IsDecided runs since (get_or places piece 0) told
 
@@ -185,7 +185,7 @@ module _ (runs : List PendingRun) (since : List Entry) (places : List ℕ) where
 
 module _ (runs : List PendingRun) (since : List Entry) (from : ℕ) (touched numbers : List ℕ)
     (are : AreTouched touched runs from since) (among : AreRefutedAmong runs since touched numbers) where
-  -- what isn't touched holds, so that what is told of the touched ones is told of all
+  -- what isn't touched holds, so that what is listed of the touched ones is listed of all
   pub refuted_among_all : AreRefuted runs since from (length runs) numbers
   refuted_among_all = record {
     before = λ i lt. among.elsewhere i (λ has. let low = are.low i has in absurd (omega arith));

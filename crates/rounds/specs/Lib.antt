@@ -2,6 +2,7 @@ pub mod Plans
 pub mod Views
 pub mod Passes
 pub mod PendingRuns
+pub mod Desks
 pub mod Openings
 pub mod Checks
 pub mod Pending

@@ -94,11 +94,15 @@ times x (y ∷ ys) = bit (y == x) + times x ys
 abbrev pub Kept : List Entry → ℕ → PendingRun → Type 0
 Kept since told run = (HoldsPast since run × (told ≡ 0)) ⊎ ((¬ HoldsPast since run) × (told ≡ 1))
 
--- what is told of one place: its number where its run doesn't stand past these entries, and no other number
+-- what is listed of one place: its number where its run doesn't stand past these entries, and no other number
 pub record IsDecided (runs : List PendingRun) (since : List Entry) (place : ℕ) (told : List ℕ) : Type 0 where
   pub here : (d : PendingRun) → Kept since (times place told) (slice_index_or runs place d)
   pub elsewhere : (i : ℕ) → i ≢ place → times i told ≡ 0
   pub few : length told ≤ 1
+
+-- it was added to a list
+abbrev pub IsTold : List PendingRun → List Entry → ℕ → List ℕ → List ℕ → Type 0
+IsTold runs since place before after = (own : List ℕ) × (after ≡ before ++ own) × IsDecided runs since place own
 
 -- the numbers, each once, of the runs from one place on and before another that don't stand past these entries
 pub record AreRefuted (runs : List PendingRun) (since : List Entry) (from upto : ℕ) (numbers : List ℕ) : Type 0 where
@@ -124,6 +128,10 @@ IsMade batch state made = IsPendingOf (meaning batch made.number state) made.run
 pub record AreMade (batch : Batch) (state : State) (numbers : List ℕ) (made : List Made) : Type 0 where
   pub each : All (IsMade batch state) made
   pub dealt : (i : ℕ) → times i (numbers_of made) ≡ times i numbers
+
+-- a run for each of the numbers was added to a list, in any order, made on this state
+abbrev pub AreAdded : Batch → State → List ℕ → List Made → List Made → Type 0
+AreAdded batch state numbers before after = (own : List Made) × (after ≡ before ++ own) × AreMade batch state numbers own
 
 -- the numbered runs were made on this state and put in their places, and counted. The others stay
 pub record AreRenewed (batch : Batch) (state : State) (numbers : List ℕ) (old new : List PendingRun) (was counts : List ℕ) : Type 0 where

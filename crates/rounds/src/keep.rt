@@ -1,6 +1,6 @@
 //! The check after a commit: which pending runs conflict with what was committed.
-ghost use Rattle.std.specs.Prelude.{◌≡◌, ◌<◌, ◌≤◌, ℕ, IfOk, length, take, slice_index_or, slice_range};
-ghost use Rattle.rounds.specs.PendingRuns.{all_left, AreRefuted, AreRefutedAmong, IsDecided};
+ghost use Rattle.std.specs.Prelude.{◌≡◌, ◌<◌, ◌≤◌, ℕ, IfOk, OnOk, length, take, slice_index_or, slice_range};
+ghost use Rattle.rounds.specs.PendingRuns.{all_left, AreRefuted, AreRefutedAmong, IsTold};
 ghost use Rattle.rounds.specs.Pending.{ArePlaces, Tells};
 
 use crate::check::stands_past;
@@ -11,26 +11,25 @@ use intentions::Committed;
 use speculate::{Gate, NoMemory};
 use std::alloc::Global;
 use std::thread::Threads;
-use workers::give_all;
+use workers::{Bench, give_all};
 
-// The number of the run, where the run doesn't stand past what was committed, which is the first
-// `upto` entries of the nets.
-fn refuted_at(
-    alloc: Global,
+// Adds the number of the run, where the run doesn't stand past what was committed, which is the
+// first `upto` entries of the nets.
+fn tell(
     runs: &[PendingRun],
     place: usize,
     nets: &Committed,
     upto: usize,
-) -> Result<Vec<usize>, NoMemory>
+    told: &mut Vec<usize>,
+) -> Result<(), NoMemory>
     requires place { place < length runs.now }
     requires upto { upto ≤ length nets.now }
-    ensures { IfOk result (λ told. IsDecided runs.now (take upto nets.now) place told.items) }
+    ensures { OnOk result (IsTold runs.now (take upto nets.now) place told.old.items told.new.items) }
 {
-    let mut told = Vec::new(alloc);
     if !stands_past(runs, place, nets, upto) {
         told.push(place)?;
     }
-    Ok(told)
+    Ok(())
 }
 
 // The numbers of those of the listed runs that don't stand past what was committed, in the order of
@@ -89,13 +88,15 @@ fn refuted_of<R: Threads + Sync, G: Gate>(
         alloc,
         touched.len() as u32,
         workers,
-        &|piece: u32| -> Result<Vec<usize>, NoMemory>
+        &|piece: u32, bench: Bench<(), usize>| -> Result<Bench<(), usize>, NoMemory>
             requires { (piece < length touched.now) × (length runs.now ≤ 10000) × ArePlaces touched.now from (length runs.now) × (upto ≤ length nets.now) }
-            ensures { IfOk result (λ told. (piece < length touched.entry.now) × IsDecided runs.entry.now (take upto nets.entry.now) (slice_index_or touched.entry.now piece 0) told.items) }
+            ensures { IfOk result (λ after. (piece < length touched.entry.now) × IsTold runs.entry.now (take upto nets.entry.now) (slice_index_or touched.entry.now piece 0) bench.items.items after.items.items) }
         {
+            let Bench { desk, mut items } = bench;
             let place = touched[piece as usize];
             gate.pass(0, 10000 + (place - from) as u32 + 1);
-            refuted_at(alloc, runs, place, nets, upto)
+            tell(runs, place, nets, upto, &mut items)?;
+            Ok(Bench { desk, items })
         },
     )
 }

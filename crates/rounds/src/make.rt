@@ -1,10 +1,11 @@
 //! Making the runs of the transactions that need one.
-ghost use Rattle.std.specs.Prelude.{◌≡◌, ◌*◌, ◌<◌, ◌≤◌, IfOk, length};
+ghost use Rattle.std.specs.Prelude.{◌≡◌, ◌*◌, ◌<◌, ◌≤◌, IfOk, IfSome, OnOk, length};
 ghost use Rattle.std.specs.Fork.{slice_chunk};
 ghost use Rattle.std.specs.List.{All};
 ghost use Rattle.objects.specs.Entries.{kinds};
 ghost use Rattle.rounds.specs.Passes.{CanBeMade};
-ghost use Rattle.rounds.specs.PendingRuns.{AreMade};
+ghost use Rattle.rounds.specs.Desks.{IsDeskOn};
+ghost use Rattle.rounds.specs.PendingRuns.{AreMade, AreAdded};
 
 use crate::crew::{Crew, makers};
 use crate::desk::Desk;
@@ -13,7 +14,7 @@ use batch::Batch;
 use speculate::{Gate, NoMemory, Objects};
 use std::alloc::Global;
 use std::thread::Threads;
-use workers::give_all;
+use workers::{Bench, give_all};
 
 /// A run of the transaction with this number, counted from 0.
 #[derive(Drop)]
@@ -22,30 +23,46 @@ pub(crate) struct Made {
     pub(crate) run: PendingRun,
 }
 
-// A run for each number of a group, one after the other, at one desk.
+// Adds a run for each number of a group, one after the other, made at one desk.
 fn make_group<R: Threads + Sync, G: Gate>(
     threads: &R,
     alloc: Global,
     batch: &Batch,
-    objects: &Objects,
     group: &[usize],
     width: u32,
     gate: &G,
-) -> Result<Vec<Made>, NoMemory>
-    requires within { All (λ n. CanBeMade batch.now objects.now n) group.now }
-    requires same_kinds { kinds objects.now ≡ kinds batch.now.objects }
+    desk: &mut Desk<'_>,
+    all: &mut Vec<Made>,
+) -> Result<(), NoMemory>
+    requires within { All (λ n. CanBeMade batch.now desk.old.view.snapshot n) group.now }
+    requires same_kinds { kinds desk.old.view.snapshot ≡ kinds batch.now.objects }
     requires narrow { (1 ≤ width) × (width ≤ 64) }
-    ensures { IfOk result (λ made. AreMade batch.now objects.now group.now made.items) }
+    requires ready { IsDeskOn desk.old.view.snapshot desk.old }
+    ensures ready { OnOk result (IsDeskOn desk.old.view.snapshot desk.new) }
+    ensures added { OnOk result (AreAdded batch.now desk.old.view.snapshot group.now all.old.items all.new.items) }
 {
-    let mut all = Vec::with_capacity(alloc, group.len())?;
-    let mut desk = Desk::open(alloc, objects)?;
     for number in group {
         let number = *number;
         let spare = PendingRun::empty(alloc);
         let run = desk.run(threads, alloc, batch, number, width, gate, spare)?;
         all.push(Made { number, run })?;
     }
-    Ok(all)
+    Ok(())
+}
+
+// The desk of a worker, which is opened where there is none.
+fn desk_or_new<'s>(
+    alloc: Global,
+    objects: &'s Objects,
+    desk: Option<Desk<'s>>,
+) -> Result<Desk<'s>, NoMemory>
+    requires { IfSome desk (IsDeskOn objects.now) }
+    ensures { IfOk result (IsDeskOn objects.now) }
+{
+    match desk {
+        Some(desk) => Ok(desk),
+        None => Desk::open(alloc, objects),
+    }
 }
 
 // The group that is this piece: at most `cut` of the numbers.
@@ -89,12 +106,20 @@ pub(crate) fn make_all<R: Threads + Sync, G: Gate>(
         alloc,
         numbers.len().div_ceil(cut) as u32,
         makers(crew, numbers.len()),
-        &|piece: u32| -> Result<Vec<Made>, NoMemory>
-            requires { (cut ≤ 1000) × (piece * cut < length numbers.now) × (1 ≤ width) × (width ≤ 64) × (kinds objects.now ≡ kinds batch.now.objects) × All (λ n. CanBeMade batch.now objects.now n) numbers.now }
-            ensures { IfOk result (λ made. AreMade batch.entry.now objects.entry.now (slice_chunk numbers.entry.now cut piece) made.items) }
+        &|piece: u32, bench: Bench<Desk<'_>, Made>| -> Result<Bench<Desk<'_>, Made>, NoMemory>
+            requires { (cut ≤ 1000) × (piece * cut < length numbers.now) × (1 ≤ width) × (width ≤ 64) × (kinds objects.now ≡ kinds batch.now.objects) × All (λ n. CanBeMade batch.now objects.now n) numbers.now × IfSome bench.desk (IsDeskOn objects.now) }
+            ensures { IfOk result (λ after. IfSome after.desk (IsDeskOn objects.entry.now) × AreAdded batch.entry.now objects.entry.now (slice_chunk numbers.entry.now cut piece) bench.entry.items.items after.items.items) }
         {
+            let Bench { desk, mut items } = bench;
+            let mut desk = desk_or_new(alloc, objects, desk)?;
             let group = group_at(numbers, cut, piece);
-            make_group(threads, alloc, batch, objects, group, width, gate)
+            make_group(
+                threads, alloc, batch, group, width, gate, &mut desk, &mut items,
+            )?;
+            Ok(Bench {
+                desk: Some(desk),
+                items,
+            })
         },
     )
 }

@@ -40,7 +40,7 @@ use Rattle.speculate.proofs.Absorbed.{shown-absorbed}
 use Rattle.batch.proofs.PartTried.{acted_leads}
 use Rattle.speculate.proofs.Room.{child_has_room}
 
--- ---- a child past what its elder siblings left
+-- ---- a child past what its earlier siblings left
 
 -- the run of a child is known from that of the child alone
 record IsAlone (run : Run TakenChild) (all : Run TakenChildren) : Type 0 where
@@ -270,7 +270,7 @@ module _ (children : List Subaction) (place : ℕ) (x : Subaction) (held : List 
       subst (λ cs. AreLeft cs held since (state_of_view view) (run ∷ into_iter_items after)) (next_of children place x within is)
       (subst (AreLeft (drop place children) held since (state_of_view view)) steps.0 (left (omega (arith, steps.1))))
 
-  -- the runs behind the next one were made of the children behind the next child
+  -- the runs after the next one were made of the children after the next child
   pub left-more : (ahead : Option Ahead) (next : View) (tried : executed.Tried) (later : List Entry) → into_iter_steps before ahead after
       → ShowsTried in_view (subaction_view x) (acted (subaction_view x) held (state_of_view view)) tried view next
       → ForSome ahead (λ _. later ≡ since ++ kept_of_child (record_of (acted (subaction_view x) held (state_of_view view))))

@@ -16,7 +16,7 @@ none_raised [] each = refl
 none_raised (s ∷ seats) each = ap (λ b. b || list_any (λ v. v.raised) (views_of seats)) (each 0 s (omega arith))
     ∙ none_raised seats (All-tail (λ u. u.view.raised ≡ false) s seats each)
 
--- a seat that is over and was not told Stopped was told Done
+-- a seat that is over and didn't get Stopped got Done
 done_of_over : (n : ℕ) (b : Bool) → (ltb 0 n || b) ≡ true → ¬ (b ≡ true) → 0 < n
 done_of_over zero b over not = absurd (not over)
 done_of_over (suc n) b over not = omega arith

@@ -28,7 +28,7 @@ first_claim board before after claim (_, unused) own answer over = record {
   over = over;
 }
 
--- a seat that was answered a piece drew it
+-- a seat that got a piece drew it
 pub drew : (pieces : ℕ) (v w : View) (claim : Claim) (k : ℕ) → claim ≡ Piece k → Answers pieces v claim w → w ≡ with_piece v k
 drew pieces v w claim k is answer = (subst (λ a. Answers pieces v a w) is answer).2
 

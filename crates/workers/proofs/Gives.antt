@@ -1,21 +1,24 @@
 -- What the items of some pieces are, and what workers have given once they are back.
-use Rattle.std.proofs.Common.{◌≡◌, ℕ, zero, suc, ◌<◌, Bool, true, false, List, [], ◌∷◌, ◌++◌, length, map, sym, refl, ap, ◌∙◌, subst}
-use Rattle.std.proofs.Common.{append_assoc, append-nil, arith}
+use Rattle.std.proofs.Common.{◌≡◌, ℕ, zero, suc, ◌<◌, Bool, true, false, true≢false, List, [], ◌∷◌, ◌++◌, length, map}
+use Rattle.std.proofs.Common.{sym, refl, ap, ◌∙◌, subst, append_assoc, append-nil, arith}
 use Rattle.std.proofs.lemmas.Bool.{or_parts}
 use Rattle.std.proofs.lemmas.List.Elements.{All-tail}
-use Rattle.std.proofs.lemmas.List.{length-map}
+use Rattle.std.proofs.lemmas.List.{length-map, append_cancel_left}
 use Rattle.std.specs.List.{All, list_any, flat_map}
 use Rattle.std.specs.declared.vec.Vec.{Vec}
 use Rattle.std.specs.declared.alloc.Global.{Global}
 use Rattle.serial.specs.declared.NoMemory.{NoMemory}
-use Rattle.std.specs.Prelude.{Result, Ok, IfOk}
+use Rattle.std.specs.Prelude.{Option, None, Some, IfSome, IsSome, Result, Ok, IfOk}
+use Rattle.std.proofs.lemmas.Option.{IfSome_then}
 use Rattle.std.proofs.lemmas.Result.{IfOk-weaker}
 use Rattle.claims.specs.Views.{is_over, HoldsEachBelow, all_drawn}
 use Rattle.claims.specs.declared.view.View.{View}
 use Rattle.claims.specs.Steps.{with_piece}
 use Rattle.claims.specs.Seated.{Seated, Opened, IsSeatOf, views_of}
+use Rattle.workers.specs.declared.work.Bench.{Bench}
 use Rattle.workers.specs.declared.work.Worked.{Worked}
-use Rattle.workers.specs.Working.{Gives, IsAdded, AreGiven, AreGivenOnce, HasWorked, RaisedOnly}
+use Rattle.workers.specs.Working.{IsLeft, CanGiveAll, given_at, Gives, IsAdded, AreGiven, AreGivenOnce, HasWorked}
+use Rattle.workers.specs.Working.{RaisedOnly}
 use Rattle.workers.proofs.Boards.{all_pieces}
 
 module _ {X : Type 0} (giving : ℕ → List X → Type 0) where
@@ -106,14 +109,47 @@ given_weaker giving more each [] items none = none
 given_weaker giving more each (k ∷ ks) items (own, rest, is, here, others) =
     (own, rest, is, each k own here, given_weaker giving more each ks rest others)
 
--- what is known of each result of doing a piece is known of what all pieces give
-pub given_by : {X E : Type 0} (done : ℕ → Result (Vec X Global) NoMemory → Type 0) (n : ℕ) (more : ℕ → List X → Type 0)
+-- doing a piece at a bench adds what the piece gives
+left_adds : {D X : Type 0} (pieces : ℕ) (can : ℕ → Bench D X → Type 0)
+    (done : ℕ → Bench D X → Result (Bench D X) NoMemory → Type 0) → CanGiveAll pieces can done → (k : ℕ) → k < pieces
+    → (bench : Option (Bench D X)) (after : Bench D X) → IsLeft (done k) bench after
+    → IsAdded (Gives done) k (given_at bench) after.items.items
+left_adds pieces can done rule k lt bench after left =
+    let (own, is) = rule.adds k left.before after lt left.made in
+    subst (λ b. IsAdded (Gives done) k (given_at b) after.items.items) (sym left.was)
+    (own, is, record { before = left.before; after = after; made = left.made; is = is })
+
+-- where the seat didn't raise, a bench was left, and what the piece gave is added there
+pub added_at : {D X : Type 0} (pieces : ℕ) (can : ℕ → Bench D X → Type 0)
+    (done : ℕ → Bench D X → Result (Bench D X) NoMemory → Type 0) → CanGiveAll pieces can done → (k : ℕ) → k < pieces
+    → (bench next : Option (Bench D X)) → IfSome next (λ after. IsLeft (done k) bench after) → IsSome next
+    → IsAdded (Gives done) k (given_at bench) (given_at next)
+added_at pieces can done rule k lt bench None left some = absurd (true≢false (sym some))
+added_at pieces can done rule k lt bench (Some after) left some = left_adds pieces can done rule k lt bench after left
+
+-- each piece can be done at this bench, if there is one
+abbrev pub IsReady : {D X : Type 0} → ℕ → (ℕ → Bench D X → Type 0) → Option (Bench D X) → Type 0
+IsReady {D} {X} pieces can bench = IfSome bench (λ (b : Bench D X). (k : ℕ) → k < pieces → can k b)
+
+-- so it is at one that a piece left
+pub ready_next : {D X : Type 0} (pieces : ℕ) (can : ℕ → Bench D X → Type 0)
+    (done : ℕ → Bench D X → Result (Bench D X) NoMemory → Type 0) → CanGiveAll pieces can done → (j : ℕ) → j < pieces
+    → (bench next : Option (Bench D X)) → IfSome next (λ after. IsLeft (done j) bench after) → IsReady pieces can next
+ready_next pieces can done rule j below bench next left =
+    IfSome_then next left (λ after is k lt. rule.next j k is.before after below lt is.made)
+
+-- what is known of what each piece adds is known of what all pieces give
+pub given_by : {D X E : Type 0} (done : ℕ → Bench D X → Result (Bench D X) NoMemory → Type 0) (n : ℕ) (more : ℕ → List X → Type 0)
     (r : Result (Vec X Global) E) → IfOk r (λ items. AreGivenOnce (Gives done) n items.items)
-    → ((k : ℕ) (own : Vec X Global) → done k (Ok own) → more k own.items) → IfOk r (λ items. AreGivenOnce more n items.items)
+    → ((k : ℕ) (before after : Bench D X) → done k before (Ok after) → IsAdded more k before.items.items after.items.items)
+    → IfOk r (λ items. AreGivenOnce more n items.items)
 given_by done n more r all each = IfOk-weaker r _ _
     (λ items given. record {
       order = given.order;
       once = given.once;
-      given = given_weaker (Gives done) more (λ k own here. subst (more k) here.is (each k here.own here.made)) given.order items.items
-          given.given;
+      given = given_weaker (Gives done) more
+          (λ k own here.
+          let (added, is, gave) = each k here.before here.after here.made in
+          subst (more k) (append_cancel_left here.before.items.items added own (sym is ∙ here.is)) gave)
+          given.order items.items given.given;
     }) all

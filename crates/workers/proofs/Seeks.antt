@@ -44,7 +44,7 @@ module _ (passing failing : ℕ → Type 0) (board : Opened) (seats : List Seate
       ⊎_elim (λ (e : first ≡ board.pieces). absurd (omega arith)) (λ (e : (first < board.pieces) × failing first). e.1)
       (subst Q (sym is) (attained Q board.pieces seats (inl refl) (λ k d below. (each k d below).0.low)))
 
-  -- each piece below it passes: it was judged by the seat that drew it, and no seat lowered to, or was told, a number at or below it
+  -- each piece below it passes: it was judged by the seat that drew it, and no seat lowered to, or got, a number at or below it
   pub all_pass : (drawn : ℕ) (stopped : Bool) → stopped ≡ list_any (λ v. v.raised) (views_of seats) → 0 < length seats
       → HoldsEachBelow drawn (all_drawn (views_of seats))
       → All (λ s. 0 < s.view.done → drawn ≡ board.pieces) seats → All (λ s. s.view.stopped ≡ true → stopped ≡ true) seats

@@ -10,7 +10,7 @@ use Rattle.claims.specs.Board.{Answers, is_last}
 abbrev pub IsNewSeat : Opened → Seated → Type 0
 IsNewSeat board seat = IsSeatOf board seat × (seat.view ≡ fresh 1 board.pieces)
 
--- the seat is this board's, and its first claim, its only step, was answered so
+-- the seat is this board's, and its first claim, its only step, gave this
 pub record HasClaimed (board : Opened) (seat : Seated) (claim : Claim) : Type 0 where
   pub own : IsSeatOf board seat
   pub answer : Answers board.pieces (fresh 1 board.pieces) claim seat.view
@@ -20,7 +20,7 @@ pub record HasClaimed (board : Opened) (seat : Seated) (claim : Claim) : Type 0 
 abbrev pub CanWork : Opened → (Seated → Claim → Type 0) → Type 0
 CanWork board can = (seat : Seated) (claim : Claim) → HasClaimed board seat claim → can seat claim
 
--- what work gives of some seat and the answer to its first claim
+-- what work gives of some seat and the result of its first claim
 pub record IsGivenBy {X : Type 0} (gives : Seated → Claim → X → Type 0) (x : X) : Type 0 where
   pub seat : Seated
   pub claim : Claim

@@ -11,7 +11,7 @@ Passing tells piece = tells piece true
 abbrev pub Failing : (ℕ → Bool → Type 0) → ℕ → Type 0
 Failing tells piece = tells piece false
 
--- the piece passes, or it is at or above a number that the seat lowered to, or that it was told
+-- the piece passes, or it is at or above a number that the seat lowered to, or that it got
 abbrev pub Judged : (ℕ → Type 0) → View → ℕ → Type 0
 Judged passing v j = passing j ⊎ ((v.low ≤ j) ⊎ (v.told ≤ j))
 
@@ -26,6 +26,6 @@ pub record Sought (passing failing : ℕ → Type 0) (board : Opened) (seat : Se
   pub low : LowFails failing board.pieces seat.view
   pub raised : seat.view.raised ≡ false
 
--- only low and told changed
+-- only `low` and `told` changed
 abbrev pub LowAndTold : View → View → Type 0
 LowAndTold v w = w ≡ record v { low = w.low; told = w.told }

@@ -1,18 +1,43 @@
 -- What pieces give, and what a worker brings back.
-use Rattle.std.specs.Prelude.{◌≡◌, ℕ, true, false, List, [], ◌∷◌, ◌++◌, Result, Ok}
-use Rattle.std.specs.declared.vec.Vec.{Vec}
-use Rattle.std.specs.declared.alloc.Global.{Global}
+use Rattle.std.specs.Prelude.{◌≡◌, ℕ, ◌<◌, true, false, List, [], ◌∷◌, ◌++◌, Option, None, Some, Result, Ok}
 use Rattle.serial.specs.declared.NoMemory.{NoMemory}
 use Rattle.claims.specs.declared.view.View.{View}
 use Rattle.claims.specs.Views.{is_over, HoldsEachBelow}
 use Rattle.claims.specs.Seated.{Opened, IsSeatOf}
+use Rattle.workers.specs.declared.work.Bench.{Bench}
 use Rattle.workers.specs.declared.work.Worked.{Worked}
 
--- the items of a piece are those of a result that doing it may have
-pub record Gives {X : Type 0} (done : ℕ → Result (Vec X Global) NoMemory → Type 0) (piece : ℕ) (items : List X) : Type 0 where
-  pub own : Vec X Global
-  pub made : done piece (Ok own)
-  pub is : own.items ≡ items
+-- a bench with no desk and no items
+pub record IsNewBench {D X : Type 0} (bench : Bench D X) : Type 0 where
+  pub undesked : bench.desk ≡ None
+  pub empty : bench.items.items ≡ []
+
+-- doing a piece at this bench, if there is one, may leave the other
+pub record IsLeft {D X : Type 0} (done : Bench D X → Result (Bench D X) NoMemory → Type 0) (bench : Option (Bench D X))
+    (after : Bench D X) : Type 0 where
+  pub before : Bench D X
+  pub was : bench ≡ Some before
+  pub made : done before (Ok after)
+
+-- each piece can be done at a new bench, and at one that a piece left. What a piece gives is added there
+pub record CanGiveAll {D X : Type 0} (pieces : ℕ) (can : ℕ → Bench D X → Type 0)
+    (done : ℕ → Bench D X → Result (Bench D X) NoMemory → Type 0) : Type 0 where
+  pub first : (k : ℕ) (bench : Bench D X) → k < pieces → IsNewBench bench → can k bench
+  pub next : (j k : ℕ) (bench after : Bench D X) → j < pieces → k < pieces → done j bench (Ok after) → can k after
+  pub adds : (k : ℕ) (bench after : Bench D X) → k < pieces → done k bench (Ok after)
+      → (own : List X) × (after.items.items ≡ bench.items.items ++ own)
+
+-- the items at a bench, if there is one
+abbrev pub given_at : {D X : Type 0} → Option (Bench D X) → List X
+given_at None = []
+given_at (Some bench) = bench.items.items
+
+-- the items of a piece are those that doing it adds at some bench
+pub record Gives {D X : Type 0} (done : ℕ → Bench D X → Result (Bench D X) NoMemory → Type 0) (piece : ℕ) (items : List X) : Type 0 where
+  pub before : Bench D X
+  pub after : Bench D X
+  pub made : done piece before (Ok after)
+  pub is : after.items.items ≡ before.items.items ++ items
 
 -- the items of the piece were added to a list
 abbrev pub IsAdded : {X : Type 0} → (ℕ → List X → Type 0) → ℕ → List X → List X → Type 0

@@ -1,10 +1,10 @@
 //! What all pieces of a work give.
-ghost use Rattle.std.specs.Prelude.{◌≡◌, ℕ, ◌<◌, ◌≤◌, false, length, map, IfOk, OnOk};
+ghost use Rattle.std.specs.Prelude.{◌≡◌, ◌≤◌, false, length, map, IfOk, IfSome, IsSome};
 ghost use Rattle.std.specs.List.{All, flat_map};
 ghost use Rattle.claims.specs.Views.{most_pieces, most_seats};
 ghost use Rattle.claims.specs.Seated.{IsSeatOf};
 ghost use Rattle.workers.specs.Seating.{IsNewSeat, HasClaimed};
-ghost use Rattle.workers.specs.Working.{Gives, IsAdded, RaisedOnly, HasWorked, AreGivenOnce};
+ghost use Rattle.workers.specs.Working.{IsLeft, CanGiveAll, given_at, Gives, RaisedOnly, HasWorked, AreGivenOnce};
 
 use crate::cascade::at_each_seat;
 use crate::seats::seats_for;
@@ -19,43 +19,66 @@ pub(crate) struct Worked<X> {
     pub(crate) items: Vec<X>,
 }
 
-// Does a piece, and adds what it gives.
-fn give_one<X: Drop, F: Fn(u32) -> Result<Vec<X>, NoMemory>>(
-    give: &F,
-    piece: u32,
-    items: &mut Vec<X>,
-) -> Result<(), NoMemory>
-    requires { F.pre give.now piece }
-    ensures { OnOk result (IsAdded (Gives (F.post give.now)) piece items.old.items items.new.items) }
-{
-    let mut own = give(piece)?;
-    items.append(&mut own)?;
-    Ok(())
+/// What a worker has from piece to piece: its desk, which is what it works with, and the items that
+/// its pieces gave.
+#[derive(Drop)]
+pub struct Bench<D, X> {
+    /// What the worker works with. There is none before its first piece.
+    pub desk: Option<D>,
+    /// What its pieces gave.
+    pub items: Vec<X>,
 }
 
-// Does a piece that the seat drew, and adds what it gives. A worker that finds no memory raises,
-// and so its next claim returns `Stopped`.
-fn do_piece<X: Drop, F: Fn(u32) -> Result<Vec<X>, NoMemory>>(
+// Does a piece at a bench. There is no bench after it where there was none, or no memory.
+fn give_at<D: Drop, X: Drop, F: Fn(u32, Bench<D, X>) -> Result<Bench<D, X>, NoMemory>>(
+    give: &F,
+    piece: u32,
+    bench: Option<Bench<D, X>>,
+) -> Option<Bench<D, X>>
+    requires { IfSome bench (F.pre give.now piece) }
+    ensures { IfSome result (λ after. IsLeft (F.post give.now piece) bench after) }
+{
+    match give(piece, bench?) {
+        Ok(after) => Some(after),
+        Err(_) => None,
+    }
+}
+
+// Does a piece that the seat drew. A worker that finds no memory raises, and so its next claim
+// returns `Stopped`.
+fn do_piece<D: Drop, X: Drop, F: Fn(u32, Bench<D, X>) -> Result<Bench<D, X>, NoMemory>>(
     board: &Board,
     give: &F,
     seat: &mut Seat,
     piece: u32,
-    items: &mut Vec<X>,
-)
+    bench: Option<Bench<D, X>>,
+) -> Option<Bench<D, X>>
     requires own { IsSeatOf board.now seat.old }
-    requires can { F.pre give.now piece }
+    requires can { IfSome bench (F.pre give.now piece) }
     ensures own { IsSeatOf board.now seat.new }
     ensures same { RaisedOnly seat.old.view seat.new.view }
-    ensures given { seat.new.view.raised ≡ false → (seat.old.view.raised ≡ false)
-        × IsAdded (Gives (F.post give.now)) piece items.old.items items.new.items }
+    ensures left { IfSome result (λ after. IsLeft (F.post give.now piece) bench after) }
+    ensures calm { seat.new.view.raised ≡ false → (seat.old.view.raised ≡ false) × IsSome result }
 {
-    if give_one(give, piece, items).is_err() {
+    let after = give_at(give, piece, bench);
+    if after.is_none() {
         board.raise(seat);
+    }
+    after
+}
+
+// The items at a bench, and none where there is no bench.
+fn items_at<D: Drop, X: Drop>(alloc: Global, bench: Option<Bench<D, X>>) -> Vec<X>
+    ensures { result.items ≡ given_at bench }
+{
+    match bench {
+        Some(Bench { desk: _, items }) => items,
+        None => Vec::new(alloc),
     }
 }
 
-// Does pieces from the seat's first claim on, until the seat is over.
-fn work_one<X: Drop, F: Fn(u32) -> Result<Vec<X>, NoMemory>>(
+// Does pieces from the seat's first claim on, until the seat is over. All are done at one bench.
+fn work_one<D: Drop, X: Drop, F: Fn(u32, Bench<D, X>) -> Result<Bench<D, X>, NoMemory>>(
     alloc: Global,
     board: &Board,
     give: &F,
@@ -63,20 +86,29 @@ fn work_one<X: Drop, F: Fn(u32) -> Result<Vec<X>, NoMemory>>(
     first: Claim,
 ) -> Worked<X>
     requires first { HasClaimed board.now seat first }
-    requires can { (k : ℕ) → k < board.now.pieces → F.pre give.now k }
+    requires can { CanGiveAll board.now.pieces (F.pre give.now) (F.post give.now) }
     ensures { HasWorked (Gives (F.post give.now)) board.now result }
 {
-    let mut items = Vec::new(alloc);
+    let mut bench = Some(Bench {
+        desk: None,
+        items: Vec::new(alloc),
+    });
     let mut claim = first;
     'claiming: while let Claim::Piece(piece) = claim {
-        do_piece(board, give, &mut seat, piece, &mut items);
+        bench = do_piece(board, give, &mut seat, piece, bench);
         claim = board.claim(&mut seat);
     }
+    let items = items_at(alloc, bench);
     Worked { seat, items }
 }
 
 // Each seat works, in a thread of its own where one can be made and there are pieces left.
-fn work_all<R: Threads + Sync, X: Send + Drop, F: Fn(u32) -> Result<Vec<X>, NoMemory> + Sync>(
+fn work_all<
+    R: Threads + Sync,
+    D: Send + Drop,
+    X: Send + Drop,
+    F: Fn(u32, Bench<D, X>) -> Result<Bench<D, X>, NoMemory> + Sync,
+>(
     threads: &R,
     alloc: Global,
     board: &Board,
@@ -84,7 +116,7 @@ fn work_all<R: Threads + Sync, X: Send + Drop, F: Fn(u32) -> Result<Vec<X>, NoMe
     seats: Vec<Seat>,
 ) -> Result<Vec<Worked<X>>, AllocError>
     requires seats { All (IsNewSeat board.now) seats.items }
-    requires can { (k : ℕ) → k < board.now.pieces → F.pre give.now k }
+    requires can { CanGiveAll board.now.pieces (F.pre give.now) (F.post give.now) }
     ensures { IfOk result (λ all. (length all.items ≡ length seats.items)
         × All (HasWorked (Gives (F.post give.now)) board.now) all.items) }
 {
@@ -93,7 +125,7 @@ fn work_all<R: Threads + Sync, X: Send + Drop, F: Fn(u32) -> Result<Vec<X>, NoMe
         alloc,
         board,
         &|seat: Seat, first: Claim| -> Worked<X>
-            requires { HasClaimed board.now seat first × ((k : ℕ) → k < board.now.pieces → F.pre give.now k) }
+            requires { HasClaimed board.now seat first × CanGiveAll board.now.pieces (F.pre give.now) (F.post give.now) }
             ensures { HasWorked (Gives (F.post give.entry.now)) board.entry.now result }
         { work_one(alloc, board, give, seat, first) },
         seats,
@@ -119,21 +151,22 @@ fn part<X: Drop>(alloc: Global, all: Vec<Worked<X>>) -> Result<(Vec<Seat>, Vec<X
 }
 
 /// What all pieces give: the items of each piece side by side, the pieces in any order, each once.
-/// `give` does a piece, and returns its items.
+///
+/// `give` does a piece at the worker's bench, and adds the items of the piece to those there. A
+/// worker does all its pieces at one bench, one after the other. It begins without a desk.
 ///
 /// Returns `NoMemory` where there is no memory for the board, its seats or a list, and where `give`
 /// returned it for a piece. The worker that met it raises, and the others stop at their next claim.
 /// Nothing else is returned then.
-pub fn give_all<R: Threads + Sync, X: Send + Drop, F: Fn(u32) -> Result<Vec<X>, NoMemory> + Sync>(
-    threads: &R,
-    alloc: Global,
-    pieces: u32,
-    workers: u32,
-    give: &F,
-) -> Result<Vec<X>, NoMemory>
+pub fn give_all<
+    R: Threads + Sync,
+    D: Send + Drop,
+    X: Send + Drop,
+    F: Fn(u32, Bench<D, X>) -> Result<Bench<D, X>, NoMemory> + Sync,
+>(threads: &R, alloc: Global, pieces: u32, workers: u32, give: &F) -> Result<Vec<X>, NoMemory>
     requires pieces { pieces ≤ most_pieces }
     requires workers { (1 ≤ workers) × (workers ≤ most_seats) }
-    requires can { (k : ℕ) → k < pieces → F.pre give.now k }
+    requires can { CanGiveAll pieces (F.pre give.now) (F.post give.now) }
     ensures { IfOk result (λ items. AreGivenOnce (Gives (F.post give.now)) pieces items.items) }
 {
     let (board, seats) = Board::open(alloc, pieces, seats_for(pieces, workers))?;

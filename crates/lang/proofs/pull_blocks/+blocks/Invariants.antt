@@ -49,7 +49,7 @@ decreases-pull_sub_rest l = 10 * l.levels + 4
 abbrev pub decreases-pull_block : goal.decreases-pull_block
 decreases-pull_block l = 10 * l.levels
 
--- what was read behind the body so far, and the labels are as they were
+-- what was read after the body so far, and the labels are as they were
 abbrev pub invariant-pull_sub_rest-loop-handler : goal.invariant-pull_sub_rest-loop-handler
 invariant-pull_sub_rest-loop-handler l =
     SubTail (5 * l.levels + 1) l.declared.version (block_asked (setting_of l.declared) l.levels)

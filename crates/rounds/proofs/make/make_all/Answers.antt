@@ -10,6 +10,6 @@ pub returns : goal.returns
 returns g c =
     let numbers = c.args.numbers.now in
     let groups = given_by _ _ (λ piece. AreMade c.args.batch.now c.args.objects.now (slice_chunk numbers c.args.crew.now.plan.cut piece))
-    c.give_all.result c.give_all.ensures (λ k own done. search rules) in
+    c.give_all.result c.give_all.ensures (λ k before after done. search rules) in
     IfOk-weaker c.give_all.result _ _ (λ made given. all_groups c.args.batch.now c.args.objects.now numbers c.args.crew.now.plan.cut
     c.div_ceil.result made.items (omega (arith, c.args.crew.now.plan.is_plan)) c.div_ceil.ensures given) groups

@@ -6,7 +6,7 @@ use Rattle.workers.proofs.work.give_all.Goals as goal
 
 pub gather-tally-requires-clause-own : goal.gather-tally-requires-clause-own
 gather-tally-requires-clause-own g c = rw c.in_ok-seats.ensures.seats
-    (all_own (Gives (λ k. g.F.Fn.post c.args.give.now (k, tt))) c.in_ok-board.board c.in_ok-all.all.items c.in_ok-all.ensures.1)
+    (all_own (Gives (λ k b. g.F.Fn.post c.args.give.now (k, (b, tt)))) c.in_ok-board.board c.in_ok-all.all.items c.in_ok-all.ensures.1)
 
 pub returns : goal.returns
 returns g c =
@@ -18,8 +18,8 @@ returns g c =
       some_dealt c.seats_for.result _ c.in_ok-board.seats.items c.in_ok-board.ensures.dealt
           c.seats_for.ensures.some.0,
     ) in
-    subst (λ n. AreGivenOnce (Gives (λ k. g.F.Fn.post c.args.give.now (k, tt))) n c.in_ok-seats.items.items) c.in_ok-board.ensures.size.0
-    (given_once (Gives (λ k. g.F.Fn.post c.args.give.now (k, tt))) c.in_ok-board.board c.in_ok-all.all.items c.in_ok-seats.seats.items
-    c.in_ok-seats.items.items c.gather-tally.result.drawn c.gather-tally.result.stopped c.in_ok-seats.ensures.seats
-    c.in_ok-seats.ensures.items
+    let IsOf = Gives (λ k b. g.F.Fn.post c.args.give.now (k, (b, tt))) in
+    subst (λ n. AreGivenOnce IsOf n c.in_ok-seats.items.items) c.in_ok-board.ensures.size.0
+    (given_once IsOf c.in_ok-board.board c.in_ok-all.all.items c.in_ok-seats.seats.items c.in_ok-seats.items.items
+    c.gather-tally.result.drawn c.gather-tally.result.stopped c.in_ok-seats.ensures.seats c.in_ok-seats.ensures.items
     c.in_ok-all.ensures.1 some c.if-tally.false told.raised told.once told.done told.stopped)

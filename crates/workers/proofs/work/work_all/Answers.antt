@@ -5,5 +5,5 @@ use Rattle.workers.proofs.work.work_all.Goals as goal
 
 pub returns : goal.returns
 returns g c =
-    each_given _ (HasWorked (Gives (λ k. g.F.Fn.post c.args.give.now (k, tt))) c.args.board.now) (length c.args.seats.items)
+    each_given _ (HasWorked (Gives (λ k b. g.F.Fn.post c.args.give.now (k, (b, tt)))) c.args.board.now) (length c.args.seats.items)
     c.at_each_seat.result c.at_each_seat.ensures.count c.at_each_seat.ensures.each (λ s k x e. search rules)

@@ -1,7 +1,10 @@
+use Rattle.std.proofs.Common.{refl, subst}
+use Rattle.std.proofs.lemmas.Option.{IfSome_then}
 use Rattle.claims.specs.Views.{fresh}
+use Rattle.claims.specs.Board.{Answers}
 use Rattle.workers.specs.Working.{Gives}
 use Rattle.workers.proofs.Given.{drew}
-use Rattle.workers.proofs.Gives.{given_next}
+use Rattle.workers.proofs.Gives.{given_next, added_at, ready_next}
 use Rattle.workers.proofs.work.work_one.Goals as goal
 
 pub claiming-init : goal.claiming-init
@@ -10,19 +13,35 @@ claiming-init g c = record {
   over = c.requires.first.over;
   before = fresh 1 c.args.board.now.pieces;
   answer = c.requires.first.answer;
-  given = λ calm. c.new-items.ensures.items;
+  ready = λ k lt. c.requires.can.first k _ lt (record { undesked = refl; empty = c.new.ensures.items });
+  given = λ calm. c.new.ensures.items;
 }
+
+pub do_piece-bench-requires-clause-can : goal.do_piece-bench-requires-clause-can
+do_piece-bench-requires-clause-can g c =
+    let was = c.claiming.invariant in
+    let answered = subst (λ a. Answers c.args.board.now.pieces was.before a c.claiming.seat.view) c.in-Piece.is was.answer in
+    IfSome_then c.claiming.bench was.ready (λ b ready. ready c.in-Piece.piece answered.0)
 
 pub claiming-preserved : goal.claiming-preserved
 claiming-preserved g c =
     let was = c.claiming.invariant in
+    let rule = c.requires.can in
+    let answered = subst (λ a. Answers c.args.board.now.pieces was.before a c.claiming.seat.view) c.in-Piece.is was.answer in
     let piece = drew c.args.board.now.pieces was.before c.claiming.seat.view c.claiming.claim c.in-Piece.piece c.in-Piece.is was.answer in
+    let done = c.do_piece-bench.ensures in
     record {
       own = c.claim-claim.ensures.board;
       over = c.claim-claim.ensures.over;
-      before = c.do_piece.new.seat.view;
+      before = c.do_piece-bench.new.seat.view;
       answer = c.claim-claim.ensures.answer;
-      given = given_next (Gives (λ k. g.F.Fn.post c.args.give.now (k, tt))) was.before c.claiming.seat.view c.do_piece.new.seat.view
-          c.in-Piece.piece c.claiming.items.items c.do_piece.new.items.items piece was.given
-          c.do_piece.ensures.same c.do_piece.ensures.given;
+      ready = ready_next c.args.board.now.pieces _ _ rule c.in-Piece.piece answered.0 c.claiming.bench c.do_piece-bench.result done.left;
+      given = given_next (Gives (λ k b. g.F.Fn.post c.args.give.now (k, (b, tt)))) was.before c.claiming.seat.view
+          c.do_piece-bench.new.seat.view c.in-Piece.piece _ _ piece was.given done.same
+          (λ calm.
+          let (quiet, some) = done.calm calm in (
+            quiet,
+            added_at c.args.board.now.pieces _ _ rule c.in-Piece.piece answered.0 c.claiming.bench
+                c.do_piece-bench.result done.left some,
+          ));
     }

@@ -1,5 +1,5 @@
 //! Tests of views.
-use super::*;
+use intentions::{Call, Entry, Lists, NoMemory, Objects, Reply, Value, View, perform_each};
 use objects::{
     AccountCall, AccountReply, Amount, CounterCall, CounterReply, Directory, DirectoryCall,
     DirectoryReply, Item, ItemSet, MaxCall, MaxReply, Queue, QueueCall, QueueReply, SetCall,

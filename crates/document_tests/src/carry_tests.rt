@@ -1,7 +1,7 @@
 //! Tests of the documents that carry objects over.
 ghost use Rattle.std.specs.Prelude.{◌<◌, ◌^◌, IfOk, length};
 
-use crate::{Names, Objects, Unfit, carried, first_unfit};
+use carry::{Names, Objects, Unfit, carried, first_unfit};
 use objects::{Directory, Item, ItemSet, Queue, Value};
 use std::alloc::Global;
 use std::test::Fail;

@@ -1,5 +1,7 @@
 //! Tests of the committed list.
-use super::*;
+use committed::{
+    Call, Committed, Entry, Mark, NoMemory, NumberSet, Reply, Watch, mark_all, summary_of,
+};
 use objects::{
     AccountCall, AccountReply, Amount, DirectoryCall, DirectoryReply, Item, MaxCall, MaxReply,
     QueueCall, QueueReply, SetCall, SetReply,

@@ -1,5 +1,5 @@
 //! Tests of drafts.
-use super::*;
+use drafts::{Draft, Shown};
 use objects::{
     Amount, Call, CounterCall, CounterReply, Directory, DirectoryCall, DirectoryReply, Item,
     ItemSet, NoMemory, Queue, QueueCall, QueueReply, Reply, SetCall, SetReply, Value,
