@@ -7,4 +7,6 @@ returns c = record {
   workers = c.held_plan-plan.ensures.workers;
   cut = c.held_plan-plan.ensures.cut;
   audit = c.is_held-audit.ensures;
+  why = c.is_held-why.ensures;
+  progress = c.is_held-progress.ensures;
 }
