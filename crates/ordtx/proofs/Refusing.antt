@@ -1,10 +1,9 @@
 -- Why a command line is refused.
-use Rattle.std.proofs.Common.{◌≡◌, ◌∙◌, ◌||◌, ◌⊎◌, ⊎_elim, inl, inr, ℕ, Bool, true, false, not, refl, sym, ap, subst, List, [], ◌∷◌}
-use Rattle.std.proofs.Common.{Result, Ok, Err, IfErr, MatchResult, true≢false, codes}
+use Rattle.std.proofs.Common.{◌≡◌, ◌∙◌, ◌||◌, ◌⊎◌, ⊎_elim, inl, inr, Bool, true, false, not, refl, sym, ap, subst, List, [], ◌∷◌}
+use Rattle.std.proofs.Common.{codes}
 use Rattle.std.specs.List.{list_any}
-use Rattle.clap.specs.Words.{App, FailsBy, HasKind, IsAmong, Kinds, Text, fault_of, is_simple, kind_of, takes}
+use Rattle.clap.specs.Words.{App, IsAmong, Kinds, Text, fault_of, takes}
 use Rattle.clap.specs.Faults.{is_simple_and_free}
-use Rattle.clap.specs.declared.error.Error.{Error}
 use Rattle.clap.specs.declared.error.kind.ErrorKind.{ErrorKind}
 use Rattle.clap.specs.declared.error.kind.ErrorKind.TheVariants as kind
 use Rattle.clap.proofs.OnLiterals.{clap_on_literals}

@@ -1,5 +1,6 @@
 -- What is written for a document, and its fault.
-use Rattle.std.specs.Prelude.{◌≡◌, ℕ, Bool, true, false, ◌<◌, ◌≤◌, ◌⊎◌, ◌++◌, List, [], codes, length, slice_index_or, string_bytes, Ok, Err, Some, None}
+use Rattle.std.specs.Prelude.{◌≡◌, ℕ, Bool, true, false, ◌<◌, ◌≤◌, ◌⊎◌, ◌++◌, List, [], codes, length, slice_index_or, string_bytes, Ok}
+use Rattle.std.specs.Prelude.{Err, Some, None}
 use Rattle.std.specs.Fmt.{decimal}
 use Rattle.objects.specs.Entries.{State}
 use Rattle.meaning.specs.Batch.{final_state}

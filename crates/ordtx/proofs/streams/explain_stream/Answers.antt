@@ -7,7 +7,8 @@ use Rattle.ordtx.proofs.streams.explain_stream.Goals as goal
 pub returns-clause-written : goal.returns-clause-written
 returns-clause-written g c =
     let is : IsExplainedOf c.args.audit c.in_ok-document.document.items c.as_bytes.result.now = search rules in
-    IfOk-weaker c.write_text.result _ _ (λ _ written. writes_answer (IsExplainedOf c.args.audit) _ _ _ _ _ _ c.in_ok-document.ensures.bytes is written)
+    IfOk-weaker c.write_text.result _ _ (λ _ written. writes_answer (IsExplainedOf c.args.audit) _ _ _ _ _ _ c.in_ok-document.ensures.bytes
+    is written)
     c.write_text.ensures.whole
 
 pub returns-clause-beginning : goal.returns-clause-beginning
