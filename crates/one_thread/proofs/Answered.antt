@@ -2,10 +2,12 @@
 use Rattle.std.proofs.Common.{◌≡◌, ℕ, zero, suc, ◌+◌, ◌<◌, ◌≤◌, List, [], ◌∷◌, ◌++◌, map, length, get_or, refl, sym, ap, subst, ◌∙◌, arith}
 use Rattle.std.proofs.Common.{add-one}
 use Rattle.std.proofs.lemmas.List.{length-map, map-append}
-use Rattle.objects.specs.Entries.{State}
+use Rattle.objects.specs.Objects.{kind_of_value}
+use Rattle.objects.specs.Entries.{State, kinds}
 use Rattle.meaning.specs.Trees as meant
 use Rattle.meaning.specs.OneThread.{one}
 use Rattle.meaning.specs.Batch.{block_at, state_at, answer, settled, shown_of, shown_from, all_shown, final_state}
+use Rattle.meaning.proofs.Keeping.{batch_keeps}
 use Rattle.batch.specs.Parts.{start_of, blocks_of}
 use Rattle.batch.specs.Views.{block_view, record_view}
 use Rattle.batch.specs.Running.{CanRunHere}
@@ -92,3 +94,12 @@ part_answered-all batch items same i records now h within over =
       h.shown ∙ ap (shown_from (start_of batch) (blocks_of batch) 0) count,
       ap (λ (j : Journaled). j.state) h.settled ∙ ap (state_at (start_of batch) (blocks_of batch)) count,
     )
+
+-- there are as many objects at the end as at the start, and so few
+pub few_at_end : (batch : Batch) (objects : State) → objects ≡ final_state (start_of batch) (blocks_of batch) → length objects ≤ 1000
+few_at_end batch objects is =
+    let same : kinds objects ≡ kinds (start_of batch) = ap kinds is
+    ∙ (batch_keeps (start_of batch) (blocks_of batch) (length (blocks_of batch)) (omega arith)).same_kinds in
+    let count : length objects ≡ length (start_of batch) = sym (length-map objects kind_of_value) ∙ ap length same
+    ∙ length-map (start_of batch) kind_of_value in
+    omega (arith, count, batch.is_batch.few_objects)

@@ -1,5 +1,5 @@
 //! Running the transactions of a batch one after the other.
-ghost use Rattle.std.specs.Prelude.{◌≡◌, [], map, IfOk, OnOk};
+ghost use Rattle.std.specs.Prelude.{◌≡◌, ◌≤◌, [], map, length, IfOk, OnOk};
 ghost use Rattle.meaning.specs.OneThread.{one};
 ghost use Rattle.meaning.specs.Batch.{settled, shown_of, all_shown, final_state};
 ghost use Rattle.batch.specs.Parts.{start_of, blocks_of};
@@ -20,6 +20,8 @@ pub fn plain(alloc: Global, batch: &Batch) -> Result<Plain, NoMemory>
     ensures records { IfOk result (λ p. map record_view p.records.items ≡ all_shown (start_of batch.now) (blocks_of batch.now)) }
     // So are the objects at the end.
     ensures objects { IfOk result (λ p. p.objects ≡ final_state (start_of batch.now) (blocks_of batch.now)) }
+    // They are no more than a document may have.
+    ensures few_objects { IfOk result (λ p. length p.objects ≤ 1000) }
 {
     let mut workspace = Workspace::new(alloc, batch.objects.copy()?);
     let mut records = Vec::with_capacity(alloc, batch.transactions.len())?;

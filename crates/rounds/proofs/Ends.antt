@@ -1,8 +1,8 @@
 -- What stands once every transaction is committed.
 use Rattle.std.proofs.Common.{◌≡◌, ℕ, zero, suc, ◌+◌, ◌<◌, ◌≤◌, List, [], ◌∷◌, map, length, get_or, refl, sym, ap, ◌∙◌, subst, arith}
 use Rattle.std.proofs.lemmas.List.{get_or-map, length-map}
-use Rattle.objects.specs.Entries.{State}
-use Rattle.objects.specs.Entries.{after}
+use Rattle.objects.specs.Objects.{kind_of_value}
+use Rattle.objects.specs.Entries.{State, kinds, after}
 use Rattle.meaning.specs.Trees.{Block}
 use Rattle.batch.specs.Views.{record_view}
 use Rattle.meaning.specs.Batch.{state_at, answer, nets, shown_of, shown_from, all_shown}
@@ -13,6 +13,7 @@ use Rattle.rounds.specs.declared.pending_run.PendingRun.{PendingRun}
 use Rattle.batch.specs.declared.record.Record.{Record}
 use Rattle.batch.specs.declared.batch.Batch.{Batch}
 use Rattle.rounds.specs.Openings.{AreCounts}
+use Rattle.rounds.proofs.Room.{kinds_at}
 use Rattle.rounds.proofs.Conflicts.{some_run}
 use Rattle.rounds.proofs.Reached.{AtOpening, IsRecordOf, AreAnswers}
 
@@ -41,6 +42,14 @@ module _ (batch : Batch) (b rounds : ℕ) (state : State) (runs : List PendingRu
 
   pub last_state : AtTheEnd → state ≡ state_at (start_of batch) (blocks_of batch) (length (blocks_of batch))
   last_state done = done.0.reached ∙ ap (state_at (start_of batch) (blocks_of batch)) (same_end done)
+
+  -- there are as many objects as at the start, and so few
+  pub few_objects : AtTheEnd → length state ≤ 1000
+  few_objects done =
+      let same : kinds state ≡ kinds (start_of batch) = ap kinds done.0.reached ∙ kinds_at batch b done.0.within in
+      let count : length state ≡ length (start_of batch) = sym (length-map state kind_of_value) ∙ ap length same
+      ∙ length-map (start_of batch) kind_of_value in
+      omega (arith, count, batch.is_batch.few_objects)
 
   pub all_nets : AtTheEnd → state ≡ after (start_of batch) (nets (start_of batch) (blocks_of batch) 0 (length (blocks_of batch)))
   unfolding state_at

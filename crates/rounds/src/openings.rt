@@ -99,6 +99,8 @@ pub fn execute<R: Threads + Sync, G: Gate>(
     ensures records { IfOk result (λ o. map record_view o.records.items ≡ all_shown (start_of batch.now) (blocks_of batch.now)) }
     // So are the objects at the end.
     ensures objects { IfOk result (λ o. o.objects ≡ final_state (start_of batch.now) (blocks_of batch.now)) }
+    // They are no more than a document may have.
+    ensures few_objects { IfOk result (λ o. length o.objects ≤ 1000) }
     // They are what the transactions leave, without anything that was aborted.
     ensures net { IfOk result (λ o. o.objects ≡ after (start_of batch.now) (nets (start_of batch.now) (blocks_of batch.now) 0 (length (blocks_of batch.now)))) }
     // The number of rounds is the defined one, and at most the number of transactions.

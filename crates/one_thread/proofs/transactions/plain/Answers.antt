@@ -1,6 +1,6 @@
 use Rattle.std.proofs.Common.{◌∙◌, refl}
 use Rattle.one_thread.proofs.Answered.{part_answered-start, part_answered-can_run, part_answered-none_left, part_answered-more}
-use Rattle.one_thread.proofs.Answered.{part_answered-all}
+use Rattle.one_thread.proofs.Answered.{part_answered-all, few_at_end}
 use Rattle.one_thread.proofs.transactions.plain.Goals as goal
 
 pub loop-block-init : goal.loop-block-init
@@ -30,3 +30,8 @@ pub returns-clause-objects : goal.returns-clause-objects
 returns-clause-objects c = c.into_objects.ensures
     ∙ (part_answered-all c.args.batch.now _ c.deref-block-items.ensures.value _ _ _ c.loop-block.invariant
     c.loop-block.auto.block-index-end c.loop-block-test.false).1
+
+pub returns-clause-few_objects : goal.returns-clause-few_objects
+returns-clause-few_objects c = few_at_end c.args.batch.now c.into_objects.result (c.into_objects.ensures
+    ∙ (part_answered-all c.args.batch.now _ c.deref-block-items.ensures.value _ _ _ c.loop-block.invariant
+    c.loop-block.auto.block-index-end c.loop-block-test.false).1)

@@ -8,7 +8,7 @@ use Rattle.rounds.specs.Pending.{Tells}
 use Rattle.rounds.proofs.Steps.{starts, one_round, round_commits, listed_nets, stale_can_be_made, same_kinds}
 use Rattle.rounds.proofs.Times.{times_read}
 use Rattle.rounds.proofs.Touched.{has_of_times, tells_renewed}
-use Rattle.rounds.proofs.Ends.{answers, all_are_shown, all_rounds, all_nets, all_counts}
+use Rattle.rounds.proofs.Ends.{answers, all_are_shown, all_rounds, all_nets, few_objects, all_counts}
 use Rattle.rounds.proofs.openings.execute.Goals as goal
 
 pub opening-init : goal.opening-init
@@ -75,6 +75,15 @@ returns-clause-records g c =
     all_are_shown c.args.batch.now c.in_ok-records.records.items (answers c.args.batch.now c.opening.opened c.opening.rounds
     (c.opening.objects) c.opening.runs.items c.opening.counts.items c.opening.stale.items (c.opening.invariant.at, omega arith)
     c.in_ok-records.records.items c.in_ok-records.ensures)
+
+pub returns-clause-few_objects : goal.returns-clause-few_objects
+returns-clause-few_objects g c =
+    let blocks : length (blocks_of c.args.batch.now) ≡ length c.args.batch.now.transactions.items =
+    length-map c.args.batch.now.transactions.items block_view in
+    let over = c.opening-test.false in
+    let count = c.len-count.ensures in
+    few_objects c.args.batch.now c.opening.opened c.opening.rounds c.opening.objects c.opening.runs.items c.opening.counts.items
+    c.opening.stale.items (c.opening.invariant.at, omega arith)
 
 pub returns-clause-net : goal.returns-clause-net
 returns-clause-net g c =
