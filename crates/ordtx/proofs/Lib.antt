@@ -3,6 +3,5 @@ mod Matches
 mod Walked
 mod Matched
 mod Refusing
-mod Answering
 mod Placing
 mod OneAnswer

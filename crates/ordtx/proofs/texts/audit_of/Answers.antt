@@ -2,7 +2,6 @@ use Rattle.std.proofs.Common.{◌≢◌, ◌≤◌, refl, arith}
 use Rattle.lang.specs.Faults.{memory_fault, number_of}
 use Rattle.lang.proofs.Checks.{passed_on}
 use Rattle.ordtx.specs.Answers.{IsFaultOf}
-use Rattle.ordtx.proofs.Answering.{few_objects}
 use Rattle.ordtx.proofs.texts.audit_of.Goals as goal
 
 pub returns-in_err-text-clause-fault : goal.returns-in_err-text-clause-fault
@@ -14,6 +13,3 @@ pub returns-in_err-text-clause-code : goal.returns-in_err-text-clause-code
 returns-in_err-text-clause-code g c =
     passed_on c.from_residual-in_err-text.result (λ fault. number_of fault.code ≤ 20) memory_fault c.from_residual-in_err-text.ensures.1
     (omega arith)
-
-pub render_audit-requires : goal.render_audit-requires
-render_audit-requires g c = few_objects c.in_ok-batch.batch c.in_ok-outcome.outcome.objects c.in_ok-outcome.ensures.objects

@@ -7,7 +7,6 @@ use Rattle.batch.specs.Names.{names_of}
 use Rattle.lang.specs.Reading.{document_of}
 use Rattle.rounds.specs.Views.{blocks_of}
 use Rattle.ordtx.specs.Answers.{IsAuditOf, IsReportOf, IsShownOf}
-use Rattle.ordtx.proofs.Answering.{few_objects}
 use Rattle.ordtx.proofs.texts.shown_of.Goals as goal
 
 audit_shown : (audit : Bool) (bytes written : List ℕ) → audit ≡ true → IsAuditOf bytes written → IsShownOf audit bytes written
@@ -17,12 +16,6 @@ audit_shown false bytes written asked is = absurd (true≢false (sym asked))
 report_shown : (audit : Bool) (bytes written : List ℕ) → audit ≡ false → IsReportOf bytes written → IsShownOf audit bytes written
 report_shown false bytes written asked is = is
 report_shown true bytes written asked is = absurd (true≢false asked)
-
-pub render_audit-requires : goal.render_audit-requires
-render_audit-requires g c = few_objects c.args.batch.now c.in_ok-outcome.outcome.objects c.in_ok-outcome.ensures.objects
-
-pub render-requires : goal.render-requires
-render-requires g c = few_objects c.args.batch.now c.in_ok-outcome.outcome.objects c.in_ok-outcome.ensures.objects
 
 pub returns-then-audit : goal.returns-then-audit
 returns-then-audit g c =
