@@ -19,6 +19,3 @@ pub use check::first_conflict;
 pub use openings::execute;
 pub use plan::Plan;
 pub use speculate::{Entry, Gate, NoGate, NoMemory, Objects, Progress, Run};
-
-#[cfg(test)]
-mod tests;
