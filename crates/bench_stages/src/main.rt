@@ -19,8 +19,6 @@ use std::thread::Threads;
 use std::time::{Clock, Instant};
 use std::{env, fs};
 
-const MOST_OBJECTS: usize = 1_000;
-
 // The milliseconds since then, or 0 where the clock can't be read.
 fn since<R: Clock>(rt: &R, start: Instant) -> u64 {
     match start.elapsed(rt) {
@@ -47,9 +45,6 @@ fn time_stages(rt: &HostRuntime, alloc: Global, bytes: &[u8]) -> Option<()> {
     let start = Instant::now(rt).ok()?;
     let answer = plain(alloc, &batch).ok()?;
     let run = since(rt, start);
-    if answer.objects.len() > MOST_OBJECTS {
-        return None;
-    }
     let start = Instant::now(rt).ok()?;
     let text = render_plain(alloc, &batch, &answer).ok()?;
     let written = since(rt, start);

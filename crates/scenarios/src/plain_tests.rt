@@ -12,9 +12,6 @@ fn answer(rt: &HostRuntime, objects: &str, transactions: &str) -> Result<String,
     )?;
     let batch = read(alloc, document.as_bytes())?;
     let plain = plain(alloc, &batch)?;
-    if plain.objects.len() > 1000 {
-        return Err("a batch has no more objects")?;
-    }
     Ok(render_plain(alloc, &batch, &plain)?)
 }
 
