@@ -7,7 +7,6 @@ mod input;
 pub mod laws;
 mod location;
 mod marked;
-mod memory;
 mod output;
 mod sink;
 mod source;
@@ -18,7 +17,6 @@ pub use asked::{Command, Line, Refused};
 pub use command_line::line;
 pub use lang::{Code, Fault};
 pub use marked::Marked;
-pub use memory::{TestSink, TestSource};
 pub use rounds::Plan;
 pub use sink::Sink;
 pub use source::{Failed, Source};
@@ -27,6 +25,3 @@ pub use streams::{
     audit_stream, carry_stream, check_stream, explain_stream, locate_stream, run_stream,
     serial_stream,
 };
-
-#[cfg(test)]
-mod tests;

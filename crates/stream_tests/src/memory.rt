@@ -2,8 +2,7 @@
 //! bytes.
 ghost use Rattle.std.specs.Prelude.{◌≡◌, ◌<◌, false, Some};
 
-use crate::sink::Sink;
-use crate::source::{Failed, Source};
+use ordtx::{Failed, Sink, Source};
 
 /// A source of these bytes that moves at most `most` bytes a call. A fetch fails once `sound` bytes
 /// were given.

@@ -1,0 +1,10 @@
+//! Tests of whole calls from a source to a sink, and of the command line. They call what `ordtx` promises.
+//! A crate that has tests is proved twice, so they are in a crate of their own.
+#![tactic(auto)]
+
+#[cfg(test)]
+mod lines_tests;
+#[cfg(test)]
+mod memory;
+#[cfg(test)]
+mod streams_tests;
