@@ -5,10 +5,11 @@ use Rattle.std.proofs.lemmas.Bool.{lt-ltb, le-ltb}
 use Rattle.std.proofs.lemmas.Option.{slice_get_within, get_or_from_slice_get}
 use Rattle.std.proofs.Math.ListN.{drop_of_length-le}
 use Rattle.objects.specs.declared.value.Value.{Value}
+use Rattle.meaning.specs.WellFormed.{size_of}
 use Rattle.meaning.specs.Words.{Names}
 use Rattle.batch.specs.Limits.{entries_in}
 use Rattle.batch.proofs.CountLemmas.{left}
-use Rattle.carry.specs.Carried.{first_unfit, magnitude, object_text, object_texts}
+use Rattle.carry.specs.Carried.{first_unfit, object_text, object_texts}
 use Rattle.carry.specs.declared.document.Unfit.{Unfit}
 use Rattle.carry.specs.declared.document.Unfit.TheVariants.{Start, TooMany}
 
@@ -26,22 +27,22 @@ module _ (values : List Value) (i : ℕ) (value : Value) (there : slice_get valu
     abbrev rest : Option Unfit
     rest = first_unfit (entries + entries_in value) (drop (i + 1) values)
 
-    pub too_large : 1_000_000_000_000_000 < magnitude value → first_unfit entries (drop i values) ≡ Some Start
+    pub too_large : 1_000_000_000_000_000 < size_of value → first_unfit entries (drop i values) ≡ Some Start
     too_large large =
         ap (first_unfit entries) next_value
         ∙ ap (λ b. if b then Some Start else if nat_lt 100_000 (entries + entries_in value) then Some TooMany else rest) (lt-ltb _ _ large)
 
-    small_enough : magnitude value ≤ 1_000_000_000_000_000
+    small_enough : size_of value ≤ 1_000_000_000_000_000
         → first_unfit entries (drop i values) ≡ (if nat_lt 100_000 (entries + entries_in value) then Some TooMany else rest)
     small_enough small =
         ap (first_unfit entries) next_value
         ∙ ap (λ b. if b then Some Start else if nat_lt 100_000 (entries + entries_in value) then Some TooMany else rest) (le-ltb _ _ small)
 
-    pub too_many : magnitude value ≤ 1_000_000_000_000_000 → 100_000 < entries + entries_in value
+    pub too_many : size_of value ≤ 1_000_000_000_000_000 → 100_000 < entries + entries_in value
         → first_unfit entries (drop i values) ≡ Some TooMany
     too_many small many = small_enough small ∙ ap (λ b. if b then Some TooMany else rest) (lt-ltb _ _ many)
 
-    pub fits_too : magnitude value ≤ 1_000_000_000_000_000 → entries + entries_in value ≤ 100_000
+    pub fits_too : size_of value ≤ 1_000_000_000_000_000 → entries + entries_in value ≤ 100_000
         → first_unfit entries (drop i values) ≡ first_unfit (entries + entries_in value) (drop (i + 1) values)
     fits_too small few = small_enough small ∙ ap (λ b. if b then Some TooMany else rest) (le-ltb _ _ few)
 

@@ -1,5 +1,5 @@
 -- The document of objects as they are, for the next batch to start with.
-use Rattle.std.specs.Prelude.{ℕ, ◌+◌, nat_abs, List, [], ◌∷◌, ◌++◌, map, codes, Option, Some, None, nat_lt, if◌then◌else◌}
+use Rattle.std.specs.Prelude.{ℕ, ◌+◌, List, [], ◌∷◌, ◌++◌, map, codes, Option, Some, None, nat_lt, if◌then◌else◌}
 use Rattle.std.specs.Fmt.{decimal, signed_decimal}
 use Rattle.std.specs.FinMap as finite_map
 use Rattle.atoms.specs.declared.item.Item.{Item}
@@ -7,23 +7,17 @@ use Rattle.objects.specs.Entries.{State}
 use Rattle.objects.specs.Objects.{kind_of_value}
 use Rattle.objects.specs.declared.value.Value.{Value}
 use Rattle.objects.specs.declared.value.Value.TheVariants as value
+use Rattle.meaning.specs.WellFormed.{size_of}
 use Rattle.meaning.specs.Words.{Names, kind_text, members}
 use Rattle.batch.specs.Limits.{entries_in}
 use Rattle.carry.specs.declared.document.Unfit.{Unfit}
 use Rattle.carry.specs.declared.document.Unfit.TheVariants.{Start, TooMany}
 
--- how large the number of a value is
-abbrev pub magnitude : Value → ℕ
-magnitude (value.Account n) = n
-magnitude (value.Counter n) = nat_abs n
-magnitude (value.Max n) = n
-magnitude v = 0
-
 -- Why objects can't all start as they are, by the first that can't, where so many entries start before them.
 abbrev pub first_unfit : ℕ → State → Option Unfit
 first_unfit entries [] = None
 first_unfit entries (v ∷ values) =
-    if nat_lt 1_000_000_000_000_000 (magnitude v) then Some Start
+    if nat_lt 1_000_000_000_000_000 (size_of v) then Some Start
     else if nat_lt 100_000 (entries + entries_in v) then Some TooMany
     else first_unfit (entries + entries_in v) values
 

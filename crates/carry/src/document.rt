@@ -1,13 +1,15 @@
 //! The document of objects as they are.
 ghost use Rattle.std.specs.Prelude.{◌≡◌, ◌<◌, ◌^◌, ◌++◌, IfOk, OnOk, codes, length, map, string_bytes};
 ghost use Rattle.std.specs.FinMap as finite_map;
-ghost use Rattle.meaning.specs.Words.{kind_text, members};
+ghost use Rattle.meaning.specs.WellFormed.{size_of};
+ghost use Rattle.meaning.specs.Words.{members};
 ghost use Rattle.batch.specs.Limits.{entries_in};
 ghost use Rattle.batch.specs.Names.{names_of};
-ghost use Rattle.carry.specs.Carried.{carried_text, first_unfit, item_text, joined, magnitude, object_text, object_texts, pair_text, start_text};
+ghost use Rattle.carry.specs.Carried.{carried_text, first_unfit, item_text, joined, object_text, object_texts, pair_text, start_text};
 
 use batch::Names;
-use objects::{Directory, Item, ItemSet, Kind, NoMemory, Objects, Queue, Value};
+use objects::{Directory, ItemSet, NoMemory, Objects, Queue, Value};
+use report::{item_name, kind_word, object_name};
 use std::alloc::Global;
 
 /// Why objects can't all be the starts of a document.
@@ -49,7 +51,7 @@ pub fn first_unfit(objects: &Objects) -> Option<Unfit>
 
 // How large the number of a value is.
 fn magnitude(value: &Value) -> u64
-    ensures { result ≡ magnitude value.now }
+    ensures { result ≡ size_of value.now }
 {
     match value {
         Value::Account(number) | Value::Max(number) => *number,
@@ -115,19 +117,6 @@ fn write_object(out: &mut String, names: &Names, object: u32, value: &Value) -> 
     Ok(())
 }
 
-fn kind_word(kind: Kind) -> &'static str
-    ensures { result.now ≡ kind_text kind }
-{
-    match kind {
-        Kind::Account => "account",
-        Kind::Counter => "counter",
-        Kind::Set => "set",
-        Kind::Queue => "queue",
-        Kind::Directory => "directory",
-        Kind::Max => "max",
-    }
-}
-
 fn write_start(out: &mut String, names: &Names, value: &Value) -> Result<(), NoMemory>
     ensures { OnOk result (string_bytes out.new ≡ string_bytes out.old ++ start_text (names_of names.now) value.now) }
 {
@@ -188,25 +177,4 @@ fn write_pairs(out: &mut String, names: &Names, directory: &Directory) -> Result
         between = ", ";
     }
     Ok(())
-}
-
-// The name of an object; the empty text where it has none.
-#[tactic(auto, using(report::proofs::NameLemmas::no_name))]
-fn object_name(names: &Names, object: u32) -> &str
-    ensures { result.now ≡ (names_of names.now).object object }
-{
-    match names.object(object) {
-        Some(name) => name,
-        None => "",
-    }
-}
-
-#[tactic(auto, using(report::proofs::NameLemmas::no_name))]
-fn item_name(names: &Names, item: Item) -> &str
-    ensures { result.now ≡ (names_of names.now).item item }
-{
-    match names.item(item) {
-        Some(name) => name,
-        None => "",
-    }
 }

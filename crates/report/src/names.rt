@@ -16,8 +16,9 @@ pub fn object_name(names: &Names, object: u32) -> &str
     }
 }
 
+/// The name of an item.
 #[tactic(auto, using(crate::proofs::NameLemmas::no_name))]
-pub(crate) fn item_name(names: &Names, item: Item) -> &str
+pub fn item_name(names: &Names, item: Item) -> &str
     ensures { result.now ≡ (names_of names.now).item item }
 {
     match names.item(item) {

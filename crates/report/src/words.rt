@@ -12,7 +12,8 @@ use objects::{
     SetReply,
 };
 
-pub(crate) fn kind_word(kind: Kind) -> &'static str
+/// The word of a kind.
+pub fn kind_word(kind: Kind) -> &'static str
     ensures { result.now ≡ kind_text kind }
 {
     match kind {

@@ -1,14 +1,14 @@
 use Rattle.std.proofs.Common.{◌≡◌, ◌+◌, ◌<◌, ◌≤◌, sym, ap, ◌∙◌, arith}
 use Rattle.std.specs.Option.{option_copied}
+use Rattle.meaning.specs.WellFormed.{size_of}
 use Rattle.batch.specs.Limits.{entries_in}
-use Rattle.carry.specs.Carried.{magnitude}
 use Rattle.carry.proofs.Walking.{too_large, too_many, fits_too}
 use Rattle.carry.proofs.document.first_unfit.Goals as goal
 
 pub returns-then-magnitude-gt-MOST_NUMBER : goal.returns-then-magnitude-gt-MOST_NUMBER
 returns-then-magnitude-gt-MOST_NUMBER c =
     let there = sym c.value.ensures ∙ ap option_copied c.in-Some.is in
-    let large : 1_000_000_000_000_000 < magnitude c.in-Some.value.now = omega (
+    let large : 1_000_000_000_000_000 < size_of c.in-Some.value.now = omega (
       arith,
       c.magnitude.ensures,
       c.if-magnitude-gt-MOST_NUMBER.true,
@@ -18,7 +18,7 @@ returns-then-magnitude-gt-MOST_NUMBER c =
 pub returns-then-more-entries : goal.returns-then-more-entries
 returns-then-more-entries c =
     let there = sym c.value.ensures ∙ ap option_copied c.in-Some.is in
-    let small : magnitude c.in-Some.value.now ≤ 1_000_000_000_000_000 = omega (
+    let small : size_of c.in-Some.value.now ≤ 1_000_000_000_000_000 = omega (
       arith,
       c.magnitude.ensures,
       c.if-magnitude-gt-MOST_NUMBER.false,
@@ -31,7 +31,7 @@ returns-then-more-entries c =
 pub loop-place-preserved : goal.loop-place-preserved
 loop-place-preserved c =
     let there = sym c.value.ensures ∙ ap option_copied c.in-Some.is in
-    let small : magnitude c.in-Some.value.now ≤ 1_000_000_000_000_000 = omega (
+    let small : size_of c.in-Some.value.now ≤ 1_000_000_000_000_000 = omega (
       arith,
       c.magnitude.ensures,
       c.if-magnitude-gt-MOST_NUMBER.false,
