@@ -8,7 +8,7 @@ use Rattle.objects.specs.Objects.{kind_of_value}
 use Rattle.objects.specs.declared.value.Value.{Value}
 use Rattle.objects.specs.declared.value.Value.TheVariants as value
 use Rattle.meaning.specs.WellFormed.{size_of}
-use Rattle.meaning.specs.Words.{Names, kind_text, members}
+use Rattle.meaning.specs.Words.{Names, joined, kind_text, members}
 use Rattle.batch.specs.Limits.{entries_in}
 use Rattle.carry.specs.declared.document.Unfit.{Unfit}
 use Rattle.carry.specs.declared.document.Unfit.TheVariants.{Start, TooMany}
@@ -24,12 +24,6 @@ first_unfit entries (v ∷ values) =
 -- JSON texts and lists. Names have ASCII letters, digits, `_` and `-` alone, so that nothing is escaped.
 abbrev pub quoted : List ℕ → List ℕ
 quoted name = codes "\"" ++ name ++ codes "\""
-
--- with this between each two
-abbrev pub joined : List ℕ → List (List ℕ) → List ℕ
-joined between [] = []
-joined between (first ∷ []) = first
-joined between (first ∷ second ∷ rest) = first ++ between ++ joined between (second ∷ rest)
 
 abbrev pub list_text : List (List ℕ) → List ℕ
 list_text texts = codes "[" ++ joined (codes ", ") texts ++ codes "]"

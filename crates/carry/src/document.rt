@@ -2,10 +2,10 @@
 ghost use Rattle.std.specs.Prelude.{◌≡◌, ◌<◌, ◌^◌, ◌++◌, IfOk, OnOk, codes, length, map, string_bytes};
 ghost use Rattle.std.specs.FinMap as finite_map;
 ghost use Rattle.meaning.specs.WellFormed.{size_of};
-ghost use Rattle.meaning.specs.Words.{members};
+ghost use Rattle.meaning.specs.Words.{joined, members};
 ghost use Rattle.batch.specs.Limits.{entries_in};
 ghost use Rattle.batch.specs.Names.{names_of};
-ghost use Rattle.carry.specs.Carried.{carried_text, first_unfit, item_text, joined, object_text, object_texts, pair_text, start_text};
+ghost use Rattle.carry.specs.Carried.{carried_text, first_unfit, item_text, object_text, object_texts, pair_text, start_text};
 
 use batch::Names;
 use objects::{Directory, ItemSet, NoMemory, Objects, Queue, Value};

@@ -87,11 +87,15 @@ kind_text kind.Queue = codes "queue"
 kind_text kind.Directory = codes "directory"
 kind_text kind.Max = codes "max"
 
+-- with this between each two
+abbrev pub joined : List ℕ → List (List ℕ) → List ℕ
+joined between [] = []
+joined between (first ∷ []) = first
+joined between (first ∷ second ∷ rest) = first ++ between ++ joined between (second ∷ rest)
+
 -- with a space between each two
 abbrev pub spaced : List (List ℕ) → List ℕ
-spaced [] = []
-spaced (first ∷ []) = first
-spaced (first ∷ second ∷ rest) = first ++ codes " " ++ spaced (second ∷ rest)
+spaced texts = joined (codes " ") texts
 
 abbrev pub binding_text : Names → Item × Item → List ℕ
 binding_text names binding = names.item binding.0 ++ codes ":" ++ names.item binding.1

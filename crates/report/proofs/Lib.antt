@@ -1,6 +1,6 @@
 pub mod AnswerLemmas
 pub mod HandlerLemmas
+pub mod Joined
 pub mod NameLemmas
 pub mod SortedLemmas
-pub mod Spaced
 pub mod TextLemmas

@@ -1,10 +1,10 @@
 use Rattle.std.proofs.Common.{[], ◌∷◌, ◌++◌, map, ap, refl, sym, ◌∙◌, string_bytes}
 use Rattle.std.specs.Prelude.{codes}
-use Rattle.meaning.specs.Words.{members}
+use Rattle.meaning.specs.Words.{joined, members}
 use Rattle.batch.specs.Names.{names_of}
 use Rattle.report.proofs.SortedLemmas.{members-sorted}
-use Rattle.carry.specs.Carried.{item_text, joined}
-use Rattle.carry.proofs.Joined.{joined_behind-nothing, next_text}
+use Rattle.carry.specs.Carried.{item_text}
+use Rattle.report.proofs.Joined.{joined_behind-nothing, next_text}
 use Rattle.carry.proofs.document.write_members.Goals as goal
 
 pub loop-member-init : goal.loop-member-init

@@ -2,10 +2,10 @@ use Rattle.std.proofs.Common.{◌≡◌, ◌++◌, map, string_bytes}
 use Rattle.std.specs.Prelude.{codes}
 use denote.Shadow.{shadow}
 use denote.Text.{Utf8}
-use Rattle.meaning.specs.Words.{members}
+use Rattle.meaning.specs.Words.{joined, members}
 use Rattle.batch.specs.Names.{names_of}
-use Rattle.carry.specs.Carried.{item_text, joined}
-use Rattle.carry.proofs.Joined.{joined_behind}
+use Rattle.carry.specs.Carried.{item_text}
+use Rattle.report.proofs.Joined.{joined_behind}
 use Rattle.carry.proofs.document.write_members.Given as goal
 
 abbrev pub invariant-loop-member : goal.invariant-loop-member

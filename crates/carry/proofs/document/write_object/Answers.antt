@@ -1,4 +1,4 @@
-use Rattle.carry.proofs.Joined.{object_parts}
+use Rattle.carry.proofs.Written.{object_parts}
 use Rattle.carry.proofs.document.write_object.Goals as goal
 
 pub returns : goal.returns

@@ -5,7 +5,7 @@ use Rattle.std.proofs.lemmas.Option.{slice_get-get_or}
 use Rattle.objects.specs.declared.value.Value.TheVariants as value
 use Rattle.batch.specs.Names.{names_of}
 use Rattle.carry.specs.Carried.{object_text, object_texts}
-use Rattle.carry.proofs.Joined.{joined_behind-nothing, next_text}
+use Rattle.report.proofs.Joined.{joined_behind-nothing, next_text}
 use Rattle.carry.proofs.Walking.{next_object}
 use Rattle.carry.proofs.document.write_objects.Goals as goal
 

@@ -2,9 +2,10 @@ use Rattle.std.proofs.Common.{◌≡◌, ◌++◌, drop, string_bytes}
 use Rattle.std.specs.Prelude.{codes}
 use denote.Shadow.{shadow}
 use denote.Text.{Utf8}
+use Rattle.meaning.specs.Words.{joined}
 use Rattle.batch.specs.Names.{names_of}
-use Rattle.carry.specs.Carried.{joined, object_texts}
-use Rattle.carry.proofs.Joined.{joined_behind}
+use Rattle.carry.specs.Carried.{object_texts}
+use Rattle.report.proofs.Joined.{joined_behind}
 use Rattle.carry.proofs.document.write_objects.Given as goal
 
 abbrev pub invariant-loop-object : goal.invariant-loop-object

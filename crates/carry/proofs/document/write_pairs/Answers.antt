@@ -1,13 +1,15 @@
 use Rattle.std.proofs.Common.{[], ◌∷◌, ◌++◌, map, ap, refl, sym, ◌∙◌, string_bytes}
 use Rattle.std.specs.FinMap as finite_map
 use Rattle.std.specs.Prelude.{codes}
+use Rattle.meaning.specs.Words.{joined}
 use Rattle.batch.specs.Names.{names_of}
 use Rattle.atoms.specs.Item.{item_cmp}
 use Rattle.atoms.specs.declared.item.Item.{Item}
 use Rattle.atoms.proofs.Items.{items_total, items_antisymmetric}
 use Rattle.report.proofs.SortedLemmas.{entries-sorted}
-use Rattle.carry.specs.Carried.{joined, pair_text}
-use Rattle.carry.proofs.Joined.{joined_behind-nothing, next_text, pair_parts}
+use Rattle.carry.specs.Carried.{pair_text}
+use Rattle.report.proofs.Joined.{joined_behind-nothing, next_text}
+use Rattle.carry.proofs.Written.{pair_parts}
 use Rattle.carry.proofs.document.write_pairs.Goals as goal
 
 pub loop-key-init : goal.loop-key-init

@@ -3,9 +3,10 @@ use Rattle.std.specs.Prelude.{codes}
 use Rattle.std.specs.FinMap as finite_map
 use denote.Shadow.{shadow}
 use denote.Text.{Utf8}
+use Rattle.meaning.specs.Words.{joined}
 use Rattle.batch.specs.Names.{names_of}
-use Rattle.carry.specs.Carried.{joined, pair_text}
-use Rattle.carry.proofs.Joined.{joined_behind}
+use Rattle.carry.specs.Carried.{pair_text}
+use Rattle.report.proofs.Joined.{joined_behind}
 use Rattle.carry.proofs.document.write_pairs.Given as goal
 
 abbrev pub invariant-loop-key : goal.invariant-loop-key

@@ -1,9 +1,10 @@
 use Rattle.std.proofs.Common.{[], ◌∷◌, ◌++◌, map, ap, refl, ◌∙◌, string_bytes}
 use Rattle.std.specs.Prelude.{codes}
 use Rattle.std.specs.VecDeque.Iter.{deque_iter_rest}
+use Rattle.meaning.specs.Words.{joined}
 use Rattle.batch.specs.Names.{names_of}
-use Rattle.carry.specs.Carried.{item_text, joined}
-use Rattle.carry.proofs.Joined.{joined_behind-nothing, next_text}
+use Rattle.carry.specs.Carried.{item_text}
+use Rattle.report.proofs.Joined.{joined_behind-nothing, next_text}
 use Rattle.carry.proofs.document.write_queue.Goals as goal
 
 pub loop-item-init : goal.loop-item-init

@@ -3,9 +3,10 @@ use Rattle.std.specs.Prelude.{codes}
 use Rattle.std.specs.VecDeque.Iter.{deque_iter_rest}
 use denote.Shadow.{shadow}
 use denote.Text.{Utf8}
+use Rattle.meaning.specs.Words.{joined}
 use Rattle.batch.specs.Names.{names_of}
-use Rattle.carry.specs.Carried.{item_text, joined}
-use Rattle.carry.proofs.Joined.{joined_behind}
+use Rattle.carry.specs.Carried.{item_text}
+use Rattle.report.proofs.Joined.{joined_behind}
 use Rattle.carry.proofs.document.write_queue.Given as goal
 
 abbrev pub invariant-loop-item : goal.invariant-loop-item

@@ -1,8 +1,9 @@
 use Rattle.std.proofs.Common.{[], ◌∷◌, ◌++◌, map, ap, refl, sym, ◌∙◌, string_bytes}
+use Rattle.std.specs.Prelude.{codes}
 use Rattle.meaning.specs.Words.{spaced, members}
 use Rattle.batch.specs.Names.{names_of}
 use Rattle.report.proofs.SortedLemmas.{members-sorted}
-use Rattle.report.proofs.Spaced.{spaced_behind-nothing, next_name}
+use Rattle.report.proofs.Joined.{joined_behind-nothing, next_text}
 use Rattle.report.proofs.values.write_members.Goals as goal
 
 pub loop-member-init : goal.loop-member-init
@@ -10,14 +11,16 @@ loop-member-init c =
     let same = c.into_iter-member-iterator.ensures.into_iter_gives ∙ c.iter-member-items.ensures.rest
     ∙ sym (members-sorted _ c.iter-member-items.ensures.ordered) ∙ ap members c.items.ensures in (
       ([], (refl, refl)),
-      ap (λ text. string_bytes c.args.out.now ++ text) (spaced_behind-nothing _
+      ap (λ text. string_bytes c.args.out.now ++ text) (joined_behind-nothing (codes " ") _
           ∙ ap (λ xs. spaced (map (names_of c.args.names.now).item xs)) same),
     )
 
 pub loop-member-preserved : goal.loop-member-preserved
 unfolding lib.Utf8.encode
 loop-member-preserved c =
-    let more = next_name (names_of c.args.names.now).item (string_bytes c.loop-member.out) _ c.loop-member.space.now
-    c.item_name-name.result.now c.loop-member.member-iterator c.next.new.self c.in-Some.member.now _ c.in-Some.ensures.steps
-    c.item_name-name.ensures c.in_ok-write.ensures.bytes c.loop-member.invariant.1 in
+    let text = (names_of c.args.names.now).item in
+    let wrote = rw c.item_name-name.ensures at c.in_ok-write.ensures.bytes in
+    let more = next_text (codes " ") (string_bytes c.loop-member.out) _ c.loop-member.space.now (text c.in-Some.member.now)
+    (map text c.loop-member.member-iterator) (map text c.next.new.self) _
+    (ap (map text) c.in-Some.ensures.steps) wrote c.loop-member.invariant.1 in
     ((32 ∷ [], (refl, refl)), more)
