@@ -12,6 +12,7 @@ use Rattle.meaning.specs.WellFormed.{IsWellFormed, largest}
 use Rattle.meaning.specs.Running.{all_operations}
 use Rattle.batch.specs.Names.{AreNames, Texts}
 use Rattle.batch.specs.Named.{AllNamed, AllNamedValues}
+use Rattle.meaning.specs.declared.limits.TheConstants.{MAX_DEPTH, MAX_ENTRIES, MAX_NODES, MAX_OBJECTS, MAX_OPERATIONS, MAX_START, MAX_TRANSACTIONS}
 
 abbrev mutual
   -- how deep blocks stand in one another: 1 for a block whose steps have no blocks
@@ -81,7 +82,7 @@ AllWellFormed (block ∷ blocks) ks = IsWellFormed block [] ks × AllWellFormed 
 
 abbrev pub AllShallow : List Block → Type 0
 AllShallow [] = ⊤
-AllShallow (block ∷ blocks) = (depth block ≤ 24) × AllShallow blocks
+AllShallow (block ∷ blocks) = (depth block ≤ MAX_DEPTH) × AllShallow blocks
 
 -- the starting objects, their names, and the transactions by number
 pub record IsBatch (start : State) (texts : Texts) (transactions : List Block) : Type 0 where
@@ -94,10 +95,10 @@ pub record IsBatch (start : State) (texts : Texts) (transactions : List Block) :
   pub object_names : AreNames texts.objects
   pub item_names : AreNames texts.items
   pub reason_names : AreNames texts.reasons
-  pub few_objects : length start ≤ 1000
-  pub few_transactions : length transactions ≤ 10000
-  pub few_operations : all_operations transactions ≤ 1_000_000
-  pub few_nodes : all_nodes transactions ≤ 100_000
+  pub few_objects : length start ≤ MAX_OBJECTS
+  pub few_transactions : length transactions ≤ MAX_TRANSACTIONS
+  pub few_operations : all_operations transactions ≤ MAX_OPERATIONS
+  pub few_nodes : all_nodes transactions ≤ MAX_NODES
   pub shallow : AllShallow transactions
-  pub few_entries : all_entries_in start ≤ 100_000
-  pub small : largest start ≤ 1_000_000_000_000_000
+  pub few_entries : all_entries_in start ≤ MAX_ENTRIES
+  pub small : largest start ≤ MAX_START

@@ -5,6 +5,7 @@ ghost use Rattle.meaning.specs.WellFormed.{operations, operations_of_children, o
 ghost use Rattle.meaning.specs.Trees.{Pass, for_reasons};
 ghost use Rattle.batch.specs.Counting.{operations_of};
 ghost use Rattle.batch.specs.Views.{block_view, children_view, handler_view, step_view, steps_view, subaction_view};
+ghost use Rattle.meaning.specs.declared.limits.TheConstants.{MAX_OPERATIONS};
 
 use crate::batch::Batch;
 use crate::tree::{Block, Handler, Otherwise, Step, Subaction};
@@ -25,7 +26,7 @@ impl Batch {
 
 #[cycle(count)]
 fn operations_in(block: &Block) -> u32
-    requires { operations (block_view block.now) ≤ 1_000_000 }
+    requires { operations (block_view block.now) ≤ MAX_OPERATIONS }
     ensures { result ≡ operations (block_view block.now) }
 {
     operations_in_steps(&block.steps)
@@ -33,7 +34,7 @@ fn operations_in(block: &Block) -> u32
 
 #[cycle(count)]
 fn operations_in_steps(steps: &[Step]) -> u32
-    requires { operations (steps_view steps.now) ≤ 1_000_000 }
+    requires { operations (steps_view steps.now) ≤ MAX_OPERATIONS }
     ensures { result ≡ operations (steps_view steps.now) }
 {
     let mut count = 0;
@@ -45,7 +46,7 @@ fn operations_in_steps(steps: &[Step]) -> u32
 
 #[cycle(count)]
 fn operations_in_step(step: &Step) -> u32
-    requires { operations_of_step (step_view step.now) ≤ 1_000_000 }
+    requires { operations_of_step (step_view step.now) ≤ MAX_OPERATIONS }
     ensures { result ≡ operations_of_step (step_view step.now) }
 {
     match step {
@@ -63,7 +64,7 @@ fn operations_in_step(step: &Step) -> u32
 
 #[cycle(count)]
 fn operations_in_children(children: &[Subaction]) -> u32
-    requires { operations_of_children (children_view children.now) ≤ 1_000_000 }
+    requires { operations_of_children (children_view children.now) ≤ MAX_OPERATIONS }
     ensures { result ≡ operations_of_children (children_view children.now) }
 {
     let mut count = 0;
@@ -75,7 +76,7 @@ fn operations_in_children(children: &[Subaction]) -> u32
 
 #[cycle(count)]
 fn operations_in_subaction(child: &Subaction) -> u32
-    requires { operations_of (subaction_view child.now) ≤ 1_000_000 }
+    requires { operations_of (subaction_view child.now) ≤ MAX_OPERATIONS }
     ensures { result ≡ operations_of (subaction_view child.now) }
 {
     let body = operations_in(&child.body);
@@ -90,7 +91,7 @@ fn operations_in_subaction(child: &Subaction) -> u32
 
 #[cycle(count)]
 fn operations_in_handlers(handlers: &[Handler]) -> u32
-    requires { operations_of_handlers (for_reasons (map handler_view handlers.now) Pass) ≤ 1_000_000 }
+    requires { operations_of_handlers (for_reasons (map handler_view handlers.now) Pass) ≤ MAX_OPERATIONS }
     ensures { result ≡ operations_of_handlers (for_reasons (map handler_view handlers.now) Pass) }
 {
     let mut count = 0;

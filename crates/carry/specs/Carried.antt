@@ -12,13 +12,14 @@ use Rattle.meaning.specs.Words.{Names, joined, kind_text, members}
 use Rattle.batch.specs.Limits.{entries_in}
 use Rattle.carry.specs.declared.document.Unfit.{Unfit}
 use Rattle.carry.specs.declared.document.Unfit.TheVariants.{Start, TooMany}
+use Rattle.meaning.specs.declared.limits.TheConstants.{MAX_ENTRIES, MAX_START}
 
 -- Why objects can't all start as they are, by the first that can't, where so many entries start before them.
 abbrev pub first_unfit : ℕ → State → Option Unfit
 first_unfit entries [] = None
 first_unfit entries (v ∷ values) =
-    if nat_lt 1_000_000_000_000_000 (size_of v) then Some Start
-    else if nat_lt 100_000 (entries + entries_in v) then Some TooMany
+    if nat_lt MAX_START (size_of v) then Some Start
+    else if nat_lt MAX_ENTRIES (entries + entries_in v) then Some TooMany
     else first_unfit (entries + entries_in v) values
 
 -- JSON texts and lists. Names have ASCII letters, digits, `_` and `-` alone, so that nothing is escaped.

@@ -8,6 +8,7 @@ ghost use Rattle.batch.specs.Names.{names_of};
 ghost use Rattle.carry.specs.Carried.{carried_text, first_unfit, item_text, object_text, object_texts, pair_text, start_text};
 
 use batch::Names;
+use meaning::limits::{MAX_ENTRIES, MAX_START};
 use objects::{Directory, ItemSet, NoMemory, Objects, Queue, Value};
 use report::{item_name, kind_word, object_name};
 use std::alloc::Global;
@@ -21,12 +22,6 @@ pub enum Unfit {
     TooMany,
 }
 
-/// The largest number that an object may start with.
-const MOST_NUMBER: u64 = 1_000_000_000_000_000;
-
-/// How many entries all objects may start with.
-const MOST_ENTRIES: usize = 100_000;
-
 /// Why the objects can't all start as they are, by the first that can't.
 pub fn first_unfit(objects: &Objects) -> Option<Unfit>
     requires { length objects.now < 2 ^ 32 }
@@ -37,11 +32,11 @@ pub fn first_unfit(objects: &Objects) -> Option<Unfit>
         let Some(value) = objects.value(place) else {
             return None;
         };
-        if magnitude(value) > MOST_NUMBER {
+        if magnitude(value) > MAX_START {
             return Some(Unfit::Start);
         }
         let more = entries_in(value);
-        if more > MOST_ENTRIES - entries {
+        if more > MAX_ENTRIES - entries {
             return Some(Unfit::TooMany);
         }
         entries += more;

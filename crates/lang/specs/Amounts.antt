@@ -4,9 +4,7 @@ use Rattle.std.proofs.Math.Nat.{le-max_left, max-le, min-le_left}
 use Rattle.std.proofs.lemmas.Bool.{leb-true}
 use Rattle.atoms.specs.Amount.{IsAmount}
 use Rattle.atoms.specs.declared.amount.Amount.{Amount}
-
-abbrev pub largest_amount : ℕ
-largest_amount = 1_000_000_000_000
+use Rattle.meaning.specs.WellFormed.{largest_amount}
 
 -- the nearest number that is an amount
 abbrev pub clamped : ℕ → ℕ

@@ -23,6 +23,8 @@ use Rattle.lang.specs.Look.{has, has_only, text_member, text_item, whole_item, w
 use Rattle.lang.specs.Scope.{Table, Setting, Scope, is_listed, kind_named, named, is_named, with_label, with_labels, with_text}
 use Rattle.batch.specs.Names.{is_name}
 use Rattle.lang.specs.Words.{kind_of, verb_of, word_of, fits_word, fits_number, fits_item}
+use Rattle.meaning.specs.declared.limits.TheConstants.{MAX_DEPTH, MAX_OBJECTS, MAX_START, MAX_TRANSACTIONS}
+use Rattle.meaning.specs.WellFormed.{largest_amount}
 
 -- the member, or null
 abbrev pub part : List ℕ → Data → Data
@@ -48,7 +50,7 @@ label_asked scope elder (Some name) = holds (is_name name) Name ∷ holds (not (
 
 -- the amount in an operation's array
 abbrev pub amount_item : ℕ → Data → Option ℕ
-amount_item i op = option_and_then (within 1 1000000000000) (whole_item i op)
+amount_item i op = option_and_then (within 1 largest_amount) (whole_item i op)
 
 abbrev pub has_count : ℕ → Data → Bool
 has_count n op = option_map_or (λ m. m == n) (count op) false
@@ -353,13 +355,13 @@ array_start_asked asks (Some ds) = asks ds
 
 -- the number within a limit on its size
 abbrev pub number_start : Data → Option ℕ
-number_start d = option_and_then (within 0 1000000000000000) (whole d)
+number_start d = option_and_then (within 0 MAX_START) (whole d)
 
 abbrev pub signed_within : ℕ → ℤ → Option ℤ
 signed_within most n = if nat_le (nat_abs n) most then Some n else None
 
 abbrev pub signed_start : Data → Option ℤ
-signed_start d = option_and_then (signed_within 1000000000000000) (whole d)
+signed_start d = option_and_then (signed_within MAX_START) (whole d)
 
 unfoldable pub start_asked : Kind → Data → List Demand
 start_asked kind.Account d = holds (is_some (number_start d)) Start ∷ []
@@ -418,7 +420,7 @@ declared_by version ds = record { version = version; names = names_of ds; kinds 
 
 -- a transaction by its number
 abbrev pub transaction_asked : ℕ → Setting → Data → List Demand
-transaction_asked n setting d = in_transaction n ∷ block_asked setting 24 [] d
+transaction_asked n setting d = in_transaction n ∷ block_asked setting MAX_DEPTH [] d
 
 -- the transactions from a number on
 abbrev pub transactions_asked : ℕ → Setting → Items → List Demand
@@ -443,8 +445,8 @@ document_shape_asked d =
     ∷ holds (is_some (version_of d)) Shape
     ∷ holds (is_some (list_member (codes "objects") d)) Shape
     ∷ holds (is_some (list_member (codes "transactions") d)) Shape
-    ∷ holds (nat_le (items_len (objects_in d)) 1000) TooMany
-    ∷ holds (nat_le (items_len (transactions_in d)) 10000) TooMany
+    ∷ holds (nat_le (items_len (objects_in d)) MAX_OBJECTS) TooMany
+    ∷ holds (nat_le (items_len (transactions_in d)) MAX_TRANSACTIONS) TooMany
     ∷ []
 
 abbrev pub setting_in : Data → Setting

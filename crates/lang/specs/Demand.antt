@@ -4,6 +4,8 @@ use Rattle.lang.specs.declared.fault.Code.{Code}
 use Rattle.lang.specs.declared.fault.Code.TheVariants.{TooMany}
 use Rattle.lang.specs.declared.fault.Fault.{Fault}
 use Rattle.lang.specs.declared.counts.Counts.{Counts}
+use Rattle.meaning.specs.declared.limits.TheConstants.{MAX_ENTRIES, MAX_NODES, MAX_OPERATIONS}
+use Rattle.lang.specs.declared.counts.TheConstants.{MAX_OPERATIONS_BEFORE_4}
 
 -- A test with the code that is returned where it fails, or one more of what is counted towards a limit.
 -- Behind `in_transaction n` stands what is asked of transaction n.
@@ -20,7 +22,7 @@ fault_at code c = record { code = code; transaction = c.transaction }
 
 -- the operations that a document of a version may have
 abbrev pub most_operations : ℕ → ℕ
-most_operations version = if nat_le 4 version then 1000000 else 100000
+most_operations version = if nat_le 4 version then MAX_OPERATIONS else MAX_OPERATIONS_BEFORE_4
 
 abbrev pub limited : Bool → Counts → Counts → Result Counts Fault
 limited within c next = if within then Ok next else Err (fault_at TooMany c)
@@ -28,10 +30,10 @@ limited within c next = if within then Ok next else Err (fault_at TooMany c)
 -- the counts after one demand, or its fault
 abbrev pub check_one : Counts → Demand → Result Counts Fault
 check_one c (holds b code) = if b then Ok c else Err (fault_at code c)
-check_one c one_more_start = limited (nat_lt c.starts 100000) c (record c { starts = c.starts + 1 })
+check_one c one_more_start = limited (nat_lt c.starts MAX_ENTRIES) c (record c { starts = c.starts + 1 })
 check_one c (one_more_operation version) = limited (nat_lt c.operations (most_operations version)) c
     (record c { operations = c.operations + 1 })
-check_one c one_more_node = limited (nat_lt c.nodes 100000) c (record c { nodes = c.nodes + 1 })
+check_one c one_more_node = limited (nat_lt c.nodes MAX_NODES) c (record c { nodes = c.nodes + 1 })
 check_one c (in_transaction n) = Ok (record c { transaction = n })
 
 abbrev pub and_then : {A : Type 0} → Result A Fault → (A → Result A Fault) → Result A Fault

@@ -13,6 +13,7 @@ use Rattle.lang.specs.Faults.{memory_fault}
 use Rattle.lang.specs.Asked.{asked}
 use Rattle.lang.specs.Places.{Found, Placed, demands_of, placed, seek}
 use Rattle.lang.specs.Reading.{value_of}
+use Rattle.lang.specs.declared.document.TheConstants.{MAX_BYTES}
 
 abbrev pub pointer_text : Option (String Global) → List ℕ
 pointer_text pointer = unwrap_or (option_map (λ text. string_bytes text) pointer) []
@@ -38,10 +39,10 @@ PointsTo bytes fault pointer = (d : Data) × (value_of bytes ≡ Some d)
 
 -- The place of a fault. The whole is the place of a fault of its length, too, and a pointer leads to a part of it.
 abbrev pub IsPlaceOf : List ℕ → Fault → Place → Type 0
-IsPlaceOf bytes fault Whole = (67108864 < length bytes) ⊎ PointsTo bytes fault []
-IsPlaceOf bytes fault (Pointer text) = (length bytes ≤ 67108864) × (0 < length (string_bytes text))
+IsPlaceOf bytes fault Whole = (MAX_BYTES < length bytes) ⊎ PointsTo bytes fault []
+IsPlaceOf bytes fault (Pointer text) = (length bytes ≤ MAX_BYTES) × (0 < length (string_bytes text))
     × PointsTo bytes fault (string_bytes text)
-IsPlaceOf bytes fault (LineColumn line column) = (length bytes ≤ 67108864) × (value_of bytes ≡ None)
+IsPlaceOf bytes fault (LineColumn line column) = (length bytes ≤ MAX_BYTES) × (value_of bytes ≡ None)
 
 -- The demands with their places are those that are asked, so that no other fault is first.
 abbrev pub PlacesLaw : Type 0

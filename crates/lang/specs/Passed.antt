@@ -10,6 +10,7 @@ use Rattle.lang.specs.declared.notes.Notes.{Notes}
 use Rattle.lang.specs.declared.fault.Code.TheVariants.{Shape, TooMany}
 use Rattle.lang.specs.Demand.{Demand, holds}
 use Rattle.lang.specs.Look.{members_among, within}
+use Rattle.meaning.specs.declared.limits.TheConstants.{MAX_TRANSACTIONS}
 
 abbrev pub whole_or_other : Option ℤ → Seen
 whole_or_other None = seen.Other
@@ -61,5 +62,5 @@ noted_asked notes =
     ∷ holds (is_some (noted_count notes.objects)) Shape
     ∷ holds (is_some (noted_count notes.transactions)) Shape
     ∷ holds (nat_le (unwrap_or (noted_count notes.objects) 0) 1000) TooMany
-    ∷ holds (nat_le (unwrap_or (noted_count notes.transactions) 0) 10000) TooMany
+    ∷ holds (nat_le (unwrap_or (noted_count notes.transactions) 0) MAX_TRANSACTIONS) TooMany
     ∷ []

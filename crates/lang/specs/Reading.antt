@@ -15,6 +15,7 @@ use Rattle.lang.specs.Demand.{first_fault}
 use Rattle.lang.specs.Asked.{asked}
 pub use Rattle.lang.specs.Spelled.{Document}
 use Rattle.lang.specs.Spelled.{document_in}
+use Rattle.lang.specs.declared.document.TheConstants.{MAX_BYTES}
 
 -- the value that the bytes write, or none
 abbrev pub value_of : List ℕ → Option Data
@@ -30,7 +31,7 @@ spelled_by (Some d) = unless_fault d (first_fault (asked d))
 
 -- the document that the bytes spell, or their first fault
 unfoldable pub reading : List ℕ → Result Document Fault
-reading bytes = if nat_lt 67108864 (length bytes) then Err (fault_outside TooMany) else spelled_by (value_of bytes)
+reading bytes = if nat_lt MAX_BYTES (length bytes) then Err (fault_outside TooMany) else spelled_by (value_of bytes)
 
 -- what a batch is seen as
 abbrev pub document_of : Batch → Document

@@ -32,6 +32,7 @@ use Rattle.lang.specs.Words.{amount_call, item_call, pair_call, lone_call}
 use Rattle.lang.specs.Asked.{part, label_in, amount_item, name_item, object_of, verb_in, if_label, subject_of, tested_word, sort_of}
 use Rattle.lang.specs.Asked.{scope_after, handlers_in, children_in, kind_in, text_of, key_of, value_of, number_start, signed_start}
 use Rattle.lang.specs.Asked.{names_of, or_no_items, objects_in, transactions_in, setting_in, version_in}
+use Rattle.meaning.specs.declared.limits.TheConstants.{MAX_DEPTH}
 
 abbrev pub or_zero : Option ℕ → ℕ
 or_zero o = unwrap_or o 0
@@ -212,7 +213,7 @@ starts_of version numbers (item d ds) =
 abbrev pub blocks_of : Setting → Numbers → Items → List Block × Numbers
 blocks_of setting numbers no_items = ([], numbers)
 blocks_of setting numbers (item d ds) =
-    let here = block_of setting 24 [] numbers d in
+    let here = block_of setting MAX_DEPTH [] numbers d in
     let rest = blocks_of setting here.1 ds in
     (here.0 ∷ rest.0, rest.1)
 

@@ -4,10 +4,10 @@ ghost use Rattle.lang.specs.Answer.{IsFirst, IsMet};
 ghost use Rattle.lang.specs.Demand.{fault_at, most_operations, one_more_node, one_more_operation, one_more_start};
 
 use crate::fault::{Code, Fault};
+use meaning::limits::{MAX_ENTRIES, MAX_NODES, MAX_OPERATIONS};
 
-const MAX_NODES: u32 = 100_000;
-
-const MAX_STARTS: u32 = 100_000;
+/// How many operations a document before version 4 has at most.
+const MAX_OPERATIONS_BEFORE_4: usize = 100_000;
 
 /// Where the reader is, and how much of what is limited it has met.
 #[derive(Clone, Copy, Drop)]
@@ -20,10 +20,14 @@ pub(crate) struct Counts {
 }
 
 /// How many operations a document of a version may have.
-fn most_operations(version: u8) -> u32
+fn most_operations(version: u8) -> usize
     ensures { result ≡ most_operations version }
 {
-    if version >= 4 { 1_000_000 } else { 100_000 }
+    if version >= 4 {
+        MAX_OPERATIONS
+    } else {
+        MAX_OPERATIONS_BEFORE_4
+    }
 }
 
 impl Counts {
@@ -50,7 +54,7 @@ impl Counts {
         ensures { MatchResult result (λ _. IsMet self.old (one_more_operation version ∷ []) self.new)
             (IsFirst self.old (one_more_operation version ∷ [])) }
     {
-        if self.operations >= most_operations(version) {
+        if self.operations as usize >= most_operations(version) {
             return Err(self.fault(Code::TooMany));
         }
         self.operations += 1;
@@ -62,7 +66,7 @@ impl Counts {
         ensures { MatchResult result (λ _. IsMet self.old (one_more_node ∷ []) self.new)
             (IsFirst self.old (one_more_node ∷ [])) }
     {
-        if self.nodes >= MAX_NODES {
+        if self.nodes as usize >= MAX_NODES {
             return Err(self.fault(Code::TooMany));
         }
         self.nodes += 1;
@@ -74,7 +78,7 @@ impl Counts {
         ensures { MatchResult result (λ _. IsMet self.old (one_more_start ∷ []) self.new)
             (IsFirst self.old (one_more_start ∷ [])) }
     {
-        if self.starts >= MAX_STARTS {
+        if self.starts as usize >= MAX_ENTRIES {
             return Err(self.fault(Code::TooMany));
         }
         self.starts += 1;

@@ -8,10 +8,10 @@ ghost use Rattle.lang.specs.Faults.{number_of};
 ghost use Rattle.lang.specs.Passed.{AreNoted, IsNoted, is_version, noted_asked, noted_count, seen_as};
 ghost use Rattle.lang.specs.Pulled.{ReadsMembers, ReadsValue};
 
-use crate::document::{MAX_OBJECTS, MAX_TRANSACTIONS};
 use crate::fault::{Code, Fault};
 use crate::pass::{Seen, pass_from, pass_value};
 use json::{Invalid, Reader, Token};
+use meaning::limits::{MAX_OBJECTS, MAX_TRANSACTIONS};
 
 /// How deep arrays and objects may nest.
 const MAX_NESTING: usize = 127;
@@ -133,7 +133,7 @@ pub(crate) fn check_notes(notes: &Notes) -> Result<(), Fault>
     let Some(transactions) = count_of(notes.transactions) else {
         return Err(Code::Shape.outside());
     };
-    if objects as usize > MAX_OBJECTS || transactions > MAX_TRANSACTIONS {
+    if objects as usize > MAX_OBJECTS || transactions as usize > MAX_TRANSACTIONS {
         return Err(Code::TooMany.outside());
     }
     Ok(())

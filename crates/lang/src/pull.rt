@@ -23,21 +23,22 @@ ghost use Rattle.lang.specs.Pulled.{ReadsItems, ReadsMembers, ReadsValue, in_ord
 ghost use Rattle.lang.specs.Scope.{Extends, numbers_of, scope_of, setting_of};
 ghost use Rattle.lang.specs.Spelled.{Spelling, parts_in, spelled, blocks_of, block_of, call_of, step_of, steps_spelled};
 ghost use Rattle.batch.specs.Names.{is_name};
+ghost use Rattle.meaning.specs.declared.limits.TheConstants.{MAX_DEPTH, MAX_OBJECTS, MAX_TRANSACTIONS};
 
 use crate::counts::Counts;
 use crate::declared::Declared;
-use crate::document::{MAX_OBJECTS, MAX_TRANSACTIONS, Parts};
+use crate::document::Parts;
 use crate::labels::add_new_label;
 use crate::numbers::number_of;
 use crate::operations::{amount_call, item_call, item_of, lone_call, pair_call, target_of};
 use crate::pull_blocks::pull_block;
 use crate::starts::read_objects;
 use crate::state::{Numbering, State};
-use crate::steps::MAX_DEPTH;
 use crate::words::{Subject, Verb};
 use batch::{Block, Call, Step, is_name};
 use fast_float::Numeral;
 use json::{Reader, Token};
+use meaning::limits::{MAX_DEPTH, MAX_OBJECTS, MAX_TRANSACTIONS};
 use objects::Amount;
 use serde_json::{Map, Value};
 use std::alloc::Global;
@@ -372,7 +373,7 @@ fn pull_transaction(
     ensures { IfSome result (λ block. (d : Data) × ReadsValue 120 reader.old d reader.new
         × IsMet state.old.counts (transaction_asked number (setting_of declared.now) d) state.new.counts
         × ((block_view block, numbers_of state.new.numbering)
-        ≡ block_of (setting_of declared.now) 24 [] (numbers_of state.old.numbering) d)
+        ≡ block_of (setting_of declared.now) MAX_DEPTH [] (numbers_of state.old.numbering) d)
         × (scope_of state.new.labels.entries ≡ [])) }
 {
     state.counts.transaction = number;
@@ -391,12 +392,12 @@ fn pull_transactions(
         × IsMet state.old.counts (transactions_asked 1 (setting_of declared.now) ds) state.new.counts
         × ((map block_view blocks.items, numbers_of state.new.numbering)
         ≡ blocks_of (setting_of declared.now) (numbers_of state.old.numbering) ds)
-        × (items_len ds ≤ 10000)) }
+        × (items_len ds ≤ MAX_TRANSACTIONS)) }
 {
     let mut blocks = Vec::new(alloc);
     let mut number = 0;
     while !reader.take_end_array() {
-        if number >= MAX_TRANSACTIONS {
+        if number as usize >= MAX_TRANSACTIONS {
             return None;
         }
         number += 1;
@@ -430,7 +431,7 @@ fn pull_version(reader: &mut Reader<'_>) -> Option<u8>
 /// The objects up to the end of their array, if they are no more than a document may have.
 fn pull_objects(alloc: Global, reader: &mut Reader<'_>) -> Option<Vec<Value>>
     ensures reads { IfSome result (λ list. ReadsItems 125 reader.old (items_view list.items) reader.new) }
-    ensures few { IfSome result (λ list. length list.items ≤ 1000) }
+    ensures few { IfSome result (λ list. length list.items ≤ MAX_OBJECTS) }
 {
     let mut found = Vec::new(alloc);
     while !reader.take_end_array() {
@@ -445,7 +446,7 @@ fn pull_objects(alloc: Global, reader: &mut Reader<'_>) -> Option<Vec<Value>>
 /// A document up to where its transactions begin: its version, and of its objects a tree.
 pub(crate) fn pull_head(alloc: Global, reader: &mut Reader<'_>) -> Option<(u8, Vec<Value>)>
     ensures version { IfSome result (λ head. (1 ≤ head.0) × (head.0 ≤ 4)) }
-    ensures objects { IfSome result (λ head. length head.1.items ≤ 1000) }
+    ensures objects { IfSome result (λ head. length head.1.items ≤ MAX_OBJECTS) }
     ensures reads { IfSome result (λ head. (ts : Items) (rest : List token.Token)
         → ReadsItems 125 reader.new ts (token.end_object ∷ rest)
         → ReadsValue 127 reader.old (in_order head.0 (items_view head.1.items) ts) rest) }

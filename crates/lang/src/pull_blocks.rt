@@ -19,6 +19,7 @@ ghost use Rattle.lang.specs.declared.counts.Counts.{Counts};
 ghost use Rattle.lang.specs.Pulled.{IsAfter, ReadsItems, ReadsMembers, ReadsValue, SubTail, TestKey, abort_step, if_step, test_key, with_else};
 ghost use Rattle.lang.specs.Scope.{AreUnseen, Extends, Scope, numbers_of, scope_of, setting_of};
 ghost use Rattle.lang.specs.Spelled.{Spelling, block_of, block_of_if, children_spelled, member_of, members_of, or_no_step, spelled_map, step_of, steps_spelled, sub_of, test_of};
+ghost use Rattle.meaning.specs.declared.limits.TheConstants.{MAX_DEPTH};
 
 use crate::declared::Declared;
 use crate::hashing::Labels;
@@ -59,7 +60,7 @@ fn pull_handler(
     declared: &Declared,
     state: &mut State,
 ) -> Option<Handler>
-    requires few { levels ≤ 24 }
+    requires few { levels ≤ MAX_DEPTH }
     ensures { IfSome result (λ handler. (d : Data) × ReadsValue (5 * levels) reader.old d reader.new
         × IsMet state.old.counts (member_asked (block_asked (setting_of declared.now) levels)
         (scope_of state.old.labels.entries) reason.now d) state.new.counts
@@ -88,7 +89,7 @@ fn pull_ascending(
     declared: &Declared,
     state: &mut State,
 ) -> Option<Vec<Handler>>
-    requires few { levels ≤ 24 }
+    requires few { levels ≤ MAX_DEPTH }
     ensures { IfSome result (λ handlers. (hs : Members) × ReadsMembers (5 * levels) no_members reader.old hs reader.new
         × IsMet state.old.counts (members_asked (block_asked (setting_of declared.now) levels)
         (scope_of state.old.labels.entries) hs) state.new.counts
@@ -121,7 +122,7 @@ fn pull_sorted(
     declared: &Declared,
     state: &mut State,
 ) -> Option<Vec<Handler>>
-    requires few { levels ≤ 24 }
+    requires few { levels ≤ MAX_DEPTH }
     ensures { IfSome result (λ handlers. (hs : Members) × ReadsMembers (5 * levels) no_members reader.old hs reader.new
         × IsMet state.old.counts (members_asked (block_asked (setting_of declared.now) levels)
         (scope_of state.old.labels.entries) hs) state.new.counts
@@ -144,7 +145,7 @@ fn pull_handlers(
     declared: &Declared,
     state: &mut State,
 ) -> Option<Vec<Handler>>
-    requires few { levels ≤ 24 }
+    requires few { levels ≤ MAX_DEPTH }
     ensures { IfSome result (λ handlers. (hs : Members) × ReadsValue (5 * levels + 1) reader.old (object hs) reader.new
         × (3 ≤ declared.now.version)
         × IsMet state.old.counts (members_asked (block_asked (setting_of declared.now) levels)
@@ -182,7 +183,7 @@ fn pull_sub_rest<'a>(
     declared: &Declared,
     state: &mut State,
 ) -> Option<SubRest<'a>>
-    requires few { levels ≤ 24 }
+    requires few { levels ≤ MAX_DEPTH }
     ensures { IfSome result (λ rest. (now : List token.Token)
         × SubTail (5 * levels + 1) declared.now.version (block_asked (setting_of declared.now) levels)
         (block_of (setting_of declared.now) levels) (scope_of state.old.labels.entries)
@@ -223,7 +224,7 @@ fn pull_sub<'a>(
     declared: &Declared,
     state: &mut State,
 ) -> Option<(Subaction, Option<&'a str>)>
-    requires few { levels ≤ 24 }
+    requires few { levels ≤ MAX_DEPTH }
     ensures { IfSome result (λ read. (d : Data)
         × ReadsValue (5 * levels + 2) (token.begin_object ∷ token.key (codes "sub") ∷ reader.old) d reader.new
         × ((elder : Scope) → IsMet state.new.counts
@@ -260,7 +261,7 @@ fn pull_sub_step(
     declared: &Declared,
     state: &mut State,
 ) -> Option<Step>
-    requires few { levels ≤ 24 }
+    requires few { levels ≤ MAX_DEPTH }
     ensures { IfSome result (λ step. (d : Data)
         × ReadsValue (5 * levels + 2) (token.begin_object ∷ token.key (codes "sub") ∷ reader.old) d reader.new
         × IsMet state.old.counts (step_asked (block_asked (setting_of declared.now) levels)
@@ -295,7 +296,7 @@ fn pull_children(
     elder: &mut Labels,
     state: &mut State,
 ) -> Option<Vec<Subaction>>
-    requires few { levels ≤ 24 }
+    requires few { levels ≤ MAX_DEPTH }
     ensures { IfSome result (λ children. (ds : Items) × ReadsItems (5 * levels + 2) reader.old ds reader.new
         × (AreUnseen (scope_of elder.new.entries) (scope_of state.old.labels.entries)
         → IsMet state.old.counts (children_asked declared.now.version (block_asked (setting_of declared.now) levels)
@@ -327,7 +328,7 @@ fn pull_parallel(
     declared: &Declared,
     state: &mut State,
 ) -> Option<Step>
-    requires few { levels ≤ 24 }
+    requires few { levels ≤ MAX_DEPTH }
     ensures { IfSome result (λ step. (d : Data)
         × ReadsValue (5 * levels + 4) (token.begin_object ∷ token.key (codes "parallel") ∷ reader.old) d reader.new
         × IsMet state.old.counts (step_asked (block_asked (setting_of declared.now) levels)
@@ -404,7 +405,7 @@ fn pull_else(
     declared: &Declared,
     state: &mut State,
 ) -> Option<Block>
-    requires few { levels ≤ 24 }
+    requires few { levels ≤ MAX_DEPTH }
     ensures { IfSome result (λ block. (second : Option Data)
         × ((found : Members) → ReadsMembers (5 * levels) found reader.old (with_else second found) reader.new)
         × IsMet state.old.counts (block_asked_if (block_asked (setting_of declared.now) levels)
@@ -436,7 +437,7 @@ fn pull_if(
     declared: &Declared,
     state: &mut State,
 ) -> Option<Step>
-    requires few { levels ≤ 24 }
+    requires few { levels ≤ MAX_DEPTH }
     ensures { IfSome result (λ step. (d : Data)
         × ReadsValue (5 * levels + 1) (token.begin_object ∷ token.key (codes "if") ∷ reader.old) d reader.new
         × IsMet state.old.counts (step_asked (block_asked (setting_of declared.now) levels)
@@ -526,7 +527,7 @@ fn pull_other_step(
     declared: &Declared,
     state: &mut State,
 ) -> Option<Step>
-    requires few { levels ≤ 24 }
+    requires few { levels ≤ MAX_DEPTH }
     ensures { IfSome result (λ step. (d : Data) × ReadsValue (5 * levels + 4) (token.begin_object ∷ token.key name.now ∷ reader.old) d reader.new
         × IsMet state.old.counts (step_asked (block_asked (setting_of declared.now) levels)
         (setting_of declared.now) (scope_of state.old.labels.entries) d) state.new.counts
@@ -550,7 +551,7 @@ fn pull_step(
     declared: &Declared,
     state: &mut State,
 ) -> Option<Step>
-    requires few { levels ≤ 24 }
+    requires few { levels ≤ MAX_DEPTH }
     ensures { IfSome result (λ step. (d : Data) × ReadsValue (5 * levels + 4) reader.old d reader.new
         × IsMet state.old.counts (step_asked (block_asked (setting_of declared.now) levels)
         (setting_of declared.now) (scope_of state.old.labels.entries) d) state.new.counts
@@ -579,7 +580,7 @@ fn pull_steps(
     declared: &Declared,
     state: &mut State,
 ) -> Option<Vec<Step>>
-    requires few { levels ≤ 24 }
+    requires few { levels ≤ MAX_DEPTH }
     ensures { IfSome result (λ steps. (ds : Items) × ReadsItems (5 * levels + 4) reader.old ds reader.new
         × IsMet state.old.counts (steps_asked (block_asked (setting_of declared.now) levels)
         (setting_of declared.now) (scope_of state.old.labels.entries) ds) state.new.counts
@@ -607,7 +608,7 @@ pub(crate) fn pull_block(
     declared: &Declared,
     state: &mut State,
 ) -> Option<Block>
-    requires few { levels ≤ 24 }
+    requires few { levels ≤ MAX_DEPTH }
     ensures { IfSome result (λ block. (d : Data) × ReadsValue (5 * levels) reader.old d reader.new
         × IsMet state.old.counts
         (block_asked (setting_of declared.now) levels (scope_of state.old.labels.entries) d) state.new.counts

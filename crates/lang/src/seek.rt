@@ -7,6 +7,7 @@ ghost use Rattle.lang.specs.Asked.{children_in, label_in, labels_of, scope_after
 ghost use Rattle.lang.specs.Found.{IsFound};
 ghost use Rattle.lang.specs.Places.{block_placed, block_placed_if, children_placed, handlers_placed, if_placed, members_placed, parallel_placed, seek, step_placed, steps_placed, sub_placed, transaction_placed, transactions_placed};
 ghost use Rattle.lang.specs.Scope.{Extends, scope_of, setting_of, with_label, with_labels};
+ghost use Rattle.meaning.specs.declared.limits.TheConstants.{MAX_TRANSACTIONS};
 
 use crate::conditions::{if_shape_of, read_test};
 use crate::declared::Declared;
@@ -17,10 +18,11 @@ use crate::look::text_member;
 use crate::operations::read_operation;
 use crate::places::Unmet;
 use crate::state::State;
-use crate::steps::{MAX_DEPTH, Sort, children_of, read_abort, sort_of, sub_shape_of};
+use crate::steps::{Sort, children_of, read_abort, sort_of, sub_shape_of};
 use crate::words::Subject;
 use batch::is_name;
 use indexmap::IndexMap;
+use meaning::limits::MAX_DEPTH;
 use serde_json::{Map, Value};
 use std::alloc::Global;
 
@@ -340,7 +342,7 @@ pub(crate) fn seek_transactions(
     declared: &Declared,
     state: &mut State,
 ) -> Result<(), Unmet>
-    requires transactions { length list.now.items ≤ 10000 }
+    requires transactions { length list.now.items ≤ MAX_TRANSACTIONS }
     requires labels { scope_of state.old.labels.entries ≡ [] }
     ensures met { OnOk result (seek state.old.counts (transactions_placed (setting_of declared.now) 0 (items_view list.now.items)) ≡ Ok state.new.counts) }
     ensures unmet { IfErr result (IsFound state.old.counts (transactions_placed (setting_of declared.now) 0 (items_view list.now.items))) }

@@ -12,9 +12,10 @@ ghost use Rattle.lang.specs.Asked.{asked, document_shape_asked, names_of, object
 ghost use Rattle.lang.specs.Pulled.{ReadsItems, ReadsValue};
 ghost use Rattle.lang.specs.Scope.{numbers_of, scope_of, setting_of};
 ghost use Rattle.lang.specs.Spelled.{block_of, blocks_of, parts_in, spelled};
+ghost use Rattle.meaning.specs.declared.limits.TheConstants.{MAX_DEPTH, MAX_TRANSACTIONS};
 
 use crate::declared::Declared;
-use crate::document::{MAX_TRANSACTIONS, Parts};
+use crate::document::Parts;
 use crate::fault::Fault;
 use crate::pass::pass_items;
 use crate::pull::{PART_DEPTH, pull_end_object, pull_head, pull_value};
@@ -23,6 +24,7 @@ use crate::state::State;
 use crate::steps::read_transaction;
 use batch::Block;
 use json::Reader;
+use meaning::limits::MAX_TRANSACTIONS;
 use std::alloc::Global;
 
 /// The next transaction, by a tree of it alone, or its first fault.
@@ -38,7 +40,7 @@ fn one_transaction(
         × MatchResult answer
         (λ block. IsMet state.old.counts (transaction_asked number (setting_of declared.now) d) state.new.counts
         × ((block_view block, numbers_of state.new.numbering)
-        ≡ block_of (setting_of declared.now) 24 [] (numbers_of state.old.numbering) d)
+        ≡ block_of (setting_of declared.now) MAX_DEPTH [] (numbers_of state.old.numbering) d)
         × (scope_of state.new.labels.entries ≡ []))
         (IsFirst state.old.counts (transaction_asked number (setting_of declared.now) d))) }
 {
@@ -59,13 +61,13 @@ fn each_transaction(
         (λ blocks. IsMet state.old.counts (transactions_asked 1 (setting_of declared.now) ds) state.new.counts
         × ((map block_view blocks.items, numbers_of state.new.numbering)
         ≡ blocks_of (setting_of declared.now) (numbers_of state.old.numbering) ds)
-        × (items_len ds ≤ 10000))
+        × (items_len ds ≤ MAX_TRANSACTIONS))
         (IsFirst state.old.counts (transactions_asked 1 (setting_of declared.now) ds))) }
 {
     let mut blocks = Vec::new(alloc);
     let mut number = 0;
     while !reader.take_end_array() {
-        if number >= MAX_TRANSACTIONS {
+        if number as usize >= MAX_TRANSACTIONS {
             return None;
         }
         number += 1;

@@ -15,6 +15,7 @@ use Rattle.meaning.specs.OneThread.{record_of, outcome_of, labels_of, state_of, 
 use Rattle.meaning.specs.Batch.{state_at}
 use Rattle.meaning.specs.WellFormed.{Label, OfCall, OfSubaction, CallFits, test_fits, added_by, added_by_children, operations}
 use Rattle.meaning.specs.WellFormed.{operations_of_step, operations_of_handlers, operations_of_children, largest, largest_amount, HasRoom}
+use Rattle.meaning.specs.declared.limits.TheConstants.{MAX_OPERATIONS, MAX_START}
 
 -- after at most so many operations
 pub record Keeps (count : ℕ) (before after : State) : Type 0 where
@@ -33,12 +34,12 @@ PerformLaw =
     → HasRoom state 1
     → CanPerform state object call
 
--- A state that some operations led to has room for the others, where a batch has no more than a million.
+-- A state that some operations led to has room for the others.
 abbrev pub LimitLaw : Type 0
 LimitLaw =
     (state : State) (done left : ℕ)
-    → largest state ≤ 1_000_000_000_000_000 + largest_amount * done
-    → done + left ≤ 1_000_000
+    → largest state ≤ MAX_START + largest_amount * done
+    → done + left ≤ MAX_OPERATIONS
     → HasRoom state left
 
 abbrev pub CallKeepsLaw : Type 0

@@ -4,6 +4,7 @@
 mod end;
 mod held;
 pub mod laws;
+pub mod limits;
 mod test;
 
 pub use end::End;

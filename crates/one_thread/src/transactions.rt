@@ -5,6 +5,7 @@ ghost use Rattle.meaning.specs.Batch.{settled, shown_of, all_shown, final_state}
 ghost use Rattle.batch.specs.Parts.{start_of, blocks_of};
 ghost use Rattle.batch.specs.Views.{block_view, record_view};
 ghost use Rattle.batch.specs.Running.{CanRunHere};
+ghost use Rattle.meaning.specs.declared.limits.TheConstants.{MAX_OBJECTS};
 
 use crate::executor::run_block;
 use crate::workspace::Workspace;
@@ -21,7 +22,7 @@ pub fn plain(alloc: Global, batch: &Batch) -> Result<Plain, NoMemory>
     // So are the objects at the end.
     ensures objects { IfOk result (λ p. p.objects ≡ final_state (start_of batch.now) (blocks_of batch.now)) }
     // They are no more than a document may have.
-    ensures few_objects { IfOk result (λ p. length p.objects ≤ 1000) }
+    ensures few_objects { IfOk result (λ p. length p.objects ≤ MAX_OBJECTS) }
 {
     let mut workspace = Workspace::new(alloc, batch.objects.copy()?);
     let mut records = Vec::with_capacity(alloc, batch.transactions.len())?;

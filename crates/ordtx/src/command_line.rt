@@ -3,12 +3,14 @@ ghost use Rattle.std.specs.Prelude.{◌≡◌, ◌↔◌, [], Some, codes, map, 
 ghost use Rattle.clap.specs.Words.{IsAmong, app_of, first_of, found_of, kind_of, one_of, rows_of, rule_of};
 ghost use Rattle.clap.specs.declared.builder.command.Command.TheViews.{out-Command};
 ghost use Rattle.ordtx.specs.CommandLine.{CanBeMatched, HoldsFrom1, HoldsLine, HoldsNumber, IsAboutHelp, IsLineOf, IsRefusalBy, IsRefusalOf, IsTaken, NamesCommand, command_name, faults_of, file_app, flag_rule, number_rule, ordtx_app, run_app};
+ghost use Rattle.speculate.specs.declared.transaction.TheConstants.{MAX_WORKERS};
+ghost use Rattle.rounds.specs.declared.plan.TheConstants.{MAX_CUT};
 
 use crate::asked::{Command, Line, Refused};
 use clap::builder::ValueParser;
 use clap::error::ErrorKind;
 use clap::{Arg, ArgAction, ArgMatches};
-use rounds::Plan;
+use rounds::{MAX_CUT, MAX_WORKERS, Plan};
 use std::alloc::{AllocError, Global};
 
 /// How many workers there are where the command line doesn't say.
@@ -16,12 +18,6 @@ const DEFAULT_WORKERS: u32 = 4;
 
 /// How many transactions a piece of their work has where the command line doesn't say.
 const DEFAULT_CUT: u32 = 16;
-
-/// The largest number of workers, as `Plan` takes it.
-const MOST_WORKERS: i64 = 64;
-
-/// The largest cut.
-const MOST_CUT: i64 = 1000;
 
 const ABOUT: &str = "Runs numbered transactions over typed objects on several threads, with the \
 answer of running them by number on one";
@@ -118,8 +114,8 @@ fn held_text(alloc: Global, held: &ArgMatches<'_>, id: &str) -> Result<Option<St
 
 // The plan of the numbers that are held.
 fn held_plan(held: &ArgMatches<'_>) -> Plan
-    requires workers { HoldsFrom1 (codes "workers") 64 (rows_of (found_of held.now)) }
-    requires cut { HoldsFrom1 (codes "cut") 1000 (rows_of (found_of held.now)) }
+    requires workers { HoldsFrom1 (codes "workers") MAX_WORKERS (rows_of (found_of held.now)) }
+    requires cut { HoldsFrom1 (codes "cut") MAX_CUT (rows_of (found_of held.now)) }
     ensures workers { HoldsNumber (one_of (codes "workers") (rows_of (found_of held.now))) 4 result.workers }
     ensures cut { HoldsNumber (one_of (codes "cut") (rows_of (found_of held.now))) 16 result.cut }
 {
@@ -134,7 +130,7 @@ fn held_plan(held: &ArgMatches<'_>) -> Plan
 
 // The number that is held, or the default where there is none.
 fn held_number(held: &ArgMatches<'_>, id: &str, default: u32) -> u32
-    requires { HoldsFrom1 id.now 1000 (rows_of (found_of held.now)) }
+    requires { HoldsFrom1 id.now MAX_CUT (rows_of (found_of held.now)) }
     ensures { HoldsNumber (one_of id.now (rows_of (found_of held.now))) default result }
 {
     match held.try_get_one::<u32>(id) {
@@ -252,14 +248,14 @@ fn run_command<'a>(alloc: Global) -> Result<clap::Command<'a>, AllocError>
         alloc,
         "workers",
         "N",
-        MOST_WORKERS,
+        i64::from(MAX_WORKERS),
         "How many workers there are, 1 to 64 [default: 4]",
     );
     let cut = number_argument(
         alloc,
         "cut",
         "K",
-        MOST_CUT,
+        i64::from(MAX_CUT),
         "How many transactions a worker takes at a time at most, 1 to 1000 [default: 16]",
     );
     let audit = flag_argument(

@@ -5,11 +5,11 @@ ghost use Rattle.lang.specs.Faults.{input_fault, memory_fault};
 ghost use Rattle.ordtx.specs.Streams.{ReadsInput};
 
 use crate::source::{Failed, Source};
-use lang::{Code, Fault};
+use lang::{Code, Fault, MAX_BYTES};
 use std::alloc::{AllocError, Global};
 
 // One byte more than a document may have, so that a longer input is seen to be longer.
-const MOST_READ: usize = 67_108_865;
+const MOST_READ: usize = MAX_BYTES + 1;
 
 const FIRST_ROOM: usize = 65_536;
 

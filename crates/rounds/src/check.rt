@@ -5,6 +5,8 @@ ghost use Rattle.rounds.specs.Passes.{IsFirstConflict};
 ghost use Rattle.rounds.specs.PendingRuns.{all_left, HoldsPast, HoldsAt, IsFirstFrom, AreStarts, AreSummed};
 ghost use Rattle.rounds.specs.Checks.{IsSeen};
 ghost use Rattle.rounds.specs.declared.pending_run.PendingRun.{PendingRun as OnePending};
+ghost use Rattle.meaning.specs.declared.limits.TheConstants.{MAX_TRANSACTIONS};
+ghost use Rattle.speculate.specs.declared.transaction.TheConstants.{MAX_WORKERS};
 
 use crate::crew::Crew;
 use crate::pending_run::{PendingRun, Sums};
@@ -65,7 +67,7 @@ fn first_from<R: Threads + Sync, G: Gate>(
     nets: &Committed,
     starts: &[usize],
 ) -> Result<usize, NoMemory>
-    requires few { length runs.now ≤ 10000 }
+    requires few { length runs.now ≤ MAX_TRANSACTIONS }
     requires from { from ≤ length runs.now }
     requires nets { nets.now ≡ all_left runs.now }
     requires starts { AreStarts runs.now starts.now }
@@ -84,7 +86,7 @@ fn first_from<R: Threads + Sync, G: Gate>(
         (runs.len() - from) as u32,
         plan.workers,
         &|piece: u32| -> bool
-            requires { (from + piece < length runs.now) × (length runs.now ≤ 10000) × (nets.now ≡ all_left runs.now) × AreStarts runs.now starts.now }
+            requires { (from + piece < length runs.now) × (length runs.now ≤ MAX_TRANSACTIONS) × (nets.now ≡ all_left runs.now) × AreStarts runs.now starts.now }
             ensures { IsTrue result ↔ HoldsAt runs.entry.now (from + piece) }
         {
             let place = from + piece as usize;
@@ -102,7 +104,7 @@ fn seek_in_blocks<R: Threads + Sync, G: Gate>(
     runs: &[PendingRun],
     expected: usize,
 ) -> Result<Seen, NoMemory>
-    requires few { length runs.now ≤ 10000 }
+    requires few { length runs.now ≤ MAX_TRANSACTIONS }
     ensures { IfOk result (λ seen. IsSeen runs.now seen) }
 {
     let mut nets = Committed::new(crew.alloc);
@@ -130,7 +132,7 @@ fn seek_in_blocks<R: Threads + Sync, G: Gate>(
 // The first conflict, sought run by run. The net of a run that stands is listed before the next run
 // is checked.
 fn seek_in_turn<G: Gate>(alloc: Global, runs: &[PendingRun], gate: &G) -> Result<Seen, NoMemory>
-    requires few { length runs.now ≤ 10000 }
+    requires few { length runs.now ≤ MAX_TRANSACTIONS }
     ensures { IfOk result (λ seen. IsSeen runs.now seen) }
 {
     let mut nets = Committed::new(alloc);
@@ -170,7 +172,7 @@ pub(crate) fn seek_conflict<R: Threads + Sync, G: Gate>(
     runs: &[PendingRun],
     expected: usize,
 ) -> Result<Seen, NoMemory>
-    requires few { length runs.now ≤ 10000 }
+    requires few { length runs.now ≤ MAX_TRANSACTIONS }
     ensures { IfOk result (λ seen. IsSeen runs.now seen) }
 {
     if crew.plan.cut > 1 || crew.plan.workers == 1 {
@@ -204,8 +206,8 @@ pub fn first_conflict<R: Threads + Sync, G: Gate>(
     workers: u32,
     gate: &G,
 ) -> Result<usize, NoMemory>
-    requires few { length runs.now ≤ 10000 }
-    requires workers { (1 ≤ workers) × (workers ≤ 64) }
+    requires few { length runs.now ≤ MAX_TRANSACTIONS }
+    requires workers { (1 ≤ workers) × (workers ≤ MAX_WORKERS) }
     ensures { IfOk result (λ first. IsFirstConflict runs.now first) }
 {
     let crew = Crew {

@@ -5,6 +5,8 @@ ghost use Rattle.intentions.specs.Levels.{opened};
 ghost use Rattle.rounds.specs.Views.{meaning};
 ghost use Rattle.rounds.specs.Passes.{CanBeMade};
 ghost use Rattle.rounds.specs.PendingRuns.{IsPendingOf};
+ghost use Rattle.meaning.specs.declared.limits.TheConstants.{MAX_TRANSACTIONS};
+ghost use Rattle.speculate.specs.declared.transaction.TheConstants.{MAX_WORKERS};
 
 use crate::pending_run::PendingRun;
 use batch::Batch;
@@ -51,10 +53,10 @@ impl<'s> Desk<'s> {
         gate: &G,
         spare: PendingRun,
     ) -> Result<PendingRun, NoMemory>
-        requires few { number ≤ 10000 }
+        requires few { number ≤ MAX_TRANSACTIONS }
         requires can { CanBeMade batch.now self.old.view.snapshot number }
         requires same_kinds { kinds self.old.view.snapshot ≡ kinds batch.now.objects }
-        requires narrow { (1 ≤ width) × (width ≤ 64) }
+        requires narrow { (1 ≤ width) × (width ≤ MAX_WORKERS) }
         requires opened { self.old.view ≡ opened self.old.view.snapshot }
         requires unlabelled { self.old.labels.items ≡ [] }
         ensures made { IfOk result (IsPendingOf (meaning batch.now number self.old.view.snapshot)) }

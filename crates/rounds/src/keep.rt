@@ -2,12 +2,14 @@
 ghost use Rattle.std.specs.Prelude.{◌≡◌, ◌<◌, ◌≤◌, ℕ, IfOk, OnOk, length, take, slice_index_or, slice_range};
 ghost use Rattle.rounds.specs.PendingRuns.{all_left, AreRefuted, AreRefutedAmong, IsTold};
 ghost use Rattle.rounds.specs.Pending.{ArePlaces, Tells};
+ghost use Rattle.meaning.specs.declared.limits.TheConstants.{MAX_TRANSACTIONS};
 
 use crate::check::stands_past;
 use crate::crew::{Crew, checkers};
 use crate::pending::Pending;
 use crate::pending_run::PendingRun;
 use intentions::Committed;
+use meaning::limits::MAX_TRANSACTIONS;
 use speculate::{Gate, NoMemory};
 use std::alloc::Global;
 use std::thread::Threads;
@@ -43,14 +45,14 @@ fn refuted_among<G: Gate>(
     upto: usize,
     gate: &G,
 ) -> Result<Vec<usize>, NoMemory>
-    requires few { length runs.now ≤ 10000 }
+    requires few { length runs.now ≤ MAX_TRANSACTIONS }
     requires places { ArePlaces touched.now from (length runs.now) }
     requires upto { upto ≤ length nets.now }
     ensures { IfOk result (λ numbers. AreRefutedAmong runs.now (take upto nets.now) touched.now numbers.items) }
 {
     let mut numbers = Vec::new(alloc);
     for place in touched {
-        gate.pass(0, 10000 + (*place - from) as u32 + 1);
+        gate.pass(0, (MAX_TRANSACTIONS + *place - from) as u32 + 1);
         if !stands_past(runs, *place, nets, upto) {
             numbers.push(*place)?;
         }
@@ -67,7 +69,7 @@ fn refuted_of<R: Threads + Sync, G: Gate>(
     nets: &Committed,
     upto: usize,
 ) -> Result<Vec<usize>, NoMemory>
-    requires few { length runs.now ≤ 10000 }
+    requires few { length runs.now ≤ MAX_TRANSACTIONS }
     requires places { ArePlaces touched.now from (length runs.now) }
     requires upto { upto ≤ length nets.now }
     ensures { IfOk result (λ numbers. AreRefutedAmong runs.now (take upto nets.now) touched.now numbers.items) }
@@ -89,12 +91,12 @@ fn refuted_of<R: Threads + Sync, G: Gate>(
         touched.len() as u32,
         workers,
         &|piece: u32, bench: Bench<(), usize>| -> Result<Bench<(), usize>, NoMemory>
-            requires { (piece < length touched.now) × (length runs.now ≤ 10000) × ArePlaces touched.now from (length runs.now) × (upto ≤ length nets.now) }
+            requires { (piece < length touched.now) × (length runs.now ≤ MAX_TRANSACTIONS) × ArePlaces touched.now from (length runs.now) × (upto ≤ length nets.now) }
             ensures { IfOk result (λ after. (piece < length touched.entry.now) × IsTold runs.entry.now (take upto nets.entry.now) (slice_index_or touched.entry.now piece 0) bench.items.items after.items.items) }
         {
             let Bench { desk, mut items } = bench;
             let place = touched[piece as usize];
-            gate.pass(0, 10000 + (place - from) as u32 + 1);
+            gate.pass(0, (MAX_TRANSACTIONS + place - from) as u32 + 1);
             tell(runs, place, nets, upto, &mut items)?;
             Ok(Bench { desk, items })
         },
@@ -117,7 +119,7 @@ pub(crate) fn keep_all<R: Threads + Sync, G: Gate>(
     nets: &Committed,
     upto: usize,
 ) -> Result<Vec<usize>, NoMemory>
-    requires few { length runs.now ≤ 10000 }
+    requires few { length runs.now ≤ MAX_TRANSACTIONS }
     requires opened { opened ≤ from }
     requires from { from ≤ length runs.now }
     requires made { (k : ℕ) → k < length made.now → slice_index_or made.now k 0 < length runs.now }
@@ -125,7 +127,7 @@ pub(crate) fn keep_all<R: Threads + Sync, G: Gate>(
     requires upto { upto ≤ length nets.now }
     requires nets { take upto nets.now ≡ all_left (slice_range runs.now opened from) }
     ensures refuted { IfOk result (λ numbers. AreRefuted runs.now (take upto nets.now) from (length runs.now) numbers.items) }
-    ensures few { IfOk result (λ numbers. length numbers.items ≤ 10000) }
+    ensures few { IfOk result (λ numbers. length numbers.items ≤ MAX_TRANSACTIONS) }
     ensures tells { IfOk result (λ numbers. Tells pending.new runs.now from numbers.items) }
 {
     pending.touch(crew.alloc, runs, made, opened, from)?;

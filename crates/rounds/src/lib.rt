@@ -17,5 +17,5 @@ mod renew;
 pub use batch::{Batch, Outcome, Record};
 pub use check::first_conflict;
 pub use openings::execute;
-pub use plan::Plan;
-pub use speculate::{Entry, Gate, NoGate, NoMemory, Objects, Progress, Run};
+pub use plan::{MAX_CUT, Plan};
+pub use speculate::{Entry, Gate, MAX_WORKERS, NoGate, NoMemory, Objects, Progress, Run};

@@ -6,6 +6,9 @@ ghost use Rattle.objects.specs.Entries.{kinds};
 ghost use Rattle.rounds.specs.Passes.{CanBeMade};
 ghost use Rattle.rounds.specs.Desks.{IsDeskOn};
 ghost use Rattle.rounds.specs.PendingRuns.{AreMade, AreAdded};
+ghost use Rattle.meaning.specs.declared.limits.TheConstants.{MAX_TRANSACTIONS};
+ghost use Rattle.speculate.specs.declared.transaction.TheConstants.{MAX_WORKERS};
+ghost use Rattle.rounds.specs.declared.plan.TheConstants.{MAX_CUT};
 
 use crate::crew::{Crew, makers};
 use crate::desk::Desk;
@@ -36,7 +39,7 @@ fn make_group<R: Threads + Sync, G: Gate>(
 ) -> Result<(), NoMemory>
     requires within { All (λ n. CanBeMade batch.now desk.old.view.snapshot n) group.now }
     requires same_kinds { kinds desk.old.view.snapshot ≡ kinds batch.now.objects }
-    requires narrow { (1 ≤ width) × (width ≤ 64) }
+    requires narrow { (1 ≤ width) × (width ≤ MAX_WORKERS) }
     requires ready { IsDeskOn desk.old.view.snapshot desk.old }
     ensures ready { OnOk result (IsDeskOn desk.old.view.snapshot desk.new) }
     ensures added { OnOk result (AreAdded batch.now desk.old.view.snapshot group.now all.old.items all.new.items) }
@@ -67,7 +70,7 @@ fn desk_or_new<'s>(
 
 // The group that is this piece: at most `cut` of the numbers.
 fn group_at(numbers: &[usize], cut: usize, piece: u32) -> &[usize]
-    requires cut { cut ≤ 1000 }
+    requires cut { cut ≤ MAX_CUT }
     requires piece { piece * cut < length numbers.now }
     ensures { result.now ≡ slice_chunk numbers.now cut piece }
 {
@@ -87,7 +90,7 @@ pub(crate) fn make_all<R: Threads + Sync, G: Gate>(
     objects: &Objects,
     numbers: &[usize],
 ) -> Result<Vec<Made>, NoMemory>
-    requires few { length numbers.now ≤ 10000 }
+    requires few { length numbers.now ≤ MAX_TRANSACTIONS }
     requires within { All (λ n. CanBeMade batch.now objects.now n) numbers.now }
     requires same_kinds { kinds objects.now ≡ kinds batch.now.objects }
     ensures { IfOk result (λ made. AreMade batch.now objects.now numbers.now made.items) }
@@ -107,7 +110,7 @@ pub(crate) fn make_all<R: Threads + Sync, G: Gate>(
         numbers.len().div_ceil(cut) as u32,
         makers(crew, numbers.len()),
         &|piece: u32, bench: Bench<Desk<'_>, Made>| -> Result<Bench<Desk<'_>, Made>, NoMemory>
-            requires { (cut ≤ 1000) × (piece * cut < length numbers.now) × (1 ≤ width) × (width ≤ 64) × (kinds objects.now ≡ kinds batch.now.objects) × All (λ n. CanBeMade batch.now objects.now n) numbers.now × IfSome bench.desk (IsDeskOn objects.now) }
+            requires { (cut ≤ MAX_CUT) × (piece * cut < length numbers.now) × (1 ≤ width) × (width ≤ MAX_WORKERS) × (kinds objects.now ≡ kinds batch.now.objects) × All (λ n. CanBeMade batch.now objects.now n) numbers.now × IfSome bench.desk (IsDeskOn objects.now) }
             ensures { IfOk result (λ after. IfSome after.desk (IsDeskOn objects.entry.now) × AreAdded batch.entry.now objects.entry.now (slice_chunk numbers.entry.now cut piece) bench.entry.items.items after.items.items) }
         {
             let Bench { desk, mut items } = bench;

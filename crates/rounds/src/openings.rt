@@ -9,6 +9,7 @@ ghost use Rattle.intentions.specs.Levels.{AllHaveRoom};
 ghost use Rattle.rounds.specs.Views.{start_of, blocks_of};
 ghost use Rattle.rounds.specs.PendingRuns.{own_nets, times};
 ghost use Rattle.rounds.specs.Openings.{AreCounts};
+ghost use Rattle.meaning.specs.declared.limits.TheConstants.{MAX_OBJECTS};
 
 use crate::check::seek_conflict;
 use crate::crew::Crew;
@@ -100,7 +101,7 @@ pub fn execute<R: Threads + Sync, G: Gate>(
     // So are the objects at the end.
     ensures objects { IfOk result (λ o. o.objects ≡ final_state (start_of batch.now) (blocks_of batch.now)) }
     // They are no more than a document may have.
-    ensures few_objects { IfOk result (λ o. length o.objects ≤ 1000) }
+    ensures few_objects { IfOk result (λ o. length o.objects ≤ MAX_OBJECTS) }
     // They are what the transactions leave, without anything that was aborted.
     ensures net { IfOk result (λ o. o.objects ≡ after (start_of batch.now) (nets (start_of batch.now) (blocks_of batch.now) 0 (length (blocks_of batch.now)))) }
     // The number of rounds is the defined one, and at most the number of transactions.

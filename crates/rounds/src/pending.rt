@@ -4,6 +4,7 @@ ghost use Rattle.committed.specs.NumberSets.{Has, AreDistinct};
 ghost use Rattle.rounds.specs.declared.pending_run.PendingRun.{PendingRun as OnePending};
 ghost use Rattle.rounds.specs.Pending.{IsIn, WatchesAll, Tells, AreTouched};
 ghost use Rattle.rounds.specs.PendingRuns.{all_left};
+ghost use Rattle.meaning.specs.declared.limits.TheConstants.{MAX_TRANSACTIONS};
 
 use crate::pending_run::PendingRun;
 use intentions::{NumberSet, Watch};
@@ -12,7 +13,7 @@ use std::alloc::Global;
 
 // A watch of the runs from one place on.
 fn watch_from(alloc: Global, runs: &[PendingRun], from: usize) -> Result<Watch, NoMemory>
-    requires few { length runs.now ≤ 10000 }
+    requires few { length runs.now ≤ MAX_TRANSACTIONS }
     requires from { from ≤ length runs.now }
     ensures { IfOk result (λ watch. WatchesAll watch runs.now from) }
 {
@@ -58,7 +59,7 @@ pub(crate) struct Pending {
 impl Pending {
     /// For so many runs, of which none was made yet.
     pub(crate) fn new(alloc: Global, count: usize) -> Result<Pending, NoMemory>
-        requires { count ≤ 10000 }
+        requires { count ≤ MAX_TRANSACTIONS }
         ensures { IfOk result (λ pending. pending.watch.count ≡ count) }
     {
         Ok(Pending {
@@ -85,7 +86,7 @@ impl Pending {
         opened: usize,
         from: usize,
     ) -> Result<(), NoMemory>
-        requires few { length runs.now ≤ 10000 }
+        requires few { length runs.now ≤ MAX_TRANSACTIONS }
         requires opened { opened ≤ from }
         requires from { from ≤ length runs.now }
         requires within { (k : ℕ) → k < length made.now → slice_index_or made.now k 0 < length runs.now }
@@ -114,7 +115,7 @@ impl Pending {
         opened: usize,
         from: usize,
     ) -> Result<(), NoMemory>
-        requires few { length runs.now ≤ 10000 }
+        requires few { length runs.now ≤ MAX_TRANSACTIONS }
         requires opened { opened ≤ from }
         requires from { from ≤ length runs.now }
         requires within { (k : ℕ) → k < length made.now → slice_index_or made.now k 0 < length runs.now }

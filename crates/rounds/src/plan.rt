@@ -2,6 +2,11 @@
 ghost use Rattle.std.specs.Prelude.{◌≡◌, ◌≤◌, ◌↔◌, IsSome, IfSome};
 ghost use Rattle.rounds.specs.Plans.{IsPlan, width_of};
 
+use speculate::MAX_WORKERS;
+
+/// How many transactions a piece of work has at most.
+pub const MAX_CUT: u32 = 1_000;
+
 /// A plan of 1 to 64 workers, and pieces of 1 to 1,000 transactions.
 #[derive(Clone, Copy, Debug, PartialEq, Eq)]
 pub struct Plan {
@@ -9,7 +14,7 @@ pub struct Plan {
     pub workers: u32,
     /// How many transactions a piece of work has at most, 1 to 1,000.
     pub cut: u32,
-    pub ghost is_plan: { (1 ≤ workers) × (workers ≤ 64) × (1 ≤ cut) × (cut ≤ 1000) },
+    pub ghost is_plan: { IsPlan workers cut },
 }
 
 impl Plan {
@@ -18,7 +23,7 @@ impl Plan {
         ensures some { IsSome result ↔ IsPlan workers cut }
         ensures is { IfSome result (λ plan. (plan.workers ≡ workers) × (plan.cut ≡ cut)) }
     {
-        if workers < 1 || workers > 64 || cut < 1 || cut > 1000 {
+        if workers < 1 || workers > MAX_WORKERS || cut < 1 || cut > MAX_CUT {
             return None;
         }
         Some(Plan { workers, cut })

@@ -4,6 +4,7 @@ ghost use Rattle.std.specs.List.{All};
 ghost use Rattle.objects.specs.Entries.{kinds};
 ghost use Rattle.rounds.specs.Passes.{CanBeMade};
 ghost use Rattle.rounds.specs.PendingRuns.{times, AreRenewed};
+ghost use Rattle.meaning.specs.declared.limits.TheConstants.{MAX_TRANSACTIONS};
 
 use crate::crew::{Crew, makers};
 use crate::desk::Desk;
@@ -26,11 +27,11 @@ fn renew_in_turn<R: Threads + Sync, G: Gate>(
 ) -> Result<(), NoMemory>
     requires every { length runs.old.items ≡ length batch.now.transactions.items }
     requires counted { length counts.old.items ≡ length batch.now.transactions.items }
-    requires few { (length batch.now.transactions.items ≤ 10000) × (length stale.now ≤ 10000) }
+    requires few { (length batch.now.transactions.items ≤ MAX_TRANSACTIONS) × (length stale.now ≤ MAX_TRANSACTIONS) }
     requires numbers { (i : ℕ) → 0 < times i stale.now → i < length batch.now.transactions.items }
     requires made { All (λ n. CanBeMade batch.now objects.now n) stale.now }
     requires same_kinds { kinds objects.now ≡ kinds batch.now.objects }
-    requires room { (i : ℕ) → slice_index_or counts.old.items i 0 + times i stale.now ≤ 10001 }
+    requires room { (i : ℕ) → slice_index_or counts.old.items i 0 + times i stale.now ≤ MAX_TRANSACTIONS + 1 }
     ensures renewed { IfOk result (λ _. AreRenewed batch.now objects.now stale.now runs.old.items runs.new.items counts.old.items counts.new.items) }
 {
     let Crew {
@@ -65,11 +66,11 @@ pub(crate) fn renew<R: Threads + Sync, G: Gate>(
 ) -> Result<(), NoMemory>
     requires every { length runs.old.items ≡ length batch.now.transactions.items }
     requires counted { length counts.old.items ≡ length batch.now.transactions.items }
-    requires few { (length batch.now.transactions.items ≤ 10000) × (length stale.now ≤ 10000) }
+    requires few { (length batch.now.transactions.items ≤ MAX_TRANSACTIONS) × (length stale.now ≤ MAX_TRANSACTIONS) }
     requires numbers { (i : ℕ) → 0 < times i stale.now → i < length batch.now.transactions.items }
     requires made { All (λ n. CanBeMade batch.now objects.now n) stale.now }
     requires same_kinds { kinds objects.now ≡ kinds batch.now.objects }
-    requires room { (i : ℕ) → slice_index_or counts.old.items i 0 + times i stale.now ≤ 10001 }
+    requires room { (i : ℕ) → slice_index_or counts.old.items i 0 + times i stale.now ≤ MAX_TRANSACTIONS + 1 }
     ensures renewed { IfOk result (λ _. AreRenewed batch.now objects.now stale.now runs.old.items runs.new.items counts.old.items counts.new.items) }
 {
     if makers(crew, stale.len()) == 1 {

@@ -9,11 +9,12 @@ use Rattle.meaning.specs.WellFormed.{operations, largest, largest_amount}
 use Rattle.meaning.specs.Running.{all_operations}
 use Rattle.batch.specs.Views.{record_view}
 use Rattle.speculate.specs.declared.speculated.Run as speculated
+use Rattle.meaning.specs.declared.limits.TheConstants.{MAX_START}
 
 -- no number is larger than the operations of all other transactions can make it
 abbrev pub IsWithinOthers : List Block → ℕ → State → Type 0
 IsWithinOthers batch i state =
-    largest state ≤ 1_000_000_000_000_000 + largest_amount * (all_operations batch - operations (block_at batch i))
+    largest state ≤ MAX_START + largest_amount * (all_operations batch - operations (block_at batch i))
 
 -- the record, all entries and the net of a run
 pub record IsRunOf (meant : Run Taken) (run : speculated.Run) : Type 0 where

@@ -16,4 +16,4 @@ pub use intentions::{Entry, NoMemory, Objects, View};
 pub use meaning::{End, Held};
 pub use one_thread::plain;
 pub use speculated::Run;
-pub use transaction::{run, run_in};
+pub use transaction::{MAX_WORKERS, run, run_in};

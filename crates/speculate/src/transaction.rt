@@ -6,6 +6,7 @@ ghost use Rattle.objects.specs.Entries.{kinds};
 ghost use Rattle.meaning.specs.OneThread.{one};
 ghost use Rattle.meaning.specs.Batch.{block_at};
 ghost use Rattle.speculate.specs.Runs.{IsRunOf, IsWithinOthers};
+ghost use Rattle.speculate.specs.declared.transaction.TheConstants.{MAX_WORKERS};
 
 use crate::executor::{Making, run_block};
 use crate::gate::Gate;
@@ -15,6 +16,9 @@ use intentions::{Lists, NoMemory, Objects, View};
 use meaning::{End, Held};
 use std::alloc::Global;
 use std::thread::Threads;
+
+/// How many workers there are at most.
+pub const MAX_WORKERS: u32 = 64;
 
 /// Runs transaction `number` (from 1) of the batch on these objects, which stay as they are. At
 /// most `width` children of a parallel block are run at once.
@@ -32,7 +36,7 @@ pub fn run<T: Threads + Sync, G: Gate>(
 ) -> Result<Run, NoMemory>
     requires first { 1 ≤ number }
     requires last { number ≤ length batch.now.transactions.items }
-    requires narrow { (1 ≤ width) × (width ≤ 64) }
+    requires narrow { (1 ≤ width) × (width ≤ MAX_WORKERS) }
     requires same_kinds { kinds objects.now ≡ kinds batch.now.objects }
     requires room { IsWithinOthers (map block_view batch.now.transactions.items) (number - 1) objects.now }
     ensures { IfOk result (IsRunOf (one (block_at (map block_view batch.now.transactions.items) (number - 1)) [] objects.now)) }
@@ -70,7 +74,7 @@ pub fn run_in<T: Threads + Sync, G: Gate>(
 ) -> Result<Run, NoMemory>
     requires first { 1 ≤ number }
     requires last { number ≤ length batch.now.transactions.items }
-    requires narrow { (1 ≤ width) × (width ≤ 64) }
+    requires narrow { (1 ≤ width) × (width ≤ MAX_WORKERS) }
     requires opened { view.old ≡ opened view.old.snapshot }
     requires unlabelled { labels.old.items ≡ [] }
     requires same_kinds { kinds view.old.snapshot ≡ kinds batch.now.objects }
