@@ -1,0 +1,86 @@
+-- What is known of each object where objects can be carried over.
+use Rattle.std.proofs.Common.{◌≡◌, ◌⊎◌, inl, inr, ℕ, ◌+◌, ◌≤◌, Bool, true, false, cond, List, [], ◌∷◌, map, Option, Some, None, refl, sym}
+use Rattle.std.specs.Prelude.{⊤, nat_lt}
+use Rattle.std.specs.List.{AllByRecursion}
+use Rattle.std.proofs.lemmas.Bool.{and_parts, ltb-false}
+use Rattle.std.specs.FinMap as finite_map
+use Rattle.atoms.specs.Item.{item_cmp}
+use Rattle.atoms.specs.declared.item.Item.{Item}
+use Rattle.objects.specs.Entries.{State}
+use Rattle.objects.specs.declared.value.Value.{Value}
+use Rattle.objects.specs.declared.value.Value.TheVariants as value
+use Rattle.meaning.specs.Words.{Names, members}
+use Rattle.batch.specs.Limits.{entries_in}
+use Rattle.batch.specs.Names.{AreNames, is_name}
+use Rattle.carry.specs.Carried.{first_unfit, magnitude}
+use Rattle.carry.specs.declared.document.Unfit.{Unfit}
+use Rattle.carry.specs.declared.document.Unfit.TheVariants.{Start, TooMany}
+use Rattle.carry_laws.specs.Carrying.{CanBeCarried, HasItem, SomeHasItem, object_names}
+use Rattle.carry_laws.proofs.Among.{Among, Apart, apart_map, among_from_map, contains_among, each_of}
+use Rattle.carry_laws.proofs.ItemsOf.{among_bound, among_contained, keys_apart, members_apart}
+use Rattle.carry_laws.proofs.Listed.{AreNamedBoth, AreWritable, IsNamed, IsWritable}
+
+-- the first object can start, and so can the others behind it
+pub record Fits (entries : ℕ) (v : Value) (values : State) : Type 0 where
+  pub small : magnitude v ≤ 1_000_000_000_000_000
+  pub few : entries + entries_in v ≤ 100_000
+  pub rest : first_unfit (entries + entries_in v) values ≡ None
+
+pub first_fits : (entries : ℕ) (v : Value) (values : State) → first_unfit entries (v ∷ values) ≡ None → Fits entries v values
+first_fits entries v values e = by (nat_lt 1_000_000_000_000_000 (magnitude v)) (nat_lt 100_000 (entries + entries_in v)) refl refl e
+  where
+    by : (large many : Bool) → nat_lt 1_000_000_000_000_000 (magnitude v) ≡ large → nat_lt 100_000 (entries + entries_in v) ≡ many
+        → cond large (Some Start) (cond many (Some TooMany) (first_unfit (entries + entries_in v) values)) ≡ None → Fits entries v values
+    by true many l m none = cc
+    by false true l m none = cc
+    by false false l m none = record { small = ltb-false _ _ l; few = ltb-false _ _ m; rest = none }
+
+-- the members of a set and the keys of a directory have names of their own
+abbrev pub IsApart : Names → Value → Type 0
+IsApart names (value.Set s) = Apart (map names.item (members s))
+IsApart names (value.Directory d) = Apart (map names.item (finite_map.keys d))
+IsApart names v = ⊤
+
+module _ (names : Names) where
+  writable : (v : Value) → magnitude v ≤ 1_000_000_000_000_000 → ((x : Item) → HasItem v x → IsNamed names x) → IsWritable names v
+  writable (value.Account n) small named = small
+  writable (value.Counter n) small named = small
+  writable (value.Set s) small named = each_of (IsNamed names) (members s) (λ x at. named x (among_contained s x at))
+  writable (value.Queue q) small named = each_of (IsNamed names) q (λ x at. named x (contains_among q x at))
+  writable (value.Directory d) small named = each_of (AreNamedBoth names) (finite_map.entries d) (λ e at. (
+    named e.0 (e.0, e.1, among_bound d e.0 e.1 at, inl refl),
+    named e.1 (e.0, e.1, among_bound d e.0 e.1 at, inr refl),
+  ))
+  writable (value.Max n) small named = small
+
+  key_of_map : (d : finite_map.FinMap item_cmp Item) (x : Item) → Among x (finite_map.keys d) → HasItem (value.Directory d) x
+  key_of_map d x at =
+      let found = among_from_map (λ (e : Item × Item). e.0) (finite_map.entries d) x at in
+      (found.0.0, found.0.1, among_bound d found.0.0 found.0.1 found.1, inl (sym found.2))
+
+  apart : (v : Value) → ((x y : Item) → HasItem v x → HasItem v y → names.item x ≡ names.item y → x ≡ y) → IsApart names v
+  apart (value.Account n) one = tt
+  apart (value.Counter n) one = tt
+  apart (value.Set s) one = apart_map names.item (members s) (λ x y at at'. one x y (among_contained s x at) (among_contained s y at'))
+      (members_apart s)
+  apart (value.Queue q) one = tt
+  apart (value.Directory d) one = apart_map names.item (finite_map.keys d)
+      (λ x y at at'. one x y (key_of_map d x at) (key_of_map d y at')) (keys_apart d)
+  apart (value.Max n) one = tt
+
+  pub all_writable : (n entries : ℕ) (values : State) → first_unfit entries values ≡ None → AreNames (object_names names n values)
+      → ((x : Item) → SomeHasItem values x → IsNamed names x) → AreWritable names n values
+  all_writable n entries [] fit object named = tt
+  all_writable n entries (v ∷ values) fit object named =
+      let fits = first_fits entries v values fit in
+      let both = and_parts (is_name (names.object n)) _ object in (
+        both.0,
+        writable v fits.small (λ x has. named x (inl has)),
+        all_writable (n + 1) (entries + entries_in v) values fits.rest both.1 (λ x has. named x (inr has)),
+      )
+
+  pub all_apart : (values : State)
+      → ((x y : Item) → SomeHasItem values x → SomeHasItem values y → names.item x ≡ names.item y → x ≡ y)
+      → AllByRecursion (IsApart names) values
+  all_apart [] one = tt
+  all_apart (v ∷ values) one = (apart v (λ x y h k. one x y (inl h) (inl k)), all_apart values (λ x y h k. one x y (inr h) (inr k)))

@@ -1,0 +1,97 @@
+-- The document of objects as they are is JSON of a known value.
+use Rattle.std.proofs.Common.{◌≡◌, ℕ, pos, negsuc, suc, ◌+◌, ◌^◌, ◌<◌, ◌≤◌, max, true, List, [], ◌∷◌, ◌++◌, Some, None, decimal, refl, sym, ap, ◌∙◌, arith, append-nil}
+use Rattle.std.specs.Prelude.{codes, cond, option_and_then, option_map, if◌then◌else◌}
+use Rattle.std.specs.Str.{is_utf8}
+use Rattle.std.specs.FinMap as finite_map
+use Rattle.std.proofs.lemmas.Fmt.{decimal_digit}
+use Rattle.std.proofs.lemmas.Str.{is_utf8-from_IsUtf8}
+use Rattle.json.specs.Json as json
+use Rattle.json.specs.Tree.{depth, items_depth, members_depth}
+use Rattle.json.proofs.Printed.Trees.{value-json_tokens}
+use Rattle.serde_json.specs.Data.{Data, Items, unsigned}
+use Rattle.serde_json.specs.Read.{max_depth, number_of, of_items, of_json, read}
+use Rattle.serde_json.proofs.Numbers.{number_of-decimal, number_of-negative}
+use Rattle.atoms.specs.declared.item.Item.{Item}
+use Rattle.objects.specs.Entries.{State}
+use Rattle.objects.specs.declared.value.Value.{Value}
+use Rattle.objects.specs.declared.value.Value.TheVariants as value
+use Rattle.meaning.specs.Words.{Names, members}
+use Rattle.carry.specs.Carried.{carried_text}
+use Rattle.carry_laws.specs.CarriedData.{carried_data, items_data, object_data, objects_data, pair_data, pairs_data, start_data}
+use Rattle.carry_laws.proofs.CarriedJson.{carried_json, carried_lexed, items_json, object_json, objects_json, pairs_json, start_json}
+use Rattle.carry_laws.proofs.CarriedUtf8.{carried_utf8}
+use Rattle.carry_laws.proofs.Lexemes.{tokens_alone}
+use Rattle.carry_laws.proofs.Listed.{AreWritable, IsWritable}
+
+module _ (names : Names) where
+  -- ---- the value
+
+  items_read : (xs : List Item) → of_items (items_json names xs) ≡ Some (items_data names xs)
+  items_read [] = refl
+  items_read (x ∷ xs) = rw (items_read xs)
+
+  pairs_read : (pairs : List (Item × Item)) → of_items (pairs_json names pairs) ≡ Some (pairs_data names pairs)
+  pairs_read [] = refl
+  pairs_read (pair ∷ pairs) = rw (pairs_read pairs)
+
+  start_read : (v : Value) → IsWritable names v → of_json (start_json names v) ≡ Some (start_data names v)
+  start_read (value.Account n) ok = rw (number_of-decimal n (omega arith))
+  start_read (value.Counter (pos n)) ok = rw (number_of-decimal n (omega arith))
+  start_read (value.Counter (negsuc n)) ok = rw (number_of-negative n (omega arith))
+  start_read (value.Set s) ok = rw (items_read (members s))
+  start_read (value.Queue q) ok = rw (items_read q)
+  start_read (value.Directory d) ok = rw (pairs_read (finite_map.entries d))
+  start_read (value.Max n) ok = rw (number_of-decimal n (omega arith))
+
+  object_read : (n : ℕ) (v : Value) → IsWritable names v → of_json (object_json names n v) ≡ Some (object_data names n v)
+  object_read n v ok = rw (start_read v ok)
+
+  objects_read : (n : ℕ) (values : State) → AreWritable names n values → of_items (objects_json names n values) ≡ Some (objects_data names n values)
+  objects_read n [] ok = refl
+  objects_read n (v ∷ values) ok = rw (object_read n v ok.1, objects_read (n + 1) values ok.2)
+
+  four : number_of (codes "4") ≡ Some (unsigned 4)
+  four = ap number_of (sym (decimal_digit 4 (omega arith))) ∙ number_of-decimal 4 (omega arith)
+
+  document_read : (values : State) → AreWritable names 0 values → of_json (carried_json names values) ≡ Some (carried_data names values)
+  document_read values ok = rw (four, objects_read 0 values ok)
+
+  -- ---- how deep it is
+
+  items_flat : (xs : List Item) → items_depth (items_json names xs) ≤ 0
+  items_flat [] = omega arith
+  items_flat (x ∷ xs) = omega (arith, items_flat xs)
+
+  pairs_flat : (pairs : List (Item × Item)) → items_depth (pairs_json names pairs) ≤ 1
+  pairs_flat [] = omega arith
+  pairs_flat (pair ∷ pairs) = omega (arith, pairs_flat pairs)
+
+  start_flat : (v : Value) → depth (start_json names v) ≤ 2
+  start_flat (value.Account n) = omega arith
+  start_flat (value.Counter n) = omega arith
+  start_flat (value.Set s) = omega (arith, items_flat (members s))
+  start_flat (value.Queue q) = omega (arith, items_flat q)
+  start_flat (value.Directory d) = omega (arith, pairs_flat (finite_map.entries d))
+  start_flat (value.Max n) = omega arith
+
+  objects_flat : (n : ℕ) (values : State) → items_depth (objects_json names n values) ≤ 3
+  objects_flat n [] = omega arith
+  objects_flat n (v ∷ values) = omega (arith, start_flat v, objects_flat (n + 1) values)
+
+  shallow : (values : State) → depth (carried_json names values) ≤ 127
+  shallow values = omega (arith, objects_flat 0 values)
+
+  -- ---- the text
+
+  pub carried_read : (values : State) → AreWritable names 0 values → read (carried_text names values) ≡ Some (carried_data names values)
+  carried_read values ok =
+      let j = carried_json names values in
+      ap (λ o. option_and_then of_json (option_and_then (λ p. json.if_last p.0 p.1) o)) (ap (json.value max_depth) (tokens_alone (carried_text names values) j (carried_lexed names values ok) ∙ sym (append-nil _))
+      ∙ value-json_tokens j max_depth [] (shallow values))
+      ∙ document_read values ok
+
+  pub carried_value : (values : State) → AreWritable names 0 values
+      → (if is_utf8 (carried_text names values) then read (carried_text names values) else None) ≡ Some (carried_data names values)
+  carried_value values ok =
+      let utf8 = is_utf8-from_IsUtf8 (carried_text names values) (carried_utf8 names values ok) in
+      ap (λ b. cond b (read (carried_text names values)) None) utf8 ∙ carried_read values ok

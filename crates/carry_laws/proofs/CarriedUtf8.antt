@@ -1,0 +1,108 @@
+-- The document of objects as they are is UTF-8.
+use Rattle.std.proofs.Common.{◌≡◌, ℕ, pos, negsuc, suc, ◌+◌, ◌^◌, ◌<◌, ◌≤◌, true, List, [], ◌∷◌, ◌++◌, map, decimal, refl, arith, IsUtf8}
+use Rattle.std.specs.Prelude.{codes, ⊤}
+use Rattle.std.specs.Fmt.{signed_decimal}
+use Rattle.std.specs.FinMap as finite_map
+use Rattle.std.specs.List.{AllByRecursion, list_all}
+use Rattle.std.specs.Str.{IsAscii}
+use Rattle.std.proofs.lemmas.Bool.{and_parts}
+use Rattle.std.proofs.lemmas.Fmt.{IsAscii-decimal, IsAscii-signed}
+use Rattle.std.proofs.lemmas.Str.{IsUtf8-append, IsUtf8-from_ascii, IsUtf8-nil}
+use Rattle.std.proofs.lemmas.Str.Ascii.{IsAscii-cons, IsAscii-nil}
+use Rattle.json.proofs.Printed.Utf8.{IsUtf8-are_ascii}
+use Rattle.atoms.specs.declared.item.Item.{Item}
+use Rattle.objects.specs.Entries.{State}
+use Rattle.objects.specs.Objects.{kind_of_value}
+use Rattle.objects.specs.declared.kind.Kind.{Kind}
+use Rattle.objects.specs.declared.kind.Kind.TheVariants as kind
+use Rattle.objects.specs.declared.value.Value.{Value}
+use Rattle.objects.specs.declared.value.Value.TheVariants as value
+use Rattle.meaning.specs.Words.{Names, kind_text, members}
+use Rattle.batch.specs.Names.{is_name, is_name_byte}
+use Rattle.carry.specs.Carried.{carried_text, item_text, joined, list_text, object_text, object_texts, pair_text, quoted, start_text}
+use Rattle.carry_laws.proofs.Listed.{AreNamedBoth, AreWritable, IsNamed, IsWritable}
+use Rattle.carry_laws.proofs.NamesPlain.{high_byte}
+
+bytes_ascii : (s : List ℕ) → list_all is_name_byte s ≡ true → IsAscii s
+bytes_ascii [] e = IsAscii-nil
+bytes_ascii (x ∷ s) e =
+    let both = and_parts _ _ e in
+    let high = high_byte x both.0 in
+    IsAscii-cons x s (omega arith) (bytes_ascii s both.1)
+
+name_utf8 : (s : List ℕ) → is_name s ≡ true → IsUtf8 s
+unfolding is_name
+name_utf8 s e = IsUtf8-from_ascii s (bytes_ascii s (and_parts _ _ e).1)
+
+between_utf8 : (a b c : List ℕ) → IsUtf8 a → IsUtf8 b → IsUtf8 c → IsUtf8 (a ++ b ++ c)
+between_utf8 a b c first second third = IsUtf8-append (a ++ b) c (IsUtf8-append a b first second) third
+
+quoted_utf8 : (s : List ℕ) → IsUtf8 s → IsUtf8 (quoted s)
+quoted_utf8 s is = between_utf8 (codes "\"") s (codes "\"") (IsUtf8-are_ascii (codes "\"") refl) is (IsUtf8-are_ascii (codes "\"") refl)
+
+joined_utf8 : (separator : List ℕ) → IsUtf8 separator → (texts : List (List ℕ)) → AllByRecursion IsUtf8 texts → IsUtf8 (joined separator texts)
+joined_utf8 separator is [] all = IsUtf8-nil
+joined_utf8 separator is (text ∷ []) all = all.0
+joined_utf8 separator is (text ∷ next ∷ texts) all =
+    between_utf8 text separator (joined separator (next ∷ texts)) all.0 is (joined_utf8 separator is (next ∷ texts) all.1)
+
+list_utf8 : (texts : List (List ℕ)) → AllByRecursion IsUtf8 texts → IsUtf8 (list_text texts)
+list_utf8 texts all = between_utf8 (codes "[") (joined (codes ", ") texts) (codes "]") (IsUtf8-are_ascii (codes "[") refl)
+    (joined_utf8 (codes ", ") (IsUtf8-are_ascii (codes ", ") refl) texts all) (IsUtf8-are_ascii (codes "]") refl)
+
+kind_utf8 : (k : Kind) → IsUtf8 (kind_text k)
+kind_utf8 kind.Account = IsUtf8-are_ascii (codes "account") refl
+kind_utf8 kind.Counter = IsUtf8-are_ascii (codes "counter") refl
+kind_utf8 kind.Set = IsUtf8-are_ascii (codes "set") refl
+kind_utf8 kind.Queue = IsUtf8-are_ascii (codes "queue") refl
+kind_utf8 kind.Directory = IsUtf8-are_ascii (codes "directory") refl
+kind_utf8 kind.Max = IsUtf8-are_ascii (codes "max") refl
+
+number_utf8 : (n : ℕ) → n ≤ 1_000_000_000_000_000 → IsUtf8 (decimal n)
+number_utf8 n small = IsUtf8-from_ascii (decimal n) (IsAscii-decimal n (omega arith))
+
+module _ (names : Names) where
+  items_utf8 : (xs : List Item) → AllByRecursion (IsNamed names) xs → AllByRecursion IsUtf8 (map (item_text names) xs)
+  items_utf8 [] named = tt
+  items_utf8 (x ∷ xs) named = (quoted_utf8 (names.item x) (name_utf8 (names.item x) named.0), items_utf8 xs named.1)
+
+  pairs_utf8 : (pairs : List (Item × Item)) → AllByRecursion (AreNamedBoth names) pairs → AllByRecursion IsUtf8 (map (pair_text names) pairs)
+  pairs_utf8 [] named = tt
+  pairs_utf8 (pair ∷ pairs) named = (
+    list_utf8 (item_text names pair.0 ∷ item_text names pair.1 ∷ [])
+        (items_utf8 (pair.0 ∷ pair.1 ∷ []) (named.0.0, (named.0.1, tt))),
+    pairs_utf8 pairs named.1,
+  )
+
+  start_utf8 : (v : Value) → IsWritable names v → IsUtf8 (start_text names v)
+  start_utf8 (value.Account n) ok = number_utf8 n ok
+  start_utf8 (value.Counter (pos n)) ok = number_utf8 n ok
+  start_utf8 (value.Counter (negsuc n)) ok = IsUtf8-from_ascii (signed_decimal (negsuc n)) (IsAscii-signed (negsuc n) (omega arith))
+  start_utf8 (value.Set s) ok = list_utf8 (map (item_text names) (members s)) (items_utf8 (members s) ok)
+  start_utf8 (value.Queue q) ok = list_utf8 (map (item_text names) q) (items_utf8 q ok)
+  start_utf8 (value.Directory d) ok = list_utf8 (map (pair_text names) (finite_map.entries d)) (pairs_utf8 (finite_map.entries d) ok)
+  start_utf8 (value.Max n) ok = number_utf8 n ok
+
+  object_utf8 : (n : ℕ) (v : Value) → is_name (names.object n) ≡ true → IsWritable names v → IsUtf8 (object_text names n v)
+  object_utf8 n v named ok =
+      let name = quoted (names.object n) in
+      let kind = quoted (kind_text (kind_of_value v)) in
+      let first = codes "{\"name\": " in
+      let second = codes ", \"kind\": " in
+      let third = codes ", \"start\": " in
+      between_utf8 (first ++ name ++ second ++ kind ++ third) (start_text names v) (codes "}")
+      (between_utf8 (first ++ name ++ second) kind third
+      (between_utf8 first name second (IsUtf8-are_ascii first refl) (quoted_utf8 (names.object n) (name_utf8 (names.object n) named))
+      (IsUtf8-are_ascii second refl))
+      (quoted_utf8 (kind_text (kind_of_value v)) (kind_utf8 (kind_of_value v))) (IsUtf8-are_ascii third refl))
+      (start_utf8 v ok) (IsUtf8-are_ascii (codes "}") refl)
+
+  objects_utf8 : (n : ℕ) (values : State) → AreWritable names n values → AllByRecursion IsUtf8 (object_texts names n values)
+  objects_utf8 n [] ok = tt
+  objects_utf8 n (v ∷ values) ok = (object_utf8 n v ok.0 ok.1, objects_utf8 (n + 1) values ok.2)
+
+  pub carried_utf8 : (values : State) → AreWritable names 0 values → IsUtf8 (carried_text names values)
+  carried_utf8 values ok = between_utf8 (codes "{\"ordtx\": 4,\n\"objects\": [\n") (joined (codes ",\n") (object_texts names 0 values))
+      (codes "\n],\n\"transactions\": [\n]}\n") (IsUtf8-are_ascii _ refl)
+      (joined_utf8 (codes ",\n") (IsUtf8-are_ascii (codes ",\n") refl) (object_texts names 0 values) (objects_utf8 0 values ok))
+      (IsUtf8-are_ascii _ refl)

@@ -1,0 +1,16 @@
+pub mod Lexemes
+pub mod Written
+pub mod NamesPlain
+pub mod Listed
+pub mod CarriedJson
+pub mod CarriedUtf8
+pub mod CarriedReads
+pub mod Among
+pub mod ItemsOf
+pub mod Carriable
+pub mod TextLength
+pub mod Meeting
+pub mod CarriedFaultless
+pub mod NumberedTexts
+pub mod PutIn
+pub mod CarriedLaws

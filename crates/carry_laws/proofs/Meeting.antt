@@ -1,0 +1,71 @@
+-- Demands that are met while few entries are counted.
+use Rattle.std.proofs.Common.{◌≡◌, ◌≢◌, ℕ, suc, ◌+◌, ◌<◌, ◌≤◌, ◌||◌, Bool, true, false, not, cond, List, [], ◌∷◌, ◌++◌, length, map, Ok, Err, refl, sym, ap, ap₂, subst, ◌∙◌, arith}
+use Rattle.std.specs.Prelude.{nat_lt}
+use Rattle.std.specs.List.{AllByRecursion}
+use Rattle.std.specs.Str.{bytes_eq}
+use Rattle.std.proofs.lemmas.Bool.{false_from_ne_true, lt-ltb, or_parts}
+use Rattle.std.proofs.lemmas.Slice.Eq.{bytes_eq-Decides}
+use Rattle.lang.specs.declared.fault.Code.{Code}
+use Rattle.lang.specs.Demand.{Demand, and_then, check, check_one, fault_at, holds, limited, no_counts, one_more_start}
+use Rattle.lang.specs.Scope.{Table, is_listed, with_text}
+use Rattle.lang.proofs.Checks.{check_met}
+
+abbrev type_of : {A : Type 0} → A → Type 0
+type_of {A} a = A
+
+-- what is counted towards the limits of a document
+abbrev pub Counts : Type 0
+Counts = type_of no_counts
+
+-- they are met, and count no more entries than this
+pub record Meet (k : ℕ) (ds : List Demand) : Type 0 where
+  pub met : (c : Counts) → c.starts + k ≤ 100000 → (next : Counts) × (check c ds ≡ Ok next) × (next.starts ≤ c.starts + k)
+
+pub meet_none : Meet 0 []
+meet_none = record { met = λ c few. (c, refl, omega arith) }
+
+pub meet_test : (k : ℕ) (b : Bool) (code : Code) (ds : List Demand) → b ≡ true → Meet k ds → Meet k (holds b code ∷ ds)
+meet_test k b code ds is rest = record {
+  met = λ c few. let later = rest.met c few in
+      (later.0, ap (λ t. and_then (cond t (Ok c) (Err (fault_at code c))) (λ next. check next ds)) is ∙ later.1, later.2);
+}
+
+pub meet_start : (k : ℕ) (ds : List Demand) → Meet k ds → Meet (suc k) (one_more_start ∷ ds)
+meet_start k ds rest = record {
+  met = λ c few.
+      let counted : Counts = record c { starts = c.starts + 1 } in
+      let later = rest.met counted (omega arith) in
+      let bound = later.2 in
+      (later.0, ap (λ t. and_then (limited t c counted) (λ next. check next ds)) (lt-ltb c.starts 100000 (omega arith)) ∙ later.1, omega arith);
+}
+
+pub meet_fewer : (k l : ℕ) (ds : List Demand) → k ≤ l → Meet k ds → Meet l ds
+meet_fewer k l ds le meets = record {
+  met = λ c few. let here = meets.met c (omega arith) in let bound = here.2 in (here.0, here.1, omega arith);
+}
+
+-- ---- texts that are new
+
+listed_not : (text other : List ℕ) (table : Table) → is_listed text table ≡ false → text ≢ other → is_listed text (table ++ other ∷ []) ≡ false
+listed_not text other [] e ne = ap (λ b. b || false) (false_from_ne_true (bytes_eq text other) (λ is. ne ((bytes_eq-Decides text other).0 is)))
+listed_not text other (t ∷ table) e ne =
+    let both = or_parts (bytes_eq text t) _ e in ap₂ (λ a b. a || b) both.0 (listed_not text other table both.1 ne)
+
+-- none of the texts is in the table
+abbrev pub AreNew : Table → List (List ℕ) → Type 0
+AreNew table texts = AllByRecursion (λ text. is_listed text table ≡ false) texts
+
+pub new_after : (text : List ℕ) (table : Table) (texts : List (List ℕ)) → AllByRecursion (λ other. text ≢ other) texts → AreNew table texts
+    → AreNew (table ++ text ∷ []) texts
+new_after text table [] apart new = tt
+new_after text table (other ∷ texts) apart new = (
+  listed_not other text table new.0 (λ same. apart.0 (sym same)),
+  new_after text table texts apart.1 new.1,
+)
+
+pub all_new : (texts : List (List ℕ)) → AreNew [] texts
+all_new [] = tt
+all_new (text ∷ texts) = (refl, all_new texts)
+
+pub with_new : (text : List ℕ) (table : Table) → is_listed text table ≡ false → with_text text table ≡ table ++ text ∷ []
+with_new text table new = ap (λ b. cond b table (table ++ text ∷ [])) new

@@ -1,0 +1,122 @@
+-- How long the document of objects as they are can be.
+use Rattle.std.proofs.Common.{◌≡◌, ℕ, pos, negsuc, suc, ◌+◌, ◌*◌, ◌^◌, ◌<◌, ◌≤◌, true, None, List, [], ◌∷◌, ◌++◌, map, length, decimal, refl, ap, ◌∙◌, arith, length-append}
+use Rattle.std.specs.Prelude.{codes}
+use Rattle.std.specs.Fmt.{signed_decimal}
+use Rattle.std.specs.FinSet as finite_set
+use Rattle.std.specs.FinMap as finite_map
+use Rattle.std.specs.List.{AllByRecursion}
+use Rattle.std.proofs.lemmas.Bool.{and_parts, leb-true}
+use Rattle.std.proofs.lemmas.Fmt.{length-decimal-le}
+use Rattle.atoms.specs.declared.item.Item.{Item}
+use Rattle.objects.specs.Entries.{State}
+use Rattle.objects.specs.Objects.{kind_of_value}
+use Rattle.objects.specs.declared.kind.Kind.{Kind}
+use Rattle.objects.specs.declared.kind.Kind.TheVariants as kind
+use Rattle.objects.specs.declared.value.Value.{Value}
+use Rattle.objects.specs.declared.value.Value.TheVariants as value
+use Rattle.meaning.specs.Words.{Names, kind_text, members}
+use Rattle.batch.specs.Limits.{all_entries_in, entries_in}
+use Rattle.batch.specs.Names.{is_name}
+use Rattle.carry.specs.Carried.{carried_text, first_unfit, item_text, joined, list_text, object_text, object_texts, pair_text, quoted, start_text}
+use Rattle.carry_laws.proofs.Carriable.{first_fits}
+use Rattle.carry_laws.proofs.ItemsOf.{members_few}
+use Rattle.carry_laws.proofs.Listed.{AreNamedBoth, AreWritable, IsNamed, IsWritable}
+
+-- the bytes of all the texts, with two more for each
+abbrev total : List (List ℕ) → ℕ
+total [] = 0
+total (text ∷ texts) = length text + 2 + total texts
+
+joined_length : (separator : List ℕ) (texts : List (List ℕ)) → length separator ≤ 2 → length (joined separator texts) ≤ total texts
+joined_length separator [] short = omega arith
+joined_length separator (text ∷ []) short = omega arith
+joined_length separator (text ∷ next ∷ texts) short =
+    let rest = joined_length separator (next ∷ texts) short in
+    omega (arith, rest, length-append (text ++ separator) (joined separator (next ∷ texts)), length-append text separator)
+
+total_most : (most : ℕ) (texts : List (List ℕ)) → AllByRecursion (λ text. length text ≤ most) texts → total texts ≤ (most + 2) * length texts
+total_most most [] all = omega arith
+total_most most (text ∷ texts) all = let first = all.0 in omega (arith, total_most most texts all.1)
+
+list_length : (texts : List (List ℕ)) → length (list_text texts) ≤ total texts + 2
+list_length texts =
+    let two : length (codes ", ") ≤ 2 = omega arith in
+    omega (arith, joined_length (codes ", ") texts two, length-append (codes "[" ++ joined (codes ", ") texts) (codes "]"))
+
+name_length : (name : List ℕ) → is_name name ≡ true → length name ≤ 32
+unfolding is_name
+name_length name e = leb-true (length name) 32 (and_parts _ _ (and_parts _ _ e).0).1
+
+quoted_length : (name : List ℕ) → length name ≤ 32 → length (quoted name) ≤ 34
+quoted_length name short = omega (arith, length-append (codes "\"" ++ name) (codes "\""))
+
+kind_length : (k : Kind) → length (kind_text k) ≤ 32
+kind_length kind.Account = omega arith
+kind_length kind.Counter = omega arith
+kind_length kind.Set = omega arith
+kind_length kind.Queue = omega arith
+kind_length kind.Directory = omega arith
+kind_length kind.Max = omega arith
+
+number_length : (n : ℕ) → n ≤ 1_000_000_000_000_000 → length (decimal n) ≤ 16
+number_length n small = length-decimal-le 16 n (omega arith) (omega arith) (omega arith)
+
+module _ (names : Names) where
+  items_length : (xs : List Item) → AllByRecursion (IsNamed names) xs → total (map (item_text names) xs) ≤ 36 * length xs
+  items_length [] named = omega arith
+  items_length (x ∷ xs) named =
+      omega (arith, items_length xs named.1, quoted_length (names.item x) (name_length (names.item x) named.0))
+
+  pair_length : (pair : Item × Item) → AreNamedBoth names pair → length (pair_text names pair) ≤ 74
+  pair_length pair named =
+      omega (arith, list_length (item_text names pair.0 ∷ item_text names pair.1 ∷ []),
+      items_length (pair.0 ∷ pair.1 ∷ []) (named.0, (named.1, tt)))
+
+  pairs_length : (pairs : List (Item × Item)) → AllByRecursion (AreNamedBoth names) pairs → total (map (pair_text names) pairs) ≤ 76 * length pairs
+  pairs_length [] named = omega arith
+  pairs_length (pair ∷ pairs) named = omega (arith, pairs_length pairs named.1, pair_length pair named.0)
+
+  start_length : (v : Value) → IsWritable names v → length (start_text names v) ≤ 76 * entries_in v + 20
+  start_length (value.Account n) ok = omega (arith, number_length n ok)
+  start_length (value.Counter (pos n)) ok = omega (arith, number_length n ok)
+  start_length (value.Counter (negsuc n)) ok = omega (arith, number_length (suc n) ok)
+  start_length (value.Set s) ok =
+      omega (arith, list_length (map (item_text names) (members s)), items_length (members s) ok, members_few s)
+  start_length (value.Queue q) ok = omega (arith, list_length (map (item_text names) q), items_length q ok)
+  start_length (value.Directory d) ok =
+      omega (arith, list_length (map (pair_text names) (finite_map.entries d)), pairs_length (finite_map.entries d) ok, finite_map.len-entries d)
+  start_length (value.Max n) ok = omega (arith, number_length n ok)
+
+  parts_length : (a name b kind c start d : List ℕ) → length (a ++ name ++ b ++ kind ++ c ++ start ++ d)
+      ≡ length a + length name + length b + length kind + length c + length start + length d
+  parts_length a name b kind c start d = simp length-append
+
+  object_length : (n : ℕ) (v : Value) → is_name (names.object n) ≡ true → IsWritable names v
+      → length (object_text names n v) ≤ 76 * entries_in v + 120
+  object_length n v named ok =
+      omega (arith,
+      parts_length (codes "{\"name\": ") (quoted (names.object n)) (codes ", \"kind\": ") (quoted (kind_text (kind_of_value v))) (codes ", \"start\": ")
+      (start_text names v) (codes "}"),
+      quoted_length (names.object n) (name_length (names.object n) named),
+      quoted_length (kind_text (kind_of_value v)) (kind_length (kind_of_value v)), start_length v ok)
+
+  objects_length : (n : ℕ) (values : State) → AreWritable names n values
+      → total (object_texts names n values) ≤ 76 * all_entries_in values + 122 * length values
+  objects_length n [] ok = omega arith
+  objects_length n (v ∷ values) ok = omega (arith, objects_length (n + 1) values ok.2, object_length n v ok.0 ok.1)
+
+  pub all_few : (entries : ℕ) (values : State) → entries ≤ 100_000 → first_unfit entries values ≡ None → entries + all_entries_in values ≤ 100_000
+  all_few entries [] few fit = omega arith
+  all_few entries (v ∷ values) few fit =
+      let fits = first_fits entries v values fit in
+      omega (arith, all_few (entries + entries_in v) values fits.few fits.rest)
+
+  pub carried_length : (values : State) → length values ≤ 1000 → first_unfit 0 values ≡ None → AreWritable names 0 values
+      → length (carried_text names values) ≤ 67_108_864
+  carried_length values few fit ok =
+      let head = codes "{\"ordtx\": 4,\n\"objects\": [\n" in
+      let objects = joined (codes ",\n") (object_texts names 0 values) in
+      let tail = codes "\n],\n\"transactions\": [\n]}\n" in
+      let two : length (codes ",\n") ≤ 2 = omega arith in
+      omega (arith, joined_length (codes ",\n") (object_texts names 0 values) two, objects_length 0 values ok,
+      all_few 0 values (omega arith) fit, length-append (head ++ objects) tail, length-append head objects)

@@ -1,0 +1,26 @@
+-- The laws of carrying over, as statements.
+use Rattle.std.specs.Prelude.{◌≡◌, [], Some, Ok}
+use Rattle.objects.specs.Entries.{State}
+use Rattle.meaning.specs.Words.{Names}
+use Rattle.lang.specs.Reading.{Document, reading, value_of}
+use Rattle.carry.specs.Carried.{carried_text}
+use Rattle.batch.specs.Names.{names_of}
+use Rattle.carry_laws.specs.Carrying.{CanBeCarried, object_names}
+use Rattle.carry_laws.specs.Same.{AreSame}
+use Rattle.carry_laws.specs.CarriedData.{carried_data}
+
+-- What is printed of objects that can be carried is JSON of this value.
+abbrev pub CarriedDataLaw : Type 0
+CarriedDataLaw = (names : Names) (values : State) → CanBeCarried names values
+    → value_of (carried_text names values) ≡ Some (carried_data names values)
+
+-- The document starts with the same objects under the same names, and has no transaction.
+pub record StartsWith (names : Names) (values : State) (document : Document) : Type 0 where
+  pub objects : AreSame names values (names_of document.texts) document.start
+  pub named : document.texts.objects ≡ object_names names 0 values
+  pub no_transactions : document.transactions ≡ []
+
+-- What is printed of objects that can be carried is read as a document that starts with them.
+abbrev pub CarriedLaw : Type 0
+CarriedLaw = (names : Names) (values : State) → CanBeCarried names values
+    → (document : Document) × (reading (carried_text names values) ≡ Ok document) × StartsWith names values document

@@ -1,0 +1,4 @@
+pub mod Carrying
+pub mod Same
+pub mod CarriedData
+pub mod Laws
