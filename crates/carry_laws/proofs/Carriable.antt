@@ -1,5 +1,5 @@
 -- What is known of each object where objects can be carried over.
-use Rattle.std.proofs.Common.{◌≡◌, ◌⊎◌, inl, inr, ℕ, ◌+◌, ◌≤◌, Bool, true, false, cond, List, [], ◌∷◌, map, Option, Some, None, refl, sym}
+use Rattle.std.proofs.Common.{◌≡◌, inl, inr, ℕ, ◌+◌, ◌≤◌, Bool, true, false, cond, [], ◌∷◌, map, Some, None, refl, sym}
 use Rattle.std.specs.Prelude.{⊤, nat_lt}
 use Rattle.std.specs.List.{AllByRecursion}
 use Rattle.std.proofs.lemmas.Bool.{and_parts, ltb-false}
@@ -13,9 +13,8 @@ use Rattle.meaning.specs.Words.{Names, members}
 use Rattle.batch.specs.Limits.{entries_in}
 use Rattle.batch.specs.Names.{AreNames, is_name}
 use Rattle.carry.specs.Carried.{first_unfit, magnitude}
-use Rattle.carry.specs.declared.document.Unfit.{Unfit}
 use Rattle.carry.specs.declared.document.Unfit.TheVariants.{Start, TooMany}
-use Rattle.carry_laws.specs.Carrying.{CanBeCarried, HasItem, SomeHasItem, object_names}
+use Rattle.carry_laws.specs.Carrying.{HasItem, SomeHasItem, object_names}
 use Rattle.carry_laws.proofs.Among.{Among, Apart, apart_map, among_from_map, contains_among, each_of}
 use Rattle.carry_laws.proofs.ItemsOf.{among_bound, among_contained, keys_apart, members_apart}
 use Rattle.carry_laws.proofs.Listed.{AreNamedBoth, AreWritable, IsNamed, IsWritable}

@@ -1,12 +1,10 @@
 -- The document of objects as they are has no fault.
-use Rattle.std.proofs.Common.{◌≡◌, ◌≢◌, ◌<◌, ◌^◌, ℤ, pos, negsuc, ℕ, suc, ◌+◌, ◌≤◌, ◌&&◌, Bool, true, false, not, List, [], ◌∷◌, ◌++◌, length, map, Option, Some, None, Ok, refl, sym, ap, subst, ◌∙◌, arith}
-use Rattle.std.specs.Prelude.{⊤, codes, is_some, nat_le, unwrap_or}
+use Rattle.std.proofs.Common.{◌≡◌, ◌^◌, ℤ, pos, negsuc, ℕ, suc, ◌+◌, ◌≤◌, true, false, not, List, [], ◌∷◌, ◌++◌, length, map, Some, None, Ok, refl, sym, ap, subst, ◌∙◌, arith}
+use Rattle.std.specs.Prelude.{is_some, unwrap_or}
 use Rattle.std.specs.FinSet as finite_set
 use Rattle.std.specs.FinMap as finite_map
-use Rattle.std.specs.List.{AllByRecursion, IsDistinct}
-use Rattle.std.specs.Str.{bytes_eq}
+use Rattle.std.specs.List.{AllByRecursion}
 use Rattle.std.proofs.lemmas.Bool.{le-leb, lt-ltb}
-use Rattle.std.proofs.lemmas.Slice.Eq.{bytes_eq-Decides}
 use Rattle.serde_json.specs.Data.{number, unsigned}
 use Rattle.serde_json.specs.Find.{of_integer}
 use Rattle.serde_json.specs.Events.{items_len}
@@ -23,12 +21,12 @@ use Rattle.batch.specs.Names.{is_name}
 use Rattle.lang.specs.declared.fault.Code.TheVariants.{DuplicateObject, Name, Shape, Start}
 use Rattle.lang.specs.Asked.{array_start_asked, asked, document_shape_asked, element_asked, elements_asked, entries_asked, entry_asked}
 use Rattle.lang.specs.Asked.{kind_in, object_asked, object_kind, object_name_asked, object_shape_asked, objects_asked, pair_asked, pairs_asked, start_asked, number_start, signed_start}
-use Rattle.lang.specs.Demand.{check, fault_of, first_fault, holds, no_counts}
+use Rattle.lang.specs.Demand.{check, fault_of, first_fault, no_counts}
 use Rattle.lang.specs.Scope.{Table, is_listed}
 use Rattle.lang.specs.Words.{kind_of}
 use Rattle.lang.proofs.Checks.{check_met}
 use Rattle.carry.specs.Carried.{first_unfit, magnitude}
-use Rattle.carry_laws.specs.CarriedData.{carried_data, items_data, object_data, objects_data, pairs_data, start_data}
+use Rattle.carry_laws.proofs.CarriedData.{carried_data, items_data, object_data, objects_data, pairs_data, start_data}
 use Rattle.carry_laws.specs.Carrying.{object_names}
 use Rattle.carry_laws.proofs.Among.{Apart}
 use Rattle.carry_laws.proofs.Carriable.{IsApart, first_fits}
@@ -140,9 +138,11 @@ module _ (names : Names) where
       let here = (object_meets n v earlier ok.0 new.0 fits.small ok.1 apart.0).met c (omega arith) in
       let counted = here.2 in
       let rest = objects_met (n + 1) (entries + entries_in v) values (earlier ++ names.object n ∷ []) here.0 (omega arith) fits.rest ok.2 apart.1
-      differ.1 (new_after (names.object n) earlier (object_names names (n + 1) values) differ.0 new.1) in
-      (rest.0, check_met c here.0 (object_asked 4 earlier (object_data names n v))
-          (objects_asked 4 (earlier ++ names.object n ∷ []) (objects_data names (n + 1) values)) here.1 ∙ rest.1)
+      differ.1 (new_after (names.object n) earlier (object_names names (n + 1) values) differ.0 new.1) in (
+        rest.0,
+        check_met c here.0 (object_asked 4 earlier (object_data names n v))
+            (objects_asked 4 (earlier ++ names.object n ∷ []) (objects_data names (n + 1) values)) here.1 ∙ rest.1,
+      )
 
   -- ---- the document
 

@@ -1,6 +1,6 @@
 -- The document of objects as they are, as JSON.
-use Rattle.std.proofs.Common.{◌≡◌, ℕ, ℤ, pos, negsuc, suc, ◌+◌, ◌^◌, ◌<◌, ◌≤◌, true, List, [], ◌∷◌, ◌++◌, map, decimal, refl, sym, ap, ap₂, ◌∙◌, append_assoc, arith}
-use Rattle.std.specs.Prelude.{codes, ⊤}
+use Rattle.std.proofs.Common.{◌≡◌, ℕ, pos, negsuc, ◌+◌, true, List, [], ◌∷◌, ◌++◌, map, decimal, refl, sym, ap, ◌∙◌, append_assoc, arith}
+use Rattle.std.specs.Prelude.{codes}
 use Rattle.std.specs.Fmt.{signed_decimal}
 use Rattle.std.specs.FinMap as finite_map
 use Rattle.std.specs.List.{AllByRecursion}
@@ -21,8 +21,8 @@ use Rattle.objects.specs.declared.value.Value.{Value}
 use Rattle.objects.specs.declared.value.Value.TheVariants as value
 use Rattle.meaning.specs.Words.{Names, kind_text, members}
 use Rattle.batch.specs.Names.{is_name}
-use Rattle.carry.specs.Carried.{carried_text, item_text, joined, list_text, object_text, object_texts, pair_text, quoted, start_text}
-use Rattle.carry_laws.proofs.Lexemes.{items_lexemes, json_lexemes}
+use Rattle.carry.specs.Carried.{carried_text, item_text, joined, object_text, object_texts, pair_text, quoted, start_text}
+use Rattle.carry_laws.proofs.Lexemes.{json_lexemes}
 use Rattle.carry_laws.proofs.Listed.{AreWritable, IsWritable, IsNamed, AreNamedBoth}
 use Rattle.carry_laws.proofs.NamesPlain.{name_plain}
 use Rattle.carry_laws.proofs.Written.{AllWrite, Writes, joined_lexed, list_written, number_written, quoted_lexed, text_written}
@@ -130,13 +130,13 @@ module _ (names : Names) where
       ap (lex between) (object_parts (codes "{\"name\": ") (quoted name) (codes ", \"kind\": ") (quoted kind) (codes ", \"start\": ")
       (start_text names v) (codes "}") rest)
       ∙ name_key _ ∙ ap (λ ls. token Token.begin_object ∷ token (Token.string (codes "name")) ∷ colon ∷ ls) (
-        quoted_lexed name _ (name_plain name named) ∙ ap (λ ls. token (Token.string name) ∷ ls) (
-          kind_key _ ∙ ap (λ ls. comma ∷ token (Token.string (codes "kind")) ∷ colon ∷ ls) (
-            quoted_lexed kind _ (kind_plain (kind_of_value v)) ∙ ap (λ ls. token (Token.string kind) ∷ ls) (
-              start_key _ ∙ ap (λ ls. comma ∷ token (Token.string (codes "start")) ∷ colon ∷ ls) (
-                start_written v ok (codes "}" ++ rest) refl ∙ ap (λ ls. start ++ ls) (closed rest)
-                ∙ sym (append_assoc start (token Token.end_object ∷ []) (lex between rest))
-              )))))
+      quoted_lexed name _ (name_plain name named) ∙ ap (λ ls. token (Token.string name) ∷ ls) (
+      kind_key _ ∙ ap (λ ls. comma ∷ token (Token.string (codes "kind")) ∷ colon ∷ ls) (
+      quoted_lexed kind _ (kind_plain (kind_of_value v)) ∙ ap (λ ls. token (Token.string kind) ∷ ls) (
+      start_key _ ∙ ap (λ ls. comma ∷ token (Token.string (codes "start")) ∷ colon ∷ ls) (
+      start_written v ok (codes "}" ++ rest) refl ∙ ap (λ ls. start ++ ls) (closed rest)
+      ∙ sym (append_assoc start (token Token.end_object ∷ []) (lex between rest))
+      )))))
 
   objects_written : (n : ℕ) (values : State) → AreWritable names n values
       → AllWrite (object_texts names n values) (objects_json names n values)
@@ -165,7 +165,7 @@ module _ (names : Names) where
       let last = codes ",\n\"transactions\": [\n]}\n" in
       version_key (texts ++ (codes "\n]" ++ last))
       ∙ ap (λ ls. token Token.begin_object ∷ token (Token.string (codes "ordtx")) ∷ colon ∷ ls) (
-        lex-number (codes "4") _ four refl ∙ ap (λ ls. token (Token.number (codes "4")) ∷ ls) (
-          objects_key (texts ++ (codes "\n]" ++ last)) ∙ ap (λ ls. comma ∷ token (Token.string (codes "objects")) ∷ colon ∷ token Token.begin_array ∷ ls)
-            (joined_lexed (codes ",\n") (codes "\n]") (λ r. refl) (λ r. refl) (λ r. refl) (λ r. refl)
-            (object_texts names 0 values) (objects_json names 0 values) last (objects_written 0 values ok))))
+      lex-number (codes "4") _ four refl ∙ ap (λ ls. token (Token.number (codes "4")) ∷ ls) (
+      objects_key (texts ++ (codes "\n]" ++ last)) ∙ ap (λ ls. comma ∷ token (Token.string (codes "objects")) ∷ colon ∷ token Token.begin_array ∷ ls)
+      (joined_lexed (codes ",\n") (codes "\n]") (λ r. refl) (λ r. refl) (λ r. refl) (λ r. refl)
+      (object_texts names 0 values) (objects_json names 0 values) last (objects_written 0 values ok))))

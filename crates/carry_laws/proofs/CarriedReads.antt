@@ -1,14 +1,14 @@
 -- The document of objects as they are is JSON of a known value.
-use Rattle.std.proofs.Common.{◌≡◌, ℕ, pos, negsuc, suc, ◌+◌, ◌^◌, ◌<◌, ◌≤◌, max, true, List, [], ◌∷◌, ◌++◌, Some, None, decimal, refl, sym, ap, ◌∙◌, arith, append-nil}
-use Rattle.std.specs.Prelude.{codes, cond, option_and_then, option_map, if◌then◌else◌}
+use Rattle.std.proofs.Common.{◌≡◌, ℕ, pos, negsuc, ◌+◌, ◌≤◌, List, [], ◌∷◌, Some, None, refl, sym, ap, ◌∙◌, arith, append-nil}
+use Rattle.std.specs.Prelude.{codes, cond, option_and_then, if◌then◌else◌}
 use Rattle.std.specs.Str.{is_utf8}
 use Rattle.std.specs.FinMap as finite_map
 use Rattle.std.proofs.lemmas.Fmt.{decimal_digit}
 use Rattle.std.proofs.lemmas.Str.{is_utf8-from_IsUtf8}
 use Rattle.json.specs.Json as json
-use Rattle.json.specs.Tree.{depth, items_depth, members_depth}
+use Rattle.json.specs.Tree.{depth, items_depth}
 use Rattle.json.proofs.Printed.Trees.{value-json_tokens}
-use Rattle.serde_json.specs.Data.{Data, Items, unsigned}
+use Rattle.serde_json.specs.Data.{unsigned}
 use Rattle.serde_json.specs.Read.{max_depth, number_of, of_items, of_json, read}
 use Rattle.serde_json.proofs.Numbers.{number_of-decimal, number_of-negative}
 use Rattle.atoms.specs.declared.item.Item.{Item}
@@ -17,7 +17,7 @@ use Rattle.objects.specs.declared.value.Value.{Value}
 use Rattle.objects.specs.declared.value.Value.TheVariants as value
 use Rattle.meaning.specs.Words.{Names, members}
 use Rattle.carry.specs.Carried.{carried_text}
-use Rattle.carry_laws.specs.CarriedData.{carried_data, items_data, object_data, objects_data, pair_data, pairs_data, start_data}
+use Rattle.carry_laws.proofs.CarriedData.{carried_data, items_data, object_data, objects_data, pairs_data, start_data}
 use Rattle.carry_laws.proofs.CarriedJson.{carried_json, carried_lexed, items_json, object_json, objects_json, pairs_json, start_json}
 use Rattle.carry_laws.proofs.CarriedUtf8.{carried_utf8}
 use Rattle.carry_laws.proofs.Lexemes.{tokens_alone}

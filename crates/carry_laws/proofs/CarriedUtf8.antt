@@ -1,6 +1,6 @@
 -- The document of objects as they are is UTF-8.
-use Rattle.std.proofs.Common.{◌≡◌, ℕ, pos, negsuc, suc, ◌+◌, ◌^◌, ◌<◌, ◌≤◌, true, List, [], ◌∷◌, ◌++◌, map, decimal, refl, arith, IsUtf8}
-use Rattle.std.specs.Prelude.{codes, ⊤}
+use Rattle.std.proofs.Common.{◌≡◌, ℕ, pos, negsuc, ◌+◌, ◌≤◌, true, List, [], ◌∷◌, ◌++◌, map, decimal, refl, arith, IsUtf8}
+use Rattle.std.specs.Prelude.{codes}
 use Rattle.std.specs.Fmt.{signed_decimal}
 use Rattle.std.specs.FinMap as finite_map
 use Rattle.std.specs.List.{AllByRecursion, list_all}

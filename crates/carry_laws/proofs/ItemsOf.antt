@@ -1,6 +1,6 @@
 -- The members of sets and the entries of maps, as lists.
-use Rattle.std.proofs.Common.{◌≡◌, ◌≢◌, ◌⊎◌, inl, inr, ◌&&◌, ◌||◌, ℕ, ◌-◌, ◌<◌, ◌≤◌, Bool, true, false, not, cond, length, arith, ap₂, T, List, [], ◌∷◌, map, Option, Some, None, Ordering, Less, Equal, Greater, refl, sym, ap, subst, ◌∙◌}
-use Rattle.std.specs.Prelude.{⊤, is_some}
+use Rattle.std.proofs.Common.{◌≡◌, ◌≢◌, inl, inr, ◌&&◌, ◌||◌, ◌-◌, ◌<◌, ◌≤◌, Bool, true, false, not, cond, length, arith, ap₂, T, List, [], ◌∷◌, map, Some, Ordering, Less, Equal, Greater, refl, sym, ap, ◌∙◌}
+use Rattle.std.specs.Prelude.{is_some}
 use Rattle.std.specs.Ordering.{eq_by_cmp, is_eq, is_lt}
 use Rattle.std.specs.List.{AllByRecursion, list_any}
 use Rattle.std.proofs.lemmas.Bool.{cases_eq, or_cases}

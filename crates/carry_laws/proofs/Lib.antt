@@ -14,3 +14,6 @@ pub mod CarriedFaultless
 pub mod NumberedTexts
 pub mod PutIn
 pub mod CarriedLaws
+pub mod SpelledStarts
+pub mod CarriedDocument
+pub mod CarriedData

@@ -1,14 +1,12 @@
 -- Demands that are met while few entries are counted.
-use Rattle.std.proofs.Common.{◌≡◌, ◌≢◌, ℕ, suc, ◌+◌, ◌<◌, ◌≤◌, ◌||◌, Bool, true, false, not, cond, List, [], ◌∷◌, ◌++◌, length, map, Ok, Err, refl, sym, ap, ap₂, subst, ◌∙◌, arith}
-use Rattle.std.specs.Prelude.{nat_lt}
+use Rattle.std.proofs.Common.{◌≡◌, ◌≢◌, ℕ, suc, ◌+◌, ◌≤◌, ◌||◌, Bool, true, false, cond, List, [], ◌∷◌, ◌++◌, Ok, Err, refl, sym, ap, ap₂, ◌∙◌, arith}
 use Rattle.std.specs.List.{AllByRecursion}
 use Rattle.std.specs.Str.{bytes_eq}
 use Rattle.std.proofs.lemmas.Bool.{false_from_ne_true, lt-ltb, or_parts}
 use Rattle.std.proofs.lemmas.Slice.Eq.{bytes_eq-Decides}
 use Rattle.lang.specs.declared.fault.Code.{Code}
-use Rattle.lang.specs.Demand.{Demand, and_then, check, check_one, fault_at, holds, limited, no_counts, one_more_start}
+use Rattle.lang.specs.Demand.{Demand, and_then, check, fault_at, holds, limited, no_counts, one_more_start}
 use Rattle.lang.specs.Scope.{Table, is_listed, with_text}
-use Rattle.lang.proofs.Checks.{check_met}
 
 abbrev type_of : {A : Type 0} → A → Type 0
 type_of {A} a = A

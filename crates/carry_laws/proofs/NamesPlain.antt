@@ -1,11 +1,10 @@
 -- Names have no byte that is escaped.
-use Rattle.std.proofs.Common.{◌≡◌, ℕ, ◌≤◌, ◌&&◌, ◌||◌, Bool, true, List, [], ◌∷◌, ◌++◌, refl, ap, ap₂, ◌∙◌, arith, inl, inr, ◌⊎◌}
-use Rattle.std.specs.Prelude.{nat_le}
+use Rattle.std.proofs.Common.{◌≡◌, ℕ, ◌≤◌, true, List, [], ◌∷◌, ◌++◌, refl, ap₂, arith}
 use Rattle.std.specs.List.{list_all}
-use Rattle.std.proofs.lemmas.Bool.{and_parts, or_cases, leb-true, eqb-true}
+use Rattle.std.proofs.lemmas.Bool.{and_parts}
 use Rattle.json.specs.Print.{escape}
 use Rattle.json.proofs.Printed.Strings.{escape_byte_plain}
-use Rattle.batch.specs.Names.{is_between, is_name, is_name_byte}
+use Rattle.batch.specs.Names.{is_name, is_name_byte}
 
 low_byte : (x : ℕ) → is_name_byte x ≡ true → 32 ≤ x
 low_byte x e = grind arith

@@ -1,13 +1,12 @@
 -- Texts that are numbered in reading order, and found again by their numbers.
 use Rattle.std.proofs.Common.{◌≡◌, ℕ, suc, ◌+◌, ◌<◌, ◌≤◌, ◌||◌, Bool, true, false, not, cond, List, [], ◌∷◌, ◌++◌, length, get_or, refl, sym, ap, subst, ◌∙◌, arith, append-nil, append_assoc, length-append}
-use Rattle.std.specs.Prelude.{nat_lt, slice_index_or}
 use Rattle.std.specs.List.{position_or_len}
 use Rattle.std.specs.Str.{bytes_eq}
 use Rattle.std.proofs.lemmas.Bool.{lt-ltb}
 use Rattle.std.proofs.lemmas.List.{get_or_append_left, get_or_push}
 use Rattle.std.proofs.lemmas.Slice.Eq.{bytes_eq-Decides}
 use Rattle.batch.specs.Names.{Texts, names_of}
-use Rattle.lang.specs.Scope.{Numbers, Table, fit, is_listed, number_of, with_item, with_text}
+use Rattle.lang.specs.Scope.{Numbers, Table, fit, is_listed, number_of, with_text}
 use Rattle.lang.specs.Spelled.{item_of}
 use Rattle.lang.proofs.TableLemmas.{unlisted_text}
 use Rattle.lang.proofs.Tables.{number_below}

@@ -1,8 +1,6 @@
 -- How long the document of objects as they are can be.
-use Rattle.std.proofs.Common.{◌≡◌, ℕ, pos, negsuc, suc, ◌+◌, ◌*◌, ◌^◌, ◌<◌, ◌≤◌, true, None, List, [], ◌∷◌, ◌++◌, map, length, decimal, refl, ap, ◌∙◌, arith, length-append}
+use Rattle.std.proofs.Common.{◌≡◌, ℕ, pos, negsuc, suc, ◌+◌, ◌*◌, ◌≤◌, true, None, List, [], ◌∷◌, ◌++◌, map, length, decimal, arith, length-append}
 use Rattle.std.specs.Prelude.{codes}
-use Rattle.std.specs.Fmt.{signed_decimal}
-use Rattle.std.specs.FinSet as finite_set
 use Rattle.std.specs.FinMap as finite_map
 use Rattle.std.specs.List.{AllByRecursion}
 use Rattle.std.proofs.lemmas.Bool.{and_parts, leb-true}
@@ -69,8 +67,11 @@ module _ (names : Names) where
 
   pair_length : (pair : Item × Item) → AreNamedBoth names pair → length (pair_text names pair) ≤ 74
   pair_length pair named =
-      omega (arith, list_length (item_text names pair.0 ∷ item_text names pair.1 ∷ []),
-      items_length (pair.0 ∷ pair.1 ∷ []) (named.0, (named.1, tt)))
+      omega (
+        arith,
+        list_length (item_text names pair.0 ∷ item_text names pair.1 ∷ []),
+        items_length (pair.0 ∷ pair.1 ∷ []) (named.0, (named.1, tt)),
+      )
 
   pairs_length : (pairs : List (Item × Item)) → AllByRecursion (AreNamedBoth names) pairs → total (map (pair_text names) pairs) ≤ 76 * length pairs
   pairs_length [] named = omega arith
@@ -94,11 +95,14 @@ module _ (names : Names) where
   object_length : (n : ℕ) (v : Value) → is_name (names.object n) ≡ true → IsWritable names v
       → length (object_text names n v) ≤ 76 * entries_in v + 120
   object_length n v named ok =
-      omega (arith,
-      parts_length (codes "{\"name\": ") (quoted (names.object n)) (codes ", \"kind\": ") (quoted (kind_text (kind_of_value v))) (codes ", \"start\": ")
-      (start_text names v) (codes "}"),
-      quoted_length (names.object n) (name_length (names.object n) named),
-      quoted_length (kind_text (kind_of_value v)) (kind_length (kind_of_value v)), start_length v ok)
+      omega (
+        arith,
+        parts_length (codes "{\"name\": ") (quoted (names.object n)) (codes ", \"kind\": ") (quoted (kind_text (kind_of_value v))) (codes ", \"start\": ")
+            (start_text names v) (codes "}"),
+        quoted_length (names.object n) (name_length (names.object n) named),
+        quoted_length (kind_text (kind_of_value v)) (kind_length (kind_of_value v)),
+        start_length v ok,
+      )
 
   objects_length : (n : ℕ) (values : State) → AreWritable names n values
       → total (object_texts names n values) ≤ 76 * all_entries_in values + 122 * length values
@@ -118,5 +122,11 @@ module _ (names : Names) where
       let objects = joined (codes ",\n") (object_texts names 0 values) in
       let tail = codes "\n],\n\"transactions\": [\n]}\n" in
       let two : length (codes ",\n") ≤ 2 = omega arith in
-      omega (arith, joined_length (codes ",\n") (object_texts names 0 values) two, objects_length 0 values ok,
-      all_few 0 values (omega arith) fit, length-append (head ++ objects) tail, length-append head objects)
+      omega (
+        arith,
+        joined_length (codes ",\n") (object_texts names 0 values) two,
+        objects_length 0 values ok,
+        all_few 0 values (omega arith) fit,
+        length-append (head ++ objects) tail,
+        length-append head objects,
+      )

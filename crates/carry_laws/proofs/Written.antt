@@ -5,7 +5,7 @@ use Rattle.json.specs.Json as json
 use Rattle.json.specs.Token.{Token}
 use Rattle.json.specs.Text.{content, plain}
 use Rattle.json.specs.Word.{ends_word}
-use Rattle.json.specs.Lex.{Lexeme, token, comma, colon, string_token, lex, between, in_string}
+use Rattle.json.specs.Lex.{token, comma, string_token, lex, between, in_string}
 use Rattle.json.specs.Print.{IsNumber, escape}
 use Rattle.json.proofs.Printed.Strings.{content-escape, lex-escape}
 use Rattle.json.proofs.Printed.Numbers.{lex-number}

@@ -1,18 +1,12 @@
--- The laws of carrying over, as statements.
-use Rattle.std.specs.Prelude.{◌≡◌, [], Some, Ok}
+-- The law of carrying over, as a statement.
+use Rattle.std.specs.Prelude.{◌≡◌, [], Ok}
 use Rattle.objects.specs.Entries.{State}
 use Rattle.meaning.specs.Words.{Names}
-use Rattle.lang.specs.Reading.{Document, reading, value_of}
+use Rattle.lang.specs.Reading.{Document, reading}
 use Rattle.carry.specs.Carried.{carried_text}
 use Rattle.batch.specs.Names.{names_of}
 use Rattle.carry_laws.specs.Carrying.{CanBeCarried, object_names}
 use Rattle.carry_laws.specs.Same.{AreSame}
-use Rattle.carry_laws.specs.CarriedData.{carried_data}
-
--- What is printed of objects that can be carried is JSON of this value.
-abbrev pub CarriedDataLaw : Type 0
-CarriedDataLaw = (names : Names) (values : State) → CanBeCarried names values
-    → value_of (carried_text names values) ≡ Some (carried_data names values)
 
 -- The document starts with the same objects under the same names, and has no transaction.
 pub record StartsWith (names : Names) (values : State) (document : Document) : Type 0 where

@@ -1,4 +1,3 @@
 pub mod Carrying
 pub mod Same
-pub mod CarriedData
 pub mod Laws

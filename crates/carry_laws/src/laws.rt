@@ -1,7 +1,7 @@
-//! Laws of the document of objects as they are.
-ghost use Rattle.carry_laws.specs.Laws.{CarriedDataLaw};
+//! The law of the document of objects as they are.
+ghost use Rattle.carry_laws.specs.Laws.{CarriedLaw};
 
-/// The document of objects as they are is JSON, and this is its value.
-pub fn carried_objects_are_json()
-    ensures { CarriedDataLaw }
+/// What is printed of objects that can be carried over is read as a document that starts with them.
+pub fn carried_objects_are_read()
+    ensures { CarriedLaw }
 {}
