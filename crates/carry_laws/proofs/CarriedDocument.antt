@@ -62,7 +62,8 @@ module _ (names : Names) where
       let fewer = state.few in
       let document = document_in (carried_data names values) in
       record {
-        objects = state.same document.texts (grows_none document.texts.items) (omega (arith, fewer, all_few names 0 values (omega arith) fit));
+        objects = state.same document.texts (grows_none document.texts.items)
+            (omega (arith, fewer, all_few names 0 values (omega arith) fit));
         named = names_spelled 0 values;
         no_transactions = refl;
       }

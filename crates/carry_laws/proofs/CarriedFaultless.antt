@@ -1,5 +1,6 @@
 -- The document of objects as they are has no fault.
-use Rattle.std.proofs.Common.{◌≡◌, ◌^◌, ℤ, pos, negsuc, ℕ, suc, ◌+◌, ◌≤◌, true, false, not, List, [], ◌∷◌, ◌++◌, length, map, Some, None, Ok, refl, sym, ap, subst, ◌∙◌, arith}
+use Rattle.std.proofs.Common.{◌≡◌, ◌^◌, ℤ, pos, negsuc, ℕ, suc, ◌+◌, ◌≤◌, true, false, not, List, [], ◌∷◌, ◌++◌, length, map, Some, None}
+use Rattle.std.proofs.Common.{Ok, refl, sym, ap, subst, ◌∙◌, arith}
 use Rattle.std.specs.Prelude.{is_some, unwrap_or}
 use Rattle.std.specs.FinSet as finite_set
 use Rattle.std.specs.FinMap as finite_map
@@ -20,7 +21,8 @@ use Rattle.batch.specs.Limits.{entries_in}
 use Rattle.batch.specs.Names.{is_name}
 use Rattle.lang.specs.declared.fault.Code.TheVariants.{DuplicateObject, Name, Shape, Start}
 use Rattle.lang.specs.Asked.{array_start_asked, asked, document_shape_asked, element_asked, elements_asked, entries_asked, entry_asked}
-use Rattle.lang.specs.Asked.{kind_in, object_asked, object_kind, object_name_asked, object_shape_asked, objects_asked, pair_asked, pairs_asked, start_asked, number_start, signed_start}
+use Rattle.lang.specs.Asked.{kind_in, object_asked, object_kind, object_name_asked, object_shape_asked, objects_asked, pair_asked}
+use Rattle.lang.specs.Asked.{pairs_asked, start_asked, number_start, signed_start}
 use Rattle.lang.specs.Demand.{check, fault_of, first_fault, no_counts}
 use Rattle.lang.specs.Scope.{Table, is_listed}
 use Rattle.lang.specs.Words.{kind_of}
@@ -60,7 +62,8 @@ module _ (names : Names) where
   entries_meet [] named = meet_none
   entries_meet (x ∷ xs) named =
       let rest = entries_asked (items_data names xs) in
-      meet_test _ true Start _ refl (meet_test _ (is_name (names.item x)) Name _ named.0 (meet_start (length xs) rest (entries_meet xs named.1)))
+      meet_test _ true Start _ refl (meet_test _ (is_name (names.item x)) Name _ named.0
+      (meet_start (length xs) rest (entries_meet xs named.1)))
 
   elements_meet : (earlier : Table) (xs : List Item) → AllByRecursion (IsNamed names) xs → Apart (map names.item xs)
       → AreNew earlier (map names.item xs) → Meet (length xs) (elements_asked earlier (items_data names xs))
@@ -137,7 +140,8 @@ module _ (names : Names) where
       let bound = fits.few in
       let here = (object_meets n v earlier ok.0 new.0 fits.small ok.1 apart.0).met c (omega arith) in
       let counted = here.2 in
-      let rest = objects_met (n + 1) (entries + entries_in v) values (earlier ++ names.object n ∷ []) here.0 (omega arith) fits.rest ok.2 apart.1
+      let rest = objects_met (n + 1) (entries + entries_in v) values (earlier ++ names.object n ∷ []) here.0 (omega arith) fits.rest
+      ok.2 apart.1
       differ.1 (new_after (names.object n) earlier (object_names names (n + 1) values) differ.0 new.1) in (
         rest.0,
         check_met c here.0 (object_asked 4 earlier (object_data names n v))

@@ -81,7 +81,8 @@ name_key : (rest : List ℕ) → lex between (codes "{\"name\": " ++ rest)
 unfolding lex content
 name_key rest = refl
 
-kind_key : (rest : List ℕ) → lex between (codes ", \"kind\": " ++ rest) ≡ comma ∷ token (Token.string (codes "kind")) ∷ colon ∷ lex between rest
+kind_key : (rest : List ℕ) → lex between (codes ", \"kind\": " ++ rest)
+    ≡ comma ∷ token (Token.string (codes "kind")) ∷ colon ∷ lex between rest
 unfolding lex content
 kind_key rest = refl
 
@@ -158,7 +159,8 @@ module _ (names : Names) where
   unfolding after_number
   four = refl
 
-  pub carried_lexed : (values : State) → AreWritable names 0 values → lex between (carried_text names values) ≡ json_lexemes (carried_json names values)
+  pub carried_lexed : (values : State) → AreWritable names 0 values
+      → lex between (carried_text names values) ≡ json_lexemes (carried_json names values)
   unfolding lex content
   carried_lexed values ok =
       let texts = joined (codes ",\n") (object_texts names 0 values) in
@@ -166,6 +168,7 @@ module _ (names : Names) where
       version_key (texts ++ (codes "\n]" ++ last))
       ∙ ap (λ ls. token Token.begin_object ∷ token (Token.string (codes "ordtx")) ∷ colon ∷ ls) (
       lex-number (codes "4") _ four refl ∙ ap (λ ls. token (Token.number (codes "4")) ∷ ls) (
-      objects_key (texts ++ (codes "\n]" ++ last)) ∙ ap (λ ls. comma ∷ token (Token.string (codes "objects")) ∷ colon ∷ token Token.begin_array ∷ ls)
+      objects_key (texts ++ (codes "\n]" ++ last))
+      ∙ ap (λ ls. comma ∷ token (Token.string (codes "objects")) ∷ colon ∷ token Token.begin_array ∷ ls)
       (joined_lexed (codes ",\n") (codes "\n]") (λ r. refl) (λ r. refl) (λ r. refl) (λ r. refl)
       (object_texts names 0 values) (objects_json names 0 values) last (objects_written 0 values ok))))

@@ -1,9 +1,6 @@
 -- The law of carrying over.
-use Rattle.std.proofs.Common.{◌≡◌, ◌≢◌, ℕ, true, false, cond, List, [], ◌∷◌, Err, ap, ◌∙◌}
-use Rattle.std.specs.List.{AllByRecursion, IsDistinct}
-use Rattle.std.specs.Str.{bytes_eq}
+use Rattle.std.proofs.Common.{cond, Err, ap, ◌∙◌}
 use Rattle.std.proofs.lemmas.Bool.{le-ltb}
-use Rattle.std.proofs.lemmas.Slice.Eq.{bytes_eq-Decides}
 use Rattle.lang.specs.Faults.{fault_outside}
 use Rattle.lang.specs.Reading.{reading, spelled_by, unless_fault, value_of}
 use Rattle.lang.specs.Spelled.{document_in}
@@ -12,26 +9,12 @@ use Rattle.carry.specs.Carried.{carried_text}
 use Rattle.carry_laws.proofs.CarriedData.{carried_data}
 use Rattle.carry_laws.specs.Carrying.{object_names}
 use Rattle.carry_laws.specs.Laws.{CarriedLaw}
-use Rattle.carry_laws.proofs.Among.{Apart}
 use Rattle.carry_laws.proofs.Carriable.{all_apart, all_writable}
 use Rattle.carry_laws.proofs.CarriedDocument.{document_spelled}
 use Rattle.carry_laws.proofs.CarriedFaultless.{carried_faultless}
 use Rattle.carry_laws.proofs.CarriedReads.{carried_value}
+use Rattle.carry_laws.proofs.NamedTexts.{distinct_apart}
 use Rattle.carry_laws.proofs.TextLength.{carried_length}
-
-differ : (text : List ℕ) (texts : List (List ℕ)) → AllByRecursion (λ other. bytes_eq text other ≡ false) texts
-    → AllByRecursion (λ other. text ≢ other) texts
-differ text [] all = tt
-differ text (other ∷ texts) all = (
-  λ same. let equal : bytes_eq text other ≡ true = (bytes_eq-Decides text other).1 same in
-      let apart = all.0 in cc,
-  differ text texts all.1,
-)
-
-distinct_apart : (texts : List (List ℕ)) → IsDistinct bytes_eq texts → Apart texts
-unfolding IsDistinct
-distinct_apart [] distinct = tt
-distinct_apart (text ∷ texts) distinct = (differ text texts distinct.0, distinct_apart texts distinct.1)
 
 pub carried_is_read : CarriedLaw
 unfolding reading

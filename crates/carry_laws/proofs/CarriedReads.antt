@@ -46,7 +46,8 @@ module _ (names : Names) where
   object_read : (n : ℕ) (v : Value) → IsWritable names v → of_json (object_json names n v) ≡ Some (object_data names n v)
   object_read n v ok = rw (start_read v ok)
 
-  objects_read : (n : ℕ) (values : State) → AreWritable names n values → of_items (objects_json names n values) ≡ Some (objects_data names n values)
+  objects_read : (n : ℕ) (values : State) → AreWritable names n values
+      → of_items (objects_json names n values) ≡ Some (objects_data names n values)
   objects_read n [] ok = refl
   objects_read n (v ∷ values) ok = rw (object_read n v ok.1, objects_read (n + 1) values ok.2)
 
@@ -86,7 +87,9 @@ module _ (names : Names) where
   pub carried_read : (values : State) → AreWritable names 0 values → read (carried_text names values) ≡ Some (carried_data names values)
   carried_read values ok =
       let j = carried_json names values in
-      ap (λ o. option_and_then of_json (option_and_then (λ p. json.if_last p.0 p.1) o)) (ap (json.value max_depth) (tokens_alone (carried_text names values) j (carried_lexed names values ok) ∙ sym (append-nil _))
+      let tokens_are = tokens_alone (carried_text names values) j (carried_lexed names values ok) in
+      ap (λ o. option_and_then of_json (option_and_then (λ p. json.if_last p.0 p.1) o))
+      (ap (json.value max_depth) (tokens_are ∙ sym (append-nil _))
       ∙ value-json_tokens j max_depth [] (shallow values))
       ∙ document_read values ok
 

@@ -40,7 +40,8 @@ between_utf8 a b c first second third = IsUtf8-append (a ++ b) c (IsUtf8-append 
 quoted_utf8 : (s : List ℕ) → IsUtf8 s → IsUtf8 (quoted s)
 quoted_utf8 s is = between_utf8 (codes "\"") s (codes "\"") (IsUtf8-are_ascii (codes "\"") refl) is (IsUtf8-are_ascii (codes "\"") refl)
 
-joined_utf8 : (separator : List ℕ) → IsUtf8 separator → (texts : List (List ℕ)) → AllByRecursion IsUtf8 texts → IsUtf8 (joined separator texts)
+joined_utf8 : (separator : List ℕ) → IsUtf8 separator → (texts : List (List ℕ)) → AllByRecursion IsUtf8 texts
+    → IsUtf8 (joined separator texts)
 joined_utf8 separator is [] all = IsUtf8-nil
 joined_utf8 separator is (text ∷ []) all = all.0
 joined_utf8 separator is (text ∷ next ∷ texts) all =
@@ -66,7 +67,8 @@ module _ (names : Names) where
   items_utf8 [] named = tt
   items_utf8 (x ∷ xs) named = (quoted_utf8 (names.item x) (name_utf8 (names.item x) named.0), items_utf8 xs named.1)
 
-  pairs_utf8 : (pairs : List (Item × Item)) → AllByRecursion (AreNamedBoth names) pairs → AllByRecursion IsUtf8 (map (pair_text names) pairs)
+  pairs_utf8 : (pairs : List (Item × Item)) → AllByRecursion (AreNamedBoth names) pairs
+      → AllByRecursion IsUtf8 (map (pair_text names) pairs)
   pairs_utf8 [] named = tt
   pairs_utf8 (pair ∷ pairs) named = (
     list_utf8 (item_text names pair.0 ∷ item_text names pair.1 ∷ [])

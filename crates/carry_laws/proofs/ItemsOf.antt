@@ -1,5 +1,6 @@
 -- The members of sets and the entries of maps, as lists.
-use Rattle.std.proofs.Common.{◌≡◌, ◌≢◌, inl, inr, ◌&&◌, ◌||◌, ◌-◌, ◌<◌, ◌≤◌, Bool, true, false, not, cond, length, arith, ap₂, T, List, [], ◌∷◌, map, Some, Ordering, Less, Equal, Greater, refl, sym, ap, ◌∙◌}
+use Rattle.std.proofs.Common.{◌≡◌, ◌≢◌, inl, inr, ◌&&◌, ◌||◌, ◌-◌, ◌<◌, ◌≤◌, Bool, true, false, not, cond, length, arith, ap₂, T, List, []}
+use Rattle.std.proofs.Common.{◌∷◌, map, Some, Ordering, Less, Equal, Greater, refl, sym, ap, ◌∙◌}
 use Rattle.std.specs.Prelude.{is_some}
 use Rattle.std.specs.Ordering.{eq_by_cmp, is_eq, is_lt}
 use Rattle.std.specs.List.{AllByRecursion, list_any}
@@ -69,7 +70,8 @@ module _ {X : Type 0} where
       by true same later bound = let value : e.1 ≡ x = cc in inl (λ i. (sym (alike_is q e.0 same) i, value i))
       by false same later bound = inr (later bound)
 
-  none_tied : (q : Item) (x : X) (k : Item) (es : List (Item × X)) → AllByRecursion (λ y. k ≢ y) (map (λ e. e.0) es) → Among (q, x) es → k ≢ q
+  none_tied : (q : Item) (x : X) (k : Item) (es : List (Item × X)) → AllByRecursion (λ y. k ≢ y) (map (λ e. e.0) es) → Among (q, x) es
+      → k ≢ q
   none_tied q x k [] all at = absurd at
   none_tied q x k (e ∷ es) all (inl is) = λ same. all.0 (same ∙ sym (ap (λ p. p.0) is))
   none_tied q x k (e ∷ es) all (inr at) = none_tied q x k es all.1 at
@@ -83,10 +85,12 @@ module _ {X : Type 0} where
       ap (λ b. cond b (Some e.1) (find item_cmp q es)) (apart_not q e.0 (λ same. other (sym same))) ∙ among_found q x es apart.1 at
 
   -- what a map binds is among its entries, and the other way round
-  pub bound_among : (m : finite_map.FinMap item_cmp X) (q : Item) (x : X) → finite_map.get m q ≡ Some x → Among (q, x) (finite_map.entries m)
+  pub bound_among : (m : finite_map.FinMap item_cmp X) (q : Item) (x : X) → finite_map.get m q ≡ Some x
+      → Among (q, x) (finite_map.entries m)
   bound_among m q x is = found_among q x (finite_map.entries m) (sym (finite_map.get-entries m q) ∙ is)
 
-  pub among_bound : (m : finite_map.FinMap item_cmp X) (q : Item) (x : X) → Among (q, x) (finite_map.entries m) → finite_map.get m q ≡ Some x
+  pub among_bound : (m : finite_map.FinMap item_cmp X) (q : Item) (x : X) → Among (q, x) (finite_map.entries m)
+      → finite_map.get m q ≡ Some x
   among_bound m q x at = finite_map.get-entries m q ∙ among_found q x (finite_map.entries m) (keys_apart m) at
 
 -- ---- sets
@@ -126,7 +130,8 @@ some_there s x is = elim (cases_eq (finite_set.len s) 0) [
 ]
 
 still_there : (s : finite_set.FinSet item_cmp) (x : Item) (xs : List Item) → AllByRecursion (λ y. x ≢ y) xs
-    → AllByRecursion (λ y. finite_set.contains s y ≡ true) xs → AllByRecursion (λ y. finite_set.contains (finite_set.remove s x) y ≡ true) xs
+    → AllByRecursion (λ y. finite_set.contains s y ≡ true) xs
+    → AllByRecursion (λ y. finite_set.contains (finite_set.remove s x) y ≡ true) xs
 still_there s x [] apart all = tt
 still_there s x (y ∷ ys) apart all = (
   finite_set.contains-remove items_total s x y
@@ -145,4 +150,5 @@ few_contained (x ∷ xs) s apart all =
     omega (arith, less, rest, some)
 
 pub members_few : (s : finite_set.FinSet item_cmp) → length (members s) ≤ finite_set.len s
-members_few s = few_contained (members s) s (members_apart s) (each_of (λ x. finite_set.contains s x ≡ true) (members s) (among_contained s))
+members_few s = few_contained (members s) s (members_apart s)
+    (each_of (λ x. finite_set.contains s x ≡ true) (members s) (among_contained s))

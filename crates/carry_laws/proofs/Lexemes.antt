@@ -80,7 +80,8 @@ mutual
       → punctuate (place later) (items_lexemes later js ++ rest) ≡ items_tokens js ++ punctuate after_value rest
   items_placed true no_items rest = refl
   items_placed false no_items rest = refl
-  items_placed true (item j js) rest = then_placed after_comma (json_lexemes j) (items_lexemes true js) rest (json_tokens j) (items_tokens js)
+  items_placed true (item j js) rest = then_placed after_comma (json_lexemes j) (items_lexemes true js) rest (json_tokens j)
+      (items_tokens js)
       (value_placed true j (items_lexemes true js ++ rest) (items_no_colon js rest)) (items_placed true js rest)
   items_placed false (item j js) rest = then_placed fresh (json_lexemes j) (items_lexemes true js) rest (json_tokens j) (items_tokens js)
       (value_placed false j (items_lexemes true js ++ rest) (items_no_colon js rest)) (items_placed true js rest)

@@ -17,3 +17,4 @@ pub mod CarriedLaws
 pub mod SpelledStarts
 pub mod CarriedDocument
 pub mod CarriedData
+pub mod NamedTexts

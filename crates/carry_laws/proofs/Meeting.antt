@@ -1,5 +1,6 @@
 -- Demands that are met while few entries are counted.
-use Rattle.std.proofs.Common.{◌≡◌, ◌≢◌, ℕ, suc, ◌+◌, ◌≤◌, ◌||◌, Bool, true, false, cond, List, [], ◌∷◌, ◌++◌, Ok, Err, refl, sym, ap, ap₂, ◌∙◌, arith}
+use Rattle.std.proofs.Common.{◌≡◌, ◌≢◌, ℕ, suc, ◌+◌, ◌<◌, ◌≤◌, ◌||◌, Bool, true, false, cond, List, [], ◌∷◌, ◌++◌, Ok, Err, refl, sym, ap, ap₂}
+use Rattle.std.proofs.Common.{◌∙◌, arith}
 use Rattle.std.specs.List.{AllByRecursion}
 use Rattle.std.specs.Str.{bytes_eq}
 use Rattle.std.proofs.lemmas.Bool.{false_from_ne_true, lt-ltb, or_parts}
@@ -34,7 +35,8 @@ meet_start k ds rest = record {
       let counted : Counts = record c { starts = c.starts + 1 } in
       let later = rest.met counted (omega arith) in
       let bound = later.2 in
-      (later.0, ap (λ t. and_then (limited t c counted) (λ next. check next ds)) (lt-ltb c.starts 100000 (omega arith)) ∙ later.1, omega arith);
+      let within : c.starts < 100000 = omega arith in
+      (later.0, ap (λ t. and_then (limited t c counted) (λ next. check next ds)) (lt-ltb _ _ within) ∙ later.1, omega arith);
 }
 
 pub meet_fewer : (k l : ℕ) (ds : List Demand) → k ≤ l → Meet k ds → Meet l ds
@@ -44,8 +46,10 @@ meet_fewer k l ds le meets = record {
 
 -- ---- texts that are new
 
-listed_not : (text other : List ℕ) (table : Table) → is_listed text table ≡ false → text ≢ other → is_listed text (table ++ other ∷ []) ≡ false
-listed_not text other [] e ne = ap (λ b. b || false) (false_from_ne_true (bytes_eq text other) (λ is. ne ((bytes_eq-Decides text other).0 is)))
+listed_not : (text other : List ℕ) (table : Table) → is_listed text table ≡ false → text ≢ other
+    → is_listed text (table ++ other ∷ []) ≡ false
+listed_not text other [] e ne = ap (λ b. b || false)
+    (false_from_ne_true (bytes_eq text other) (λ is. ne ((bytes_eq-Decides text other).0 is)))
 listed_not text other (t ∷ table) e ne =
     let both = or_parts (bytes_eq text t) _ e in ap₂ (λ a b. a || b) both.0 (listed_not text other table both.1 ne)
 

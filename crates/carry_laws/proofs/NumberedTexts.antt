@@ -1,5 +1,6 @@
 -- Texts that are numbered in reading order, and found again by their numbers.
-use Rattle.std.proofs.Common.{◌≡◌, ℕ, suc, ◌+◌, ◌<◌, ◌≤◌, ◌||◌, Bool, true, false, not, cond, List, [], ◌∷◌, ◌++◌, length, get_or, refl, sym, ap, subst, ◌∙◌, arith, append-nil, append_assoc, length-append}
+use Rattle.std.proofs.Common.{◌≡◌, ℕ, suc, ◌+◌, ◌<◌, ◌≤◌, ◌||◌, Bool, true, false, not, cond, List, [], ◌∷◌, ◌++◌, length, get_or, refl}
+use Rattle.std.proofs.Common.{sym, ap, subst, ◌∙◌, arith, append-nil, append_assoc, length-append}
 use Rattle.std.specs.List.{position_or_len}
 use Rattle.std.specs.Str.{bytes_eq}
 use Rattle.std.proofs.lemmas.Bool.{lt-ltb}
@@ -69,7 +70,8 @@ number_at text table = by (is_listed text table) refl
         ap (λ n. get_or table n []) (fits_in (position_or_len (bytes_eq text) table) (omega arith)) ∙ at.there
     by false e few =
         let last = unlisted_text text table e in
-        ap (λ n. get_or (table ++ text ∷ []) n []) (fits_in (position_or_len (bytes_eq text) table) (omega (arith, length-append table (text ∷ []))))
+        let size = length-append table (text ∷ []) in
+        ap (λ n. get_or (table ++ text ∷ []) n []) (fits_in (position_or_len (bytes_eq text) table) (omega arith))
         ∙ get_or_push table text [] (position_or_len (bytes_eq text) table) (sym last)
 
 -- an item has its name by any later table

@@ -19,10 +19,11 @@ pub had_or_put : (xs : List Item) (s : finite_set.FinSet item_cmp) (q : Item) �
 had_or_put [] s q is = inr is
 had_or_put (x ∷ xs) s q is = elim (had_or_put xs (finite_set.insert s x) q is) [
   | inl at ↦ inl (inr at)
-  | inr there ↦ elim (or_cases (eq_by_cmp item_cmp q x) (finite_set.contains s q) (sym (finite_set.contains-insert items_total s x q) ∙ there)) [
-    | inl same ↦ inl (inl (sym (alike_is q x same)))
-    | inr old ↦ inr old
-  ]
+  | inr there ↦ elim (or_cases (eq_by_cmp item_cmp q x) (finite_set.contains s q)
+      (sym (finite_set.contains-insert items_total s x q) ∙ there)) [
+        | inl same ↦ inl (inl (sym (alike_is q x same)))
+        | inr old ↦ inr old
+      ]
 ]
 
 still_had : (xs : List Item) (s : finite_set.FinSet item_cmp) (q : Item) → finite_set.contains s q ≡ true

@@ -1,5 +1,6 @@
 -- What the starts of objects as they are spell: the same values, whose items are numbered anew.
-use Rattle.std.proofs.Common.{◌≡◌, true, ℕ, ◌+◌, ◌*◌, ◌≤◌, List, [], ◌∷◌, map, length, Some, inl, inr, refl, sym, ap, ap₂, subst, ◌∙◌, arith}
+use Rattle.std.proofs.Common.{◌≡◌, true, ℕ, ◌+◌, ◌*◌, ◌≤◌, List, [], ◌∷◌, map, length, Some, inl, inr, refl, sym, ap, ap₂, subst, ◌∙◌}
+use Rattle.std.proofs.Common.{arith}
 use Rattle.std.specs.Prelude.{unwrap_or, pos}
 use Rattle.std.specs.FinSet as finite_set
 use Rattle.std.specs.FinMap as finite_map
@@ -28,7 +29,8 @@ abbrev pub both : (Item → List ℕ) → Item × Item → List ℕ × List ℕ
 both name pair = (name pair.0, name pair.1)
 
 -- By later tables what is spelled shows as this. So many texts are new at most.
-pub record Spells {A B : Type 0} (name : (Item → List ℕ) → A → B) (before : Numbers) (spelled : List A × Numbers) (shown : List B) (most : ℕ) : Type 0 where
+pub record Spells {A B : Type 0} (name : (Item → List ℕ) → A → B) (before : Numbers) (spelled : List A × Numbers) (shown : List B)
+    (most : ℕ) : Type 0 where
   pub grows : Grows before.items spelled.1.items
   pub few : length spelled.1.items ≤ length before.items + most
   pub shows : (texts : Texts) → Grows spelled.1.items texts.items → length texts.items ≤ 4294967295
@@ -164,7 +166,8 @@ value_spelled names (value.Set s) numbers small apart =
     record {
       grows = items.grows;
       few = omega (arith, fewer, members_few s);
-      same = λ texts more few. set_same names (names_of texts) s (entries_of numbers (items_data names (members s))).0 (items.shows texts more few);
+      same = λ texts more few. set_same names (names_of texts) s (entries_of numbers (items_data names (members s))).0
+          (items.shows texts more few);
     }
 value_spelled names (value.Queue q) numbers small apart =
     let items = items_spelled names q numbers in

@@ -1,5 +1,6 @@
 -- How long the document of objects as they are can be.
-use Rattle.std.proofs.Common.{◌≡◌, ℕ, pos, negsuc, suc, ◌+◌, ◌*◌, ◌≤◌, true, None, List, [], ◌∷◌, ◌++◌, map, length, decimal, arith, length-append}
+use Rattle.std.proofs.Common.{◌≡◌, ℕ, pos, negsuc, suc, ◌+◌, ◌*◌, ◌≤◌, true, None, List, [], ◌∷◌, ◌++◌, map, length, decimal, arith}
+use Rattle.std.proofs.Common.{length-append}
 use Rattle.std.specs.Prelude.{codes}
 use Rattle.std.specs.FinMap as finite_map
 use Rattle.std.specs.List.{AllByRecursion}
@@ -15,7 +16,8 @@ use Rattle.objects.specs.declared.value.Value.TheVariants as value
 use Rattle.meaning.specs.Words.{Names, kind_text, members}
 use Rattle.batch.specs.Limits.{all_entries_in, entries_in}
 use Rattle.batch.specs.Names.{is_name}
-use Rattle.carry.specs.Carried.{carried_text, first_unfit, item_text, joined, list_text, object_text, object_texts, pair_text, quoted, start_text}
+use Rattle.carry.specs.Carried.{carried_text, first_unfit, item_text, joined, list_text, object_text, object_texts, pair_text, quoted}
+use Rattle.carry.specs.Carried.{start_text}
 use Rattle.carry_laws.proofs.Carriable.{first_fits}
 use Rattle.carry_laws.proofs.ItemsOf.{members_few}
 use Rattle.carry_laws.proofs.Listed.{AreNamedBoth, AreWritable, IsNamed, IsWritable}
@@ -32,7 +34,8 @@ joined_length separator (text ∷ next ∷ texts) short =
     let rest = joined_length separator (next ∷ texts) short in
     omega (arith, rest, length-append (text ++ separator) (joined separator (next ∷ texts)), length-append text separator)
 
-total_most : (most : ℕ) (texts : List (List ℕ)) → AllByRecursion (λ text. length text ≤ most) texts → total texts ≤ (most + 2) * length texts
+total_most : (most : ℕ) (texts : List (List ℕ)) → AllByRecursion (λ text. length text ≤ most) texts
+    → total texts ≤ (most + 2) * length texts
 total_most most [] all = omega arith
 total_most most (text ∷ texts) all = let first = all.0 in omega (arith, total_most most texts all.1)
 
@@ -73,7 +76,8 @@ module _ (names : Names) where
         items_length (pair.0 ∷ pair.1 ∷ []) (named.0, (named.1, tt)),
       )
 
-  pairs_length : (pairs : List (Item × Item)) → AllByRecursion (AreNamedBoth names) pairs → total (map (pair_text names) pairs) ≤ 76 * length pairs
+  pairs_length : (pairs : List (Item × Item)) → AllByRecursion (AreNamedBoth names) pairs
+      → total (map (pair_text names) pairs) ≤ 76 * length pairs
   pairs_length [] named = omega arith
   pairs_length (pair ∷ pairs) named = omega (arith, pairs_length pairs named.1, pair_length pair named.0)
 
@@ -85,7 +89,12 @@ module _ (names : Names) where
       omega (arith, list_length (map (item_text names) (members s)), items_length (members s) ok, members_few s)
   start_length (value.Queue q) ok = omega (arith, list_length (map (item_text names) q), items_length q ok)
   start_length (value.Directory d) ok =
-      omega (arith, list_length (map (pair_text names) (finite_map.entries d)), pairs_length (finite_map.entries d) ok, finite_map.len-entries d)
+      omega (
+        arith,
+        list_length (map (pair_text names) (finite_map.entries d)),
+        pairs_length (finite_map.entries d) ok,
+        finite_map.len-entries d,
+      )
   start_length (value.Max n) ok = omega (arith, number_length n ok)
 
   parts_length : (a name b kind c start d : List ℕ) → length (a ++ name ++ b ++ kind ++ c ++ start ++ d)
@@ -97,7 +106,8 @@ module _ (names : Names) where
   object_length n v named ok =
       omega (
         arith,
-        parts_length (codes "{\"name\": ") (quoted (names.object n)) (codes ", \"kind\": ") (quoted (kind_text (kind_of_value v))) (codes ", \"start\": ")
+        parts_length (codes "{\"name\": ") (quoted (names.object n)) (codes ", \"kind\": ") (quoted (kind_text (kind_of_value v)))
+            (codes ", \"start\": ")
             (start_text names v) (codes "}"),
         quoted_length (names.object n) (name_length (names.object n) named),
         quoted_length (kind_text (kind_of_value v)) (kind_length (kind_of_value v)),
@@ -109,7 +119,8 @@ module _ (names : Names) where
   objects_length n [] ok = omega arith
   objects_length n (v ∷ values) ok = omega (arith, objects_length (n + 1) values ok.2, object_length n v ok.0 ok.1)
 
-  pub all_few : (entries : ℕ) (values : State) → entries ≤ 100_000 → first_unfit entries values ≡ None → entries + all_entries_in values ≤ 100_000
+  pub all_few : (entries : ℕ) (values : State) → entries ≤ 100_000 → first_unfit entries values ≡ None
+      → entries + all_entries_in values ≤ 100_000
   all_few entries [] few fit = omega arith
   all_few entries (v ∷ values) few fit =
       let fits = first_fits entries v values fit in

@@ -1,10 +1,13 @@
--- The law of carrying over, as a statement.
-use Rattle.std.specs.Prelude.{◌≡◌, [], Ok}
+-- The laws of carrying over, as statements.
+use Rattle.std.specs.Prelude.{◌≡◌, ◌≤◌, ℕ, List, [], length, None, Ok}
 use Rattle.objects.specs.Entries.{State}
 use Rattle.meaning.specs.Words.{Names}
 use Rattle.lang.specs.Reading.{Document, reading}
-use Rattle.carry.specs.Carried.{carried_text}
-use Rattle.batch.specs.Names.{names_of}
+use Rattle.carry.specs.Carried.{carried_text, first_unfit}
+use Rattle.std.specs.List.{IsDistinct}
+use Rattle.std.specs.Str.{bytes_eq}
+use Rattle.batch.specs.Named.{AllNamedValues}
+use Rattle.batch.specs.Names.{AreNames, Texts, names_of}
 use Rattle.carry_laws.specs.Carrying.{CanBeCarried, object_names}
 use Rattle.carry_laws.specs.Same.{AreSame}
 
@@ -18,3 +21,12 @@ pub record StartsWith (names : Names) (values : State) (document : Document) : T
 abbrev pub CarriedLaw : Type 0
 CarriedLaw = (names : Names) (values : State) → CanBeCarried names values
     → (document : Document) × (reading (carried_text names values) ≡ Ok document) × StartsWith names values document
+
+abbrev pub AreDistinctNames : List (List ℕ) → Type 0
+AreDistinctNames texts = AreNames texts × IsDistinct bytes_eq texts
+
+-- Objects can be carried over under the texts of a batch, where each object and each item has a text of its own.
+abbrev pub NamedLaw : Type 0
+NamedLaw = (texts : Texts) (values : State) → AreDistinctNames texts.objects → AreDistinctNames texts.items
+    → length texts.objects ≡ length values → AllNamedValues texts values → length values ≤ 1000 → first_unfit 0 values ≡ None
+    → CanBeCarried (names_of texts) values

@@ -1,7 +1,13 @@
-//! The law of the document of objects as they are.
-ghost use Rattle.carry_laws.specs.Laws.{CarriedLaw};
+//! Laws of the document of objects as they are.
+ghost use Rattle.carry_laws.specs.Laws.{CarriedLaw, NamedLaw};
 
 /// What is printed of objects that can be carried over is read as a document that starts with them.
 pub fn carried_objects_are_read()
     ensures { CarriedLaw }
+{}
+
+/// Objects can be carried over under the texts of a batch, where each object and each item has a text
+/// of its own.
+pub fn named_objects_can_be_carried()
+    ensures { NamedLaw }
 {}
