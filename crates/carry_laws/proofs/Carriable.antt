@@ -12,7 +12,8 @@ use Rattle.objects.specs.declared.value.Value.TheVariants as value
 use Rattle.meaning.specs.Words.{Names, members}
 use Rattle.batch.specs.Limits.{entries_in}
 use Rattle.batch.specs.Names.{AreNames, is_name}
-use Rattle.carry.specs.Carried.{first_unfit, magnitude}
+use Rattle.meaning.specs.WellFormed.{size_of}
+use Rattle.carry.specs.Carried.{first_unfit}
 use Rattle.carry.specs.declared.document.Unfit.TheVariants.{Start, TooMany}
 use Rattle.carry_laws.specs.Carrying.{HasItem, SomeHasItem, object_names}
 use Rattle.carry_laws.proofs.Among.{Among, Apart, apart_map, among_from_map, contains_among, each_of}
@@ -21,14 +22,14 @@ use Rattle.carry_laws.proofs.Listed.{AreNamedBoth, AreWritable, IsNamed, IsWrita
 
 -- the first object can start, and so can the others behind it
 pub record Fits (entries : ℕ) (v : Value) (values : State) : Type 0 where
-  pub small : magnitude v ≤ 1_000_000_000_000_000
+  pub small : size_of v ≤ 1_000_000_000_000_000
   pub few : entries + entries_in v ≤ 100_000
   pub rest : first_unfit (entries + entries_in v) values ≡ None
 
 pub first_fits : (entries : ℕ) (v : Value) (values : State) → first_unfit entries (v ∷ values) ≡ None → Fits entries v values
-first_fits entries v values e = by (nat_lt 1_000_000_000_000_000 (magnitude v)) (nat_lt 100_000 (entries + entries_in v)) refl refl e
+first_fits entries v values e = by (nat_lt 1_000_000_000_000_000 (size_of v)) (nat_lt 100_000 (entries + entries_in v)) refl refl e
   where
-    by : (large many : Bool) → nat_lt 1_000_000_000_000_000 (magnitude v) ≡ large → nat_lt 100_000 (entries + entries_in v) ≡ many
+    by : (large many : Bool) → nat_lt 1_000_000_000_000_000 (size_of v) ≡ large → nat_lt 100_000 (entries + entries_in v) ≡ many
         → cond large (Some Start) (cond many (Some TooMany) (first_unfit (entries + entries_in v) values)) ≡ None → Fits entries v values
     by true many l m none = cc
     by false true l m none = cc
@@ -41,7 +42,7 @@ IsApart names (value.Directory d) = Apart (map names.item (finite_map.keys d))
 IsApart names v = ⊤
 
 module _ (names : Names) where
-  writable : (v : Value) → magnitude v ≤ 1_000_000_000_000_000 → ((x : Item) → HasItem v x → IsNamed names x) → IsWritable names v
+  writable : (v : Value) → size_of v ≤ 1_000_000_000_000_000 → ((x : Item) → HasItem v x → IsNamed names x) → IsWritable names v
   writable (value.Account n) small named = small
   writable (value.Counter n) small named = small
   writable (value.Set s) small named = each_of (IsNamed names) (members s) (λ x at. named x (among_contained s x at))

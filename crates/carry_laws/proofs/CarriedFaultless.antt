@@ -27,7 +27,8 @@ use Rattle.lang.specs.Demand.{check, fault_of, first_fault, no_counts}
 use Rattle.lang.specs.Scope.{Table, is_listed}
 use Rattle.lang.specs.Words.{kind_of}
 use Rattle.lang.proofs.Checks.{check_met}
-use Rattle.carry.specs.Carried.{first_unfit, magnitude}
+use Rattle.meaning.specs.WellFormed.{size_of}
+use Rattle.carry.specs.Carried.{first_unfit}
 use Rattle.carry_laws.proofs.CarriedData.{carried_data, items_data, object_data, objects_data, pairs_data, start_data}
 use Rattle.carry_laws.specs.Carrying.{object_names}
 use Rattle.carry_laws.proofs.Among.{Apart}
@@ -52,7 +53,7 @@ kind_back kind.Max = refl
 pub number_back : (n : ℕ) → n ≤ 1_000_000_000_000_000 → number_start (number (unsigned n)) ≡ Some n
 number_back n small = rw (lt-ltb n (2 ^ 63) (omega arith)) (rw (le-leb 0 n (omega arith), le-leb n 1_000_000_000_000_000 small))
 
-pub signed_back : (z : ℤ) → magnitude (value.Counter z) ≤ 1_000_000_000_000_000 → signed_start (number (of_integer z)) ≡ Some z
+pub signed_back : (z : ℤ) → size_of (value.Counter z) ≤ 1_000_000_000_000_000 → signed_start (number (of_integer z)) ≡ Some z
 signed_back (pos n) small = rw (lt-ltb n (2 ^ 63) (omega arith)) (rw (le-leb n 1_000_000_000_000_000 small))
 signed_back (negsuc n) small = rw (le-leb (suc n) 1_000_000_000_000_000 small)
 
@@ -92,7 +93,7 @@ module _ (names : Names) where
       (meet_test _ (is_name text) Name _ named.0.0 (meet_test _ (is_name (names.item pair.1)) Name _ named.0.1
       (meet_test _ (not (is_listed text earlier)) Start _ (ap not new.0) (meet_start (length pairs) _ later))))))
 
-  start_meet : (v : Value) → magnitude v ≤ 1_000_000_000_000_000 → IsWritable names v → IsApart names v
+  start_meet : (v : Value) → size_of v ≤ 1_000_000_000_000_000 → IsWritable names v → IsApart names v
       → Meet (entries_in v) (start_asked (kind_of_value v) (start_data names v))
   unfolding start_asked array_start_asked
   start_meet (value.Account n) small ok apart = meet_test 0 (is_some (number_start (start_data names (value.Account n)))) Start []
@@ -118,7 +119,7 @@ module _ (names : Names) where
   kind_is n v = ap (λ k. unwrap_or k kind.Account) (kind_read n v)
 
   object_meets : (n : ℕ) (v : Value) (earlier : Table) → is_name (names.object n) ≡ true → is_listed (names.object n) earlier ≡ false
-      → magnitude v ≤ 1_000_000_000_000_000 → IsWritable names v → IsApart names v
+      → size_of v ≤ 1_000_000_000_000_000 → IsWritable names v → IsApart names v
       → Meet (entries_in v) (object_asked 4 earlier (object_data names n v))
   unfolding object_asked object_shape_asked object_name_asked
   object_meets n v earlier named new small ok apart =

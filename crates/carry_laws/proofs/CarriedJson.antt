@@ -19,9 +19,9 @@ use Rattle.objects.specs.declared.kind.Kind.{Kind}
 use Rattle.objects.specs.declared.kind.Kind.TheVariants as kind
 use Rattle.objects.specs.declared.value.Value.{Value}
 use Rattle.objects.specs.declared.value.Value.TheVariants as value
-use Rattle.meaning.specs.Words.{Names, kind_text, members}
+use Rattle.meaning.specs.Words.{Names, kind_text, members, joined}
 use Rattle.batch.specs.Names.{is_name}
-use Rattle.carry.specs.Carried.{carried_text, item_text, joined, object_text, object_texts, pair_text, quoted, start_text}
+use Rattle.carry.specs.Carried.{carried_text, item_text, object_text, object_texts, pair_text, quoted, start_text}
 use Rattle.carry_laws.proofs.Lexemes.{json_lexemes}
 use Rattle.carry_laws.proofs.Listed.{AreWritable, IsWritable, IsNamed, AreNamedBoth}
 use Rattle.carry_laws.proofs.NamesPlain.{name_plain}

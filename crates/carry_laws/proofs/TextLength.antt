@@ -13,10 +13,10 @@ use Rattle.objects.specs.declared.kind.Kind.{Kind}
 use Rattle.objects.specs.declared.kind.Kind.TheVariants as kind
 use Rattle.objects.specs.declared.value.Value.{Value}
 use Rattle.objects.specs.declared.value.Value.TheVariants as value
-use Rattle.meaning.specs.Words.{Names, kind_text, members}
+use Rattle.meaning.specs.Words.{Names, kind_text, members, joined}
 use Rattle.batch.specs.Limits.{all_entries_in, entries_in}
 use Rattle.batch.specs.Names.{is_name}
-use Rattle.carry.specs.Carried.{carried_text, first_unfit, item_text, joined, list_text, object_text, object_texts, pair_text, quoted}
+use Rattle.carry.specs.Carried.{carried_text, first_unfit, item_text, list_text, object_text, object_texts, pair_text, quoted}
 use Rattle.carry.specs.Carried.{start_text}
 use Rattle.carry_laws.proofs.Carriable.{first_fits}
 use Rattle.carry_laws.proofs.ItemsOf.{members_few}

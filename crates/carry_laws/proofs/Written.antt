@@ -9,7 +9,8 @@ use Rattle.json.specs.Lex.{token, comma, string_token, lex, between, in_string}
 use Rattle.json.specs.Print.{IsNumber, escape}
 use Rattle.json.proofs.Printed.Strings.{content-escape, lex-escape}
 use Rattle.json.proofs.Printed.Numbers.{lex-number}
-use Rattle.carry.specs.Carried.{joined, list_text, quoted}
+use Rattle.meaning.specs.Words.{joined}
+use Rattle.carry.specs.Carried.{list_text, quoted}
 use Rattle.carry_laws.proofs.Lexemes.{json_lexemes, items_lexemes}
 
 -- the text of a JSON value: the lexer passes it where a word may end behind it
