@@ -13,7 +13,7 @@ use Rattle.rounds.specs.declared.pending_run.PendingRun.{PendingRun}
 use Rattle.batch.specs.declared.record.Record.{Record}
 use Rattle.batch.specs.declared.batch.Batch.{Batch}
 use Rattle.rounds.specs.Openings.{AreCounts}
-use Rattle.rounds.proofs.Room.{kinds_at}
+use Rattle.speculate.proofs.Room.{kinds_at}
 use Rattle.rounds.proofs.Conflicts.{some_run}
 use Rattle.rounds.proofs.Reached.{AtOpening, IsRecordOf, AreAnswers}
 

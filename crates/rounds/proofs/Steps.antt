@@ -18,7 +18,8 @@ use Rattle.objects.specs.declared.entry.Entry.{Entry}
 use Rattle.committed.specs.Summaries.{IsSummary}
 use Rattle.rounds.specs.declared.pending_run.PendingRun.{PendingRun}
 use Rattle.batch.specs.declared.batch.Batch.{Batch}
-use Rattle.rounds.proofs.Room.{kinds_at, made_at, nets_have_room}
+use Rattle.speculate.proofs.Room.{kinds_at, nets_have_room}
+use Rattle.rounds.proofs.Room.{made_at}
 use Rattle.rounds.proofs.Times.{times_read}
 use Rattle.rounds.specs.Passes.{CanBeMade}
 use Rattle.rounds.specs.PendingRuns.{IsPendingOf, own_nets, all_left, times, Kept, HoldsPast, AreRefuted, AreRenewed, IsFirstFrom}

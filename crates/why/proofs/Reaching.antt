@@ -14,7 +14,7 @@ use Rattle.speculate.specs.declared.speculated.Run.{Run}
 use Rattle.why.specs.Why.{WhyFrom, IsLast, IsEnded, IsWhyText, why_line}
 use Rattle.why.specs.Rounds.{IsRound, IsStopped, IsStoppedBy, IsWritten}
 use Rattle.why.specs.declared.round.Round.{Round}
-use Rattle.why.proofs.Room.{nets_have_room}
+use Rattle.speculate.proofs.Room.{nets_have_room}
 
 -- opening b was reached, with the lines of the rounds before it
 pub record HasReached (batch : Batch) (b number : ℕ) (state : State) (text : List ℕ) : Type 0 where

@@ -6,7 +6,8 @@ use Rattle.batch.specs.Parts.{blocks_of}
 use Rattle.batch.specs.Views.{block_view}
 use Rattle.committed.specs.Summaries.{entries_of}
 use Rattle.why.proofs.Passing.{none_passed, run_here, with_all, left_is, one_more_passed, stopped_by, all_passed}
-use Rattle.why.proofs.Room.{kinds_at, room_here}
+use Rattle.speculate.proofs.Room.{kinds_at}
+use Rattle.why.proofs.Room.{room_here}
 use Rattle.why.proofs.round.round_from.Goals as goal
 
 pub loop-place-init : goal.loop-place-init
