@@ -18,3 +18,5 @@ pub mod SpelledStarts
 pub mod CarriedDocument
 pub mod CarriedData
 pub mod NamedTexts
+pub mod NamedEnd
+pub mod CarriedEnd

@@ -2,6 +2,7 @@
 use Rattle.std.specs.Prelude.{◌≡◌, ◌≤◌, ℕ, List, [], length, None, Ok}
 use Rattle.objects.specs.Entries.{State}
 use Rattle.meaning.specs.Words.{Names}
+use Rattle.meaning.specs.Batch.{final_state}
 use Rattle.lang.specs.Reading.{Document, reading}
 use Rattle.carry.specs.Carried.{carried_text, first_unfit}
 use Rattle.std.specs.List.{IsDistinct}
@@ -30,3 +31,10 @@ abbrev pub NamedLaw : Type 0
 NamedLaw = (texts : Texts) (values : State) → AreDistinctNames texts.objects → AreDistinctNames texts.items
     → length texts.objects ≡ length values → AllNamedValues texts values → length values ≤ 1000 → first_unfit 0 values ≡ None
     → CanBeCarried (names_of texts) values
+
+-- Where the objects with which a document ends may all start, what is printed of them is read as a document that starts with them.
+abbrev pub CarriedEndLaw : Type 0
+CarriedEndLaw = (bytes : List ℕ) (document : Document) → reading bytes ≡ Ok document
+    → first_unfit 0 (final_state document.start document.transactions) ≡ None
+    → (next : Document) × (reading (carried_text (names_of document.texts) (final_state document.start document.transactions)) ≡ Ok next)
+    × StartsWith (names_of document.texts) (final_state document.start document.transactions) next

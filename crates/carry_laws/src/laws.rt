@@ -1,5 +1,5 @@
 //! Laws of the document of objects as they are.
-ghost use Rattle.carry_laws.specs.Laws.{CarriedLaw, NamedLaw};
+ghost use Rattle.carry_laws.specs.Laws.{CarriedEndLaw, CarriedLaw, NamedLaw};
 
 /// What is printed of objects that can be carried over is read as a document that starts with them.
 pub fn carried_objects_are_read()
@@ -10,4 +10,10 @@ pub fn carried_objects_are_read()
 /// of its own.
 pub fn named_objects_can_be_carried()
     ensures { NamedLaw }
+{}
+
+/// What is printed of the objects with which a document ends is read as a document that starts with
+/// them, where they may all start.
+pub fn carried_ends_are_read()
+    ensures { CarriedEndLaw }
 {}
