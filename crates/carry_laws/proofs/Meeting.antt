@@ -13,7 +13,7 @@ use Rattle.lang.specs.Scope.{Table, is_listed, with_text}
 abbrev type_of : {A : Type 0} → A → Type 0
 type_of {A} a = A
 
--- what is counted towards the limits of a document
+-- What is counted towards the limits of a document. The type has no name outside its crate, so it is taken from a value.
 abbrev pub Counts : Type 0
 Counts = type_of no_counts
 
