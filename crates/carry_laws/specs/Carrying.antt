@@ -11,6 +11,7 @@ use Rattle.objects.specs.declared.value.Value.TheVariants as value
 use Rattle.meaning.specs.Words.{Names}
 use Rattle.batch.specs.Names.{AreNames, is_name}
 use Rattle.carry.specs.Carried.{first_unfit}
+use Rattle.meaning.specs.declared.limits.TheConstants.{MAX_OBJECTS}
 
 -- a member, an item of the queue, or a key or what it is bound to
 abbrev pub HasItem : Value → Item → Type 0
@@ -30,7 +31,7 @@ object_names names n (v ∷ values) = names.object n ∷ object_names names (n +
 
 -- Objects that may start a document: few, none of them unfit, and what they name has a name of its own.
 pub record CanBeCarried (names : Names) (values : State) : Type 0 where
-  pub few : length values ≤ 1000
+  pub few : length values ≤ MAX_OBJECTS
   pub fit : first_unfit 0 values ≡ None
   pub objects_named : AreNames (object_names names 0 values)
   pub objects_apart : IsDistinct bytes_eq (object_names names 0 values)

@@ -11,6 +11,7 @@ use Rattle.batch.specs.Named.{AllNamedValues}
 use Rattle.batch.specs.Names.{AreNames, Texts, names_of}
 use Rattle.carry_laws.specs.Carrying.{CanBeCarried, object_names}
 use Rattle.carry_laws.specs.Same.{AreSame}
+use Rattle.meaning.specs.declared.limits.TheConstants.{MAX_OBJECTS}
 
 -- The document starts with the same objects under the same names, and has no transaction.
 pub record StartsWith (names : Names) (values : State) (document : Document) : Type 0 where
@@ -29,7 +30,7 @@ AreDistinctNames texts = AreNames texts × IsDistinct bytes_eq texts
 -- Objects can be carried over under the texts of a batch, where each object and each item has a text of its own.
 abbrev pub NamedLaw : Type 0
 NamedLaw = (texts : Texts) (values : State) → AreDistinctNames texts.objects → AreDistinctNames texts.items
-    → length texts.objects ≡ length values → AllNamedValues texts values → length values ≤ 1000 → first_unfit 0 values ≡ None
+    → length texts.objects ≡ length values → AllNamedValues texts values → length values ≤ MAX_OBJECTS → first_unfit 0 values ≡ None
     → CanBeCarried (names_of texts) values
 
 -- Where the objects with which a document ends may all start, what is printed of them is read as a document that starts with them.
