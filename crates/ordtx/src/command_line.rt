@@ -19,6 +19,12 @@ const DEFAULT_WORKERS: u32 = 4;
 /// How many transactions a piece of their work has where the command line doesn't say.
 const DEFAULT_CUT: u32 = 16;
 
+/// The largest number of workers, as a number of the command line.
+const MOST_WORKERS: i64 = MAX_WORKERS as i64;
+
+/// The largest cut, as a number of the command line.
+const MOST_CUT: i64 = MAX_CUT as i64;
+
 const ABOUT: &str = "Runs numbered transactions over typed objects on several threads, with the \
 answer of running them by number on one";
 
@@ -248,14 +254,14 @@ fn run_command<'a>(alloc: Global) -> Result<clap::Command<'a>, AllocError>
         alloc,
         "workers",
         "N",
-        i64::from(MAX_WORKERS),
+        MOST_WORKERS,
         "How many workers there are, 1 to 64 [default: 4]",
     );
     let cut = number_argument(
         alloc,
         "cut",
         "K",
-        i64::from(MAX_CUT),
+        MOST_CUT,
         "How many transactions a worker takes at a time at most, 1 to 1000 [default: 16]",
     );
     let audit = flag_argument(
