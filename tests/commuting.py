@@ -1,25 +1,33 @@
 """The tables of `docs/DOCUMENT.md` on which operations commute: two transactions share a round where they say so."""
 
+import itertools
 import json
 import pathlib
 import re
 
+import randoms
+
 PAGE = pathlib.Path(__file__).resolve().parent.parent / "docs" / "DOCUMENT.md"
 SPAN = re.compile(r"`([a-z]+)`")
 
-# For each table the kind, values to start with, and operations.
+# For each table the kind, and values to start with.
 TABLES = (
-    ("Account", "account", (0, 5),
-     (("deposit", 3), ("deposit", 5), ("withdraw", 3), ("withdraw", 5), ("withdraw", 6), ("balance",))),
-    ("Counter", "counter", (0, -2), (("add", 1), ("sub", 1), ("read",))),
-    ("Set", "set", ([], ["a"], ["a", "b"]),
-     tuple((verb, item) for verb in ("insert", "remove", "has") for item in "ab") + (("size",),)),
-    ("Queue", "queue", ([], ["a"], ["b", "a"], ["a", "a"]), (("enq", "a"), ("enq", "b"), ("deq",), ("length",))),
-    ("Directory", "directory", ([], [["k", "v"]], [["k", "w"], ["l", "v"]]),
-     tuple((verb, key, item) for verb in ("bind", "put") for key in "kl" for item in "vw")
-     + tuple((verb, key) for verb in ("unbind", "lookup") for key in "kl")),
-    ("Maximum register", "max", (0, 5), (("raise", 3), ("raise", 5), ("raise", 9), ("top",))),
+    ("Account", "account", (0, 5)),
+    ("Counter", "counter", (0, -2)),
+    ("Set", "set", ([], ["a"], ["a", "b"])),
+    ("Queue", "queue", ([], ["a"], ["b", "a"], ["a", "a"])),
+    ("Directory", "directory", ([], [["k", "v"]], [["k", "w"], ["l", "v"]])),
+    ("Maximum register", "max", (0, 5)),
 )
+
+
+def operations_of(kind):
+    """The kind's operations, each with all arguments that it is tried with."""
+    items = ("kl", "vw") if kind == "directory" else ("ab",)
+    for verb, _, arguments, _ in randoms.KINDS[kind][2]:
+        values = [(3, 5, 9)] if arguments == "N" else items[:len(arguments)]
+        for given in itertools.product(*values):
+            yield (verb, *given)
 
 
 def cells(line):
@@ -73,8 +81,9 @@ def report_of(program, kind, start, *transactions):
     return out.decode().splitlines()
 
 
-def try_table(program, title, kind, starts, operations):
+def try_table(program, title, kind, starts):
     table = table_of(title)
+    operations = list(operations_of(kind))
     for start in starts:
         replies = [report_of(program, kind, start, one)[1].split(" = ")[1] for one in operations]
         known = list(zip(operations, replies))

@@ -13,7 +13,7 @@ import commuting
 import randoms
 
 EXAMPLES = pathlib.Path(__file__).resolve().parent.parent / "examples"
-TITLES = {kind: title for title, kind, _, _ in commuting.TABLES}
+TITLES = {kind: title for title, kind, _ in commuting.TABLES}
 PLANS = ([], ["--workers", "1"], ["--workers", "64", "--cut", "1"])
 
 

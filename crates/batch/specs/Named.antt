@@ -5,13 +5,12 @@ use Rattle.std.specs.Option.{ForSome}
 use Rattle.std.specs.FinSet as finite_set
 use Rattle.std.specs.FinMap as finite_map
 use Rattle.atoms.specs.declared.item.Item.{Item}
-use Rattle.atoms.specs.declared.item_set.SetCall.TheVariants.{Insert, Remove, Has}
-use Rattle.atoms.specs.declared.queue.QueueCall.TheVariants.{Enq}
-use Rattle.atoms.specs.declared.directory.DirectoryCall.TheVariants.{Bind, Put, Unbind, Lookup}
 use Rattle.objects.specs.declared.call.Call.{Call}
-use Rattle.objects.specs.declared.call.Call.TheVariants as call
 use Rattle.objects.specs.declared.value.Value.{Value}
 use Rattle.objects.specs.declared.value.Value.TheVariants as value
+use Rattle.words.specs.Verbs.{phrase_of}
+use Rattle.words.specs.declared.verb.Phrase.{Phrase}
+use Rattle.words.specs.declared.verb.Phrase.TheVariants.{OfAmount, OfItem, OfPair, Alone}
 use Rattle.meaning.specs.declared.test.Test.{Test}
 use Rattle.meaning.specs.declared.test.Test.TheVariants.{IsItem}
 use Rattle.meaning.specs.Trees.{Block, NoStep, Steps, Step, Operation, If, Subaction, Abort, Parallel, Handlers, ForReason, Otherwise, GoOn}
@@ -24,16 +23,14 @@ HasText texts item = item.0 < length texts.items
 abbrev pub HasReason : Texts → ℕ → Type 0
 HasReason texts reason = reason < length texts.reasons
 
+abbrev pub IsNamedPhrase : Texts → Phrase → Type 0
+IsNamedPhrase texts (OfAmount v a) = ⊤
+IsNamedPhrase texts (OfItem v x) = HasText texts x
+IsNamedPhrase texts (OfPair v k x) = HasText texts k × HasText texts x
+IsNamedPhrase texts (Alone v) = ⊤
+
 abbrev pub IsNamedCall : Texts → Call → Type 0
-IsNamedCall texts (call.Set (Insert x)) = HasText texts x
-IsNamedCall texts (call.Set (Remove x)) = HasText texts x
-IsNamedCall texts (call.Set (Has x)) = HasText texts x
-IsNamedCall texts (call.Queue (Enq x)) = HasText texts x
-IsNamedCall texts (call.Directory (Bind k v)) = HasText texts k × HasText texts v
-IsNamedCall texts (call.Directory (Put k v)) = HasText texts k × HasText texts v
-IsNamedCall texts (call.Directory (Unbind k)) = HasText texts k
-IsNamedCall texts (call.Directory (Lookup k)) = HasText texts k
-IsNamedCall texts c = ⊤
+IsNamedCall texts c = IsNamedPhrase texts (phrase_of c)
 
 abbrev pub IsNamedTest : Texts → Test → Type 0
 IsNamedTest texts (IsItem x) = HasText texts x

@@ -10,8 +10,9 @@ ghost use Rattle.carry.specs.Carried.{carried_text, first_unfit, item_text, obje
 use batch::Names;
 use meaning::limits::{MAX_ENTRIES, MAX_START};
 use objects::{Directory, ItemSet, NoMemory, Objects, Queue, Value};
-use report::{item_name, kind_word, object_name};
+use report::{item_name, object_name};
 use std::alloc::Global;
+use words::kind_text;
 
 /// Why objects can't all be the starts of a document.
 #[derive(Clone, Copy, Debug, Drop, PartialEq, Eq)]
@@ -102,7 +103,7 @@ fn write_object(out: &mut String, names: &Names, object: u32, value: &Value) -> 
     ensures { OnOk result (string_bytes out.new ≡ string_bytes out.old ++ object_text (names_of names.now) object value.now) }
 {
     let name = object_name(names, object);
-    let kind = kind_word(value.kind());
+    let kind = kind_text(value.kind());
     write!(
         out,
         "{{\"name\": \"{name}\", \"kind\": \"{kind}\", \"start\": "

@@ -8,7 +8,8 @@ use Rattle.objects.specs.Entries.{State}
 use Rattle.objects.specs.Objects.{kind_of_value}
 use Rattle.objects.specs.declared.value.Value.{Value}
 use Rattle.objects.specs.declared.value.Value.TheVariants as value
-use Rattle.meaning.specs.Words.{Names, kind_text, members}
+use Rattle.meaning.specs.Words.{Names, members}
+use Rattle.words.specs.Words.{kind_text}
 
 abbrev pub items_data : Names → List Item → Items
 items_data names [] = no_items

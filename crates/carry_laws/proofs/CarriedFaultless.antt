@@ -16,7 +16,8 @@ use Rattle.objects.specs.declared.kind.Kind.{Kind}
 use Rattle.objects.specs.declared.kind.Kind.TheVariants as kind
 use Rattle.objects.specs.declared.value.Value.{Value}
 use Rattle.objects.specs.declared.value.Value.TheVariants as value
-use Rattle.meaning.specs.Words.{Names, kind_text, members}
+use Rattle.meaning.specs.Words.{Names, members}
+use Rattle.words.specs.Words.{kind_text}
 use Rattle.batch.specs.Limits.{entries_in}
 use Rattle.batch.specs.Names.{is_name}
 use Rattle.lang.specs.declared.fault.Code.TheVariants.{DuplicateObject, Name, Shape, Start}
@@ -25,7 +26,7 @@ use Rattle.lang.specs.Asked.{kind_in, object_asked, object_kind, object_name_ask
 use Rattle.lang.specs.Asked.{pairs_asked, start_asked, number_start, signed_start}
 use Rattle.lang.specs.Demand.{check, fault_of, first_fault, no_counts}
 use Rattle.lang.specs.Scope.{Table, is_listed}
-use Rattle.lang.specs.Words.{kind_of}
+use Rattle.words.specs.Words.{kind_of_text}
 use Rattle.lang.proofs.Checks.{check_met}
 use Rattle.meaning.specs.WellFormed.{size_of}
 use Rattle.carry.specs.Carried.{first_unfit}
@@ -39,8 +40,8 @@ use Rattle.carry_laws.proofs.Meeting.{AreNew, Counts, Meet, all_new, meet_fewer,
 
 -- ---- kinds
 
-pub kind_back : (k : Kind) → kind_of 4 (kind_text k) ≡ Some k
-unfolding kind_of
+pub kind_back : (k : Kind) → kind_of_text 4 (kind_text k) ≡ Some k
+unfolding kind_of_text
 kind_back kind.Account = refl
 kind_back kind.Counter = refl
 kind_back kind.Set = refl

@@ -17,7 +17,8 @@ use Rattle.objects.specs.declared.kind.Kind.{Kind}
 use Rattle.objects.specs.declared.kind.Kind.TheVariants as kind
 use Rattle.objects.specs.declared.value.Value.{Value}
 use Rattle.objects.specs.declared.value.Value.TheVariants as value
-use Rattle.meaning.specs.Words.{Names, kind_text, members, joined}
+use Rattle.meaning.specs.Words.{Names, members, joined}
+use Rattle.words.specs.Words.{kind_text}
 use Rattle.batch.specs.Names.{is_name, is_name_byte}
 use Rattle.carry.specs.Carried.{carried_text, item_text, list_text, object_text, object_texts, pair_text, quoted, start_text}
 use Rattle.carry_laws.proofs.Listed.{AreNamedBoth, AreWritable, IsNamed, IsWritable}

@@ -1,7 +1,7 @@
 -- Calls that fit, and labels that are bound.
 use Rattle.std.proofs.Common.{◌≡◌, ℕ, zero, suc, ◌+◌, ◌≤◌, ◌<◌, Bool, true, false, cond, not, ◌||◌, List, [], ◌∷◌, length, map, Option}
 use Rattle.std.proofs.Common.{None, Some, refl, sym, ap, subst, ◌∙◌, arith}
-use Rattle.std.specs.Prelude.{codes, is_some, unwrap_or, option_and_then, slice_get, nat_le, IsTrue, IsSomeAnd}
+use Rattle.std.specs.Prelude.{codes, is_some, unwrap_or, option_and_then, slice_get, IsTrue, IsSomeAnd}
 use Rattle.std.specs.List.{position_or_len}
 use Rattle.std.specs.Map.{keys_of}
 use Rattle.std.specs.Str.{bytes_eq}
@@ -9,30 +9,19 @@ use Rattle.std.proofs.lemmas.Bool.{lt-ltb}
 use Rattle.std.proofs.lemmas.Option.{slice_get_within}
 use Rattle.std.proofs.lemmas.List.{length-map}
 use Rattle.serde_json.specs.Data.{Data}
-use Rattle.atoms.specs.declared.account.AccountCall.TheVariants as account
-use Rattle.atoms.specs.declared.counter.CounterCall.TheVariants as counter
-use Rattle.atoms.specs.declared.item_set.SetCall.TheVariants as set
-use Rattle.atoms.specs.declared.queue.QueueCall.TheVariants as queue
-use Rattle.atoms.specs.declared.directory.DirectoryCall.TheVariants as directory
-use Rattle.atoms.specs.declared.max_register.MaxCall.TheVariants as max_call
 use Rattle.objects.specs.declared.kind.Kind.{Kind}
-use Rattle.objects.specs.declared.kind.Kind.TheVariants as kind
-use Rattle.objects.specs.declared.call.Call.{Call}
-use Rattle.objects.specs.declared.call.Call.TheVariants as call
 use Rattle.objects.specs.Objects.{kind_of_call}
 use Rattle.meaning.specs.declared.test.Test.{Test}
 use Rattle.meaning.specs.declared.test.Test.TheVariants.{Is, AtLeast, IsItem}
-use Rattle.meaning.specs.WellFormed.{Label, OfCall, OfSubaction, CallFits, test_fits, has_number, has_item}
-use Rattle.lang.specs.declared.words.AmountVerb.TheVariants.{Deposit, Withdraw, Add, Sub, Raise}
-use Rattle.lang.specs.declared.words.ItemVerb.TheVariants.{Insert, Remove, Has, Enq, Unbind, Lookup}
-use Rattle.lang.specs.declared.words.PairVerb.TheVariants.{Bind, Put}
-use Rattle.lang.specs.declared.words.LoneVerb.TheVariants.{Balance, Read, Size, Deq, Length, Top}
-use Rattle.lang.specs.declared.words.Verb.{Verb}
-use Rattle.lang.specs.declared.words.Verb.TheVariants.{OfAmount, OfItem, OfPair, Alone}
-use Rattle.lang.specs.declared.words.Subject.{Subject}
-use Rattle.lang.specs.declared.words.Subject.TheVariants.{Reply, Outcome}
+use Rattle.meaning.specs.WellFormed.{Label, OfCall, OfSubaction, CallFits, test_fits}
+use Rattle.words.specs.declared.verb.Verb.{Verb}
+use Rattle.words.specs.declared.verb.Verb.TheVariants.{OfAmount, OfItem, OfPair, Alone}
+use Rattle.lang.specs.declared.subject.Subject.{Subject}
+use Rattle.lang.specs.declared.subject.Subject.TheVariants.{Reply, Outcome}
 use Rattle.lang.specs.Scope.{Numbers, Scope, Setting, Table, fit, is_listed, kind_named, label_number, named, place_of}
-use Rattle.lang.specs.Words.{some_call, fits_item, fits_number, fits_word, verb_of}
+use Rattle.lang.specs.Subjects.{fits_item, fits_number, fits_word}
+use Rattle.words.specs.Verbs.{phrase_verb, verb_of, verb_of_text}
+use Rattle.words.proofs.Verbs.{HasKind, amount_phrase, item_phrase, lone_phrase, named_has, pair_phrase}
 use Rattle.lang.specs.Asked.{object_of, call_named, verb_at, verb_in, target_asked}
 use Rattle.lang.specs.Spelled.{call_of, or_zero, target_of}
 use Rattle.lang.proofs.MetLemmas.{AllMet}
@@ -66,113 +55,19 @@ some_of None h = cc
 
 -- ---- calls
 
--- the call of a verb, whatever its arguments
-unfoldable pub verb_of_call : Call → Verb
-verb_of_call (call.Account (account.Deposit a)) = OfAmount Deposit
-verb_of_call (call.Account (account.Withdraw a)) = OfAmount Withdraw
-verb_of_call (call.Account account.Balance) = Alone Balance
-verb_of_call (call.Counter (counter.Add a)) = OfAmount Add
-verb_of_call (call.Counter (counter.Sub a)) = OfAmount Sub
-verb_of_call (call.Counter counter.Read) = Alone Read
-verb_of_call (call.Set (set.Insert x)) = OfItem Insert
-verb_of_call (call.Set (set.Remove x)) = OfItem Remove
-verb_of_call (call.Set (set.Has x)) = OfItem Has
-verb_of_call (call.Set set.Size) = Alone Size
-verb_of_call (call.Queue (queue.Enq x)) = OfItem Enq
-verb_of_call (call.Queue queue.Deq) = Alone Deq
-verb_of_call (call.Queue queue.Length) = Alone Length
-verb_of_call (call.Directory (directory.Bind k x)) = OfPair Bind
-verb_of_call (call.Directory (directory.Put k x)) = OfPair Put
-verb_of_call (call.Directory (directory.Unbind k)) = OfItem Unbind
-verb_of_call (call.Directory (directory.Lookup k)) = OfItem Lookup
-verb_of_call (call.Max (max_call.Raise a)) = OfAmount Raise
-verb_of_call (call.Max max_call.Top) = Alone Top
-
-pub verb_is : (v : Verb) (numbers : Numbers) (op : Data) → verb_of_call (call_of v numbers op).0 ≡ v
-unfolding call_of verb_of_call
-verb_is (OfAmount Deposit) numbers op = refl
-verb_is (OfAmount Withdraw) numbers op = refl
-verb_is (OfAmount Add) numbers op = refl
-verb_is (OfAmount Sub) numbers op = refl
-verb_is (OfAmount Raise) numbers op = refl
-verb_is (OfItem Insert) numbers op = refl
-verb_is (OfItem Remove) numbers op = refl
-verb_is (OfItem Has) numbers op = refl
-verb_is (OfItem Enq) numbers op = refl
-verb_is (OfItem Unbind) numbers op = refl
-verb_is (OfItem Lookup) numbers op = refl
-verb_is (OfPair Bind) numbers op = refl
-verb_is (OfPair Put) numbers op = refl
-verb_is (Alone Balance) numbers op = refl
-verb_is (Alone Read) numbers op = refl
-verb_is (Alone Size) numbers op = refl
-verb_is (Alone Deq) numbers op = refl
-verb_is (Alone Length) numbers op = refl
-verb_is (Alone Top) numbers op = refl
-
--- the kind of a call hangs on its verb
-kind_is : (v : Verb) (numbers : Numbers) (op : Data) → kind_of_call (call_of v numbers op).0 ≡ kind_of_call (some_call v)
+pub verb_is : (v : Verb) (numbers : Numbers) (op : Data) → verb_of (call_of v numbers op).0 ≡ v
 unfolding call_of
-kind_is (OfAmount Deposit) numbers op = refl
-kind_is (OfAmount Withdraw) numbers op = refl
-kind_is (OfAmount Add) numbers op = refl
-kind_is (OfAmount Sub) numbers op = refl
-kind_is (OfAmount Raise) numbers op = refl
-kind_is (OfItem Insert) numbers op = refl
-kind_is (OfItem Remove) numbers op = refl
-kind_is (OfItem Has) numbers op = refl
-kind_is (OfItem Enq) numbers op = refl
-kind_is (OfItem Unbind) numbers op = refl
-kind_is (OfItem Lookup) numbers op = refl
-kind_is (OfPair Bind) numbers op = refl
-kind_is (OfPair Put) numbers op = refl
-kind_is (Alone v) numbers op = refl
+verb_is (OfAmount v) numbers op = ap phrase_verb (amount_phrase v _)
+verb_is (OfItem v) numbers op = ap phrase_verb (item_phrase v _)
+verb_is (OfPair v) numbers op = ap phrase_verb (pair_phrase v _ _)
+verb_is (Alone v) numbers op = ap phrase_verb (lone_phrase v)
 
--- a choice of two, and what either may be
-either : {A : Type 0} (P : A → Type 0) (b : Bool) (x y : Option A) (v : A) → (x ≡ Some v → P v) → (y ≡ Some v → P v) → cond b x y ≡ Some v
-    → P v
-either P true x y v first second e = first e
-either P false x y v first second e = second e
-
-only : {A : Type 0} (P : A → Type 0) (x v : A) → P x → Some x ≡ Some v → P v
-only P x v here e = let same : x ≡ v = cc in subst P same here
-
-never : {A : Type 0} (P : A → Type 0) (v : A) → None ≡ Some v → P v
-never P v e = cc
-
-abbrev IsOf : Kind → Verb → Type 0
-IsOf k v = kind_of_call (some_call v) ≡ k
-
--- the call that a word names is of the kind
-word_is_of : (version : ℕ) (k : Kind) (word : List ℕ) (v : Verb) → verb_of version k word ≡ Some v → IsOf k v
-unfolding verb_of
-word_is_of version kind.Account word v e =
-    let P = IsOf kind.Account in
-    either P _ _ _ v (only P (OfAmount Deposit) v refl) (either P _ _ _ v (only P (OfAmount Withdraw) v refl)
-    (either P _ _ _ v (only P (Alone Balance) v refl) (never P v))) e
-word_is_of version kind.Counter word v e =
-    let P = IsOf kind.Counter in
-    either P _ _ _ v (only P (OfAmount Add) v refl)
-    (either P _ _ _ v (only P (OfAmount Sub) v refl) (either P _ _ _ v (only P (Alone Read) v refl) (never P v))) e
-word_is_of version kind.Set word v e =
-    let P = IsOf kind.Set in
-    either P _ _ _ v (only P (OfItem Insert) v refl)
-    (either P _ _ _ v (only P (OfItem Remove) v refl)
-    (either P _ _ _ v (only P (OfItem Has) v refl) (either P _ _ _ v (only P (Alone Size) v refl) (never P v)))) e
-word_is_of version kind.Queue word v e =
-    let P = IsOf kind.Queue in
-    either P (bytes_eq word (codes "enq")) _ _ v (only P (OfItem Enq) v refl)
-    (either P (bytes_eq word (codes "deq")) _ _ v (only P (Alone Deq) v refl)
-    (either P (bytes_eq word (codes "length")) _ _ v (either P (nat_le 2 version) _ _ v (only P (Alone Length) v refl) (never P v))
-    (never P v))) e
-word_is_of version kind.Directory word v e =
-    let P = IsOf kind.Directory in
-    either P _ _ _ v (only P (OfPair Bind) v refl)
-    (either P _ _ _ v (only P (OfPair Put) v refl)
-    (either P _ _ _ v (only P (OfItem Unbind) v refl) (either P _ _ _ v (only P (OfItem Lookup) v refl) (never P v)))) e
-word_is_of version kind.Max word v e =
-    let P = IsOf kind.Max in
-    either P _ _ _ v (only P (OfAmount Raise) v refl) (either P _ _ _ v (only P (Alone Top) v refl) (never P v)) e
+kind_is : (k : Kind) (v : Verb) (numbers : Numbers) (op : Data) → HasKind k v → kind_of_call (call_of v numbers op).0 ≡ k
+unfolding call_of
+kind_is k (OfAmount v) numbers op has = has _
+kind_is k (OfItem v) numbers op has = has _
+kind_is k (OfPair v) numbers op has = has _ _
+kind_is k (Alone v) numbers op has = has
 
 pub call_fits : (setting : Setting) (numbers : Numbers) (op : Data) → length setting.names ≡ length setting.kinds
     → AllMet (target_asked setting (object_of op) (call_named op))
@@ -185,17 +80,17 @@ call_fits setting numbers op paired met =
     let k = there setting.kinds i (omega (arith, within object setting.names met.0)) in
     let named_here : kind_named object setting ≡ Some k.0 = ap (option_and_then (slice_get setting.kinds)) place ∙ k.1 in
     let v = some_of (verb_at setting object (call_named op)) met.1.0 in
-    let at_kind : verb_of setting.version k.0 (call_named op) ≡ Some v.0 =
-    sym (ap (option_and_then (λ x. verb_of setting.version x (call_named op))) named_here) ∙ v.1 in
+    let at_kind : verb_of_text setting.version k.0 (call_named op) ≡ Some v.0 =
+    sym (ap (option_and_then (λ x. verb_of_text setting.version x (call_named op))) named_here) ∙ v.1 in
     let is_verb : verb_in setting op ≡ v.0 = ap (λ o. unwrap_or o (Alone Balance)) v.1 in
     let target : target_of setting object ≡ i = ap or_zero place in
     rw (target, is_verb)
-    (k.1 ∙ ap (λ x. Some x) (sym (kind_is v.0 numbers op ∙ word_is_of setting.version k.0 (call_named op) v.0 at_kind)))
+    (k.1 ∙ ap (λ x. Some x) (sym (kind_is k.0 v.0 numbers op (named_has setting.version k.0 (call_named op) v.0 at_kind))))
 
 -- ---- labels
 
 unfoldable pub subject_of_label : Label → Subject
-subject_of_label (OfCall c) = Reply (verb_of_call c)
+subject_of_label (OfCall c) = Reply (verb_of c)
 subject_of_label OfSubaction = Outcome
 
 abbrev pub subjects : Scope → List Subject
@@ -210,78 +105,11 @@ fits (Is w) subject = fits_word subject w
 fits (AtLeast n) subject = fits_number subject
 fits (IsItem i) subject = fits_item subject
 
-number_fits : (c : Call) → has_number c ≡ fits_number (Reply (verb_of_call c))
-unfolding verb_of_call
-number_fits (call.Account (account.Deposit a)) = refl
-number_fits (call.Account (account.Withdraw a)) = refl
-number_fits (call.Account account.Balance) = refl
-number_fits (call.Counter (counter.Add a)) = refl
-number_fits (call.Counter (counter.Sub a)) = refl
-number_fits (call.Counter counter.Read) = refl
-number_fits (call.Set (set.Insert x)) = refl
-number_fits (call.Set (set.Remove x)) = refl
-number_fits (call.Set (set.Has x)) = refl
-number_fits (call.Set set.Size) = refl
-number_fits (call.Queue (queue.Enq x)) = refl
-number_fits (call.Queue queue.Deq) = refl
-number_fits (call.Queue queue.Length) = refl
-number_fits (call.Directory (directory.Bind k x)) = refl
-number_fits (call.Directory (directory.Put k x)) = refl
-number_fits (call.Directory (directory.Unbind k)) = refl
-number_fits (call.Directory (directory.Lookup k)) = refl
-number_fits (call.Max (max_call.Raise a)) = refl
-number_fits (call.Max max_call.Top) = refl
-
-item_fits : (c : Call) → has_item c ≡ fits_item (Reply (verb_of_call c))
-unfolding verb_of_call
-item_fits (call.Account (account.Deposit a)) = refl
-item_fits (call.Account (account.Withdraw a)) = refl
-item_fits (call.Account account.Balance) = refl
-item_fits (call.Counter (counter.Add a)) = refl
-item_fits (call.Counter (counter.Sub a)) = refl
-item_fits (call.Counter counter.Read) = refl
-item_fits (call.Set (set.Insert x)) = refl
-item_fits (call.Set (set.Remove x)) = refl
-item_fits (call.Set (set.Has x)) = refl
-item_fits (call.Set set.Size) = refl
-item_fits (call.Queue (queue.Enq x)) = refl
-item_fits (call.Queue queue.Deq) = refl
-item_fits (call.Queue queue.Length) = refl
-item_fits (call.Directory (directory.Bind k x)) = refl
-item_fits (call.Directory (directory.Put k x)) = refl
-item_fits (call.Directory (directory.Unbind k)) = refl
-item_fits (call.Directory (directory.Lookup k)) = refl
-item_fits (call.Max (max_call.Raise a)) = refl
-item_fits (call.Max max_call.Top) = refl
-
--- which tests fit a call hangs on its verb
-test_fits_call : (test : Test) (c : Call) → test_fits test (OfCall c) ≡ fits test (Reply (verb_of_call c))
-unfolding verb_of_call
-test_fits_call (Is w) (call.Account (account.Deposit a)) = refl
-test_fits_call (Is w) (call.Account (account.Withdraw a)) = refl
-test_fits_call (Is w) (call.Account account.Balance) = refl
-test_fits_call (Is w) (call.Counter (counter.Add a)) = refl
-test_fits_call (Is w) (call.Counter (counter.Sub a)) = refl
-test_fits_call (Is w) (call.Counter counter.Read) = refl
-test_fits_call (Is w) (call.Set (set.Insert x)) = refl
-test_fits_call (Is w) (call.Set (set.Remove x)) = refl
-test_fits_call (Is w) (call.Set (set.Has x)) = refl
-test_fits_call (Is w) (call.Set set.Size) = refl
-test_fits_call (Is w) (call.Queue (queue.Enq x)) = refl
-test_fits_call (Is w) (call.Queue queue.Deq) = refl
-test_fits_call (Is w) (call.Queue queue.Length) = refl
-test_fits_call (Is w) (call.Directory (directory.Bind k x)) = refl
-test_fits_call (Is w) (call.Directory (directory.Put k x)) = refl
-test_fits_call (Is w) (call.Directory (directory.Unbind k)) = refl
-test_fits_call (Is w) (call.Directory (directory.Lookup k)) = refl
-test_fits_call (Is w) (call.Max (max_call.Raise a)) = refl
-test_fits_call (Is w) (call.Max max_call.Top) = refl
-test_fits_call (AtLeast n) c = number_fits c
-test_fits_call (IsItem i) c = item_fits c
-
 test_fits_label : (test : Test) (label : Label) → test_fits test label ≡ fits test (subject_of_label label)
 unfolding subject_of_label
-test_fits_label test (OfCall c) = test_fits_call test c
+test_fits_label (Is w) (OfCall c) = refl
+test_fits_label (AtLeast n) (OfCall c) = refl
+test_fits_label (IsItem i) (OfCall c) = refl
 test_fits_label (Is w) OfSubaction = refl
 test_fits_label (AtLeast n) OfSubaction = refl
 test_fits_label (IsItem i) OfSubaction = refl

@@ -23,9 +23,9 @@ use Rattle.lang.specs.Demand.{first_fault, no_counts}
 use Rattle.lang.specs.declared.steps.Sort.{Sort}
 use Rattle.lang.specs.declared.steps.Sort.TheVariants.{Operation as an_operation, If as an_if, Sub as a_sub, Abort as an_abort}
 use Rattle.lang.specs.declared.steps.Sort.TheVariants.{Parallel as a_parallel}
-use Rattle.lang.specs.declared.words.Subject.{Subject}
-use Rattle.lang.specs.declared.words.Verb.{Verb}
-use Rattle.lang.specs.declared.words.Verb.TheVariants.{OfAmount, OfItem, OfPair, Alone}
+use Rattle.lang.specs.declared.subject.Subject.{Subject}
+use Rattle.words.specs.declared.verb.Verb.{Verb}
+use Rattle.words.specs.declared.verb.Verb.TheVariants.{OfAmount, OfItem, OfPair, Alone}
 use Rattle.lang.proofs.MetLemmas.{AllMet, faultless, first_met, passed, rest_met}
 
 -- ---- one more text

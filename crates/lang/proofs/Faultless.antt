@@ -9,7 +9,7 @@ use Rattle.serde_json.specs.Data.{Data, Items, no_items, item, Members, no_membe
 use Rattle.serde_json.specs.Find.{get, as_array, as_str}
 use Rattle.objects.specs.declared.kind.Kind.{Kind}
 use Rattle.meaning.specs.declared.test.Test.{Test}
-use Rattle.meaning.specs.declared.test.Word.{Word}
+use Rattle.words.specs.declared.word.Word.{Word}
 use Rattle.meaning.specs.Trees as tree
 use Rattle.meaning.specs.Trees.{Handlers, Children, for_reasons, handlers_of}
 use Rattle.meaning.specs.WellFormed as well
@@ -17,15 +17,16 @@ use Rattle.meaning.specs.WellFormed.{Label, OfCall, OfSubaction, IsWellFormed, I
 use Rattle.meaning.specs.WellFormed.{added_by, added_if, added_by_children}
 use Rattle.batch.specs.Limits as limits
 use Rattle.batch.specs.Views.{Tried, steps_of, children_of}
-use Rattle.lang.specs.declared.words.Verb.{Verb}
-use Rattle.lang.specs.declared.words.Verb.TheVariants.{OfAmount, OfItem, OfPair, Alone}
-use Rattle.lang.specs.declared.words.Subject.{Subject}
-use Rattle.lang.specs.declared.words.Subject.TheVariants.{Reply, Outcome}
+use Rattle.words.specs.declared.verb.Verb.{Verb}
+use Rattle.words.specs.declared.verb.Verb.TheVariants.{OfAmount, OfItem, OfPair, Alone}
+use Rattle.lang.specs.declared.subject.Subject.{Subject}
+use Rattle.lang.specs.declared.subject.Subject.TheVariants.{Reply, Outcome}
 use Rattle.lang.specs.Demand.{Demand, holds, one_more_operation, one_more_node}
-use Rattle.lang.specs.declared.fault.Code.TheVariants.{Depth}
+use Rattle.lang.specs.declared.fault.Wrong.TheVariants.{Depth}
 use Rattle.lang.specs.Look.{has, text_member}
 use Rattle.lang.specs.Scope.{Numbers, Scope, Setting, is_named, named, with_label, with_labels, with_reason}
-use Rattle.lang.specs.Words.{fits_word, word_of}
+use Rattle.lang.specs.Subjects.{fits_word}
+use Rattle.words.specs.Words.{word_of_text}
 use Rattle.lang.specs.Asked
 use Rattle.lang.specs.Asked.{part, label_in, object_of, call_named, verb_in, target_asked, operation_asked, operation_shape_asked}
 use Rattle.lang.specs.Asked.{arguments_asked, amount_asked, item_asked, label_asked}
@@ -287,7 +288,7 @@ module _ (setting : Setting) (paired : length setting.names ≡ length setting.k
         pick_test (λ test. fits test subject ≡ true) (has (codes "is") d) (has (codes "atleast") d) _ _ _ (holds_word subject d)
         (holds_number subject d) (holds_item subject d)
         (λ (m : AllMet (holds_word subject d)). let w = some_of (tested_word subject d) m.0 in
-        let is = fitted subject (option_and_then word_of (text_member (codes "is") d)) w.0 w.1 in rw w.1 is)
+        let is = fitted subject (option_and_then word_of_text (text_member (codes "is") d)) w.0 w.1 in rw w.1 is)
         (λ (m : AllMet (holds_number subject d)). m.0) (λ (m : AllMet (holds_item subject d)). m.0) met
 
     if_good : (scope : Scope) (numbers : Numbers) (d : Data) (labels : List Label) → AreSeen scope labels

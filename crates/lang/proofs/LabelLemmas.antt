@@ -14,8 +14,8 @@ use Rattle.lang.specs.Asked.{children_in, label_asked, label_in, labels_of, scop
 use Rattle.lang.specs.Demand.{check, holds}
 use Rattle.batch.specs.Names.{is_name}
 use Rattle.lang.specs.declared.counts.Counts.{Counts}
-use Rattle.lang.specs.declared.fault.Code.TheVariants.{DuplicateLabel, Name}
-use Rattle.lang.specs.declared.words.Subject.TheVariants.{Outcome}
+use Rattle.lang.specs.declared.fault.Wrong.TheVariants.{DuplicateLabel, Name}
+use Rattle.lang.specs.declared.subject.Subject.TheVariants.{Outcome}
 use Rattle.lang.specs.Scope.{AreUnseen, Extends, Scope, Setting, is_named, named, label_number, scope_of, with_label, with_labels, fit}
 use Rattle.std.specs.List.{position_or_len}
 use Rattle.std.specs.Map.{lookup, keys_of}
@@ -23,7 +23,7 @@ use Rattle.std.specs.Str.{bytes_eq}
 use Rattle.std.specs.String.{string_eq}
 use Rattle.indexmap.specs.IndexMap.{IndexMap, get, insert_entry}
 use Rattle.indexmap.proofs.CallerLemmas.{insert_entry-new}
-use Rattle.lang.specs.declared.words.Subject.{Subject}
+use Rattle.lang.specs.declared.subject.Subject.{Subject}
 
 -- what a label is of, from the entries of a map
 pub named_view : (name : List ℕ) (es : List (String Global × Subject)) → named name (scope_of es) ≡ lookup

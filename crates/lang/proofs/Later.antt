@@ -1,21 +1,20 @@
 -- What has its texts keeps them where there are more.
 use Rattle.std.proofs.Common.{◌≤◌, ℕ, List, [], ◌∷◌, length, arith}
 use Rattle.atoms.specs.declared.item.Item.{Item}
-use Rattle.atoms.specs.declared.item_set.SetCall.TheVariants.{Insert, Remove, Has, Size}
-use Rattle.atoms.specs.declared.queue.QueueCall.TheVariants.{Enq, Deq, Length}
-use Rattle.atoms.specs.declared.directory.DirectoryCall.TheVariants.{Bind, Put, Unbind, Lookup}
 use Rattle.objects.specs.declared.call.Call.{Call}
-use Rattle.objects.specs.declared.call.Call.TheVariants as call
 use Rattle.objects.specs.declared.value.Value.{Value}
 use Rattle.objects.specs.declared.value.Value.TheVariants as value
+use Rattle.words.specs.Verbs.{phrase_of}
+use Rattle.words.specs.declared.verb.Phrase.{Phrase}
+use Rattle.words.specs.declared.verb.Phrase.TheVariants.{OfAmount, OfItem, OfPair, Alone}
 use Rattle.meaning.specs.declared.test.Test.{Test}
 use Rattle.meaning.specs.declared.test.Test.TheVariants.{Is, AtLeast, IsItem}
 use Rattle.meaning.specs.Trees as tree
 use Rattle.meaning.specs.Trees.{NoStep, Steps, Step, Operation, If, Subaction, Abort, Parallel, Handlers, ForReason, Otherwise, GoOn, Pass}
 use Rattle.meaning.specs.Trees.{Children, NoChild, Child}
 use Rattle.batch.specs.Names.{Texts}
-use Rattle.batch.specs.Named.{HasText, HasReason, IsNamedCall, IsNamedTest, IsNamed, IsNamedStep, AreNamedHandlers, AreNamed, AllNamed}
-use Rattle.batch.specs.Named.{IsNamedValue, AllNamedValues}
+use Rattle.batch.specs.Named.{HasText, HasReason, IsNamedCall, IsNamedPhrase, IsNamedTest, IsNamed, IsNamedStep, AreNamed, AllNamed}
+use Rattle.batch.specs.Named.{AreNamedHandlers, IsNamedValue, AllNamedValues}
 
 module _ (texts more : Texts) (items : length texts.items ≤ length more.items) (reasons : length texts.reasons ≤ length more.reasons) where
   item_later : (x : Item) → HasText texts x → HasText more x
@@ -24,21 +23,14 @@ module _ (texts more : Texts) (items : length texts.items ≤ length more.items)
   reason_later : (reason : ℕ) → HasReason texts reason → HasReason more reason
   reason_later reason named = omega (arith, reasons, named)
 
+  phrase_later : (p : Phrase) → IsNamedPhrase texts p → IsNamedPhrase more p
+  phrase_later (OfAmount v a) named = tt
+  phrase_later (OfItem v x) named = item_later x named
+  phrase_later (OfPair v k x) named = (item_later k named.0, item_later x named.1)
+  phrase_later (Alone v) named = tt
+
   call_later : (c : Call) → IsNamedCall texts c → IsNamedCall more c
-  call_later (call.Account c) named = tt
-  call_later (call.Counter c) named = tt
-  call_later (call.Set (Insert x)) named = item_later x named
-  call_later (call.Set (Remove x)) named = item_later x named
-  call_later (call.Set (Has x)) named = item_later x named
-  call_later (call.Set Size) named = tt
-  call_later (call.Queue (Enq x)) named = item_later x named
-  call_later (call.Queue Deq) named = tt
-  call_later (call.Queue Length) named = tt
-  call_later (call.Directory (Bind k x)) named = (item_later k named.0, item_later x named.1)
-  call_later (call.Directory (Put k x)) named = (item_later k named.0, item_later x named.1)
-  call_later (call.Directory (Unbind k)) named = item_later k named
-  call_later (call.Directory (Lookup k)) named = item_later k named
-  call_later (call.Max c) named = tt
+  call_later c named = phrase_later (phrase_of c) named
 
   pub test_later : (test : Test) → IsNamedTest texts test → IsNamedTest more test
   test_later (Is word) named = tt

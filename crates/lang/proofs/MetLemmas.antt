@@ -2,7 +2,7 @@
 use Rattle.std.proofs.Common.{◌≡◌, ℕ, ◌+◌, ◌≤◌, Bool, true, false, cond, List, [], ◌∷◌, ◌++◌, None, Result, Ok, Err, refl, ap, arith}
 use Rattle.std.specs.Prelude.{nat_le, nat_lt, ⊤}
 use Rattle.std.proofs.lemmas.Bool.{ltb-true}
-use Rattle.lang.specs.declared.fault.Code.{Code}
+use Rattle.lang.specs.declared.fault.Wrong.{Wrong}
 use Rattle.lang.specs.declared.fault.Fault.{Fault}
 use Rattle.lang.specs.declared.counts.Counts.{Counts}
 use Rattle.lang.specs.Demand.{Demand, holds, one_more_start, one_more_operation, one_more_node, in_transaction, most_operations, check}
@@ -11,7 +11,7 @@ use Rattle.lang.specs.Demand.{check_one, and_then, fault_of, first_fault, limite
 -- each test holds
 abbrev pub AllMet : List Demand → Type 0
 AllMet [] = ⊤
-AllMet (holds b code ∷ ds) = (b ≡ true) × AllMet ds
+AllMet (holds b wrong ∷ ds) = (b ≡ true) × AllMet ds
 AllMet (one_more_start ∷ ds) = AllMet ds
 AllMet (one_more_operation version ∷ ds) = AllMet ds
 AllMet (one_more_node ∷ ds) = AllMet ds
@@ -19,7 +19,7 @@ AllMet (in_transaction n ∷ ds) = AllMet ds
 
 pub first_met : (xs ys : List Demand) → AllMet (xs ++ ys) → AllMet xs
 first_met [] ys met = tt
-first_met (holds b code ∷ xs) ys met = (met.0, first_met xs ys met.1)
+first_met (holds b wrong ∷ xs) ys met = (met.0, first_met xs ys met.1)
 first_met (one_more_start ∷ xs) ys met = first_met xs ys met
 first_met (one_more_operation version ∷ xs) ys met = first_met xs ys met
 first_met (one_more_node ∷ xs) ys met = first_met xs ys met
@@ -27,7 +27,7 @@ first_met (in_transaction n ∷ xs) ys met = first_met xs ys met
 
 pub rest_met : (xs ys : List Demand) → AllMet (xs ++ ys) → AllMet ys
 rest_met [] ys met = met
-rest_met (holds b code ∷ xs) ys met = rest_met xs ys met.1
+rest_met (holds b wrong ∷ xs) ys met = rest_met xs ys met.1
 rest_met (one_more_start ∷ xs) ys met = rest_met xs ys met
 rest_met (one_more_operation version ∷ xs) ys met = rest_met xs ys met
 rest_met (one_more_node ∷ xs) ys met = rest_met xs ys met
@@ -40,7 +40,7 @@ pub data What : Type 0 where
   nodes : What
 
 abbrev pub weight : Demand → What → ℕ
-weight (holds b code) x = 0
+weight (holds b wrong) x = 0
 weight one_more_start starts = 1
 weight one_more_start operations = 0
 weight one_more_start nodes = 0
@@ -86,9 +86,9 @@ passed_none c next e =
       few_nodes = λ h. omega (arith, d);
     }
 
-passed_test : (b : Bool) (code : Code) (ds : List Demand) (c next : Counts) → ((c' : Counts) → check c' ds ≡ Ok next → Passed c' next ds)
-    → and_then (check_one c (holds b code)) (λ n. check n ds) ≡ Ok next → Passed c next (holds b code ∷ ds)
-passed_test true code ds c next later e =
+passed_test : (b : Bool) (wrong : Wrong) (ds : List Demand) (c next : Counts) → ((c' : Counts) → check c' ds ≡ Ok next → Passed c' next ds)
+    → and_then (check_one c (holds b wrong)) (λ n. check n ds) ≡ Ok next → Passed c next (holds b wrong ∷ ds)
+passed_test true wrong ds c next later e =
     let p = later c e in
     record {
       met = (refl, p.met);
@@ -99,7 +99,7 @@ passed_test true code ds c next later e =
       few_operations = p.few_operations;
       few_nodes = p.few_nodes;
     }
-passed_test false code ds c next later e = cc
+passed_test false wrong ds c next later e = cc
 
 most : (version : ℕ) → most_operations version ≤ 1000000
 most version = by (nat_le 4 version)
@@ -175,7 +175,7 @@ passed_on_to n ds c next p = record {
 
 pub passed : (ds : List Demand) (c next : Counts) → check c ds ≡ Ok next → Passed c next ds
 passed [] c next e = passed_none c next e
-passed (holds b code ∷ ds) c next e = passed_test b code ds c next (λ c'. passed ds c' next) e
+passed (holds b wrong ∷ ds) c next e = passed_test b wrong ds c next (λ c'. passed ds c' next) e
 passed (one_more_start ∷ ds) c next e = passed_start (nat_lt c.starts 100000) ds c next refl (λ c'. passed ds c' next) e
 passed (one_more_operation version ∷ ds) c next e = passed_operation (nat_lt c.operations (most_operations version)) version ds c next refl
     (λ c'. passed ds c' next) e

@@ -1,6 +1,6 @@
 -- What a document spells has its texts: each item and reason that a transaction names.
 use Rattle.std.proofs.Common.{◌≡◌, ◌<◌, ◌+◌, ℕ, zero, suc, Bool, true, false, cond, List, [], ◌∷◌, ◌++◌, length, Option, None, Some, subst}
-use Rattle.std.proofs.Common.{arith}
+use Rattle.std.proofs.Common.{arith, sym}
 use Rattle.std.specs.Prelude.{codes, ⊤}
 use Rattle.std.specs.Option.{ForSome}
 use Rattle.serde_json.specs.Data.{Data, Items, no_items, item, Members, no_members, member}
@@ -10,29 +10,27 @@ use Rattle.meaning.specs.declared.test.Test.{Test}
 use Rattle.meaning.specs.Trees as tree
 use Rattle.meaning.specs.Trees.{Step, Handlers, for_reasons, handlers_of}
 use Rattle.batch.specs.Names.{Texts, is_name}
-use Rattle.batch.specs.Named.{AllNamed, AreNamed, AreNamedHandlers, HasReason, HasText, IsNamed, IsNamedCall, IsNamedStep, IsNamedTest}
+use Rattle.batch.specs.Named.{AllNamed, AreNamed, AreNamedHandlers, HasReason, HasText, IsNamed, IsNamedCall, IsNamedPhrase}
+use Rattle.batch.specs.Named.{IsNamedStep, IsNamedTest}
 use Rattle.batch.specs.Views.{Tried, children_of, steps_of}
 use Rattle.lang.specs.declared.steps.Sort.{Sort}
 use Rattle.lang.specs.declared.steps.Sort.TheVariants.{Operation as an_operation, If as an_if, Sub as a_sub, Abort as an_abort}
 use Rattle.lang.specs.declared.steps.Sort.TheVariants.{Parallel as a_parallel}
-use Rattle.lang.specs.declared.words.ItemVerb.{ItemVerb}
-use Rattle.lang.specs.declared.words.ItemVerb.TheVariants.{Insert, Remove, Has, Enq, Unbind, Lookup}
-use Rattle.lang.specs.declared.words.AmountVerb.{AmountVerb}
-use Rattle.lang.specs.declared.words.AmountVerb.TheVariants.{Deposit, Withdraw, Add, Sub, Raise}
-use Rattle.lang.specs.declared.words.LoneVerb.{LoneVerb}
-use Rattle.lang.specs.declared.words.LoneVerb.TheVariants.{Balance, Read, Size, Deq, Length, Top}
-use Rattle.lang.specs.declared.words.PairVerb.{PairVerb}
-use Rattle.lang.specs.declared.words.PairVerb.TheVariants.{Bind, Put}
-use Rattle.lang.specs.declared.words.Subject.{Subject}
-use Rattle.lang.specs.declared.words.Subject.TheVariants.{Outcome}
-use Rattle.lang.specs.declared.words.Verb.{Verb}
-use Rattle.lang.specs.declared.words.Verb.TheVariants.{OfAmount, OfItem, OfPair, Alone}
-use Rattle.lang.specs.declared.fault.Code.TheVariants.{Argument, Name}
+use Rattle.words.specs.declared.verb.ItemVerb.{ItemVerb}
+use Rattle.words.specs.declared.verb.AmountVerb.{AmountVerb}
+use Rattle.words.specs.declared.verb.LoneVerb.{LoneVerb}
+use Rattle.words.specs.declared.verb.PairVerb.{PairVerb}
+use Rattle.lang.specs.declared.subject.Subject.{Subject}
+use Rattle.lang.specs.declared.subject.Subject.TheVariants.{Outcome}
+use Rattle.words.specs.declared.verb.Verb.{Verb}
+use Rattle.words.specs.declared.verb.Verb.TheVariants.{OfAmount, OfItem, OfPair, Alone}
+use Rattle.lang.specs.declared.fault.Wrong.TheVariants.{Argument, Name}
 use Rattle.lang.specs.Amounts.{amount_of}
 use Rattle.lang.specs.Demand.{Demand, holds, in_transaction, one_more_node, one_more_operation}
 use Rattle.lang.specs.Look.{has, or_empty, text_member}
 use Rattle.lang.specs.Scope.{Numbers, Scope, Setting, number_of, with_item, with_label, with_reason}
-use Rattle.lang.specs.Words.{amount_call, item_call, lone_call, pair_call}
+use Rattle.words.specs.Verbs.{amount_call, item_call, lone_call, pair_call}
+use Rattle.words.proofs.Verbs.{amount_phrase, item_phrase, lone_phrase, pair_phrase}
 use Rattle.lang.specs.Asked.{abort_asked, abort_shape_asked, amount_item, arguments_asked, array_asked, block_asked, block_asked_if}
 use Rattle.lang.specs.Asked.{call_named, children_asked, children_in, handlers_asked, handlers_in, has_count, holds_item, holds_number}
 use Rattle.lang.specs.Asked.{holds_word, if_asked, if_label, if_shape_asked, item_asked, label_asked, label_in, member_asked, members_asked}
@@ -50,31 +48,16 @@ use Rattle.lang.proofs.Tables.{texts_in}
 -- ---- calls
 
 item_call_named : (texts : Texts) (v : ItemVerb) (x : Item) → HasText texts x → IsNamedCall texts (item_call v x)
-item_call_named texts Insert x named = named
-item_call_named texts Remove x named = named
-item_call_named texts Has x named = named
-item_call_named texts Enq x named = named
-item_call_named texts Unbind x named = named
-item_call_named texts Lookup x named = named
+item_call_named texts v x named = subst (IsNamedPhrase texts) (sym (item_phrase v x)) named
 
 pair_call_named : (texts : Texts) (v : PairVerb) (k x : Item) → HasText texts k → HasText texts x → IsNamedCall texts (pair_call v k x)
-pair_call_named texts Bind k x key named = (key, named)
-pair_call_named texts Put k x key named = (key, named)
+pair_call_named texts v k x key named = subst (IsNamedPhrase texts) (sym (pair_phrase v k x)) (key, named)
 
 amount_call_named : (texts : Texts) (v : AmountVerb) (n : ℕ) → IsNamedCall texts (amount_call v (amount_of n))
-amount_call_named texts Deposit n = tt
-amount_call_named texts Withdraw n = tt
-amount_call_named texts Add n = tt
-amount_call_named texts Sub n = tt
-amount_call_named texts Raise n = tt
+amount_call_named texts v n = subst (IsNamedPhrase texts) (sym (amount_phrase v (amount_of n))) tt
 
 lone_call_named : (texts : Texts) (v : LoneVerb) → IsNamedCall texts (lone_call v)
-lone_call_named texts Balance = tt
-lone_call_named texts Read = tt
-lone_call_named texts Size = tt
-lone_call_named texts Deq = tt
-lone_call_named texts Length = tt
-lone_call_named texts Top = tt
+lone_call_named texts v = subst (IsNamedPhrase texts) (sym (lone_phrase v)) tt
 
 call_numbered : (v : Verb) (numbers : Numbers) (op : Data) → Numbered IsNamedCall numbers (call_of v numbers op) (arguments_asked v op)
 unfolding call_of arguments_asked item_asked

@@ -9,7 +9,7 @@ use Rattle.objects.specs.declared.kind.Kind.TheVariants as kind
 use Rattle.lang.specs.declared.steps.Sort.{Sort}
 use Rattle.lang.specs.declared.steps.Sort.TheVariants.{Operation as an_operation, If as an_if, Sub as a_sub, Abort as an_abort}
 use Rattle.lang.specs.declared.steps.Sort.TheVariants.{Parallel as a_parallel}
-use Rattle.lang.specs.declared.words.Subject.TheVariants.{Outcome}
+use Rattle.lang.specs.declared.subject.Subject.TheVariants.{Outcome}
 use Rattle.lang.specs.declared.fault.Fault.{Fault}
 use Rattle.lang.specs.declared.counts.Counts.{Counts}
 use Rattle.lang.specs.Demand.{Demand, check, one_more_node}

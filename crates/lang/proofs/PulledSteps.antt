@@ -4,18 +4,18 @@ use Rattle.std.specs.Prelude.{codes, is_some}
 use Rattle.serde_json.specs.Data.{Data, Items, no_items, item, number, string, unsigned}
 use Rattle.atoms.specs.declared.amount.Amount.{Amount}
 use Rattle.atoms.specs.declared.item.Item.{Item}
-use Rattle.lang.specs.declared.words.AmountVerb.{AmountVerb}
-use Rattle.lang.specs.declared.words.ItemVerb.{ItemVerb}
-use Rattle.lang.specs.declared.words.PairVerb.{PairVerb}
-use Rattle.lang.specs.declared.words.LoneVerb.{LoneVerb}
-use Rattle.lang.specs.declared.words.Verb.TheVariants.{OfAmount, OfItem, OfPair, Alone}
+use Rattle.words.specs.declared.verb.AmountVerb.{AmountVerb}
+use Rattle.words.specs.declared.verb.ItemVerb.{ItemVerb}
+use Rattle.words.specs.declared.verb.PairVerb.{PairVerb}
+use Rattle.words.specs.declared.verb.LoneVerb.{LoneVerb}
+use Rattle.words.specs.declared.verb.Verb.TheVariants.{OfAmount, OfItem, OfPair, Alone}
 use Rattle.batch.specs.Names.{is_name}
-use Rattle.lang.specs.Words.{amount_call, item_call, lone_call, pair_call}
+use Rattle.words.specs.Verbs.{amount_call, item_call, lone_call, pair_call}
 use Rattle.lang.proofs.AmountLemmas.{amount_of-value}
 use Rattle.meaning.specs.Trees as tree
 use Rattle.objects.specs.declared.call.Call.{Call}
 use Rattle.lang.specs.declared.counts.Counts.{Counts}
-use Rattle.lang.specs.declared.words.Subject.TheVariants.{Reply}
+use Rattle.lang.specs.declared.subject.Subject.TheVariants.{Reply}
 use Rattle.lang.specs.Answer.{IsMet}
 use Rattle.lang.specs.Asked.{Asks, amount_asked, amount_item, item_asked, arguments_asked, label_asked, label_in, operation_asked}
 use Rattle.lang.specs.Asked.{operation_verb, part, scope_after, sort_of, step_asked, target_asked, operation_shape_asked}

@@ -5,12 +5,12 @@ use Rattle.serde_json.specs.Data.{Data, Num, number, string}
 use Rattle.serde_json.specs.Find.{as_i64, as_str, get}
 use Rattle.meaning.specs.declared.test.Test.{Test}
 use Rattle.meaning.specs.declared.test.Test.TheVariants.{Is, AtLeast, IsItem}
-use Rattle.meaning.specs.declared.test.Word.{Word}
+use Rattle.words.specs.declared.word.Word.{Word}
 use Rattle.meaning.specs.Trees as tree
 use Rattle.atoms.specs.declared.item.Item.{Item}
 use Rattle.lang.specs.declared.counts.Counts.{Counts}
 use Rattle.lang.specs.declared.steps.Sort.TheVariants.{If, Abort}
-use Rattle.lang.specs.declared.words.Subject.{Subject}
+use Rattle.lang.specs.declared.subject.Subject.{Subject}
 use Rattle.lang.specs.Answer.{IsMet}
 use Rattle.lang.specs.Asked.{Asks, abort_asked, abort_shape_asked, block_asked_if, if_asked, if_label, if_shape_asked, is_abort, part}
 use Rattle.lang.specs.Asked.{reason_asked, scope_after, seen_asked, sort_of, step_asked, subject_of, test_asked}
@@ -20,21 +20,22 @@ use Rattle.lang.specs.Pulled.TestKey.{word, least, entry}
 use Rattle.lang.specs.Scope.{Numbers, Scope, Setting, label_number, with_item}
 use Rattle.lang.specs.Spelled.{Spelling, abort_of, block_of_if, if_of, item_of, or_no_step, reason_of, spelled_map, step_of, test_of}
 use Rattle.batch.specs.Names.{is_name}
-use Rattle.lang.specs.Words.{fits_item, fits_number, fits_word, word_of}
+use Rattle.lang.specs.Subjects.{fits_item, fits_number, fits_word}
+use Rattle.words.specs.Words.{word_of_text}
 use Rattle.lang.proofs.Checks.{check_met}
 
 -- ---- the test
 
 module _ (subject : Subject) (label : List ℕ) (first : Data) where
   -- a word that fits is as asked
-  pub word_met : (s : List ℕ) (w : Word) (second : Option Data) (counts : Counts) → word_of s ≡ Some w → fits_word subject w ≡ true
+  pub word_met : (s : List ℕ) (w : Word) (second : Option Data) (counts : Counts) → word_of_text s ≡ Some w → fits_word subject w ≡ true
       → IsMet counts (test_asked subject (if_step label word (string s) first second)) counts
   unfolding test_asked
   word_met s w None counts e fits = rw (e, fits) refl
   word_met s w (Some d) counts e fits = rw (e, fits) refl
 
   -- and is the test
-  pub word_spelled : (s : List ℕ) (w : Word) (second : Option Data) (numbers : Numbers) → word_of s ≡ Some w → fits_word subject w ≡ true
+  pub word_spelled : (s : List ℕ) (w : Word) (second : Option Data) (numbers : Numbers) → word_of_text s ≡ Some w → fits_word subject w ≡ true
       → (Is w, numbers) ≡ test_of subject numbers (if_step label word (string s) first second)
   unfolding test_of
   word_spelled s w None numbers e fits = rw (e, fits) refl

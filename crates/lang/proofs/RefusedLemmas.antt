@@ -6,12 +6,12 @@ use Rattle.json.specs.Lex.{tokens}
 use Rattle.serde_json.specs.Data.{Data}
 use Rattle.serde_json.specs.Find.{as_object}
 use Rattle.serde_json.specs.Read.{read as read_text}
-use Rattle.lang.specs.declared.fault.Code.TheVariants.{Shape}
+use Rattle.lang.specs.declared.fault.Wrong.TheVariants.{Shape}
 use Rattle.lang.specs.declared.fault.Fault.{Fault}
 use Rattle.lang.specs.Asked.{asked, document_shape_asked, objects_asked, objects_in, setting_in, transactions_asked, transactions_in}
 use Rattle.lang.specs.Asked.{version_in}
 use Rattle.lang.specs.Demand.{check, first_fault, no_counts}
-use Rattle.lang.specs.Faults.{fault_outside}
+use Rattle.lang.specs.Faults.{wrong_outside}
 use Rattle.lang.specs.Reading.{spelled_by, unless_fault, value_of}
 use Rattle.lang.proofs.Checks.{check_failed}
 use Rattle.lang.proofs.DocumentLemmas.{failed_first}
@@ -47,6 +47,6 @@ shape_first d fault failed =
     (check_failed no_counts fault (document_shape_asked d) objects failed))
 
 -- what is no object has not the shape
-pub no_object_shape : (d : Data) → as_object d ≡ None → check no_counts (document_shape_asked d) ≡ Err (fault_outside Shape)
+pub no_object_shape : (d : Data) → as_object d ≡ None → check no_counts (document_shape_asked d) ≡ Err (wrong_outside Shape)
 unfolding document_shape_asked
 no_object_shape d none = rw none refl

@@ -7,16 +7,16 @@ use Rattle.std.proofs.lemmas.Bool.{le-ltb}
 use Rattle.serde_json.specs.Data.{Data, Items}
 use Rattle.serde_json.specs.Find.{as_array, get}
 use Rattle.lang.specs.declared.counts.Counts.{Counts}
-use Rattle.lang.specs.declared.fault.Code.TheVariants.{Depth, Shape, TooMany}
+use Rattle.lang.specs.declared.fault.Wrong.TheVariants.{Depth, Shape, TooMany}
 use Rattle.lang.specs.declared.fault.Fault.{Fault}
 use Rattle.lang.specs.declared.places.Place.{Place}
 use Rattle.lang.specs.declared.places.Place.TheVariants.{Whole, Pointer, LineColumn}
 use Rattle.lang.specs.declared.places.Unmet.{Unmet}
-use Rattle.lang.specs.declared.words.Subject.{Subject}
+use Rattle.lang.specs.declared.subject.Subject.{Subject}
 use Rattle.lang.specs.Asked.{asked, block_asked, declared_by, document_shape_asked, if_label, if_shape_asked, objects_asked, objects_in}
 use Rattle.lang.specs.Asked.{part, seen_asked, setting_in, subject_of, test_asked, transactions_in, version_in}
 use Rattle.lang.specs.Demand.{check, fault_at, fault_of, no_counts, one_more_node}
-use Rattle.lang.specs.Faults.{fault_outside}
+use Rattle.lang.specs.Faults.{wrong_outside}
 use Rattle.lang.specs.Found.{IsPlaceOf, Shows, found_of, pointer_text}
 use Rattle.lang.specs.Places.{Found, Placed, Places, block_placed, block_placed_if, found_here, if_placed, inside, itself, member_named}
 use Rattle.lang.specs.Places.{nothing, objects_placed, placed, seek, steps_placed, transactions_placed}
@@ -137,7 +137,7 @@ pub fault_known : (bytes : List ℕ) (d : Data) (fault : Fault) → reading byte
     → value_of bytes ≡ Some d → told (seek no_counts (placed d)) ≡ Err fault
 unfolding reading
 fault_known bytes d fault reads short known =
-    let spelled = reads_short (nat_lt 67108864 (length bytes)) (Err (fault_outside TooMany)) (spelled_by (value_of bytes)) fault
+    let spelled = reads_short (nat_lt 67108864 (length bytes)) (Err (wrong_outside TooMany)) (spelled_by (value_of bytes)) fault
     (le-ltb 67108864 (length bytes) short) reads in
     told_first no_counts (placed d) ∙ ap (check no_counts) (placed_same d)
     ∙ met_or (check no_counts (asked d)) d fault (sym (ap spelled_by known) ∙ spelled)

@@ -7,14 +7,14 @@ use Rattle.serde_json.specs.Find.{get, as_array, as_bool, as_object, as_str}
 use Rattle.serde_json.specs.Events.{items_len}
 use Rattle.objects.specs.declared.kind.Kind.{Kind}
 use Rattle.objects.specs.declared.kind.Kind.TheVariants as kind
-use Rattle.meaning.specs.declared.test.Word.{Word}
-use Rattle.lang.specs.declared.fault.Code.TheVariants.{Shape, Name, DuplicateObject, UnknownObject, UnknownOperation, Argument}
-use Rattle.lang.specs.declared.fault.Code.TheVariants.{UnknownLabel, DuplicateLabel, Condition, Depth, TooMany, Start}
-use Rattle.lang.specs.declared.words.LoneVerb.TheVariants.{Balance}
-use Rattle.lang.specs.declared.words.Verb.{Verb}
-use Rattle.lang.specs.declared.words.Verb.TheVariants.{OfAmount, OfItem, OfPair, Alone}
-use Rattle.lang.specs.declared.words.Subject.{Subject}
-use Rattle.lang.specs.declared.words.Subject.TheVariants.{Reply, Outcome}
+use Rattle.words.specs.declared.word.Word.{Word}
+use Rattle.lang.specs.declared.fault.Wrong.TheVariants.{Shape, Name, DuplicateObject, UnknownObject, UnknownOperation, Argument}
+use Rattle.lang.specs.declared.fault.Wrong.TheVariants.{UnknownLabel, DuplicateLabel, Condition, Depth, TooMany, Start}
+use Rattle.words.specs.declared.verb.LoneVerb.TheVariants.{Balance}
+use Rattle.words.specs.declared.verb.Verb.{Verb}
+use Rattle.words.specs.declared.verb.Verb.TheVariants.{OfAmount, OfItem, OfPair, Alone}
+use Rattle.lang.specs.declared.subject.Subject.{Subject}
+use Rattle.lang.specs.declared.subject.Subject.TheVariants.{Reply, Outcome}
 use Rattle.lang.specs.declared.steps.Sort.{Sort}
 use Rattle.lang.specs.declared.steps.Sort.TheVariants.{Operation as an_operation, If as an_if, Sub as a_sub, Abort as an_abort}
 use Rattle.lang.specs.declared.steps.Sort.TheVariants.{Parallel as a_parallel}
@@ -22,7 +22,9 @@ use Rattle.lang.specs.Demand.{Demand, holds, one_more_start, one_more_operation,
 use Rattle.lang.specs.Look.{has, has_only, text_member, text_item, whole_item, whole, whole_member, list_member, count, or_empty, within}
 use Rattle.lang.specs.Scope.{Table, Setting, Scope, is_listed, kind_named, named, is_named, with_label, with_labels, with_text}
 use Rattle.batch.specs.Names.{is_name}
-use Rattle.lang.specs.Words.{kind_of, verb_of, word_of, fits_word, fits_number, fits_item}
+use Rattle.lang.specs.Subjects.{fits_word, fits_number, fits_item}
+use Rattle.words.specs.Verbs.{verb_of_text}
+use Rattle.words.specs.Words.{kind_of_text, word_of_text}
 use Rattle.meaning.specs.declared.limits.TheConstants.{MAX_DEPTH, MAX_OBJECTS, MAX_START, MAX_TRANSACTIONS}
 use Rattle.meaning.specs.WellFormed.{largest_amount}
 
@@ -79,7 +81,7 @@ call_named op = or_empty (text_item 1 op)
 
 -- what a text names among the calls of the kind of an object
 abbrev pub verb_at : Setting → List ℕ → List ℕ → Option Verb
-verb_at setting object call = option_and_then (λ k. verb_of setting.version k call) (kind_named object setting)
+verb_at setting object call = option_and_then (λ k. verb_of_text setting.version k call) (kind_named object setting)
 
 abbrev pub operation_verb : Setting → List ℕ → List ℕ → Verb
 operation_verb setting object call = unwrap_or (verb_at setting object call) (Alone Balance)
@@ -131,7 +133,7 @@ fitting subject w = if fits_word subject w then Some w else None
 
 -- the word that a test asks for, where its label can have it
 abbrev pub tested_word : Subject → Data → Option Word
-tested_word subject d = option_and_then (fitting subject) (option_and_then word_of (text_member (codes "is") d))
+tested_word subject d = option_and_then (fitting subject) (option_and_then word_of_text (text_member (codes "is") d))
 
 abbrev pub holds_word : Subject → Data → List Demand
 holds_word subject d = holds (is_some (tested_word subject d)) Condition ∷ []
@@ -372,7 +374,7 @@ start_asked kind.Directory d = array_start_asked (pairs_asked []) (as_array d)
 start_asked kind.Max d = holds (is_some (number_start d)) Start ∷ []
 
 abbrev pub object_kind : ℕ → Data → Option Kind
-object_kind version d = option_and_then (kind_of version) (text_member (codes "kind") d)
+object_kind version d = option_and_then (kind_of_text version) (text_member (codes "kind") d)
 
 -- the kind, where a test before has found that there is one
 abbrev pub kind_in : ℕ → Data → Kind

@@ -1,24 +1,25 @@
 -- What is asked of a document, as one flat list in reading order, and the first fault of such a list.
 use Rattle.std.specs.Prelude.{ℕ, ◌+◌, Bool, List, [], ◌∷◌, Option, None, Some, Result, Ok, Err, nat_le, nat_lt, if◌then◌else◌}
-use Rattle.lang.specs.declared.fault.Code.{Code}
-use Rattle.lang.specs.declared.fault.Code.TheVariants.{TooMany}
+use Rattle.lang.specs.declared.fault.Wrong.{Wrong}
+use Rattle.lang.specs.declared.fault.Wrong.TheVariants.{TooMany}
+use Rattle.lang.specs.declared.fault.Code.TheVariants as code
 use Rattle.lang.specs.declared.fault.Fault.{Fault}
 use Rattle.lang.specs.declared.counts.Counts.{Counts}
 use Rattle.meaning.specs.declared.limits.TheConstants.{MAX_ENTRIES, MAX_NODES, MAX_OPERATIONS}
 use Rattle.lang.specs.declared.counts.TheConstants.{MAX_OPERATIONS_BEFORE_4}
 
--- A test with the code that is returned where it fails, or one more of what is counted towards a limit.
+-- A test with what is wrong where it fails, or one more of what is counted towards a limit.
 -- Behind `in_transaction n` stands what is asked of transaction n.
 pub data Demand : Type 0 where
-  holds : Bool → Code → Demand
+  holds : Bool → Wrong → Demand
   one_more_start : Demand
   -- in a document of a version
   one_more_operation : ℕ → Demand
   one_more_node : Demand
   in_transaction : ℕ → Demand
 
-abbrev pub fault_at : Code → Counts → Fault
-fault_at code c = record { code = code; transaction = c.transaction }
+abbrev pub fault_at : Wrong → Counts → Fault
+fault_at wrong c = record { code = code.Wrong wrong; transaction = c.transaction }
 
 -- the operations that a document of a version may have
 abbrev pub most_operations : ℕ → ℕ
@@ -29,7 +30,7 @@ limited within c next = if within then Ok next else Err (fault_at TooMany c)
 
 -- the counts after one demand, or its fault
 abbrev pub check_one : Counts → Demand → Result Counts Fault
-check_one c (holds b code) = if b then Ok c else Err (fault_at code c)
+check_one c (holds b wrong) = if b then Ok c else Err (fault_at wrong c)
 check_one c one_more_start = limited (nat_lt c.starts MAX_ENTRIES) c (record c { starts = c.starts + 1 })
 check_one c (one_more_operation version) = limited (nat_lt c.operations (most_operations version)) c
     (record c { operations = c.operations + 1 })

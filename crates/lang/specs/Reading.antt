@@ -8,9 +8,9 @@ use Rattle.batch.specs.Names.{texts_of}
 use Rattle.batch.specs.Views.{block_view}
 use Rattle.lang.specs.declared.document.Parts.{Parts}
 use Rattle.lang.specs.declared.state.Numbering.{Numbering}
-use Rattle.lang.specs.declared.fault.Code.TheVariants.{NotJson, TooMany}
+use Rattle.lang.specs.declared.fault.Wrong.TheVariants.{NotJson, TooMany}
 use Rattle.lang.specs.declared.fault.Fault.{Fault}
-use Rattle.lang.specs.Faults.{fault_outside}
+use Rattle.lang.specs.Faults.{wrong_outside}
 use Rattle.lang.specs.Demand.{first_fault}
 use Rattle.lang.specs.Asked.{asked}
 pub use Rattle.lang.specs.Spelled.{Document}
@@ -26,12 +26,12 @@ unless_fault d None = Ok (document_in d)
 unless_fault d (Some fault) = Err fault
 
 abbrev pub spelled_by : Option Data → Result Document Fault
-spelled_by None = Err (fault_outside NotJson)
+spelled_by None = Err (wrong_outside NotJson)
 spelled_by (Some d) = unless_fault d (first_fault (asked d))
 
 -- the document that the bytes spell, or their first fault
 unfoldable pub reading : List ℕ → Result Document Fault
-reading bytes = if nat_lt MAX_BYTES (length bytes) then Err (fault_outside TooMany) else spelled_by (value_of bytes)
+reading bytes = if nat_lt MAX_BYTES (length bytes) then Err (wrong_outside TooMany) else spelled_by (value_of bytes)
 
 -- what a batch is seen as
 abbrev pub document_of : Batch → Document

@@ -8,7 +8,7 @@ use Rattle.std.specs.declared.alloc.Global.{Global}
 use Rattle.objects.specs.declared.kind.Kind.{Kind}
 use Rattle.objects.specs.Entries.{kinds}
 use Rattle.batch.specs.Names.{texts_of}
-use Rattle.lang.specs.declared.words.Subject.{Subject}
+use Rattle.lang.specs.declared.subject.Subject.{Subject}
 use Rattle.lang.specs.declared.declared.Declared.{Declared}
 use Rattle.lang.specs.declared.state.Numbering.{Numbering}
 

@@ -14,21 +14,21 @@ use Rattle.objects.specs.declared.value.Value.TheVariants as value
 use Rattle.objects.specs.declared.call.Call.{Call}
 use Rattle.meaning.specs.declared.test.Test.{Test}
 use Rattle.meaning.specs.declared.test.Test.TheVariants.{Is, AtLeast, IsItem}
-use Rattle.meaning.specs.declared.test.Word.TheVariants.{Aborted}
+use Rattle.words.specs.declared.word.Word.TheVariants.{Aborted}
 use Rattle.objects.specs.Entries.{State}
 use Rattle.meaning.specs.Trees.{Block, NoStep, Step, Operation, If, Subaction, Abort, Parallel, handlers_of}
 use Rattle.batch.specs.Names.{Texts}
 use Rattle.batch.specs.Views.{Tried, steps_of, children_of}
-use Rattle.lang.specs.declared.words.Verb.{Verb}
-use Rattle.lang.specs.declared.words.Verb.TheVariants.{OfAmount, OfItem, OfPair, Alone}
-use Rattle.lang.specs.declared.words.Subject.{Subject}
+use Rattle.words.specs.declared.verb.Verb.{Verb}
+use Rattle.words.specs.declared.verb.Verb.TheVariants.{OfAmount, OfItem, OfPair, Alone}
+use Rattle.lang.specs.declared.subject.Subject.{Subject}
 use Rattle.lang.specs.declared.steps.Sort.{Sort}
 use Rattle.lang.specs.declared.steps.Sort.TheVariants.{Operation as an_operation, If as an_if, Sub as a_sub, Abort as an_abort}
 use Rattle.lang.specs.declared.steps.Sort.TheVariants.{Parallel as a_parallel}
 use Rattle.lang.specs.Amounts.{amount_of}
 use Rattle.lang.specs.Look.{has, text_member, whole_member, or_empty}
 use Rattle.lang.specs.Scope.{Numbers, no_numbers, Setting, Scope, number_of, label_number, place_of, with_item, with_reason}
-use Rattle.lang.specs.Words.{amount_call, item_call, pair_call, lone_call}
+use Rattle.words.specs.Verbs.{amount_call, item_call, lone_call, pair_call}
 use Rattle.lang.specs.Asked.{part, label_in, amount_item, name_item, object_of, verb_in, if_label, subject_of, tested_word, sort_of}
 use Rattle.lang.specs.Asked.{scope_after, handlers_in, children_in, kind_in, text_of, key_of, value_of, number_start, signed_start}
 use Rattle.lang.specs.Asked.{names_of, or_no_items, objects_in, transactions_in, setting_in, version_in}

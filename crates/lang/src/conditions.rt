@@ -8,11 +8,11 @@ ghost use Rattle.lang.specs.Scope.{numbers_of};
 ghost use Rattle.lang.specs.Spelled.{item_of, test_of};
 
 use crate::counts::Counts;
-use crate::fault::{Code, Fault};
+use crate::fault::{Fault, Wrong};
 use crate::look::{has, has_only, text_member, whole_member};
 use crate::operations::item_of;
 use crate::state::Numbering;
-use crate::words::{Subject, fits_item, fits_number, fits_word, word_of};
+use crate::subject::{Subject, fits_item, fits_number, fits_word};
 use batch::{Test, Word, is_name};
 use serde_json::Value;
 use std::alloc::Global;
@@ -45,14 +45,14 @@ pub(crate) fn if_shape_of<'v>(step: &'v Value, counts: &Counts) -> Result<IfShap
 {
     counts.demand(
         has_only(step, &["if", "is", "atleast", "item", "then", "else"]),
-        Code::Shape,
+        Wrong::Shape,
     )?;
-    counts.demand(has_one_test(step), Code::Shape)?;
+    counts.demand(has_one_test(step), Wrong::Shape)?;
     let Some(label) = text_member(step, "if") else {
-        return Err(counts.fault(Code::Shape));
+        return Err(counts.fault(Wrong::Shape));
     };
     let Some(then) = step.get("then") else {
-        return Err(counts.fault(Code::Shape));
+        return Err(counts.fault(Wrong::Shape));
     };
     Ok(IfShape { label, then })
 }
@@ -61,7 +61,7 @@ pub(crate) fn if_shape_of<'v>(step: &'v Value, counts: &Counts) -> Result<IfShap
 fn tested_word(subject: Subject, step: &Value) -> Option<Word>
     ensures { result ≡ tested_word subject (view step.now) }
 {
-    let word = word_of(text_member(step, "is")?)?;
+    let word = Word::of_text(text_member(step, "is")?)?;
     if fits_word(subject, word) {
         Some(word)
     } else {
@@ -84,22 +84,22 @@ pub(crate) fn read_test(
 {
     if has(step, "is") {
         let Some(word) = tested_word(subject, step) else {
-            return Err(counts.fault(Code::Condition));
+            return Err(counts.fault(Wrong::Condition));
         };
         return Ok(Test::Is(word));
     }
     if has(step, "atleast") {
-        counts.demand(fits_number(subject), Code::Condition)?;
+        counts.demand(fits_number(subject), Wrong::Condition)?;
         let Some(least) = whole_member(step, "atleast") else {
-            return Err(counts.fault(Code::Condition));
+            return Err(counts.fault(Wrong::Condition));
         };
         return Ok(Test::AtLeast(least));
     }
-    counts.demand(fits_item(subject), Code::Condition)?;
+    counts.demand(fits_item(subject), Wrong::Condition)?;
     let Some(name) = text_member(step, "item") else {
-        return Err(counts.fault(Code::Condition));
+        return Err(counts.fault(Wrong::Condition));
     };
-    counts.demand(is_name(name), Code::Name)?;
+    counts.demand(is_name(name), Wrong::Name)?;
     let item = item_of(alloc, name, numbering)?;
     Ok(Test::IsItem(item))
 }

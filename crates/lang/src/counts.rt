@@ -3,7 +3,7 @@ ghost use Rattle.std.specs.Prelude.{◌≡◌, [], ◌∷◌, MatchResult, true,
 ghost use Rattle.lang.specs.Answer.{IsFirst, IsMet};
 ghost use Rattle.lang.specs.Demand.{fault_at, most_operations, one_more_node, one_more_operation, one_more_start};
 
-use crate::fault::{Code, Fault};
+use crate::fault::{Code, Fault, Wrong};
 use meaning::limits::{MAX_ENTRIES, MAX_NODES, MAX_OPERATIONS};
 
 /// How many operations a document before version 4 has at most.
@@ -31,22 +31,22 @@ fn most_operations(version: u8) -> usize
 }
 
 impl Counts {
-    /// A fault at this place.
-    pub(crate) fn fault(&self, code: Code) -> Fault
-        ensures { result ≡ fault_at code self.now }
+    /// The fault of a wrong at this place.
+    pub(crate) fn fault(&self, wrong: Wrong) -> Fault
+        ensures { result ≡ fault_at wrong self.now }
     {
         Fault {
-            code,
+            code: Code::Wrong(wrong),
             transaction: self.transaction,
         }
     }
 
     /// That a test holds, or a fault at this place.
-    pub(crate) fn demand(&self, holds: bool, code: Code) -> Result<(), Fault>
+    pub(crate) fn demand(&self, holds: bool, wrong: Wrong) -> Result<(), Fault>
         ensures { MatchResult result (λ _. holds ≡ true)
-            (λ fault. (holds ≡ false) × (fault ≡ fault_at code self.now)) }
+            (λ fault. (holds ≡ false) × (fault ≡ fault_at wrong self.now)) }
     {
-        if holds { Ok(()) } else { Err(self.fault(code)) }
+        if holds { Ok(()) } else { Err(self.fault(wrong)) }
     }
 
     /// Counts an operation of a document of a version.
@@ -55,7 +55,7 @@ impl Counts {
             (IsFirst self.old (one_more_operation version ∷ [])) }
     {
         if self.operations as usize >= most_operations(version) {
-            return Err(self.fault(Code::TooMany));
+            return Err(self.fault(Wrong::TooMany));
         }
         self.operations += 1;
         Ok(())
@@ -67,7 +67,7 @@ impl Counts {
             (IsFirst self.old (one_more_node ∷ [])) }
     {
         if self.nodes as usize >= MAX_NODES {
-            return Err(self.fault(Code::TooMany));
+            return Err(self.fault(Wrong::TooMany));
         }
         self.nodes += 1;
         Ok(())
@@ -79,7 +79,7 @@ impl Counts {
             (IsFirst self.old (one_more_start ∷ [])) }
     {
         if self.starts as usize >= MAX_ENTRIES {
-            return Err(self.fault(Code::TooMany));
+            return Err(self.fault(Wrong::TooMany));
         }
         self.starts += 1;
         Ok(())

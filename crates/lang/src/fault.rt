@@ -1,14 +1,14 @@
 //! Why a document has no report, and in which transaction.
 ghost use Rattle.std.specs.Prelude.{◌≡◌};
-ghost use Rattle.lang.specs.Faults.{number_of, fault_outside};
+ghost use Rattle.lang.specs.Faults.{fault_outside, number_of, wrong_outside};
 
 use batch::NoMemory;
 use std::alloc::{AllocError, AllocFailed};
 use thiserror::Error;
 
-/// What is wrong with a document, or what failed beside it.
+/// What is wrong with a document.
 #[derive(Clone, Copy, Debug, Drop, PartialEq, Eq)]
-pub enum Code {
+pub enum Wrong {
     /// The bytes are no JSON.
     NotJson = 1,
     /// A part has not the form that its place asks for.
@@ -35,12 +35,19 @@ pub enum Code {
     TooMany = 12,
     /// An object cannot start so.
     Start = 13,
+}
+
+/// Why there is no report: what is wrong with the document, or what failed beside it.
+#[derive(Clone, Copy, Debug, Drop, PartialEq, Eq)]
+pub enum Code {
+    /// The document is wrong.
+    Wrong(Wrong),
     /// Memory was refused.
-    Memory = 20,
+    Memory,
     /// The document could not be read.
-    Input = 21,
+    Input,
     /// The report could not be written.
-    Output = 22,
+    Output,
 }
 
 /// A code, with the number of the transaction that was being read, or 0 outside of them.
@@ -51,12 +58,26 @@ pub struct Fault {
     pub transaction: u32,
 }
 
+impl Wrong {
+    /// The fault of this wrong that is in no transaction.
+    pub fn outside(self) -> Fault
+        ensures { result ≡ wrong_outside self }
+    {
+        Code::Wrong(self).outside()
+    }
+}
+
 impl Code {
     /// The number that stands for the code in what is printed.
     pub fn number(self) -> u8
         ensures { result ≡ number_of self }
     {
-        self as u8
+        match self {
+            Code::Wrong(wrong) => wrong as u8,
+            Code::Memory => 20,
+            Code::Input => 21,
+            Code::Output => 22,
+        }
     }
 
     /// The fault of this code that is in no transaction.

@@ -4,11 +4,11 @@ ghost use Rattle.json.specs.Json.{members, value};
 ghost use Rattle.serde_json.specs.Data.{Data, Members, no_members, put};
 ghost use Rattle.serde_json.specs.Read.{converted, of_json, of_members};
 ghost use Rattle.lang.specs.Demand.{check, no_counts};
-ghost use Rattle.lang.specs.Faults.{number_of};
+ghost use Rattle.lang.specs.Faults.{is_of_reading};
 ghost use Rattle.lang.specs.Passed.{AreNoted, IsNoted, is_version, noted_asked, noted_count, seen_as};
 ghost use Rattle.lang.specs.Pulled.{ReadsMembers, ReadsValue};
 
-use crate::fault::{Code, Fault};
+use crate::fault::{Fault, Wrong};
 use crate::pass::{Seen, pass_from, pass_value};
 use json::{Invalid, Reader, Token};
 use meaning::limits::{MAX_OBJECTS, MAX_TRANSACTIONS};
@@ -122,19 +122,19 @@ fn count_of(seen: Option<Seen>) -> Option<u32>
 pub(crate) fn check_notes(notes: &Notes) -> Result<(), Fault>
     ensures met { OnOk result (check no_counts (noted_asked notes.now) ≡ Ok no_counts) }
     ensures fault { IfErr result (λ fault. check no_counts (noted_asked notes.now) ≡ Err fault) }
-    ensures code { IfErr result (λ fault. number_of fault.code ≤ 20) }
+    ensures code { IfErr result (λ fault. is_of_reading fault.code ≡ true) }
 {
     if !notes.only || !is_version(notes.version) {
-        return Err(Code::Shape.outside());
+        return Err(Wrong::Shape.outside());
     }
     let Some(objects) = count_of(notes.objects) else {
-        return Err(Code::Shape.outside());
+        return Err(Wrong::Shape.outside());
     };
     let Some(transactions) = count_of(notes.transactions) else {
-        return Err(Code::Shape.outside());
+        return Err(Wrong::Shape.outside());
     };
     if objects as usize > MAX_OBJECTS || transactions as usize > MAX_TRANSACTIONS {
-        return Err(Code::TooMany.outside());
+        return Err(Wrong::TooMany.outside());
     }
     Ok(())
 }

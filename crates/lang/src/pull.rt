@@ -30,11 +30,11 @@ use crate::declared::Declared;
 use crate::document::Parts;
 use crate::labels::add_new_label;
 use crate::numbers::number_of;
-use crate::operations::{amount_call, item_call, item_of, lone_call, pair_call, target_of};
+use crate::operations::{item_of, target_of};
 use crate::pull_blocks::pull_block;
 use crate::starts::read_objects;
 use crate::state::{Numbering, State};
-use crate::words::{Subject, Verb};
+use crate::subject::Subject;
 use batch::{Block, Call, Step, is_name};
 use fast_float::Numeral;
 use json::{Reader, Token};
@@ -42,6 +42,7 @@ use meaning::limits::{MAX_DEPTH, MAX_OBJECTS, MAX_TRANSACTIONS};
 use objects::Amount;
 use serde_json::{Map, Value};
 use std::alloc::Global;
+use words::Verb;
 
 /// How deep an object or a transaction may nest.
 pub(crate) const PART_DEPTH: usize = 125;
@@ -202,13 +203,13 @@ fn pull_arguments(
         Verb::OfAmount(verb) => {
             let amount = pull_amount(reader)?;
             pull_end_array(reader)?;
-            Some(amount_call(verb, amount))
+            Some(verb.call(amount))
         }
         Verb::OfItem(verb) => {
             let name = pull_name(reader)?;
             pull_end_array(reader)?;
             let item = item_of(alloc, name, numbering).ok()?;
-            Some(item_call(verb, item))
+            Some(verb.call(item))
         }
         Verb::OfPair(verb) => {
             let key_name = pull_name(reader)?;
@@ -216,11 +217,11 @@ fn pull_arguments(
             pull_end_array(reader)?;
             let key = item_of(alloc, key_name, numbering).ok()?;
             let item = item_of(alloc, name, numbering).ok()?;
-            Some(pair_call(verb, key, item))
+            Some(verb.call(key, item))
         }
         Verb::Alone(verb) => {
             pull_end_array(reader)?;
-            Some(lone_call(verb))
+            Some(verb.call())
         }
     }
 }

@@ -31,12 +31,13 @@ use crate::pull::{
 };
 use crate::state::{Numbering, State, number_of};
 use crate::steps::{Sort, read_members, read_reason, read_step, taking};
-use crate::words::{Subject, fits_item, fits_number, fits_word, word_of};
+use crate::subject::{Subject, fits_item, fits_number, fits_word};
 use batch::{Block, Handler, Step, Subaction, Test, is_name};
 use indexmap::IndexMap;
 use json::{Reader, Token};
 use serde_json::Map;
 use std::alloc::Global;
+use words::Word;
 
 // ---- subactions
 
@@ -369,7 +370,7 @@ fn pull_test(
 {
     match reader.next() {
         Some(Token::Key("is")) => {
-            let word = word_of(pull_text(reader)?)?;
+            let word = Word::of_text(pull_text(reader)?)?;
             if fits_word(subject, word) {
                 Some(Test::Is(word))
             } else {

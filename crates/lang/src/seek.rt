@@ -11,7 +11,7 @@ ghost use Rattle.meaning.specs.declared.limits.TheConstants.{MAX_TRANSACTIONS};
 
 use crate::conditions::{if_shape_of, read_test};
 use crate::declared::Declared;
-use crate::fault::{Code, Fault};
+use crate::fault::{Fault, Wrong};
 use crate::hashing::Labels;
 use crate::labels::{add_label, add_labels, check_label, seen_label};
 use crate::look::text_member;
@@ -19,7 +19,7 @@ use crate::operations::read_operation;
 use crate::places::Unmet;
 use crate::state::State;
 use crate::steps::{Sort, children_of, read_abort, sort_of, sub_shape_of};
-use crate::words::Subject;
+use crate::subject::Subject;
 use batch::is_name;
 use indexmap::IndexMap;
 use meaning::limits::MAX_DEPTH;
@@ -73,7 +73,7 @@ fn seek_members(
 {
     for (reason, value) in members {
         if !is_name(reason.as_str()) {
-            return Err(Unmet::from(state.counts.fault(Code::Name)));
+            return Err(Unmet::from(state.counts.fault(Wrong::Name)));
         }
         if let Err(unmet) = seek_block(alloc, value, levels, declared, state) {
             return Err(unmet.in_member(alloc, reason.as_str()));
@@ -264,7 +264,7 @@ fn seek_step(
             Ok(())
         }
         Some(Sort::Parallel) => seek_parallel(alloc, step, levels, declared, state),
-        None => Err(Unmet::from(state.counts.fault(Code::Shape))),
+        None => Err(Unmet::from(state.counts.fault(Wrong::Shape))),
     }
 }
 
@@ -307,10 +307,10 @@ fn seek_block(
     ensures labels { OnOk result (scope_of state.new.labels.entries ≡ scope_of state.old.labels.entries) }
 {
     let Some(list) = value.as_array() else {
-        return Err(Unmet::from(state.counts.fault(Code::Shape)));
+        return Err(Unmet::from(state.counts.fault(Wrong::Shape)));
     };
     if levels == 0 {
-        return Err(Unmet::from(state.counts.fault(Code::Depth)));
+        return Err(Unmet::from(state.counts.fault(Wrong::Depth)));
     }
     let seen = state.labels.len();
     seek_steps(alloc, list, levels - 1, declared, state)?;

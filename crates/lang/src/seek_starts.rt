@@ -9,7 +9,7 @@ ghost use Rattle.lang.specs.Found.{IsFound};
 ghost use Rattle.lang.specs.Places.{elements_placed, entries_placed, object_placed, objects_placed, pairs_placed, seek, start_placed};
 
 use crate::counts::Counts;
-use crate::fault::Code;
+use crate::fault::Wrong;
 use crate::hashing::Texts;
 use crate::places::Unmet;
 use crate::starts::{add_name, read_element, read_entry, read_pair, read_start, shape_of};
@@ -93,15 +93,15 @@ fn seek_start(
         }
         Kind::Set => match value.as_array() {
             Some(list) => seek_set(alloc, list, counts, numbering),
-            None => Err(Unmet::from(counts.fault(Code::Start))),
+            None => Err(Unmet::from(counts.fault(Wrong::Start))),
         },
         Kind::Queue => match value.as_array() {
             Some(list) => seek_queue(alloc, list, counts, numbering),
-            None => Err(Unmet::from(counts.fault(Code::Start))),
+            None => Err(Unmet::from(counts.fault(Wrong::Start))),
         },
         Kind::Directory => match value.as_array() {
             Some(list) => seek_directory(alloc, list, counts, numbering),
-            None => Err(Unmet::from(counts.fault(Code::Start))),
+            None => Err(Unmet::from(counts.fault(Wrong::Start))),
         },
     }
 }

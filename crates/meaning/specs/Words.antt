@@ -1,30 +1,27 @@
--- The words of calls, replies and values.
+-- The texts of calls, replies and values.
 use Rattle.std.specs.Prelude.{ℕ, List, [], ◌∷◌, ◌++◌, map, codes}
 use Rattle.std.specs.Fmt.{decimal, signed_decimal}
 use Rattle.std.specs.FinSet as finite_set
 use Rattle.std.specs.FinMap as finite_map
 use Rattle.atoms.specs.Item.{item_cmp}
 use Rattle.atoms.specs.declared.item.Item.{Item}
-use Rattle.atoms.specs.declared.account.AccountCall.TheVariants.{Deposit, Withdraw, Balance}
 use Rattle.atoms.specs.declared.account.AccountReply.TheVariants as account
-use Rattle.atoms.specs.declared.counter.CounterCall.TheVariants.{Add, Sub, Read}
 use Rattle.atoms.specs.declared.counter.CounterReply.TheVariants as counter
-use Rattle.atoms.specs.declared.item_set.SetCall.TheVariants.{Insert, Remove, Has, Size}
 use Rattle.atoms.specs.declared.item_set.SetReply.TheVariants as set
-use Rattle.atoms.specs.declared.queue.QueueCall.TheVariants.{Enq, Deq, Length}
 use Rattle.atoms.specs.declared.queue.QueueReply.TheVariants as queue
-use Rattle.atoms.specs.declared.directory.DirectoryCall.TheVariants.{Bind, Put, Unbind, Lookup}
 use Rattle.atoms.specs.declared.directory.DirectoryReply.TheVariants as directory
-use Rattle.atoms.specs.declared.max_register.MaxCall.TheVariants.{Raise, Top}
 use Rattle.atoms.specs.declared.max_register.MaxReply.TheVariants as max
 use Rattle.objects.specs.declared.call.Call.{Call}
-use Rattle.objects.specs.declared.call.Call.TheVariants as call
 use Rattle.objects.specs.declared.call.Reply.{Reply}
 use Rattle.objects.specs.declared.call.Reply.TheVariants as reply
 use Rattle.objects.specs.declared.value.Value.{Value}
 use Rattle.objects.specs.declared.value.Value.TheVariants as value
-use Rattle.objects.specs.declared.kind.Kind.{Kind}
-use Rattle.objects.specs.declared.kind.Kind.TheVariants as kind
+use Rattle.words.specs.Verbs.{phrase_of, verb_text}
+use Rattle.words.specs.Words.{word_text}
+use Rattle.words.specs.declared.verb.Phrase.{Phrase}
+use Rattle.words.specs.declared.verb.Phrase.TheVariants as phrase
+use Rattle.words.specs.declared.verb.Verb.TheVariants.{OfAmount, OfItem, OfPair, Alone}
+use Rattle.words.specs.declared.word.Word.TheVariants as word
 
 -- the texts of a batch's numbers
 pub record Names : Type 0 where
@@ -32,60 +29,40 @@ pub record Names : Type 0 where
   pub item : Item → List ℕ
   pub reason : ℕ → List ℕ
 
+abbrev pub phrase_text : Names → Phrase → List ℕ
+phrase_text names (phrase.OfAmount v a) = verb_text (OfAmount v) ++ codes " " ++ decimal a.value
+phrase_text names (phrase.OfItem v x) = verb_text (OfItem v) ++ codes " " ++ names.item x
+phrase_text names (phrase.OfPair v k x) = verb_text (OfPair v) ++ codes " " ++ names.item k ++ codes " " ++ names.item x
+phrase_text names (phrase.Alone v) = verb_text (Alone v)
+
 abbrev pub call_text : Names → Call → List ℕ
-call_text names (call.Account (Deposit a)) = codes "deposit " ++ decimal a.value
-call_text names (call.Account (Withdraw a)) = codes "withdraw " ++ decimal a.value
-call_text names (call.Account Balance) = codes "balance"
-call_text names (call.Counter (Add k)) = codes "add " ++ decimal k.value
-call_text names (call.Counter (Sub k)) = codes "sub " ++ decimal k.value
-call_text names (call.Counter Read) = codes "read"
-call_text names (call.Set (Insert x)) = codes "insert " ++ names.item x
-call_text names (call.Set (Remove x)) = codes "remove " ++ names.item x
-call_text names (call.Set (Has x)) = codes "has " ++ names.item x
-call_text names (call.Set Size) = codes "size"
-call_text names (call.Queue (Enq x)) = codes "enq " ++ names.item x
-call_text names (call.Queue Deq) = codes "deq"
-call_text names (call.Queue Length) = codes "length"
-call_text names (call.Directory (Bind k v)) = codes "bind " ++ names.item k ++ codes " " ++ names.item v
-call_text names (call.Directory (Put k v)) = codes "put " ++ names.item k ++ codes " " ++ names.item v
-call_text names (call.Directory (Unbind k)) = codes "unbind " ++ names.item k
-call_text names (call.Directory (Lookup k)) = codes "lookup " ++ names.item k
-call_text names (call.Max (Raise k)) = codes "raise " ++ decimal k.value
-call_text names (call.Max Top) = codes "top"
+call_text names c = phrase_text names (phrase_of c)
 
 abbrev pub reply_text : Names → Reply → List ℕ
-reply_text names (reply.Account account.Ok) = codes "ok"
-reply_text names (reply.Account account.No) = codes "no"
+reply_text names (reply.Account account.Ok) = word_text word.Ok
+reply_text names (reply.Account account.No) = word_text word.No
 reply_text names (reply.Account (account.Number n)) = decimal n
-reply_text names (reply.Counter counter.Ok) = codes "ok"
+reply_text names (reply.Counter counter.Ok) = word_text word.Ok
 reply_text names (reply.Counter (counter.Number n)) = signed_decimal n
-reply_text names (reply.Set set.Added) = codes "added"
-reply_text names (reply.Set set.Present) = codes "present"
-reply_text names (reply.Set set.Removed) = codes "removed"
-reply_text names (reply.Set set.Absent) = codes "absent"
-reply_text names (reply.Set set.Yes) = codes "yes"
-reply_text names (reply.Set set.No) = codes "no"
+reply_text names (reply.Set set.Added) = word_text word.Added
+reply_text names (reply.Set set.Present) = word_text word.Present
+reply_text names (reply.Set set.Removed) = word_text word.Removed
+reply_text names (reply.Set set.Absent) = word_text word.Absent
+reply_text names (reply.Set set.Yes) = word_text word.Yes
+reply_text names (reply.Set set.No) = word_text word.No
 reply_text names (reply.Set (set.Number n)) = decimal n
-reply_text names (reply.Queue queue.Ok) = codes "ok"
-reply_text names (reply.Queue (queue.Got x)) = codes "got " ++ names.item x
-reply_text names (reply.Queue queue.Empty) = codes "empty"
+reply_text names (reply.Queue queue.Ok) = word_text word.Ok
+reply_text names (reply.Queue (queue.Got x)) = word_text word.Got ++ codes " " ++ names.item x
+reply_text names (reply.Queue queue.Empty) = word_text word.Empty
 reply_text names (reply.Queue (queue.Number n)) = decimal n
-reply_text names (reply.Directory directory.Ok) = codes "ok"
-reply_text names (reply.Directory directory.Bound) = codes "bound"
-reply_text names (reply.Directory directory.Taken) = codes "taken"
-reply_text names (reply.Directory directory.Gone) = codes "gone"
-reply_text names (reply.Directory directory.Missing) = codes "missing"
-reply_text names (reply.Directory (directory.Found v)) = codes "found " ++ names.item v
-reply_text names (reply.Max max.Ok) = codes "ok"
+reply_text names (reply.Directory directory.Ok) = word_text word.Ok
+reply_text names (reply.Directory directory.Bound) = word_text word.Bound
+reply_text names (reply.Directory directory.Taken) = word_text word.Taken
+reply_text names (reply.Directory directory.Gone) = word_text word.Gone
+reply_text names (reply.Directory directory.Missing) = word_text word.Missing
+reply_text names (reply.Directory (directory.Found v)) = word_text word.Found ++ codes " " ++ names.item v
+reply_text names (reply.Max max.Ok) = word_text word.Ok
 reply_text names (reply.Max (max.Number n)) = decimal n
-
-abbrev pub kind_text : Kind → List ℕ
-kind_text kind.Account = codes "account"
-kind_text kind.Counter = codes "counter"
-kind_text kind.Set = codes "set"
-kind_text kind.Queue = codes "queue"
-kind_text kind.Directory = codes "directory"
-kind_text kind.Max = codes "max"
 
 -- with this between each two
 abbrev pub joined : List ℕ → List (List ℕ) → List ℕ

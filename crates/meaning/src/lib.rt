@@ -9,4 +9,5 @@ mod test;
 
 pub use end::End;
 pub use held::Held;
-pub use test::{Test, Word};
+pub use test::Test;
+pub use words::Word;

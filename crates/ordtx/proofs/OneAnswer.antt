@@ -14,11 +14,11 @@ use Rattle.carry.specs.Carried.{carried_text, first_unfit}
 use Rattle.carry.specs.declared.document.Unfit.{Unfit}
 use Rattle.why.specs.Why.{IsWhyText}
 use Rattle.why.proofs.Determined.{determined}
-use Rattle.lang.specs.Faults.{fault_outside}
+use Rattle.lang.specs.Faults.{wrong_outside}
 use Rattle.lang.specs.Reading.{Document, reading}
 use Rattle.lang.specs.declared.fault.Fault.{Fault}
 use Rattle.ordtx.specs.Answers.{IsReportOf, IsAuditOf, IsPlainReportOf, IsCheckOf, IsFaultOf, IsCarriedOf, IsUnfitOf, IsCarryFaultOf}
-use Rattle.ordtx.specs.Answers.{end_of, unfit_code, IsShownOf, IsWhyOf, IsExplainedOf}
+use Rattle.ordtx.specs.Answers.{end_of, unfit_wrong, IsShownOf, IsWhyOf, IsExplainedOf}
 use Rattle.ordtx.specs.Laws.{OneTextLaw, OneFaultLaw, FaultlessLaw}
 
 -- one document
@@ -128,7 +128,7 @@ one_unfit : OneFaultLaw IsUnfitOf
 one_unfit bytes first second a b =
     let same : b.document ≡ a.document = documents_alike (reading bytes) b.document a.document b.reads a.reads in
     let found : first_unfit 0 (end_of a.document) ≡ Some b.unfit = ap (λ e. first_unfit 0 (end_of e)) (sym same) ∙ b.first in
-    a.is ∙ ap (λ unfit. fault_outside (unfit_code unfit)) (unfits_alike _ a.unfit b.unfit a.first found) ∙ sym b.is
+    a.is ∙ ap (λ unfit. wrong_outside (unfit_wrong unfit)) (unfits_alike _ a.unfit b.unfit a.first found) ∙ sym b.is
 
 pub one_carry_fault : OneFaultLaw IsCarryFaultOf
 one_carry_fault bytes first second (inl a) (inl b) = one_fault bytes first second a b

@@ -12,11 +12,11 @@ use Rattle.lang.specs.Reading.{Document, reading}
 use Rattle.carry.specs.Carried.{carried_text, first_unfit}
 use Rattle.carry.specs.declared.document.Unfit.{Unfit}
 use Rattle.carry.specs.declared.document.Unfit.TheVariants as unfit
-use Rattle.lang.specs.Faults.{fault_outside, number_of}
+use Rattle.lang.specs.Faults.{number_of, wrong_outside}
 use Rattle.why.specs.Why.{IsWhyText}
 use Rattle.lang.specs.Found.{IsPlaceOf}
-use Rattle.lang.specs.declared.fault.Code.{Code}
-use Rattle.lang.specs.declared.fault.Code.TheVariants as code
+use Rattle.lang.specs.declared.fault.Wrong.{Wrong}
+use Rattle.lang.specs.declared.fault.Wrong.TheVariants as wrong
 use Rattle.lang.specs.declared.fault.Fault.{Fault}
 use Rattle.lang.specs.declared.places.Place.{Place}
 use Rattle.lang.specs.declared.places.Place.TheVariants.{Whole, Pointer, LineColumn}
@@ -89,10 +89,10 @@ pub record IsCarriedOf (bytes text : List ℕ) : Type 0 where
 abbrev pub IsFaultOf : List ℕ → Fault → Type 0
 IsFaultOf bytes fault = reading bytes ≡ Err fault
 
--- the code of what keeps objects from starting so
-abbrev pub unfit_code : Unfit → Code
-unfit_code unfit.Start = code.Start
-unfit_code unfit.TooMany = code.TooMany
+-- what is wrong with a document whose objects start so
+abbrev pub unfit_wrong : Unfit → Wrong
+unfit_wrong unfit.Start = wrong.Start
+unfit_wrong unfit.TooMany = wrong.TooMany
 
 -- The bytes spell a document with an object that ends as none may start, and the fault is that of the first such object.
 pub record IsUnfitOf (bytes : List ℕ) (fault : Fault) : Type 0 where
@@ -100,7 +100,7 @@ pub record IsUnfitOf (bytes : List ℕ) (fault : Fault) : Type 0 where
   pub reads : reading bytes ≡ Ok document
   pub unfit : Unfit
   pub first : first_unfit 0 (end_of document) ≡ Some unfit
-  pub is : fault ≡ fault_outside (unfit_code unfit)
+  pub is : fault ≡ wrong_outside (unfit_wrong unfit)
 
 -- the first fault of the bytes, or else of the objects at their end
 abbrev pub IsCarryFaultOf : List ℕ → Fault → Type 0

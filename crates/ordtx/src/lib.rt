@@ -15,7 +15,7 @@ mod texts;
 
 pub use asked::{Command, Line, Refused};
 pub use command_line::line;
-pub use lang::{Code, Fault};
+pub use lang::{Code, Fault, Wrong};
 pub use marked::Marked;
 pub use rounds::Plan;
 pub use sink::Sink;

@@ -1,12 +1,12 @@
 //! The texts that a document gives.
-ghost use Rattle.std.specs.Prelude.{◌≡◌, ◌≢◌, ◌≤◌, ℕ, List, IfErr, IfOk, Ok, string_bytes};
-ghost use Rattle.lang.specs.Faults.{memory_fault, number_of};
+ghost use Rattle.std.specs.Prelude.{◌≡◌, ◌≢◌, true, ℕ, List, IfErr, IfOk, Ok, string_bytes};
+ghost use Rattle.lang.specs.Faults.{is_of_reading, memory_fault};
 ghost use Rattle.lang.specs.Reading.{document_of, reading};
-ghost use Rattle.ordtx.specs.Answers.{IsAuditOf, IsCarriedOf, IsCarryFaultOf, IsCheckOf, IsExplainedOf, IsFaultOf, IsPlainReportOf, IsReportOf, IsShownOf, unfit_code};
+ghost use Rattle.ordtx.specs.Answers.{IsAuditOf, IsCarriedOf, IsCarryFaultOf, IsCheckOf, IsExplainedOf, IsFaultOf, IsPlainReportOf, IsReportOf, IsShownOf, unfit_wrong};
 
 use batch::Batch;
 use carry::{Unfit, carried, first_unfit};
-use lang::{Code, Fault, read};
+use lang::{Fault, Wrong, read};
 use report::{render, render_audit, render_check, render_plain};
 use rounds::{Plan, execute};
 use speculate::{Gate, NoMemory, plain};
@@ -18,7 +18,7 @@ use why::render_why;
 fn batch_of(alloc: Global, document: Vec<u8>) -> Result<Batch, Fault>
     ensures batch { IfOk result (λ batch. reading document.items ≡ Ok (document_of batch)) }
     ensures fault { IfErr result (λ fault. fault ≢ memory_fault → IsFaultOf document.items fault) }
-    ensures code { IfErr result (λ fault. number_of fault.code ≤ 20) }
+    ensures code { IfErr result (λ fault. is_of_reading fault.code ≡ true) }
 {
     read(alloc, document.as_slice())
 }
@@ -33,7 +33,7 @@ pub(crate) fn report_of<T: Threads + Sync, G: Gate>(
 ) -> Result<String, Fault>
     ensures text { IfOk result (λ text. IsReportOf document.items (string_bytes text)) }
     ensures fault { IfErr result (λ fault. fault ≢ memory_fault → IsFaultOf document.items fault) }
-    ensures code { IfErr result (λ fault. number_of fault.code ≤ 20) }
+    ensures code { IfErr result (λ fault. is_of_reading fault.code ≡ true) }
 {
     let batch = batch_of(alloc, document)?;
     let outcome = execute(threads, alloc, &batch, plan, gate)?;
@@ -51,7 +51,7 @@ pub(crate) fn audit_of<T: Threads + Sync, G: Gate>(
 ) -> Result<String, Fault>
     ensures text { IfOk result (λ text. IsAuditOf document.items (string_bytes text)) }
     ensures fault { IfErr result (λ fault. fault ≢ memory_fault → IsFaultOf document.items fault) }
-    ensures code { IfErr result (λ fault. number_of fault.code ≤ 20) }
+    ensures code { IfErr result (λ fault. is_of_reading fault.code ≡ true) }
 {
     let batch = batch_of(alloc, document)?;
     let outcome = execute(threads, alloc, &batch, plan, gate)?;
@@ -89,7 +89,7 @@ pub(crate) fn explained_of<T: Threads + Sync, G: Gate>(
 ) -> Result<String, Fault>
     ensures text { IfOk result (λ text. IsExplainedOf audit document.items (string_bytes text)) }
     ensures fault { IfErr result (λ fault. fault ≢ memory_fault → IsFaultOf document.items fault) }
-    ensures code { IfErr result (λ fault. number_of fault.code ≤ 20) }
+    ensures code { IfErr result (λ fault. is_of_reading fault.code ≡ true) }
 {
     let batch = batch_of(alloc, document)?;
     let mut text = shown_of(threads, alloc, &batch, plan, audit, gate)?;
@@ -102,7 +102,7 @@ pub(crate) fn explained_of<T: Threads + Sync, G: Gate>(
 pub(crate) fn plain_report_of(alloc: Global, document: Vec<u8>) -> Result<String, Fault>
     ensures text { IfOk result (λ text. IsPlainReportOf document.items (string_bytes text)) }
     ensures fault { IfErr result (λ fault. fault ≢ memory_fault → IsFaultOf document.items fault) }
-    ensures code { IfErr result (λ fault. number_of fault.code ≤ 20) }
+    ensures code { IfErr result (λ fault. is_of_reading fault.code ≡ true) }
 {
     let batch = batch_of(alloc, document)?;
     let answer = plain(alloc, &batch)?;
@@ -114,24 +114,24 @@ pub(crate) fn plain_report_of(alloc: Global, document: Vec<u8>) -> Result<String
 pub(crate) fn carried_of(alloc: Global, document: Vec<u8>) -> Result<String, Fault>
     ensures text { IfOk result (λ text. IsCarriedOf document.items (string_bytes text)) }
     ensures fault { IfErr result (λ fault. fault ≢ memory_fault → IsCarryFaultOf document.items fault) }
-    ensures code { IfErr result (λ fault. number_of fault.code ≤ 20) }
+    ensures code { IfErr result (λ fault. is_of_reading fault.code ≡ true) }
 {
     let batch = batch_of(alloc, document)?;
     let objects = plain(alloc, &batch)?.objects;
     if let Some(unfit) = first_unfit(&objects) {
-        return Err(code_of(unfit).outside());
+        return Err(wrong_of(unfit).outside());
     }
     let text = carried(alloc, &batch.names, &objects)?;
     Ok(text)
 }
 
-// The code of what keeps objects from starting so.
-fn code_of(unfit: Unfit) -> Code
-    ensures { result ≡ unfit_code unfit }
+// What is wrong with a document whose objects start so.
+fn wrong_of(unfit: Unfit) -> Wrong
+    ensures { result ≡ unfit_wrong unfit }
 {
     match unfit {
-        Unfit::Start => Code::Start,
-        Unfit::TooMany => Code::TooMany,
+        Unfit::Start => Wrong::Start,
+        Unfit::TooMany => Wrong::TooMany,
     }
 }
 
@@ -139,7 +139,7 @@ fn code_of(unfit: Unfit) -> Code
 pub(crate) fn check_of(alloc: Global, document: &[u8]) -> Result<String, Fault>
     ensures text { IfOk result (λ text. IsCheckOf document.now (string_bytes text)) }
     ensures fault { IfErr result (λ fault. fault ≢ memory_fault → IsFaultOf document.now fault) }
-    ensures code { IfErr result (λ fault. number_of fault.code ≤ 20) }
+    ensures code { IfErr result (λ fault. is_of_reading fault.code ≡ true) }
 {
     let batch = read(alloc, document)?;
     let text = render_check(alloc, &batch)?;

@@ -8,7 +8,8 @@ use Rattle.objects.specs.Objects.{kind_of_value}
 use Rattle.objects.specs.declared.value.Value.{Value}
 use Rattle.meaning.specs.Trees as meant
 use Rattle.meaning.specs.Shown.{Shown}
-use Rattle.meaning.specs.Words.{Names, kind_text, value_text}
+use Rattle.meaning.specs.Words.{Names, value_text}
+use Rattle.words.specs.Words.{kind_text}
 use Rattle.meaning.specs.Texts.{line, outcome_text, steps_text, transactions_text, objects_text, check_text}
 use Rattle.batch.specs.Views.{block_view, record_view}
 use Rattle.batch.specs.declared.tree.Block.{Block}

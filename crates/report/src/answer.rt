@@ -3,7 +3,8 @@ ghost use Rattle.std.specs.Prelude.{◌≡◌, ◌++◌, ◌^◌, ◌<◌, OnOk,
 ghost use Rattle.std.specs.Fmt.{decimal};
 ghost use Rattle.objects.specs.Objects.{kind_of_value};
 ghost use Rattle.meaning.specs.Running.{all_operations};
-ghost use Rattle.meaning.specs.Words.{kind_text, value_text};
+ghost use Rattle.meaning.specs.Words.{value_text};
+ghost use Rattle.words.specs.Words.{kind_text};
 ghost use Rattle.meaning.specs.Texts.{line, outcome_text, steps_text, transactions_text, objects_text, counts_text, plain_text, text, audit_text, check_text};
 ghost use Rattle.batch.specs.Names.{names_of};
 ghost use Rattle.batch.specs.Views.{block_view, record_view};
@@ -11,10 +12,10 @@ ghost use Rattle.batch.specs.Views.{block_view, record_view};
 use crate::lines::{write_block, write_end};
 use crate::names::object_name;
 use crate::values::write_value;
-use crate::words::kind_word;
 use batch::{Batch, Block, Names, Outcome, Plain, Record};
 use objects::{NoMemory, Objects, Value};
 use std::alloc::Global;
+use words::kind_text;
 
 /// The report of rounds of speculative runs.
 ///
@@ -142,7 +143,7 @@ fn write_object(out: &mut String, names: &Names, object: u32, value: &Value) -> 
         ++ line (codes "= " ++ (names_of names.now).object object ++ codes " " ++ kind_text (kind_of_value value.now) ++ codes " " ++ value_text (names_of names.now) value.now)) }
 {
     let name = object_name(names, object);
-    let kind = kind_word(value.kind());
+    let kind = kind_text(value.kind());
     write!(out, "= {name} {kind} ")?;
     write_value(out, names, value)?;
     write!(out, "\n")?;

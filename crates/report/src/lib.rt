@@ -3,12 +3,12 @@
 #![tactic(auto)]
 
 mod answer;
+mod calls;
 mod lines;
 mod names;
 mod values;
-mod words;
 
 pub use answer::{render, render_audit, render_check, render_plain};
 pub use batch::{Batch, NoMemory, Outcome, Plain};
+pub use calls::{write_call, write_reply};
 pub use names::{item_name, object_name, reason_name};
-pub use words::{kind_word, write_call, write_reply};

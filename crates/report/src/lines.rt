@@ -4,8 +4,8 @@ ghost use Rattle.meaning.specs.Texts.{line, reason_text, outcome_text, choice_te
 ghost use Rattle.batch.specs.Names.{names_of};
 ghost use Rattle.batch.specs.Views.{block_view, record_view, step_view, taken_view, subaction_view, tried_view, children_view, all_tried_view};
 
+use crate::calls::{write_call, write_reply};
 use crate::names::{object_name, reason_name};
-use crate::words::{write_call, write_reply};
 use batch::{Block, Names, Otherwise, Record, Step, Subaction, Taken, handler_for};
 use meaning::End;
 use objects::{Call, NoMemory, Reply};

@@ -1,8 +1,8 @@
 //! Tests of streams that move a few bytes a call and fail, and of whole batches.
 use crate::memory::{TestSink, TestSource};
 use ordtx::{
-    Code, Marked, NoGate, Plan, Sink, Source, audit_stream, carry_stream, check_stream, run_stream,
-    serial_stream,
+    Code, Marked, NoGate, Plan, Sink, Source, Wrong, audit_stream, carry_stream, check_stream,
+    run_stream, serial_stream,
 };
 use std::io;
 use std::io::{ErrorKind, Read, Write};
@@ -73,7 +73,7 @@ fn carries_objects_over(rt: HostRuntime) -> Result<(), Fail> {
     assert!(rt; sink.taken() == CARRIED);
     let mut sink = TestSink::new(Vec::with_capacity(rt.alloc(), 200)?, ALWAYS, ALWAYS);
     let answer = carry_stream(rt.alloc(), &mut Marked::new(UNFIT), &mut sink);
-    assert!(rt; answer == Err(Code::Start.outside()));
+    assert!(rt; answer == Err(Wrong::Start.outside()));
     assert!(rt; sink.taken().is_empty());
     Ok(())
 }
@@ -184,19 +184,19 @@ fn a_failed_write_is_not_tried_again(rt: HostRuntime) -> Result<(), Fail> {
 
 #[test]
 fn writes_nothing_for_a_fault(rt: HostRuntime) -> Result<(), Fail> {
-    let documents: [(&[u8], Code); 3] = [
-        (b"", Code::NotJson),
+    let documents: [(&[u8], Wrong); 3] = [
+        (b"", Wrong::NotJson),
         (
             b"{\"ordtx\":1,\"objects\":[],\"transactions\":[",
-            Code::NotJson,
+            Wrong::NotJson,
         ),
-        (b"{\"ordtx\":1}", Code::Shape),
+        (b"{\"ordtx\":1}", Wrong::Shape),
     ];
-    for (document, code) in documents {
+    for (document, wrong) in documents {
         let mut source = Marked::new(document);
         let mut sink = TestSink::new(Vec::with_capacity(rt.alloc(), 200)?, ALWAYS, ALWAYS);
         let answer = run_stream(&rt, rt.alloc(), &mut source, &mut sink, plan()?, &NoGate);
-        assert!(rt; answer == Err(code.outside()));
+        assert!(rt; answer == Err(wrong.outside()));
         assert!(rt; sink.taken().is_empty() && !source.failed());
     }
     Ok(())

@@ -9,7 +9,7 @@ use Rattle.lang.specs.Demand.{one_more_operation}
 use Rattle.std.specs.Prelude.{is_some}
 use Rattle.meaning.specs.Trees as tree
 use Rattle.batch.specs.declared.tree.Step.{Op, the_lemmas}
-use Rattle.lang.specs.declared.words.Subject.TheVariants.{Reply}
+use Rattle.lang.specs.declared.subject.Subject.TheVariants.{Reply}
 use Rattle.lang.specs.Spelled.{call_of, target_of}
 use Rattle.lang.specs.Scope.{numbers_of, scope_of, setting_of, with_label}
 use Rattle.lang.specs.Pulled.{ReadsValue, op_array, op_step}

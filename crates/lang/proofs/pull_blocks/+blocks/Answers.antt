@@ -31,11 +31,11 @@ use Rattle.lang.specs.Answer.{IsMet}
 use Rattle.lang.proofs.PulledSubs.{label_anywhere, sub_label, sub_met, sub_sort, sub_spelled, sub_step_met, sub_step_scope}
 use Rattle.lang.proofs.PulledSubs.{sub_step_spelled, tail_handler, tail_handlers, tail_label, tail_none, parallel_met, parallel_scope}
 use Rattle.lang.proofs.PulledSubs.{parallel_spelled, parallel_step}
-use Rattle.lang.specs.declared.words.Subject.TheVariants.{Outcome}
+use Rattle.lang.specs.declared.subject.Subject.TheVariants.{Outcome}
 use Rattle.std.proofs.lemmas.Option.{IfSome_then}
 use Rattle.batch.specs.declared.tree.Step.{If}
 use Rattle.batch.specs.Names.{is_name, texts_of}
-use Rattle.lang.specs.declared.fault.Code.TheVariants.{Name}
+use Rattle.lang.specs.declared.fault.Wrong.TheVariants.{Name}
 use Rattle.lang.proofs.PulledHandlers.{after_both, put_after}
 use Rattle.lang.proofs.PulledTests.{if_met, if_scope, if_spelled}
 use Rattle.lang.proofs.pull_blocks.+blocks.Goals as goal

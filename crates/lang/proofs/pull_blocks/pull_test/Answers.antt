@@ -6,7 +6,8 @@ use Rattle.lang.specs.Pulled.{ReadsMembers}
 use Rattle.lang.specs.Pulled.TestKey.{word, least, entry}
 use Rattle.lang.specs.Scope.{numbers_of, with_item}
 use Rattle.lang.specs.Spelled.{item_of}
-use Rattle.lang.specs.Words.{fits_item, fits_number, fits_word, word_of}
+use Rattle.lang.specs.Subjects.{fits_item, fits_number, fits_word}
+use Rattle.words.specs.Words.{word_of_text}
 use Rattle.lang.proofs.PulledLemmas.{reads_member, reads_number, reads_string}
 use Rattle.lang.proofs.PulledTests.{entry_met, entry_spelled, least_met, least_spelled, word_met, word_spelled}
 use Rattle.std.proofs.lemmas.Int.{to_z-of_z}
@@ -20,7 +21,7 @@ returns-then-fits_word c =
     let s = c.in_ok-pull_text-in-Some-Key-is.field-0.now in
     let w = c.in_ok-word-in-Some-Key-is.word in
     let all : old ≡ Token.key (codes "is") ∷ Token.string s ∷ left = grind (arith, rules) in
-    let meant : word_of s ≡ Some w = grind (arith, rules) in
+    let meant : word_of_text s ≡ Some w = grind (arith, rules) in
     let fits : fits_word c.args.subject w ≡ true = grind (arith, rules) in (
       word,
       string s,

@@ -10,7 +10,7 @@ use Rattle.lang.specs.Asked.{steps_asked, sub_asked}
 use Rattle.lang.specs.Demand.{check}
 use Rattle.lang.specs.Scope.{Extends, Numbers, Scope, numbers_of, scope_of, setting_of, with_label}
 use Rattle.lang.specs.Spelled.{block_of, children_spelled, spelled_map, steps_spelled}
-use Rattle.lang.specs.declared.words.Subject.TheVariants.{Outcome}
+use Rattle.lang.specs.declared.subject.Subject.TheVariants.{Outcome}
 use Rattle.lang.proofs.Checks.{check_failed, check_met, passed_on}
 use Rattle.lang.proofs.ListLemmas.{in_front, in_front_push, items_from}
 use Rattle.batch.specs.declared.tree.Block.{roll-Block}

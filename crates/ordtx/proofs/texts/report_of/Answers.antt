@@ -1,5 +1,5 @@
-use Rattle.std.proofs.Common.{◌≢◌, ◌≤◌, refl, arith}
-use Rattle.lang.specs.Faults.{memory_fault, number_of}
+use Rattle.std.proofs.Common.{◌≡◌, ◌≢◌, true, refl}
+use Rattle.lang.specs.Faults.{is_of_reading, memory_fault}
 use Rattle.lang.proofs.Checks.{passed_on}
 use Rattle.ordtx.specs.Answers.{IsFaultOf}
 use Rattle.ordtx.proofs.texts.report_of.Goals as goal
@@ -11,5 +11,5 @@ returns-in_err-text-clause-fault g c =
 
 pub returns-in_err-text-clause-code : goal.returns-in_err-text-clause-code
 returns-in_err-text-clause-code g c =
-    passed_on c.from_residual-in_err-text.result (λ fault. number_of fault.code ≤ 20) memory_fault c.from_residual-in_err-text.ensures.1
-    (omega arith)
+    passed_on c.from_residual-in_err-text.result (λ fault. is_of_reading fault.code ≡ true) memory_fault c.from_residual-in_err-text.ensures.1
+    refl

@@ -1,0 +1,98 @@
+//! Writes calls and replies.
+ghost use Rattle.std.specs.Prelude.{◌≡◌, ◌++◌, OnOk, codes, string_bytes};
+ghost use Rattle.std.specs.Fmt.{decimal};
+ghost use Rattle.meaning.specs.Words.{call_text, reply_text};
+ghost use Rattle.words.specs.Verbs.{verb_text};
+ghost use Rattle.batch.specs.Names.{names_of};
+
+use crate::names::item_name;
+use batch::Names;
+use objects::{
+    AccountReply, Amount, Call, CounterReply, DirectoryReply, Item, MaxReply, NoMemory, QueueReply,
+    Reply, SetReply,
+};
+use words::{Phrase, Verb, Word, phrase_of};
+
+/// Writes the words of a call.
+pub fn write_call(out: &mut String, names: &Names, call: &Call) -> Result<(), NoMemory>
+    ensures { OnOk result (string_bytes out.new ≡ string_bytes out.old ++ call_text (names_of names.now) call.now) }
+{
+    match phrase_of(call) {
+        Phrase::OfAmount(verb, amount) => write_amount(out, Verb::OfAmount(verb), amount),
+        Phrase::OfItem(verb, item) => {
+            write_word(out, Verb::OfItem(verb).text())?;
+            write_item(out, names, item)
+        }
+        Phrase::OfPair(verb, key, item) => {
+            write_word(out, Verb::OfPair(verb).text())?;
+            write_item(out, names, key)?;
+            write_item(out, names, item)
+        }
+        Phrase::Alone(verb) => write_word(out, Verb::Alone(verb).text()),
+    }
+}
+
+/// Writes the words of a reply.
+pub fn write_reply(out: &mut String, names: &Names, reply: &Reply) -> Result<(), NoMemory>
+    ensures { OnOk result (string_bytes out.new ≡ string_bytes out.old ++ reply_text (names_of names.now) reply.now) }
+{
+    match reply {
+        Reply::Account(AccountReply::Number(number))
+        | Reply::Set(SetReply::Number(number))
+        | Reply::Queue(QueueReply::Number(number))
+        | Reply::Max(MaxReply::Number(number)) => write!(out, "{number}")?,
+        Reply::Counter(CounterReply::Number(number)) => write!(out, "{number}")?,
+        Reply::Queue(QueueReply::Got(item)) => {
+            write_word(out, Word::Got.text())?;
+            write_item(out, names, *item)?
+        }
+        Reply::Directory(DirectoryReply::Found(item)) => {
+            write_word(out, Word::Found.text())?;
+            write_item(out, names, *item)?
+        }
+        Reply::Account(AccountReply::Ok)
+        | Reply::Counter(CounterReply::Ok)
+        | Reply::Queue(QueueReply::Ok)
+        | Reply::Directory(DirectoryReply::Ok)
+        | Reply::Max(MaxReply::Ok) => write_word(out, Word::Ok.text())?,
+        Reply::Account(AccountReply::No) | Reply::Set(SetReply::No) => {
+            write_word(out, Word::No.text())?
+        }
+        Reply::Set(SetReply::Added) => write_word(out, Word::Added.text())?,
+        Reply::Set(SetReply::Present) => write_word(out, Word::Present.text())?,
+        Reply::Set(SetReply::Removed) => write_word(out, Word::Removed.text())?,
+        Reply::Set(SetReply::Absent) => write_word(out, Word::Absent.text())?,
+        Reply::Set(SetReply::Yes) => write_word(out, Word::Yes.text())?,
+        Reply::Queue(QueueReply::Empty) => write_word(out, Word::Empty.text())?,
+        Reply::Directory(DirectoryReply::Bound) => write_word(out, Word::Bound.text())?,
+        Reply::Directory(DirectoryReply::Taken) => write_word(out, Word::Taken.text())?,
+        Reply::Directory(DirectoryReply::Gone) => write_word(out, Word::Gone.text())?,
+        Reply::Directory(DirectoryReply::Missing) => write_word(out, Word::Missing.text())?,
+    }
+    Ok(())
+}
+
+fn write_word(out: &mut String, word: &str) -> Result<(), NoMemory>
+    ensures { OnOk result (string_bytes out.new ≡ string_bytes out.old ++ word.now) }
+{
+    out.push_str(word)?;
+    Ok(())
+}
+
+fn write_amount(out: &mut String, verb: Verb, amount: Amount) -> Result<(), NoMemory>
+    ensures { OnOk result (string_bytes out.new ≡ string_bytes out.old ++ verb_text verb ++ codes " " ++ decimal amount.value) }
+{
+    let word = verb.text();
+    let size = amount.get();
+    write!(out, "{word} {size}")?;
+    Ok(())
+}
+
+// The name of an item, after a space.
+fn write_item(out: &mut String, names: &Names, item: Item) -> Result<(), NoMemory>
+    ensures { OnOk result (string_bytes out.new ≡ string_bytes out.old ++ codes " " ++ (names_of names.now).item item) }
+{
+    let name = item_name(names, item);
+    write!(out, " {name}")?;
+    Ok(())
+}
