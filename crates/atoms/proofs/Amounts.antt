@@ -1,5 +1,6 @@
 -- An amount is its number.
-use Rattle.std.proofs.Common.{◌≡◌, ℕ, ap, subst}
+use Rattle.std.proofs.Common.{◌≡◌, ℕ, nat_eq, true, ap, subst}
+use Rattle.std.proofs.lemmas.Bool.{eqb-true}
 use Rattle.std.proofs.Props.{props}
 use Rattle.atoms.specs.Amount.{IsAmount}
 use Rattle.atoms.specs.declared.amount.Amount.{Amount}
@@ -15,3 +16,6 @@ at_number n m p e = subst (λ k. (q : IsAmount k) → made n p ≡ made k q) e (
 
 pub one_amount : (a b : Amount) → a.value ≡ b.value → a ≡ b
 one_amount a b e = at_number a.value b.value a.in_range e b.in_range
+
+pub same_amount : (a b : Amount) → nat_eq a.value b.value ≡ true → a ≡ b
+same_amount a b h = one_amount a b (eqb-true a.value b.value h)

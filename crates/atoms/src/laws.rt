@@ -1,12 +1,11 @@
 //! Laws of the six types.
 ghost use Rattle.atoms.specs.Undo.{TakesBack};
-ghost use Rattle.atoms.specs.Changes.{account_undoing, counter_undoing, max_undoing, set_undoing, queue_undoing, directory_undoing};
-ghost use Rattle.atoms.specs.Account.{account};
-ghost use Rattle.atoms.specs.Counter.{counter};
-ghost use Rattle.atoms.specs.ItemSet.{item_set};
-ghost use Rattle.atoms.specs.Queue.{queue};
-ghost use Rattle.atoms.specs.Directory.{directory};
-ghost use Rattle.atoms.specs.MaxRegister.{max_register};
+ghost use Rattle.atoms.specs.Account.{account, account_undoing};
+ghost use Rattle.atoms.specs.Counter.{counter, counter_undoing};
+ghost use Rattle.atoms.specs.ItemSet.{item_set, set_undoing};
+ghost use Rattle.atoms.specs.Queue.{queue, queue_undoing};
+ghost use Rattle.atoms.specs.Directory.{directory, directory_undoing};
+ghost use Rattle.atoms.specs.MaxRegister.{max_register, max_undoing};
 
 /// Taking back what a call changed leaves the value before the call.
 pub fn calls_are_undone()

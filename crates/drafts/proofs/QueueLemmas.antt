@@ -4,7 +4,7 @@ use Rattle.std.proofs.Common.{length-append, append_assoc, add-one}
 use Rattle.std.proofs.Math.Nat.{zero-sub, sub-zero}
 use Rattle.std.specs.Prelude.{slice_get, IsSome}
 use Rattle.std.proofs.lemmas.List.{drop-append-le}
-use Rattle.atoms.proofs.Undoings.{queue_takes_back}
+use Rattle.atoms.proofs.QueueLemmas.{queue_takes_back}
 use Rattle.atoms.specs.declared.item.Item.{Item}
 use Rattle.atoms.specs.declared.queue.QueueCall.TheVariants.{Enq}
 use Rattle.drafts.specs.declared.queue_draft.QueueChange.{QueueChange}

@@ -8,13 +8,12 @@ use Rattle.std.specs.FinSet as set
 use Rattle.std.specs.FinMap as map
 use Rattle.atoms.specs.Item.{item_cmp}
 use Rattle.atoms.proofs.Items.{items_total}
-use Rattle.atoms.specs.ItemSet.{Sets}
-use Rattle.atoms.specs.Directory.{Directories, put_at}
-use Rattle.atoms.specs.Changes.{set_undone, directory_undoing}
+use Rattle.atoms.specs.ItemSet.{Sets, set_undone}
+use Rattle.atoms.specs.Directory.{Directories, put_at, directory_undoing}
 use Rattle.atoms.specs.declared.item.Item.{Item}
-use Rattle.atoms.specs.declared.undo.SetChange.{SetChange}
-use Rattle.atoms.specs.declared.undo.SetChange.TheVariants.{Added, Removed}
-use Rattle.atoms.specs.declared.undo.DirectoryChange.{DirectoryChange}
+use Rattle.atoms.specs.declared.item_set.SetChange.{SetChange}
+use Rattle.atoms.specs.declared.item_set.SetChange.TheVariants.{Added, Removed}
+use Rattle.atoms.specs.declared.directory.DirectoryChange.{DirectoryChange}
 use Rattle.atoms.proofs.ItemSets.{has_inserted, has_removed, remove_inserted, insert_removed}
 use Rattle.atoms.proofs.ItemMaps.{put_before}
 use Rattle.drafts.specs.History.{changed, undone, journaled}

@@ -3,13 +3,12 @@ use Rattle.std.specs.Prelude.{◌≡◌, ◌<◌, ◌^◌, ℕ, Bool, true, fals
 use Rattle.std.specs.BTreeMap.{is_at}
 use Rattle.std.specs.Map.{lookup}
 use Rattle.std.specs.FinSet as set
-use Rattle.atoms.specs.Changes.{set_undone}
 use Rattle.atoms.specs.Item.{item_cmp}
-use Rattle.atoms.specs.ItemSet.{Sets}
+use Rattle.atoms.specs.ItemSet.{Sets, set_undone}
 use Rattle.atoms.specs.Directory.{Directories, put_at}
 use Rattle.atoms.specs.declared.item.Item.{Item}
-use Rattle.atoms.specs.declared.undo.SetChange.{SetChange}
-use Rattle.atoms.specs.declared.undo.SetChange.TheVariants.{Added, Removed}
+use Rattle.atoms.specs.declared.item_set.SetChange.{SetChange}
+use Rattle.atoms.specs.declared.item_set.SetChange.TheVariants.{Added, Removed}
 
 -- the set with the item inside, or outside
 abbrev pub put_item : Sets → Item → Bool → Sets

@@ -1,8 +1,7 @@
 //! Drafts of directories: what differs from a borrowed one.
 ghost use Rattle.std.specs.Prelude.{◌≡◌, IfOk, IfSome, IsSome, IsNone, OnOk, OnErr};
 ghost use Rattle.std.specs.FinMap as map;
-ghost use Rattle.atoms.specs.Directory.{directory, put_at};
-ghost use Rattle.atoms.specs.Changes.{directory_undoing};
+ghost use Rattle.atoms.specs.Directory.{directory, directory_undoing, put_at};
 ghost use Rattle.drafts.specs.History.{unchanged, changed, undone};
 
 use crate::slots::write_slot;
@@ -26,7 +25,7 @@ impl<'s> Model for DirectoryDraft<'s> {
     ghost use Rattle.std.specs.FinMap as map;
     ghost use Rattle.std.specs.Coded.{codes};
     ghost use Rattle.atoms.specs.Item.{item_cmp, coded_item};
-    ghost use Rattle.atoms.specs.Changes.{directory_undoing};
+    ghost use Rattle.atoms.specs.Directory.{directory_undoing};
     ghost use Rattle.atoms.specs.declared.item.Item.{Item};
     ghost use Rattle.drafts.specs.History.{History, journaled};
     ghost use Rattle.drafts.specs.Overlays.{over_directory, AreTouched};

@@ -2,20 +2,13 @@
 ghost use Rattle.std.specs.Prelude.{◌≡◌, ◌↔◌, IsTrue, Some, IfOk, IfSome, IsSome, IsNone, OnOk, OnErr};
 ghost use Rattle.objects.specs.Objects.{kind_of_value, kind_of_call, one_value, HasRoom, KeepsItems};
 ghost use Rattle.objects.specs.Changes.{value_change};
-ghost use Rattle.atoms.specs.Account.{account};
-ghost use Rattle.atoms.specs.Counter.{counter};
-ghost use Rattle.atoms.specs.MaxRegister.{max_register};
-ghost use Rattle.atoms.specs.Changes.{account_undoing, counter_undoing, max_undoing};
 ghost use Rattle.drafts.specs.History.{unchanged, changed, undone};
 
 use crate::directory_draft::DirectoryDraft;
 use crate::number_draft::NumberDraft;
 use crate::queue_draft::QueueDraft;
 use crate::set_draft::SetDraft;
-use objects::{
-    Account, AccountCall, AccountReply, Call, Counter, CounterCall, CounterReply, Kind, MaxCall,
-    MaxRegister, MaxReply, NoMemory, Reply, Value,
-};
+use objects::{Account, Call, Counter, Kind, MaxRegister, NoMemory, Reply, Value};
 use serial::Atom;
 use std::alloc::Global;
 use std::marker::Model;
@@ -111,17 +104,19 @@ impl<'s> Draft<'s> {
     {
         match (&self.kept, call) {
             (Kept::Account(draft), Call::Account(call)) => {
-                look_at_account(draft.number, call).map(Reply::Account)
+                Account::look(draft.number, call).map(Reply::Account)
             }
             (Kept::Counter(draft), Call::Counter(call)) => {
-                look_at_counter(draft.number, call).map(Reply::Counter)
+                Counter::look(draft.number, call).map(Reply::Counter)
             }
             (Kept::Set(draft), Call::Set(call)) => draft.look(call).map(Reply::Set),
             (Kept::Queue(draft), Call::Queue(call)) => draft.look(call).map(Reply::Queue),
             (Kept::Directory(draft), Call::Directory(call)) => {
                 draft.look(call).map(Reply::Directory)
             }
-            (Kept::Max(draft), Call::Max(call)) => look_at_max(draft.number, call).map(Reply::Max),
+            (Kept::Max(draft), Call::Max(call)) => {
+                MaxRegister::look(draft.number, call).map(Reply::Max)
+            }
             _ => None,
         }
     }
@@ -226,54 +221,5 @@ impl<'s> Draft<'s> {
             Kept::Directory(draft) => Ok(Value::Directory(draft.whole()?)),
             Kept::Max(draft) => Ok(Value::Max(draft.number)),
         }
-    }
-}
-
-/// The reply of a call that leaves the account as it is, and none for a call that changes it.
-fn look_at_account(balance: u64, call: &AccountCall) -> Option<AccountReply>
-    ensures reply { IfSome result (λ reply. account.reply balance call.now ≡ reply) }
-    ensures same { IsSome result → account.after balance call.now ≡ balance }
-    ensures answers { IsNone result → IsSome (account_undoing.change balance call.now) }
-{
-    match call {
-        AccountCall::Deposit(_) => None,
-        AccountCall::Withdraw(amount) => {
-            if balance < amount.get() {
-                Some(AccountReply::No)
-            } else {
-                None
-            }
-        }
-        AccountCall::Balance => Some(AccountReply::Number(balance)),
-    }
-}
-
-/// The reply of a call that leaves the counter as it is, and none for a call that changes it.
-fn look_at_counter(number: i64, call: &CounterCall) -> Option<CounterReply>
-    ensures reply { IfSome result (λ reply. counter.reply number call.now ≡ reply) }
-    ensures same { IsSome result → counter.after number call.now ≡ number }
-    ensures answers { IsNone result → IsSome (counter_undoing.change number call.now) }
-{
-    match call {
-        CounterCall::Add(_) | CounterCall::Sub(_) => None,
-        CounterCall::Read => Some(CounterReply::Number(number)),
-    }
-}
-
-/// The reply of a call that leaves the register as it is, and none for a call that changes it.
-fn look_at_max(top: u64, call: &MaxCall) -> Option<MaxReply>
-    ensures reply { IfSome result (λ reply. max_register.reply top call.now ≡ reply) }
-    ensures same { IsSome result → max_register.after top call.now ≡ top }
-    ensures answers { IsNone result → IsSome (max_undoing.change top call.now) }
-{
-    match call {
-        MaxCall::Raise(amount) => {
-            if amount.get() <= top {
-                Some(MaxReply::Ok)
-            } else {
-                None
-            }
-        }
-        MaxCall::Top => Some(MaxReply::Number(top)),
     }
 }

@@ -1,7 +1,6 @@
 //! Drafts of queues: what differs from a borrowed one.
 ghost use Rattle.std.specs.Prelude.{◌≡◌, ◌∷◌, ◌++◌, [], length, drop, slice_get, IfOk, IfSome, IsSome, IsNone, OnOk, OnErr};
-ghost use Rattle.atoms.specs.Queue.{queue};
-ghost use Rattle.atoms.specs.Changes.{queue_undoing};
+ghost use Rattle.atoms.specs.Queue.{queue, queue_undoing};
 ghost use Rattle.drafts.specs.History.{unchanged, changed, undone};
 
 use objects::{Item, NoMemory, Queue, QueueCall, QueueReply};

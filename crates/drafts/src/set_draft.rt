@@ -1,8 +1,7 @@
 //! Drafts of sets: what differs from a borrowed one.
 ghost use Rattle.std.specs.Prelude.{◌≡◌, true, false, IfOk, IfSome, IsSome, IsNone, OnOk, OnErr};
 ghost use Rattle.std.specs.FinSet as set;
-ghost use Rattle.atoms.specs.ItemSet.{item_set};
-ghost use Rattle.atoms.specs.Changes.{set_undoing};
+ghost use Rattle.atoms.specs.ItemSet.{item_set, set_undoing};
 ghost use Rattle.drafts.specs.History.{unchanged, changed, undone};
 
 use crate::slots::write_slot;
@@ -27,7 +26,7 @@ impl<'s> Model for SetDraft<'s> {
     ghost use Rattle.std.specs.FinSet as set;
     ghost use Rattle.std.specs.Coded.{codes};
     ghost use Rattle.atoms.specs.Item.{item_cmp, coded_item};
-    ghost use Rattle.atoms.specs.Changes.{set_undone};
+    ghost use Rattle.atoms.specs.ItemSet.{set_undone};
     ghost use Rattle.drafts.specs.History.{History, journaled};
     ghost use Rattle.drafts.specs.Overlays.{over_set, IsSetKept};
 

@@ -1,18 +1,10 @@
 -- What a run keeps: the kinds of the objects, and a bound on their numbers.
-use Rattle.std.proofs.Common.{◌≡◌, ℕ, zero, suc, ◌+◌, ◌≤◌, ◌<◌, ◌^◌, nat_le, cond, ℤ, pos, negsuc, ◌+ℤ◌, ◌-ℤ◌, ◌<ℤ◌, nat_abs, List, [], ◌∷◌}
-use Rattle.std.proofs.Common.{length, take, Bool, true, false, Option, Some, None, ◌++◌, ◌-◌, refl, sym, ap, ◌∙◌, subst, arith}
-use Rattle.std.proofs.lemmas.Bool.Decides.{nat_tests}
-use Rattle.std.proofs.lemmas.Int.{ints}
+use Rattle.std.proofs.Common.{◌≡◌, ℕ, zero, suc, ◌+◌, ◌≤◌, ◌<◌, ◌^◌, List, [], ◌∷◌, ◌++◌, length, take, Bool, true, false, Option, Some, None}
+use Rattle.std.proofs.Common.{refl, sym, ap, ◌∙◌, subst, arith}
 use Rattle.std.specs.Prelude.{slice_index_or}
-use Rattle.atoms.specs.Account.{account_after}
-use Rattle.atoms.specs.Counter.{counter_after}
-use Rattle.atoms.specs.declared.account.AccountCall.{AccountCall}
-use Rattle.atoms.specs.declared.account.AccountCall.TheVariants.{Deposit, Withdraw, Balance}
-use Rattle.atoms.specs.declared.counter.CounterCall.{CounterCall}
-use Rattle.atoms.specs.declared.counter.CounterCall.TheVariants.{Add, Sub, Read}
-use Rattle.atoms.specs.MaxRegister.{max_after}
-use Rattle.atoms.specs.declared.max_register.MaxCall.{MaxCall}
-use Rattle.atoms.specs.declared.max_register.MaxCall.TheVariants.{Raise, Top}
+use Rattle.atoms.proofs.AccountLemmas.{account_grows, account_has_room}
+use Rattle.atoms.proofs.CounterLemmas.{counter_grows, counter_has_room}
+use Rattle.atoms.proofs.MaxRegisterLemmas.{register_grows}
 use Rattle.objects.specs.Objects.{kind_of_value, value_after, Fits, ObjectHasRoom, HasRoom as ValueHasRoom}
 use Rattle.objects.specs.declared.value.Value.{Value}
 use Rattle.objects.specs.declared.value.Value.TheVariants.{Account, Counter, Set, Queue, Directory, Max}
@@ -35,32 +27,6 @@ use Rattle.meaning.specs.Running.{EntriesKeepLaw, all_operations, BatchKeepsLaw}
 use Rattle.meaning.proofs.Misfits.{after_call_rest}
 
 -- ---- one call
-
-account_grows : (v : ℕ) (c : AccountCall) → account_after v c ≤ v + largest_amount
-account_grows v (Deposit a) = omega (arith, a.in_range.1)
-account_grows v (Withdraw a) = grind (arith, nat_tests)
-account_grows v Balance = omega arith
-
-sum_grows : (v : ℤ) (k : ℕ) → nat_abs (v +ℤ pos k) ≤ nat_abs v + k
-sum_grows (pos n) k = omega (arith, ints)
-sum_grows (negsuc n) k = omega (arith, ints)
-
-difference_grows : (v : ℤ) (k : ℕ) → nat_abs (v -ℤ pos k) ≤ nat_abs v + k
-difference_grows (pos n) k = omega (arith, ints)
-difference_grows (negsuc n) k = omega (arith, ints)
-
-counter_grows : (v : ℤ) (c : CounterCall) → nat_abs (counter_after v c) ≤ nat_abs v + largest_amount
-counter_grows v (Add k) = omega (arith, sum_grows v k.value, k.in_range.1)
-counter_grows v (Sub k) = omega (arith, difference_grows v k.value, k.in_range.1)
-counter_grows v Read = omega arith
-
-register_grows : (v : ℕ) (c : MaxCall) → max_after v c ≤ v + largest_amount
-register_grows v (Raise k) = by (nat_le k.value v)
-  where
-    by : (b : Bool) → cond b v k.value ≤ v + largest_amount
-    by true = omega arith
-    by false = omega (arith, k.in_range.1)
-register_grows v Top = omega arith
 
 value_grows : (v : Value) (c : Call) → size_of (value_after v c) ≤ size_of v + largest_amount
 value_grows (Account v) (to.Account c) = account_grows v c
@@ -103,13 +69,9 @@ call_fits [] object call fits = absurd cc
 call_fits (v ∷ vs) zero call fits = cc
 call_fits (v ∷ vs) (suc object) call fits = call_fits vs object call fits
 
-small : (z : ℤ) → nat_abs z < 2 ^ 63 → (negsuc (2 ^ 63 - 1) <ℤ z) × (z <ℤ pos (2 ^ 63))
-small (pos n) h = (omega (arith, ints), omega (arith, ints))
-small (negsuc n) h = (omega (arith, ints), omega (arith, ints))
-
 value_has_room : (v : Value) (c : Call) → size_of v + largest_amount < 2 ^ 63 → ValueHasRoom v c
-value_has_room (Account v) (to.Account c) room = omega (arith, account_grows v c)
-value_has_room (Counter v) (to.Counter c) room = small (counter_after v c) (omega (arith, counter_grows v c))
+value_has_room (Account v) (to.Account c) room = account_has_room v c room
+value_has_room (Counter v) (to.Counter c) room = counter_has_room v c room
 value_has_room v c room = tt
 
 call_has_room : (state : State) (object : ℕ) (call : Call) → HasRoom state 1 → ObjectHasRoom state object call

@@ -2,9 +2,19 @@
 use Rattle.std.proofs.Common.{◌≡◌, Option, Some, None, refl, ap, ◌∙◌}
 use Rattle.std.specs.Prelude.{option_map}
 use Rattle.atoms.specs.Undo.{Undoing, undone_if, TakesBack, Rewinds}
-use Rattle.atoms.specs.Changes.{account_undoing, counter_undoing, set_undoing, queue_undoing, directory_undoing, max_undoing}
-use Rattle.atoms.proofs.Undoings.{account_takes_back, counter_takes_back, set_takes_back, queue_takes_back, directory_takes_back}
-use Rattle.atoms.proofs.Undoings.{max_takes_back, places_take_back}
+use Rattle.atoms.specs.Account.{account_undoing}
+use Rattle.atoms.specs.Counter.{counter_undoing}
+use Rattle.atoms.specs.ItemSet.{set_undoing}
+use Rattle.atoms.specs.Queue.{queue_undoing}
+use Rattle.atoms.specs.Directory.{directory_undoing}
+use Rattle.atoms.specs.MaxRegister.{max_undoing}
+use Rattle.atoms.proofs.AccountLemmas.{account_takes_back}
+use Rattle.atoms.proofs.CounterLemmas.{counter_takes_back}
+use Rattle.atoms.proofs.ItemSetLemmas.{set_takes_back}
+use Rattle.atoms.proofs.QueueLemmas.{queue_takes_back}
+use Rattle.atoms.proofs.DirectoryLemmas.{directory_takes_back}
+use Rattle.atoms.proofs.MaxRegisterLemmas.{max_takes_back}
+use Rattle.atoms.proofs.Undoings.{places_take_back}
 use Rattle.atoms.proofs.Journals.{rewinds}
 use Rattle.objects.specs.Objects.{one_value, objects}
 use Rattle.objects.specs.Changes.{value_undoing, objects_undoing}

@@ -1,8 +1,12 @@
 -- What calls change at a value of any kind and in a list of them, and how it is taken back.
 use Rattle.std.specs.Prelude.{ℕ, List, Option, None, option_map}
 use Rattle.atoms.specs.Undo.{Undoing, undoing_at_places}
-use Rattle.atoms.specs.Changes.{account_undoing, counter_undoing, set_undoing, set_undo_may_grow, queue_undoing, queue_undo_may_grow}
-use Rattle.atoms.specs.Changes.{directory_undoing, directory_undo_may_grow, max_undoing}
+use Rattle.atoms.specs.Account.{account_undoing}
+use Rattle.atoms.specs.Counter.{counter_undoing}
+use Rattle.atoms.specs.ItemSet.{set_undoing, set_undo_may_grow}
+use Rattle.atoms.specs.Queue.{queue_undoing, queue_undo_may_grow}
+use Rattle.atoms.specs.Directory.{directory_undoing, directory_undo_may_grow}
+use Rattle.atoms.specs.MaxRegister.{max_undoing}
 use Rattle.objects.specs.declared.value.Value.{Value}
 use Rattle.objects.specs.declared.value.Value.TheVariants as value
 use Rattle.objects.specs.declared.call.Call.{Call}

@@ -1,5 +1,9 @@
-use Rattle.atoms.proofs.Undoings.{account_takes_back, counter_takes_back, max_takes_back, set_takes_back, queue_takes_back}
-use Rattle.atoms.proofs.Undoings.{directory_takes_back}
+use Rattle.atoms.proofs.AccountLemmas.{account_takes_back}
+use Rattle.atoms.proofs.CounterLemmas.{counter_takes_back}
+use Rattle.atoms.proofs.ItemSetLemmas.{set_takes_back}
+use Rattle.atoms.proofs.QueueLemmas.{queue_takes_back}
+use Rattle.atoms.proofs.DirectoryLemmas.{directory_takes_back}
+use Rattle.atoms.proofs.MaxRegisterLemmas.{max_takes_back}
 use Rattle.atoms.proofs.laws.calls_are_undone.Goals as goal
 
 pub returns-clause-account : goal.returns-clause-account

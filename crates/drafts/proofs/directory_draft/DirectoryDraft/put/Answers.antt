@@ -1,7 +1,7 @@
 use Rattle.std.proofs.Common.{◌≡◌, ◌∷◌, reverse, sym, ap, ◌∙◌}
 use Rattle.std.specs.FinMap as map
 use Rattle.atoms.specs.Directory.{Directories, put_at}
-use Rattle.atoms.specs.declared.undo.DirectoryChange.{DirectoryChange}
+use Rattle.atoms.specs.declared.directory.DirectoryChange.{DirectoryChange}
 use Rattle.drafts.specs.History.{History, changed}
 use Rattle.drafts.specs.Overlays.{over_directory}
 use Rattle.drafts.proofs.HistoryLemmas.{journal_push}

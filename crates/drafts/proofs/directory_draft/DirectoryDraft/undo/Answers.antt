@@ -1,6 +1,6 @@
 use Rattle.std.proofs.Common.{reverse, ap, ◌∙◌}
 use Rattle.atoms.specs.Directory.{Directories}
-use Rattle.atoms.specs.declared.undo.DirectoryChange.{DirectoryChange}
+use Rattle.atoms.specs.declared.directory.DirectoryChange.{DirectoryChange}
 use Rattle.drafts.specs.History.{History, undone}
 use Rattle.drafts.proofs.HistoryLemmas.{reverse_push}
 use Rattle.drafts.proofs.TouchedLemmas.{touched_less, directory_history_less}

@@ -1,7 +1,7 @@
 use Rattle.std.proofs.Common.{◌≡◌, ◌+◌, ◌<◌, ◌≤◌, ◌^◌, false, true, length, reverse, arith, ap, ◌∙◌, subst}
 use Rattle.std.specs.FinSet as set
 use Rattle.atoms.specs.ItemSet.{Sets}
-use Rattle.atoms.specs.declared.undo.SetChange.TheVariants.{Added}
+use Rattle.atoms.specs.declared.item_set.SetChange.TheVariants.{Added}
 use Rattle.drafts.specs.History.{History, changed}
 use Rattle.drafts.specs.Overlays.{over_set}
 use Rattle.drafts.proofs.HistoryLemmas.{journal_push}

@@ -1,7 +1,7 @@
 use Rattle.std.proofs.Common.{◌≡◌, ◌-◌, false, true, reverse, ap, ◌∙◌}
 use Rattle.std.specs.FinSet as set
 use Rattle.atoms.specs.ItemSet.{Sets}
-use Rattle.atoms.specs.declared.undo.SetChange.TheVariants.{Removed}
+use Rattle.atoms.specs.declared.item_set.SetChange.TheVariants.{Removed}
 use Rattle.drafts.specs.History.{History, changed}
 use Rattle.drafts.specs.Overlays.{over_set}
 use Rattle.drafts.proofs.HistoryLemmas.{journal_push}

@@ -1,7 +1,7 @@
 use Rattle.std.proofs.Common.{◌≡◌, ◌+◌, ◌-◌, ◌<◌, ◌≤◌, ◌^◌, true, false, length, ◌∷◌, ◌++◌, [], reverse, arith, ap, ◌∙◌, subst}
 use Rattle.std.specs.FinSet as set
 use Rattle.atoms.specs.ItemSet.{Sets}
-use Rattle.atoms.specs.declared.undo.SetChange.TheVariants.{Added, Removed}
+use Rattle.atoms.specs.declared.item_set.SetChange.TheVariants.{Added, Removed}
 use Rattle.drafts.specs.History.{History, undone}
 use Rattle.drafts.specs.Overlays.{over_set}
 use Rattle.drafts.proofs.HistoryLemmas.{reverse_push}
