@@ -15,7 +15,7 @@ use Rattle.meaning.specs.Trees.{Children, NoStep, Child}
 use Rattle.meaning.specs.OneThread.{outcome_of, labels_of, state_of, one, one_step, one_handler}
 use Rattle.meaning.specs.Batch.{block_at, state_at}
 use Rattle.meaning.specs.WellFormed.{IsWellFormed, AreWellFormed, added_by, operations, operations_of_handlers}
-use Rattle.meaning.specs.Running.{CanPerform, IsBound, Keeps, all_operations}
+use Rattle.meaning.specs.Running.{CanPerform, IsBound, KeepsKinds, all_operations}
 use Rattle.meaning.proofs.HeldLabels.{more_labels, step_labels, test}
 use Rattle.meaning.proofs.Keeping.{perform, step_keeps, block_keeps, handlers_keep, act_keeps, limit, batch_keeps}
 use Rattle.batch.specs.Views.{Tried, block_view, step_view}
@@ -105,8 +105,8 @@ can_try child younger held state h =
     }
 
 -- what a subaction keeps
-acted_keeps : (child : Tried) (held : List Held) (state : State) → Keeps (operations child.body + operations_of_handlers child.handlers)
-    state (state_of (acted child held state))
+acted_keeps : (child : Tried) (held : List Held) (state : State)
+    → KeepsKinds (operations child.body + operations_of_handlers child.handlers) state (state_of (acted child held state))
 acted_keeps child held state =
     act_keeps child.labelled (one child.body held state) (one_handler child.handlers held) state (operations child.body)
     (operations_of_handlers child.handlers) (block_keeps child.body held state)
@@ -137,20 +137,22 @@ pub block_at_view : (blocks : List Block) (i : ℕ) (x : Block) → i < length b
     → block_view x ≡ block_at (map block_view blocks) i
 block_at_view blocks i x lt is = ap block_view is ∙ sym (get_or-map block_view blocks i x NoStep lt)
 
--- a transaction and those before it have no more operations than all
-operations_upto : (blocks : List meant.Block) (i : ℕ) → all_operations (take i blocks) + operations (block_at blocks i) ≤ all_operations
-    blocks
-operations_upto [] zero = omega arith
-operations_upto [] (suc i) = omega arith
-operations_upto (block ∷ blocks) zero = omega arith
-operations_upto (block ∷ blocks) (suc i) = let rest = operations_upto blocks i in omega arith
+-- those before a place, and one from there on, have no more operations than all
+pub operations_before : (blocks : List meant.Block) (b i : ℕ) → b ≤ i
+    → all_operations (take b blocks) + operations (block_at blocks i) ≤ all_operations blocks
+operations_before [] zero i le = omega arith
+operations_before [] (suc b) i le = omega arith
+operations_before (block ∷ blocks) zero zero le = omega arith
+operations_before (block ∷ blocks) zero (suc i) le = let rest = operations_before blocks zero i (omega arith) in omega arith
+operations_before (block ∷ blocks) (suc b) zero le = absurd (omega arith)
+operations_before (block ∷ blocks) (suc b) (suc i) le = let rest = operations_before blocks b i (omega arith) in omega arith
 
 -- each transaction can be run where those before it led
 pub transaction_can_run : (start : State) (texts : Texts) (blocks : List meant.Block) (i : ℕ) → IsBatch start texts blocks
     → i < length blocks → CanRunHere (block_at blocks i) [] (state_at start blocks i)
 transaction_can_run start texts blocks i is lt =
     let keeps = batch_keeps start blocks i (omega arith) in
-    let few = operations_upto blocks i in
+    let few = operations_before blocks i i (omega arith) in
     record {
       labels = [];
       held_by = tt;

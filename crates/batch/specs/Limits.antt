@@ -12,7 +12,8 @@ use Rattle.meaning.specs.WellFormed.{IsWellFormed, largest}
 use Rattle.meaning.specs.Running.{all_operations}
 use Rattle.batch.specs.Names.{AreNames, Texts}
 use Rattle.batch.specs.Named.{AllNamed, AllNamedValues}
-use Rattle.meaning.specs.declared.limits.TheConstants.{MAX_DEPTH, MAX_ENTRIES, MAX_NODES, MAX_OBJECTS, MAX_OPERATIONS, MAX_START, MAX_TRANSACTIONS}
+use Rattle.meaning.specs.declared.limits.TheConstants.{MAX_DEPTH, MAX_ENTRIES, MAX_NODES, MAX_OBJECTS, MAX_OPERATIONS}
+use Rattle.meaning.specs.declared.limits.TheConstants.{MAX_START, MAX_TRANSACTIONS}
 
 abbrev mutual
   -- how deep blocks stand in one another: 1 for a block whose steps have no blocks

@@ -1,11 +1,10 @@
 -- What a batch names has its texts in one way at most, so that a struct may keep it.
 use Rattle.std.specs.Prelude.{List, [], ◌∷◌}
 use Rattle.std.proofs.Props.{props}
-use Rattle.atoms.specs.declared.item_set.SetCall.TheVariants.{Insert, Remove, Has, Size}
-use Rattle.atoms.specs.declared.queue.QueueCall.TheVariants.{Enq, Deq, Length}
-use Rattle.atoms.specs.declared.directory.DirectoryCall.TheVariants.{Bind, Put, Unbind, Lookup}
 use Rattle.objects.specs.declared.call.Call.{Call}
-use Rattle.objects.specs.declared.call.Call.TheVariants as call
+use Rattle.words.specs.Verbs.{phrase_of}
+use Rattle.words.specs.declared.verb.Phrase.{Phrase}
+use Rattle.words.specs.declared.verb.Phrase.TheVariants.{OfAmount, OfItem, OfPair, Alone}
 use Rattle.objects.specs.declared.value.Value.{Value}
 use Rattle.objects.specs.declared.value.Value.TheVariants as value
 use Rattle.meaning.specs.declared.test.Test.{Test}
@@ -13,24 +12,17 @@ use Rattle.meaning.specs.declared.test.Test.TheVariants.{Is, AtLeast, IsItem}
 use Rattle.meaning.specs.Trees.{Block, NoStep, Steps, Step, Operation, If, Subaction, Abort, Parallel, Handlers, ForReason, Otherwise, GoOn}
 use Rattle.meaning.specs.Trees.{Pass, Children, NoChild, Child}
 use Rattle.batch.specs.Names.{Texts}
-use Rattle.batch.specs.Named.{IsNamedCall, IsNamedTest, IsNamed, IsNamedStep, AreNamedHandlers, AreNamed, AllNamed, IsNamedValue}
-use Rattle.batch.specs.Named.{AllNamedValues}
+use Rattle.batch.specs.Named.{IsNamedCall, IsNamedPhrase, IsNamedTest, IsNamed, IsNamedStep, AreNamedHandlers, AreNamed, AllNamed}
+use Rattle.batch.specs.Named.{IsNamedValue, AllNamedValues}
+
+IsNamedPhrase-prop : (texts : Texts) (p : Phrase) → IsProp (IsNamedPhrase texts p)
+IsNamedPhrase-prop texts (OfAmount v a) = hlevel props
+IsNamedPhrase-prop texts (OfItem v x) = hlevel props
+IsNamedPhrase-prop texts (OfPair v k x) = hlevel props
+IsNamedPhrase-prop texts (Alone v) = hlevel props
 
 IsNamedCall-prop : (texts : Texts) (c : Call) → IsProp (IsNamedCall texts c)
-IsNamedCall-prop texts (call.Account c) = hlevel props
-IsNamedCall-prop texts (call.Counter c) = hlevel props
-IsNamedCall-prop texts (call.Set (Insert x)) = hlevel props
-IsNamedCall-prop texts (call.Set (Remove x)) = hlevel props
-IsNamedCall-prop texts (call.Set (Has x)) = hlevel props
-IsNamedCall-prop texts (call.Set Size) = hlevel props
-IsNamedCall-prop texts (call.Queue (Enq x)) = hlevel props
-IsNamedCall-prop texts (call.Queue Deq) = hlevel props
-IsNamedCall-prop texts (call.Queue Length) = hlevel props
-IsNamedCall-prop texts (call.Directory (Bind k x)) = hlevel props
-IsNamedCall-prop texts (call.Directory (Put k x)) = hlevel props
-IsNamedCall-prop texts (call.Directory (Unbind k)) = hlevel props
-IsNamedCall-prop texts (call.Directory (Lookup k)) = hlevel props
-IsNamedCall-prop texts (call.Max c) = hlevel props
+IsNamedCall-prop texts c = IsNamedPhrase-prop texts (phrase_of c)
 
 IsNamedTest-prop : (texts : Texts) (test : Test) → IsProp (IsNamedTest texts test)
 IsNamedTest-prop texts (Is word) = hlevel props

@@ -7,7 +7,7 @@ use Rattle.meaning.specs.Records.{TakenChild, TakenHandler, NoHandler, Handled}
 use Rattle.meaning.specs.Shown.{Shown, shown}
 use Rattle.meaning.specs.OneThread.{Run, act, one, one_handler}
 use Rattle.meaning.specs.WellFormed.{Label, IsWellFormed, IsWellFormedStep, AreWellFormedHandlers, AreWellFormed, operations}
-use Rattle.meaning.specs.WellFormed.{operations_of_step, operations_of_handlers, operations_of_children, HasRoom}
+use Rattle.meaning.specs.WellFormed.{operations_of_step, operations_of_handlers, operations_of_children, StateHasRoom}
 use Rattle.meaning.specs.Running.{AreHeldBy}
 use Rattle.batch.specs.Views.{Tried}
 
@@ -16,19 +16,19 @@ pub record CanRunHere (block : Block) (held : List Held) (state : State) : Type 
   pub labels : List Label
   pub held_by : AreHeldBy held labels
   pub well_formed : IsWellFormed block labels (kinds state)
-  pub room : HasRoom state (operations block)
+  pub room : StateHasRoom state (operations block)
 
 pub record CanStepHere (step : Step) (held : List Held) (state : State) : Type 0 where
   pub labels : List Label
   pub held_by : AreHeldBy held labels
   pub well_formed : IsWellFormedStep step labels (kinds state)
-  pub room : HasRoom state (operations_of_step step)
+  pub room : StateHasRoom state (operations_of_step step)
 
 pub record CanHandleHere (handlers : Handlers) (held : List Held) (state : State) : Type 0 where
   pub labels : List Label
   pub held_by : AreHeldBy held labels
   pub well_formed : AreWellFormedHandlers handlers labels (kinds state)
-  pub room : HasRoom state (operations_of_handlers handlers)
+  pub room : StateHasRoom state (operations_of_handlers handlers)
 
 pub record CanTryHere (child : Tried) (held : List Held) (state : State) : Type 0 where
   pub body : CanRunHere child.body held state
@@ -38,7 +38,7 @@ pub record CanRunAllHere (children : Children) (held : List Held) (state : State
   pub labels : List Label
   pub held_by : AreHeldBy held labels
   pub well_formed : AreWellFormed children labels (kinds state)
-  pub room : HasRoom state (operations_of_children children)
+  pub room : StateHasRoom state (operations_of_children children)
 
 -- the labels of before are seen still, and maybe more
 abbrev pub StillSeen : List Held → List Held → Type 0

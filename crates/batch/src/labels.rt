@@ -1,7 +1,7 @@
 //! Labels: adding what a step's label holds, and testing it.
 ghost use Rattle.std.specs.Prelude.{◌≡◌, ◌==◌, ◌++◌, pos, IsTrue, OnOk, OnErr};
 ghost use Rattle.std.specs.Int.RustNames.{int_le};
-ghost use Rattle.meaning.specs.Labels.{holds_of, if_there, is_word_of, is_outcome, item_of, number_of};
+ghost use Rattle.meaning.specs.Labels.{holds_of, if_there, is_word_of, is_outcome, reply_item, reply_number};
 ghost use Rattle.meaning.specs.OneThread.{label_if};
 
 use meaning::{End, Held, Test, Word};
@@ -31,7 +31,7 @@ pub fn test_holds(test: &Test, held: &Held) -> bool
         (Test::Is(word), Held::Replied(reply)) => is_word_of(*word, reply),
         (Test::Is(word), Held::Outcome(outcome)) => is_outcome(*word, outcome),
         (Test::AtLeast(least), Held::Replied(reply)) => has_at_least(*least, reply),
-        (Test::IsItem(item), Held::Replied(reply)) => match item_of(reply) {
+        (Test::IsItem(item), Held::Replied(reply)) => match reply_item(reply) {
             Some(found) => found.0 == item.0,
             None => false,
         },
@@ -77,7 +77,7 @@ fn is_outcome(word: Word, outcome: &End) -> bool
 
 // Whether the reply is a number of at least this size.
 fn has_at_least(least: i64, reply: &Reply) -> bool
-    ensures { result ≡ if_there (number_of reply.now) (int_le least) }
+    ensures { result ≡ if_there (reply_number reply.now) (int_le least) }
 {
     match reply {
         Reply::Account(AccountReply::Number(number))
@@ -99,8 +99,8 @@ fn reaches(number: u64, least: i64) -> bool
 }
 
 // The item that a dequeue got or a lookup found.
-fn item_of(reply: &Reply) -> Option<Item>
-    ensures { result ≡ item_of reply.now }
+fn reply_item(reply: &Reply) -> Option<Item>
+    ensures { result ≡ reply_item reply.now }
 {
     match reply {
         Reply::Queue(QueueReply::Got(item)) | Reply::Directory(DirectoryReply::Found(item)) => {

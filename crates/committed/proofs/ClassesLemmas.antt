@@ -31,7 +31,7 @@ use Rattle.objects.proofs.CommuteLemmas.{entries_exact}
 use Rattle.committed.specs.declared.classes.Class.{Class}
 use Rattle.committed.specs.Classes.{account_class, counter_class, set_class, queue_class, key_class, max_class, class_of, always_commute}
 use Rattle.committed.specs.Classes.{is_by_item}
-use Rattle.committed.specs.Items.{set_item, taken_item, item_of, has_item, is_compared}
+use Rattle.committed.specs.Items.{set_item, taken_item, operation_item, is_same_item, is_compared}
 use Rattle.objects.specs.Entries.{CommuteForward}
 
 -- ---- what the table of each kind says by classes
@@ -161,8 +161,8 @@ keys_apart : (b c : Bool) → b ≡ false → (if b then c else true) ≡ true
 keys_apart true c h = cc
 keys_apart false c h = refl
 
-apart : (c : Call) (r : Reply) (d : Call) (s : Reply) (x y : Item) → item_of c r ≡ Some x → item_of d s ≡ Some y → nat_eq x.0 y.0 ≡ false
-    → operations_commute c r d s ≡ true
+apart : (c : Call) (r : Reply) (d : Call) (s : Reply) (x y : Item) → operation_item c r ≡ Some x → operation_item d s ≡ Some y
+    → nat_eq x.0 y.0 ≡ false → operations_commute c r d s ≡ true
 apart (call.Set c) (reply.Set r) (call.Set d) (reply.Set s) x y of_c of_d h = set_apart (set_effect (c, r))
     (set_effect (d, s)) x y of_c of_d h
 apart (call.Queue c) (reply.Queue r) (call.Queue d) (reply.Queue s) x y of_c of_d h = queue_apart (queue_effect (c, r))
@@ -197,7 +197,7 @@ queue_itemless queue.Impossible queue.Impossible of_f h = refl
 queue_itemless e f of_f h = absurd cc
 
 -- of a class whose entries stand by item, an entry without one
-no_item : (c : Call) (r : Reply) (d : Call) (s : Reply) (x : Item) → item_of c r ≡ Some x → item_of d s ≡ None
+no_item : (c : Call) (r : Reply) (d : Call) (s : Reply) (x : Item) → operation_item c r ≡ Some x → operation_item d s ≡ None
     → is_by_item (class_of d s) ≡ true
     → operations_commute c r d s ≡ true
 no_item (call.Set c) (reply.Set r) (call.Set d) (reply.Set s) x of_c of_d h = set_itemless (set_effect (c, r)) (set_effect (d, s)) of_d h
@@ -210,9 +210,9 @@ no_item (call.Max c) (reply.Max r) (call.Max d) (reply.Max s) x of_c of_d h = ab
 no_item c r d s x of_c of_d h = refl
 
 -- two entries where the second is of a class that stands by item, and hasn't the first one's item
-other_item : (c : Call) (r : Reply) (d : Call) (s : Reply) (b : Bool) (i j : Option Item) → is_by_item (class_of d s) ≡ b → item_of c r ≡ i
-    → item_of d s ≡ j
-    → has_item (if b then i else None) j ≡ false → operations_commute c r d s ≡ true
+other_item : (c : Call) (r : Reply) (d : Call) (s : Reply) (b : Bool) (i j : Option Item) → is_by_item (class_of d s) ≡ b
+    → operation_item c r ≡ i → operation_item d s ≡ j
+    → is_same_item (if b then i else None) j ≡ false → operations_commute c r d s ≡ true
 other_item c r d s true (Some x) (Some y) by_item of_c of_d h = apart c r d s x y of_c of_d h
 other_item c r d s true (Some x) None by_item of_c of_d h = no_item c r d s x of_c of_d by_item
 other_item c r d s true None j by_item of_c of_d h = cc
@@ -220,16 +220,16 @@ other_item c r d s false i j by_item of_c of_d h = cc
 
 -- an entry that isn't compared with another commutes with it
 pub elsewhere : (p q : Entry) → is_compared p q ≡ false → CommuteForward p q
-elsewhere p q h = by_table p q (λ same. other_item p.call p.reply q.call q.reply (is_by_item class) (item_of p.call p.reply)
-    (item_of q.call q.reply)
-    refl refl refl (sym (one_object (nat_eq q.object p.object) (has_item wanted (item_of q.call q.reply))
+elsewhere p q h = by_table p q (λ same. other_item p.call p.reply q.call q.reply (is_by_item class) (operation_item p.call p.reply)
+    (operation_item q.call q.reply)
+    refl refl refl (sym (one_object (nat_eq q.object p.object) (is_same_item wanted (operation_item q.call q.reply))
     (eq-eqb q.object p.object (sym (eqb-true p.object q.object same)))) ∙ h))
   where
     class : Class
     class = class_of q.call q.reply
 
     wanted : Option Item
-    wanted = if is_by_item class then item_of p.call p.reply else None
+    wanted = if is_by_item class then operation_item p.call p.reply else None
 
     one_object : (a b : Bool) → a ≡ true → (a && b) ≡ b
     one_object a b h = rw h refl

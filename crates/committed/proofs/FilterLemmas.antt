@@ -12,8 +12,8 @@ use Rattle.objects.specs.declared.entry.Entry.{Entry}
 use Rattle.committed.specs.declared.classes.Class.{Class}
 use Rattle.committed.specs.declared.classes.Class.TheVariants.{Deposit}
 use Rattle.committed.specs.declared.filter.Filter.{Filter}
-use Rattle.committed.specs.Classes.{class_of, number_of, classes, conflicts_of, always_commute, is_by_item}
-use Rattle.committed.specs.Items.{item_of, has_item, is_compared}
+use Rattle.committed.specs.Classes.{class_of, class_number, classes, conflicts_of, always_commute, is_by_item}
+use Rattle.committed.specs.Items.{operation_item, is_same_item, is_compared}
 use Rattle.committed.specs.Marks.{hash_of, mark_of}
 use Rattle.committed.specs.Filter.{slot_of, HasAllIn, set_at, IsMarked, Meets}
 use Rattle.objects.specs.Entries.{CommuteForward}
@@ -77,37 +77,38 @@ every_at p (c ∷ cs) zero h l = (and_parts (p c) (every p cs) h).0
 every_at p (c ∷ cs) (suc n) h l = every_at p cs n (and_parts (p c) (every p cs) h).1 (omega arith)
 
 every_class : (p : Class → Bool) (c : Class) → every p classes ≡ true → p c ≡ true
-every_class p c h = subst (λ d. p d ≡ true) (class_at c) (every_at p classes (number_of c) h (number-bound c))
+every_class p c h = subst (λ d. p d ≡ true) (class_at c) (every_at p classes (class_number c) h (number-bound c))
 
 -- the set of conflicts has each class that one doesn't always commute with
-pub conflict_bit : (c d : Class) → always_commute c d ≡ false → bit_at (conflicts_of c) (number_of d) ≡ 1
+pub conflict_bit : (c d : Class) → always_commute c d ≡ false → bit_at (conflicts_of c) (class_number d) ≡ 1
 unfolding every
-conflict_bit c d may = eqb-true (bit_at (conflicts_of c) (number_of d)) 1 (in_set (always_commute c d) may (every_class
+conflict_bit c d may = eqb-true (bit_at (conflicts_of c) (class_number d)) 1 (in_set (always_commute c d) may (every_class
     (has c) d every_pair))
   where
     has : Class → Class → Bool
-    has x y = always_commute x y || nat_eq (bit_at (conflicts_of x) (number_of y)) 1
+    has x y = always_commute x y || nat_eq (bit_at (conflicts_of x) (class_number y)) 1
 
     every_pair : every (has c) classes ≡ true
     every_pair = every_class (λ x. every (has x) classes) c refl
 
-    in_set : (b : Bool) → b ≡ false → (b || nat_eq (bit_at (conflicts_of c) (number_of d)) 1) ≡ true
-        → nat_eq (bit_at (conflicts_of c) (number_of d)) 1 ≡ true
+    in_set : (b : Bool) → b ≡ false → (b || nat_eq (bit_at (conflicts_of c) (class_number d)) 1) ≡ true
+        → nat_eq (bit_at (conflicts_of c) (class_number d)) 1 ≡ true
     in_set true f h = absurd (false≢true (sym f))
     in_set false f h = h
 
 -- the classes that aren't compared by item are those of the number that the code masks with
-object_bit : (c : Class) → bit_at 58687 (number_of c) ≡ (if is_by_item c then 0 else 1)
+object_bit : (c : Class) → bit_at 58687 (class_number c) ≡ (if is_by_item c then 0 else 1)
 unfolding every
-object_bit c = eqb-true _ _ (every_class (λ d. nat_eq (bit_at 58687 (number_of d)) (if is_by_item d then 0 else 1)) c refl)
+object_bit c = eqb-true _ _ (every_class (λ d. nat_eq (bit_at 58687 (class_number d)) (if is_by_item d then 0 else 1)) c refl)
 
 -- entries that are compared have one item where their class asks for one
 pub same_item : (p q : Entry) → is_compared p q ≡ true → is_by_item (class_of q.call q.reply) ≡ true
-    → (item_of p.call p.reply ≡ None) ⊎ (item_of q.call q.reply ≡ item_of p.call p.reply)
-same_item p q compared by_item = by_items (item_of p.call p.reply) (item_of q.call q.reply)
-    (ap (λ b. has_item (if b then item_of p.call p.reply else None) (item_of q.call q.reply)) (sym by_item) ∙ (and_parts _ _ compared).1)
+    → (operation_item p.call p.reply ≡ None) ⊎ (operation_item q.call q.reply ≡ operation_item p.call p.reply)
+same_item p q compared by_item = by_items (operation_item p.call p.reply) (operation_item q.call q.reply)
+    (ap (λ b. is_same_item (if b then operation_item p.call p.reply else None) (operation_item q.call q.reply)) (sym by_item)
+    ∙ (and_parts _ _ compared).1)
   where
-    by_items : (i j : Option Item) → has_item i j ≡ true → (i ≡ None) ⊎ (j ≡ i)
+    by_items : (i j : Option Item) → is_same_item i j ≡ true → (i ≡ None) ⊎ (j ≡ i)
     by_items None j h = inl refl
     by_items (Some x) None h = absurd (false≢true h)
     by_items (Some x) (Some y) h = inr (ap Some (sym (one_item x y (eqb-true x.0 y.0 h))))
@@ -121,13 +122,13 @@ pub same_hash : (p q : Entry) → is_compared p q ≡ true → is_by_item (class
     → ((mark_of p).of_item ≡ (mark_of q).of_object) ⊎ ((mark_of p).of_item ≡ (mark_of q).of_item)
 same_hash p q compared by_item = elim (same_item p q compared by_item) [
   | inl none ↦ inl (ap (hash_of p.object) none ∙ ap (λ o. hash_of o None) (sym (same_object p q compared)))
-  | inr same ↦ inr (ap (hash_of p.object) (sym same) ∙ ap (λ o. hash_of o (item_of q.call q.reply)) (sym (same_object p q compared)))
+  | inr same ↦ inr (ap (hash_of p.object) (sym same) ∙ ap (λ o. hash_of o (operation_item q.call q.reply)) (sym (same_object p q compared)))
 ]
 
 -- the set of an entry's object and that of its item have the class of each other that it may conflict with
 record IsMet (filter : Filter) (p q : Entry) : Type 0 where
-  object : bit_at (bit_and (set_at filter (mark_of p).of_object) (mark_of p).conflicts) (number_of (class_of q.call q.reply)) ≡ 1
-  item : bit_at (bit_or (set_at filter (mark_of p).of_item) 58687) (number_of (class_of q.call q.reply)) ≡ 1
+  object : bit_at (bit_and (set_at filter (mark_of p).of_object) (mark_of p).conflicts) (class_number (class_of q.call q.reply)) ≡ 1
+  item : bit_at (bit_or (set_at filter (mark_of p).of_item) 58687) (class_number (class_of q.call q.reply)) ≡ 1
 
 -- two entries commute, or one is of the classes that the other meets
 meets : (filter : Filter) (p q : Entry) → IsMarked filter q → CommuteForward p q ⊎ IsMet filter p q
@@ -140,7 +141,7 @@ meets filter p q marked = by_class (always_commute own class) refl (is_compared 
     class = class_of q.call q.reply
 
     number : ℕ
-    number = number_of class
+    number = class_number class
 
     there : bit_at (set_at filter (mark_of q).of_object) number ≡ 1
     there = marked.object number (bit_at-pow_same number)
@@ -180,7 +181,7 @@ pub met_by_item : (filter : Filter) (p q : Entry) → IsMarked filter q
     (mark_of p).of_item) 58687)) p q
 met_by_item filter p q marked = elim (meets filter p q marked) [
   | inl commutes ↦ inl commutes
-  | inr is ↦ (let n : ℕ = number_of (class_of q.call q.reply) in
+  | inr is ↦ (let n : ℕ = class_number (class_of q.call q.reply) in
       let met : ℕ = bit_and (set_at filter (mark_of p).of_object) (mark_of p).conflicts in
       let sets : ℕ = bit_or (set_at filter (mark_of p).of_item) 58687 in
       inr (bit_at_and met sets n ∙ omega (arith, is.object, is.item)))

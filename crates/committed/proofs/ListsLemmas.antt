@@ -3,10 +3,10 @@ use Rattle.std.proofs.Common.{◌≡◌, ◌<◌, ◌∙◌, arith, get_or, Resu
 use Rattle.committed.specs.declared.classes.Class.{Class}
 use Rattle.committed.specs.declared.classes.Class.TheVariants.{Deposit, Withdrawal, Refusal, Balance, Count, Raise, Change, Put, Enqueue}
 use Rattle.committed.specs.declared.classes.Class.TheVariants.{Dequeue, Size, Look, Taken}
-use Rattle.committed.specs.Classes.{number_of, classes}
+use Rattle.committed.specs.Classes.{class_number, classes}
 
 -- a class stands at its number among all
-pub class_at : (c : Class) → get_or classes (number_of c) Deposit ≡ c
+pub class_at : (c : Class) → get_or classes (class_number c) Deposit ≡ c
 class_at Deposit = refl
 class_at Withdrawal = refl
 class_at Refusal = refl
@@ -22,7 +22,7 @@ class_at Put = refl
 class_at Taken = refl
 
 -- there are thirteen
-pub number-bound : (c : Class) → number_of c < 13
+pub number-bound : (c : Class) → class_number c < 13
 number-bound Deposit = omega arith
 number-bound Withdrawal = omega arith
 number-bound Refusal = omega arith
@@ -38,7 +38,7 @@ number-bound Put = omega arith
 number-bound Taken = omega arith
 
 -- classes of one number are one
-pub one_class : (c d : Class) → number_of c ≡ number_of d → c ≡ d
+pub one_class : (c d : Class) → class_number c ≡ class_number d → c ≡ d
 one_class c d e = sym (class_at c) ∙ ap (λ n. get_or classes n Deposit) e ∙ class_at d
 
 -- what holds holds after an error

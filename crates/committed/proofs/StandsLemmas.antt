@@ -9,7 +9,7 @@ use Rattle.objects.specs.declared.entry.Entry.{Entry}
 use Rattle.objects.specs.Entries.{CommutesWith, CommuteForward}
 use Rattle.committed.specs.declared.classes.Class.{Class}
 use Rattle.committed.specs.declared.index.Link.{Link}
-use Rattle.committed.specs.Classes.{class_of, number_of, is_by_item}
+use Rattle.committed.specs.Classes.{class_of, class_number, is_by_item}
 use Rattle.committed.specs.Items.{is_compared}
 use Rattle.committed.specs.Marks.{hash_of, mark_of}
 use Rattle.committed.specs.Index.{key_of, key_against, IsLinked, IsListed}
@@ -57,12 +57,12 @@ key_is P p q compared by_object by_item = by_class (is_by_item class) refl
     class = class_of q.call q.reply
 
     by_class : (b : Bool) → is_by_item class ≡ b
-        → P (key_of (if b then (mark_of p).of_item else (mark_of p).of_object) (2 ^ number_of class))
+        → P (key_of (if b then (mark_of p).of_item else (mark_of p).of_object) (2 ^ class_number class))
     by_class true of_item = elim (same_hash p q compared of_item) [
-      | inl same ↦ subst (λ h. P (key_of h (2 ^ number_of class))) (sym same) by_object
-      | inr same ↦ subst (λ h. P (key_of h (2 ^ number_of class))) (sym same) by_item
+      | inl same ↦ subst (λ h. P (key_of h (2 ^ class_number class))) (sym same) by_object
+      | inr same ↦ subst (λ h. P (key_of h (2 ^ class_number class))) (sym same) by_item
     ]
-    by_class false of_object = subst (λ o. P (key_of (hash_of o None) (2 ^ number_of class))) (same_object p q compared) by_object
+    by_class false of_object = subst (λ o. P (key_of (hash_of o None) (2 ^ class_number class))) (same_object p q compared) by_object
 
 -- what an entry is compared with is linked where it looks for the class
 pub linked_against : (links : List Link) (p q : Entry) (k : ℕ) → is_compared p q ≡ true → IsListed links k q

@@ -12,7 +12,7 @@ use Rattle.committed.specs.declared.watch.Link.{Link}
 use Rattle.std.specs.Int.{bit_at}
 use Rattle.objects.specs.declared.entry.Entry.{Entry}
 use Rattle.committed.specs.declared.classes.Class.{Class}
-use Rattle.committed.specs.Classes.{class_of, number_of}
+use Rattle.committed.specs.Classes.{class_of, class_number}
 use Rattle.objects.specs.Entries.{AllCommute, CommuteForward}
 use Rattle.committed.specs.Index.{key_of, key_against}
 use Rattle.committed.specs.Items.{is_compared}
@@ -277,7 +277,7 @@ more_more from count before between found first second = record {
 
 -- runs with a link where an entry of this mark looks for a class of the set are found
 pub record IsSought (links : List Link) (size from : ℕ) (found : List ℕ) (mark : Mark) (set : ℕ) (class : Class) : Type 0 where
-  pub all : bit_at set (number_of class) ≡ 1 → (run : ℕ) → from ≤ run → HasLink links run (slot_of size (key_against mark class))
+  pub all : bit_at set (class_number class) ≡ 1 → (run : ℕ) → from ≤ run → HasLink links run (slot_of size (key_against mark class))
       → Has found run
 
 -- they stay found
@@ -300,7 +300,7 @@ not_found_commutes watch from found run p q set late none watched meets sought =
     class : Class
     class = class_of q.call q.reply
 
-    by_place : (u : Bool) → is_compared p q ≡ u → bit_at set (number_of class) ≡ 1 → CommuteForward p q
+    by_place : (u : Bool) → is_compared p q ≡ u → bit_at set (class_number class) ≡ 1 → CommuteForward p q
     by_place false compared bit = elsewhere p q compared
     by_place true compared bit = absurd (none ((sought class).all bit run late
         (key_is (λ key. HasLink watch.links.items run (slot_of (length watch.last.items) key)) p q compared watched.links.by_object

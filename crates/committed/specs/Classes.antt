@@ -72,20 +72,20 @@ class_of (call.Directory c) (reply.Directory r) = key_class (key_effect (c, r))
 class_of (call.Max c) (reply.Max r) = max_class (max_effect (c, r))
 class_of c r = Look
 
-abbrev pub number_of : Class → ℕ
-number_of Deposit = 0
-number_of Withdrawal = 1
-number_of Refusal = 2
-number_of Balance = 3
-number_of Count = 4
-number_of Raise = 5
-number_of Change = 6
-number_of Put = 7
-number_of Enqueue = 8
-number_of Dequeue = 9
-number_of Size = 10
-number_of Look = 11
-number_of Taken = 12
+abbrev pub class_number : Class → ℕ
+class_number Deposit = 0
+class_number Withdrawal = 1
+class_number Refusal = 2
+class_number Balance = 3
+class_number Count = 4
+class_number Raise = 5
+class_number Change = 6
+class_number Put = 7
+class_number Enqueue = 8
+class_number Dequeue = 9
+class_number Size = 10
+class_number Look = 11
+class_number Taken = 12
 
 -- any two operations of these classes commute forward
 abbrev pub always_commute : Class → Class → Bool
@@ -127,7 +127,7 @@ classes = Deposit ∷ Withdrawal ∷ Refusal ∷ Balance ∷ Count ∷ Raise ∷
 -- a set of classes as a number, with a bit for each
 abbrev pub set_of : (Class → Bool) → List Class → ℕ
 set_of p [] = 0
-set_of p (c ∷ cs) = cond (p c) (2 ^ number_of c) 0 + set_of p cs
+set_of p (c ∷ cs) = cond (p c) (2 ^ class_number c) 0 + set_of p cs
 
 -- the classes that one doesn't always commute with
 abbrev pub conflicts_of : Class → ℕ

@@ -3,7 +3,7 @@ use Rattle.std.specs.Prelude.{◌≡◌, ◌⊎◌, List, ℕ, ◌-◌, ◌<◌,
 use Rattle.std.specs.Int.{bit_at}
 use Rattle.objects.specs.declared.entry.Entry.{Entry}
 use Rattle.committed.specs.declared.filter.Filter.{Filter}
-use Rattle.committed.specs.Classes.{class_of, number_of}
+use Rattle.committed.specs.Classes.{class_of, class_number}
 use Rattle.committed.specs.Marks.{mark_of}
 use Rattle.objects.specs.Entries.{CommuteForward}
 
@@ -38,4 +38,4 @@ IsFilterOf entries filter = (k : ℕ) (d : Entry) → k < length entries → IsM
 
 -- two entries commute, or the set has the class of the other
 abbrev pub Meets : ℕ → Entry → Entry → Type 0
-Meets set e other = CommuteForward e other ⊎ (bit_at set (number_of (class_of other.call other.reply)) ≡ 1)
+Meets set e other = CommuteForward e other ⊎ (bit_at set (class_number (class_of other.call other.reply)) ≡ 1)

@@ -6,7 +6,7 @@ use Rattle.committed.specs.declared.index.Index.{Index}
 use Rattle.committed.specs.declared.index.Link.{Link}
 use Rattle.committed.specs.declared.classes.Class.{Class}
 use Rattle.committed.specs.declared.marks.Mark.{Mark}
-use Rattle.committed.specs.Classes.{number_of, is_by_item}
+use Rattle.committed.specs.Classes.{class_number, is_by_item}
 use Rattle.committed.specs.Marks.{mark_of}
 use Rattle.committed.specs.Strictness.{IsAsStrict}
 
@@ -16,7 +16,7 @@ key_of hash class = (hash + class * 2654435769 % 2 ^ 32) % 2 ^ 32
 
 -- the key of those entries of a class that an entry with the mark is compared with
 abbrev pub key_against : Mark → Class → ℕ
-key_against mark class = key_of (if is_by_item class then mark.of_item else mark.of_object) (2 ^ number_of class)
+key_against mark class = key_of (if is_by_item class then mark.of_item else mark.of_object) (2 ^ class_number class)
 
 -- where the last link of a key's chain is kept, by a seed, among so many slots
 unfoldable pub slot_of : ℕ → ℕ → ℕ → ℕ
@@ -103,8 +103,8 @@ pub record IsIndexOf (entries : List Entry) (index : Index) : Type 0 where
   pub behind : (m : ℕ) → m < length index.links.items → place_at index.links.items m < index.listed
 
 -- so many more entries can be listed
-abbrev pub HasRoom : Index → ℕ → Type 0
-HasRoom index more = (vec_len index.links + more * 2 ≤ vec_capacity index.links) × (0 < length index.last.items)
+abbrev pub IndexHasRoom : Index → ℕ → Type 0
+IndexHasRoom index more = (vec_len index.links + more * 2 ≤ vec_capacity index.links) × (0 < length index.last.items)
 
 -- the last link of a slot's chain whose place is below `upto`
 pub record IsLastBelow (index : Index) (own upto found : ℕ) : Type 0 where

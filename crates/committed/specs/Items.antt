@@ -27,19 +27,20 @@ taken_item (Dequeued x) = Some x
 taken_item e = None
 
 -- the item that an operation is about, where it is about no other part of its object
-abbrev pub item_of : Call → Reply → Option Item
-item_of (Set c) (reply.Set r) = set_item (set_effect (c, r))
-item_of (Directory c) (reply.Directory r) = Some (key_of c)
-item_of (Queue c) (reply.Queue r) = taken_item (queue_effect (c, r))
-item_of c r = None
+abbrev pub operation_item : Call → Reply → Option Item
+operation_item (Set c) (reply.Set r) = set_item (set_effect (c, r))
+operation_item (Directory c) (reply.Directory r) = Some (key_of c)
+operation_item (Queue c) (reply.Queue r) = taken_item (queue_effect (c, r))
+operation_item c r = None
 
 -- the item, where one is asked for
-abbrev pub has_item : Option Item → Option Item → Bool
-has_item None y = true
-has_item (Some x) None = false
-has_item (Some x) (Some y) = x.0 == y.0
+abbrev pub is_same_item : Option Item → Option Item → Bool
+is_same_item None y = true
+is_same_item (Some x) None = false
+is_same_item (Some x) (Some y) = x.0 == y.0
 
 -- the entry is compared with the other: it has its object, and its item where their class asks for one
 abbrev pub is_compared : Entry → Entry → Bool
 is_compared e other = (other.object == e.object)
-    && has_item (if is_by_item (class_of other.call other.reply) then item_of e.call e.reply else None) (item_of other.call other.reply)
+    && is_same_item (if is_by_item (class_of other.call other.reply) then operation_item e.call e.reply else None)
+        (operation_item other.call other.reply)

@@ -3,8 +3,8 @@ use Rattle.std.specs.Prelude.{ℕ, ◌+◌, ◌*◌, ◌/◌, ◌%◌, ◌^◌, 
 use Rattle.atoms.specs.declared.item.Item.{Item}
 use Rattle.objects.specs.declared.entry.Entry.{Entry}
 use Rattle.committed.specs.declared.marks.Mark.{Mark}
-use Rattle.committed.specs.Classes.{class_of, number_of, conflicts_of}
-use Rattle.committed.specs.Items.{item_of}
+use Rattle.committed.specs.Classes.{class_of, class_number, conflicts_of}
+use Rattle.committed.specs.Items.{operation_item}
 
 -- a number of an item, 0 where there is none
 abbrev pub item_number : Option Item → ℕ
@@ -19,7 +19,7 @@ hash_of object item = ((((object * 11400714819323198485) % 2 ^ 64 + item_number 
 abbrev pub mark_of : Entry → Mark
 mark_of e = record {
   of_object = hash_of e.object None;
-  of_item = hash_of e.object (item_of e.call e.reply);
-  class = 2 ^ number_of (class_of e.call e.reply);
+  of_item = hash_of e.object (operation_item e.call e.reply);
+  class = 2 ^ class_number (class_of e.call e.reply);
   conflicts = conflicts_of (class_of e.call e.reply);
 }

@@ -1,6 +1,6 @@
 //! Classes of operations that always commute forward, whatever their arguments and replies are.
 ghost use Rattle.std.specs.Prelude.{◌≡◌, ◌^◌};
-ghost use Rattle.committed.specs.Classes.{account_class, counter_class, set_class, queue_class, key_class, max_class, class_of, number_of, conflicts_of, is_by_item};
+ghost use Rattle.committed.specs.Classes.{account_class, counter_class, set_class, queue_class, key_class, max_class, class_of, class_number, conflicts_of, is_by_item};
 
 use objects::{
     Account, AccountEffect, Call, Counter, CounterEffect, Directory, Entry, ItemSet, KeyEffect,
@@ -80,7 +80,7 @@ impl Class {
 
     /// The place of the class among all.
     pub fn number(self) -> usize
-        ensures { result ≡ number_of self }
+        ensures { result ≡ class_number self }
     {
         match self {
             Class::Deposit => 0,
@@ -102,7 +102,7 @@ impl Class {
     /// The set of this class alone. A set of classes is a number: each bit is for the class of its
     /// place.
     pub fn bit(self) -> u16
-        ensures { result ≡ 2 ^ number_of self }
+        ensures { result ≡ 2 ^ class_number self }
     {
         1u16 << self.number()
     }

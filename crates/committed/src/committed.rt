@@ -4,7 +4,7 @@ ghost use Rattle.objects.specs.Entries.{CommutesWith, AllCommute, CommuteForward
 ghost use Rattle.committed.specs.Marks.{mark_of};
 ghost use Rattle.committed.specs.Summaries.{entries_of};
 ghost use Rattle.committed.specs.Filter.{IsFilterOf, Meets};
-ghost use Rattle.committed.specs.Index.{IsIndexOf, IsAllListed, HasRoom};
+ghost use Rattle.committed.specs.Index.{IsIndexOf, IsAllListed, IndexHasRoom};
 
 use crate::classes::Class;
 use crate::filter::Filter;
@@ -150,7 +150,7 @@ impl Committed {
 /// Appends entries to a list, its filter and its index, which have room for them.
 fn put_all(entries: &mut Vec<Entry>, filter: &mut Filter, index: &mut Index, more: &[MarkedEntry])
     requires room { vec_len entries.old + length more.now ≤ vec_capacity entries.old }
-    requires index_room { HasRoom index.old (length more.now) }
+    requires index_room { IndexHasRoom index.old (length more.now) }
     requires filter { IsFilterOf entries.old.items filter.old }
     requires index { IsIndexOf entries.old.items index.old }
     requires all { IsAllListed entries.old.items index.old }

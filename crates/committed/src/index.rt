@@ -9,7 +9,7 @@ ghost use Rattle.std.specs.Prelude.{◌≡◌, ◌≢◌, ◌<◌, ◌≤◌, �
 ghost use Rattle.objects.specs.declared.entry.Entry.{Entry as OneEntry};
 ghost use Rattle.committed.specs.Marks.{mark_of};
 ghost use Rattle.objects.specs.Entries.{CommuteForward};
-ghost use Rattle.committed.specs.Index.{key_of, key_against, slot_of, slot_in, link_at, key_at, place_at, IsEnd, IsLink, IsSpan, AreChains, AreSpans, IsLinked, IsIndexOf, HasRoom, IsLastBelow};
+ghost use Rattle.committed.specs.Index.{key_of, key_against, slot_of, slot_in, link_at, key_at, place_at, IsEnd, IsLink, IsSpan, AreChains, AreSpans, IsLinked, IsIndexOf, IndexHasRoom, IsLastBelow};
 
 use crate::classes::Class;
 use crate::marks::Mark;
@@ -89,7 +89,7 @@ impl Index {
     pub fn reserve(&mut self, entries: &[Entry], more: usize) -> Result<(), NoMemory>
         requires { IsIndexOf entries.now self.old }
         ensures index { IsIndexOf entries.now self.new }
-        ensures room { OnOk result (HasRoom self.new more) }
+        ensures room { OnOk result (IndexHasRoom self.new more) }
         ensures listed { self.new.listed ≡ self.old.listed }
     {
         let links = more.saturating_mul(2);
@@ -158,10 +158,10 @@ impl Index {
         requires index { IsIndexOf entries.now self.old }
         requires next { self.old.listed < length entries.now }
         requires mark { (d : OneEntry) → self.old.listed < 2147483647 → mark.now ≡ mark_of (slice_index_or entries.now self.old.listed d) }
-        requires room { HasRoom self.old 1 }
+        requires room { IndexHasRoom self.old 1 }
         ensures index { IsIndexOf entries.now self.new }
         ensures listed { self.new.listed ≡ min (self.old.listed + 1) 2147483647 }
-        ensures room { (more : ℕ) → HasRoom self.old (more + 1) → HasRoom self.new more }
+        ensures room { (more : ℕ) → IndexHasRoom self.old (more + 1) → IndexHasRoom self.new more }
     {
         let place = self.listed;
         if place < MOST_LISTED {
@@ -176,7 +176,7 @@ impl Index {
         requires spans { AreSpans entries.now self.old }
         requires within { place < length entries.now }
         requires last { (j : ℕ) → j < length self.old.links.items → place_at self.old.links.items j ≤ place }
-        requires room { HasRoom self.old 1 }
+        requires room { IndexHasRoom self.old 1 }
         requires few { length self.old.links.items + 2 < 2 ^ 32 }
         ensures chains { AreChains self.new }
         ensures spans { AreSpans entries.now self.new }
@@ -185,7 +185,7 @@ impl Index {
         ensures kept { (other key : ℕ) → IsLinked self.old.links.items other key → IsLinked self.new.links.items other key }
         ensures last { (j : ℕ) → j < length self.new.links.items → place_at self.new.links.items j ≤ place }
         ensures few { length self.new.links.items ≤ length self.old.links.items + 2 }
-        ensures room { (more : ℕ) → HasRoom self.old (more + 1) → HasRoom self.new more }
+        ensures room { (more : ℕ) → IndexHasRoom self.old (more + 1) → IndexHasRoom self.new more }
     {
         self.link(entries, key_of(mark.of_object, mark.class), place);
         if mark.of_item != mark.of_object {

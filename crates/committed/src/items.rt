@@ -1,13 +1,13 @@
 //! The items that operations are about.
 ghost use Rattle.std.specs.Prelude.{◌≡◌};
-ghost use Rattle.committed.specs.Items.{item_of, set_item, taken_item};
+ghost use Rattle.committed.specs.Items.{operation_item, set_item, taken_item};
 
 use objects::{Call, Directory, Item, ItemSet, Queue, QueueEffect, Reply, SetEffect};
 
 /// The item that an operation is about, where it is about no other part of its object. A dequeue is
 /// about the item that it took.
-pub fn item_of(call: &Call, reply: &Reply) -> Option<Item>
-    ensures { result ≡ item_of call.now reply.now }
+pub fn operation_item(call: &Call, reply: &Reply) -> Option<Item>
+    ensures { result ≡ operation_item call.now reply.now }
 {
     match (call, reply) {
         (Call::Set(call), Reply::Set(reply)) => set_item(ItemSet::effect(call, reply)),

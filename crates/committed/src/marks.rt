@@ -3,7 +3,7 @@ ghost use Rattle.std.specs.Prelude.{◌≡◌};
 ghost use Rattle.committed.specs.Marks.{hash_of, mark_of};
 
 use crate::classes::Class;
-use crate::items::item_of;
+use crate::items::operation_item;
 use objects::{Entry, Item};
 
 /// A digest of an entry. It is made once, however often the entry is compared.
@@ -27,7 +27,7 @@ impl Mark {
         let class = Class::of(entry);
         Mark {
             of_object: hash(entry.object, None),
-            of_item: hash(entry.object, item_of(&entry.call, &entry.reply)),
+            of_item: hash(entry.object, operation_item(&entry.call, &entry.reply)),
             class: class.bit(),
             conflicts: class.conflicts(),
         }

@@ -15,7 +15,7 @@ use Rattle.atoms.proofs.Undoings.{set_itself}
 use Rattle.drafts.specs.History.{History, unchanged, changed, undone}
 use Rattle.intentions.specs.Starts.{IsNested}
 use Rattle.intentions.specs.DraftTables.{Drafts, IsPut}
-use Rattle.intentions.specs.Layers.{States, histories, values_now, undo_at, rewound, values_at, layered}
+use Rattle.intentions.specs.Layers.{States, histories, values_now, undo_at, drafts_rewound, values_at, layered}
 use Rattle.intentions.proofs.StartsLemmas.{innermost_joined}
 use Rattle.intentions.proofs.DraftTableLemmas.{same_list, get_set_same, get_set_other}
 
@@ -142,7 +142,7 @@ undo-changed [] object h v e = refl
 undo-changed (g ∷ hs) zero h v e = let same : g ≡ h = cc in ap (λ f. f ∷ hs) (sym same)
 undo-changed (g ∷ hs) (suc object) h v e = ap (λ fs. g ∷ fs) (undo-changed hs object h v e)
 
-rewound-append : (hs : List (History Value)) (xs ys : List ℕ) → rewound hs (xs ++ ys) ≡ rewound (rewound hs xs) ys
+rewound-append : (hs : List (History Value)) (xs ys : List ℕ) → drafts_rewound hs (xs ++ ys) ≡ drafts_rewound (drafts_rewound hs xs) ys
 rewound-append hs [] ys = refl
 rewound-append hs (x ∷ xs) ys = rewound-append (undo_at hs x) xs ys
 
@@ -177,13 +177,14 @@ values_at-changed hs object h v [] journal e nested = refl
 values_at-changed hs object h v (start ∷ starts) journal e nested =
     let later : reverse (drop start (journal ++ object ∷ [])) ≡ object ∷ reverse (drop start journal) =
     ap reverse (drop-append-le start journal (object ∷ []) nested.0) ∙ reverse-append (drop start journal) (object ∷ []) in
-    let before : rewound (slice_set hs object (changed h v)) (reverse (drop start (journal ++ object ∷ []))) ≡ rewound hs
+    let before : drafts_rewound (slice_set hs object (changed h v)) (reverse (drop start (journal ++ object ∷ []))) ≡ drafts_rewound hs
     (reverse (drop start journal)) =
-    ap (rewound (slice_set hs object (changed h v))) later ∙ ap (λ gs. rewound gs (reverse (drop start journal)))
+    ap (drafts_rewound (slice_set hs object (changed h v))) later ∙ ap (λ gs. drafts_rewound gs (reverse (drop start journal)))
     (undo-changed hs object h v e) in
     let earlier : take start (journal ++ object ∷ []) ≡ take start journal = take-append-le start journal (object ∷ []) nested.0 in
     ap (λ gs. values_now gs ∷ values_at gs starts (take start (journal ++ object ∷ []))) before
-    ∙ ap (λ js. values_now (rewound hs (reverse (drop start journal))) ∷ values_at (rewound hs (reverse (drop start journal))) starts js)
+    ∙ ap (λ js. values_now (drafts_rewound hs (reverse (drop start journal)))
+        ∷ values_at (drafts_rewound hs (reverse (drop start journal))) starts js)
     earlier
 
 -- what is shown where an object that became this becomes what a call leaves
@@ -230,18 +231,19 @@ settled hs new starts journal left state object call h is base found new_is =
 
 -- the innermost level ends as part of the one around it
 values_at-joined : (hs : List (History Value)) (start : ℕ) (starts journal : List ℕ) → IsNested (start ∷ starts) (length journal)
-    → values_at (rewound hs (reverse (drop start journal))) starts (take start journal) ≡ values_at hs starts journal
+    → values_at (drafts_rewound hs (reverse (drop start journal))) starts (take start journal) ≡ values_at hs starts journal
 values_at-joined hs start [] journal nested = refl
 values_at-joined hs start (outer ∷ starts) journal nested =
-    let inside = rewound hs (reverse (drop start journal)) in
+    let inside = drafts_rewound hs (reverse (drop start journal)) in
     let parts : reverse (drop outer journal) ≡ reverse (drop start journal) ++ reverse (drop outer (take start journal)) =
     sym (ap reverse (innermost_joined start (outer ∷ starts) journal nested)) ∙ reverse-append (drop outer (take start journal))
     (drop start journal) in
-    let before : rewound inside (reverse (drop outer (take start journal))) ≡ rewound hs (reverse (drop outer journal)) =
-    sym (ap (rewound hs) parts ∙ rewound-append hs (reverse (drop start journal)) (reverse (drop outer (take start journal)))) in
+    let before : drafts_rewound inside (reverse (drop outer (take start journal))) ≡ drafts_rewound hs (reverse (drop outer journal)) =
+    sym (ap (drafts_rewound hs) parts ∙ rewound-append hs (reverse (drop start journal)) (reverse (drop outer (take start journal)))) in
     let earlier : take outer (take start journal) ≡ take outer journal = take-take outer start journal nested.1.0 in
     ap (λ gs. values_now gs ∷ values_at gs starts (take outer (take start journal))) before
-    ∙ ap (λ js. values_now (rewound hs (reverse (drop outer journal))) ∷ values_at (rewound hs (reverse (drop outer journal))) starts js)
+    ∙ ap (λ js. values_now (drafts_rewound hs (reverse (drop outer journal)))
+        ∷ values_at (drafts_rewound hs (reverse (drop outer journal))) starts js)
     earlier
 
 pub committed_level : (hs : List (History Value)) (start : ℕ) (starts journal : List ℕ) (state : States)
@@ -280,7 +282,7 @@ undo_none (lent ∷ snapshot) drafts (suc object) e = ap (λ hs. draft_or (draft
 pub record IsPartUndone (was : Drafts) (journal : List ℕ) (start : ℕ) (drafts : Drafts) (left : List ℕ) : Type 0 where
   pub within : start ≤ length left
   pub keeps : take start left ≡ take start journal
-  pub rewinds : (snapshot : List Value) → rewound (histories snapshot drafts) (reverse (drop start left)) ≡ rewound
+  pub rewinds : (snapshot : List Value) → drafts_rewound (histories snapshot drafts) (reverse (drop start left)) ≡ drafts_rewound
       (histories snapshot was) (reverse (drop start journal))
 
 pub undone_more : (was drafts now : Drafts) (journal left rest : List ℕ) (start object : ℕ) → IsPartUndone was journal start drafts left
@@ -296,12 +298,12 @@ undone_more was drafts now journal left rest start object part more is back =
     record {
       within = within;
       keeps = sym (take-append-le start rest (object ∷ []) within) ∙ sym (ap (take start) is) ∙ part.keeps;
-      rewinds = λ snapshot. ap (λ hs. rewound hs (reverse (drop start rest))) (back snapshot)
-          ∙ sym (ap (rewound (histories snapshot drafts)) later) ∙ part.rewinds snapshot;
+      rewinds = λ snapshot. ap (λ hs. drafts_rewound hs (reverse (drop start rest))) (back snapshot)
+          ∙ sym (ap (drafts_rewound (histories snapshot drafts)) later) ∙ part.rewinds snapshot;
     }
 
 pub undone_all : (was drafts : Drafts) (journal left : List ℕ) (start : ℕ) (snapshot : List Value)
     → IsPartUndone was journal start drafts left → length left ≤ start
-    → histories snapshot drafts ≡ rewound (histories snapshot was) (reverse (drop start journal))
+    → histories snapshot drafts ≡ drafts_rewound (histories snapshot was) (reverse (drop start journal))
 undone_all was drafts journal left start snapshot part all =
-    sym (ap (λ js. rewound (histories snapshot drafts) (reverse js)) (drop_of_length-le left all)) ∙ part.rewinds snapshot
+    sym (ap (λ js. drafts_rewound (histories snapshot drafts) (reverse js)) (drop_of_length-le left all)) ∙ part.rewinds snapshot

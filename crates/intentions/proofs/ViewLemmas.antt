@@ -5,7 +5,7 @@ use Rattle.objects.specs.declared.value.Value.{Value}
 use Rattle.objects.specs.declared.entry.Entry.{Entry}
 use Rattle.objects.specs.Entries.{after, AreLegal}
 use Rattle.intentions.specs.declared.view.View.TheInside.{Inside}
-use Rattle.intentions.specs.Levels.{Intentions, shown, joined, committed, AllHaveRoom}
+use Rattle.intentions.specs.Levels.{Intentions, shown_values, all_levels, committed, AllHaveRoom}
 use Rattle.intentions.specs.Starts.{IsNested, innermost, around, at_starts}
 use Rattle.intentions.specs.Layers.{States, IsKept}
 use Rattle.intentions.proofs.EntriesLemmas.{after-append, length-after, legal-append, room-append, legal-take, room-take}
@@ -23,7 +23,7 @@ view_parts snapshot entries net starts = record {
 }
 
 -- the parts of all levels, the outermost first, are the whole list
-joined_around : (starts : List ℕ) (xs : List Entry) → joined (around starts xs) ++ innermost starts xs ≡ xs
+joined_around : (starts : List ℕ) (xs : List Entry) → all_levels (around starts xs) ++ innermost starts xs ≡ xs
 joined_around [] xs = refl
 joined_around (start ∷ starts) xs = ap (λ ys. ys ++ drop start xs) (joined_around starts (take start xs)) ∙ take-append-drop start xs
 
@@ -34,9 +34,9 @@ abbrev pub view_of : Inside → Intentions
 view_of v = view_parts v.snapshot.now v.entries.items v.net.items (reverse v.marks.items)
 
 -- a view shows what its layers show
-pub same_shown : (inside : Inside) (v : Intentions) → view_of inside ≡ v → KeptView inside → shown v ≡ inside.layers.shown
+pub same_shown : (inside : Inside) (v : Intentions) → view_of inside ≡ v → KeptView inside → shown_values v ≡ inside.layers.shown
 same_shown inside v is kept =
-    sym (ap shown is) ∙ ap (after inside.snapshot.now) (joined_around (reverse inside.marks.items) inside.net.items)
+    sym (ap shown_values is) ∙ ap (after inside.snapshot.now) (joined_around (reverse inside.marks.items) inside.net.items)
     ∙ sym (ap (λ (s : States). s.shown) kept.shows)
 
 pub committed_view : (snapshot : List Value) (entries net : List Entry) (start : ℕ) (starts : List ℕ) (v : Intentions)

@@ -29,15 +29,15 @@ undo_at (h ∷ hs) zero = undone h ∷ hs
 undo_at (h ∷ hs) (suc object) = h ∷ undo_at hs object
 
 -- changes of these objects taken back, the latest first
-abbrev pub rewound : List (History Value) → List ℕ → List (History Value)
-rewound hs [] = hs
-rewound hs (object ∷ journal) = rewound (undo_at hs object) journal
+abbrev pub drafts_rewound : List (History Value) → List ℕ → List (History Value)
+drafts_rewound hs [] = hs
+drafts_rewound hs (object ∷ journal) = drafts_rewound (undo_at hs object) journal
 
 -- the values where the journal, the object of each change, is taken back to each start, from the innermost
 abbrev pub values_at : List (History Value) → List ℕ → List ℕ → List (List Value)
 values_at hs [] journal = []
 values_at hs (start ∷ starts) journal =
-    let before = rewound hs (reverse (drop start journal)) in
+    let before = drafts_rewound hs (reverse (drop start journal)) in
     values_now before ∷ values_at before starts (take start journal)
 
 -- what layers show of these histories, with levels that start there in the journal

@@ -15,21 +15,21 @@ pub record Intentions : Type 0 where
   pub outer : List (List Entry)
 
 -- the nets of the levels around, the outermost first, one after the other
-abbrev pub joined : List (List Entry) → List Entry
-joined [] = []
-joined (net ∷ outer) = joined outer ++ net
+abbrev pub all_levels : List (List Entry) → List Entry
+all_levels [] = []
+all_levels (net ∷ outer) = all_levels outer ++ net
 
 -- the state that a view shows
-abbrev pub shown : Intentions → List Value
-shown v = after v.snapshot (joined v.outer ++ v.net)
+abbrev pub shown_values : Intentions → List Value
+shown_values v = after v.snapshot (all_levels v.outer ++ v.net)
 
 -- a view of these values with no entries
 abbrev pub opened : List Value → Intentions
 opened values = record { snapshot = values; entries = []; net = []; outer = [] }
 
 -- one more entry
-abbrev pub performed : Intentions → Entry → Intentions
-performed v entry = record v { entries = v.entries ++ entry ∷ []; net = v.net ++ entry ∷ [] }
+abbrev pub with_entry : Intentions → Entry → Intentions
+with_entry v entry = record v { entries = v.entries ++ entry ∷ []; net = v.net ++ entry ∷ [] }
 
 -- one more level
 abbrev pub begun : Intentions → Intentions

@@ -7,7 +7,7 @@ ghost use Rattle.intentions.specs.Levels.{AllHaveRoom};
 ghost use Rattle.objects.specs.Entries.{after, AreLegal};
 ghost use Rattle.objects.specs.declared.value.Value.{Value};
 ghost use Rattle.intentions.specs.DraftTables.{drafts_of};
-ghost use Rattle.intentions.specs.Layers.{States, histories, rewound};
+ghost use Rattle.intentions.specs.Layers.{States, histories, drafts_rewound};
 
 use crate::draft_table::DraftTable;
 use drafts::Shown;
@@ -212,7 +212,7 @@ impl<'s> Layers<'s> {
 fn undo_from(drafts: &mut DraftTable<'_>, journal: &mut Vec<u32>, start: usize)
     requires { start ≤ length journal.old.items }
     ensures drafts { (snapshot : List Value) → histories snapshot (drafts_of drafts.new)
-        ≡ rewound (histories snapshot (drafts_of drafts.old)) (reverse (drop start journal.old.items)) }
+        ≡ drafts_rewound (histories snapshot (drafts_of drafts.old)) (reverse (drop start journal.old.items)) }
     ensures journal { journal.new.items ≡ take start journal.old.items }
 {
     while journal.len() > start {

@@ -1,7 +1,7 @@
 //! Views: what a transaction sees while its intentions are recorded.
 ghost use Rattle.std.specs.Prelude.{◌≡◌, ◌↔◌, ◌+◌, ◌<◌, ◌≤◌, ◌++◌, [], length, vec_len, vec_capacity, IsTrue, Some, IsOk, IfOk, OnOk, OnErr};
 ghost use Rattle.objects.specs.Objects.{objects, Fits, ObjectHasRoom};
-ghost use Rattle.intentions.specs.Levels.{shown, opened, performed, begun, committed, aborted, absorbed, AllHaveRoom};
+ghost use Rattle.intentions.specs.Levels.{shown_values, opened, with_entry, begun, committed, aborted, absorbed, AllHaveRoom};
 ghost use Rattle.objects.specs.Entries.{after, AreLegal};
 
 use crate::layers::Layers;
@@ -125,7 +125,7 @@ impl<'s> View<'s> {
 
     /// Whether the object is there and the call is of its kind.
     pub fn fits(&self, object: u32, call: &Call) -> bool
-        ensures { IsTrue result ↔ Fits (shown self.now) object call.now }
+        ensures { IsTrue result ↔ Fits (shown_values self.now) object call.now }
     {
         match self.layers.value(object) {
             Some(value) => value.fits(call),
@@ -135,9 +135,9 @@ impl<'s> View<'s> {
 
     /// Whether the object, as it is shown, has room for the call. It never returns `NoMemory`.
     pub fn has_room(&self, object: u32, call: &Call) -> Result<bool, NoMemory>
-        requires { Fits (shown self.now) object call.now }
+        requires { Fits (shown_values self.now) object call.now }
         ensures succeeds { IsOk result }
-        ensures room { IfOk result (λ room. IsTrue room ↔ ObjectHasRoom (shown self.now) object call.now) }
+        ensures room { IfOk result (λ room. IsTrue room ↔ ObjectHasRoom (shown_values self.now) object call.now) }
     {
         match self.layers.value(object) {
             Some(value) => Ok(value.has_room(call)),
@@ -148,10 +148,10 @@ impl<'s> View<'s> {
     /// Performs a call on what is shown, and returns its reply. The call is recorded in the entries
     /// and in the net of the innermost level. On `NoMemory` the view is unchanged.
     pub fn perform(&mut self, object: u32, call: &Call) -> Result<Reply, NoMemory>
-        requires fits { Fits (shown self.old) object call.now }
-        requires room { ObjectHasRoom (shown self.old) object call.now }
-        ensures reply { IfOk result (λ reply. objects.reply (shown self.old) (object, call.now) ≡ Some reply) }
-        ensures ok { IfOk result (λ reply. self.new ≡ performed self.old (record { object = object; call = call.now; reply = reply })) }
+        requires fits { Fits (shown_values self.old) object call.now }
+        requires room { ObjectHasRoom (shown_values self.old) object call.now }
+        ensures reply { IfOk result (λ reply. objects.reply (shown_values self.old) (object, call.now) ≡ Some reply) }
+        ensures ok { IfOk result (λ reply. self.new ≡ with_entry self.old (record { object = object; call = call.now; reply = reply })) }
         ensures err { OnErr result (self.new ≡ self.old) }
     {
         self.entries.reserve(1)?;
@@ -208,8 +208,8 @@ impl<'s> View<'s> {
     /// Takes in what a child recorded on a copy of what is shown: its entries, and its net, which
     /// joins the net of the innermost level. On `NoMemory` the view is unchanged.
     pub fn absorb(&mut self, entries: &[Entry], net: &[Entry]) -> Result<(), NoMemory>
-        requires legal { AreLegal (shown self.old) net.now }
-        requires room { AllHaveRoom (shown self.old) net.now }
+        requires legal { AreLegal (shown_values self.old) net.now }
+        requires room { AllHaveRoom (shown_values self.old) net.now }
         ensures ok { OnOk result (self.new ≡ absorbed self.old entries.now net.now) }
         ensures err { OnErr result (self.new ≡ self.old) }
     {
@@ -223,7 +223,7 @@ impl<'s> View<'s> {
 
     /// A copy of what is shown, or `NoMemory`.
     pub fn state(&self) -> Result<Objects, NoMemory>
-        ensures { IfOk result (λ state. state ≡ shown self.now) }
+        ensures { IfOk result (λ state. state ≡ shown_values self.now) }
     {
         match u32::try_from(self.snapshot.len()) {
             Ok(count) => self.layers.state(*self.entries.allocator(), count),

@@ -35,8 +35,8 @@ module _ (subject : Subject) (label : List ℕ) (first : Data) where
   word_met s w (Some d) counts e fits = rw (e, fits) refl
 
   -- and is the test
-  pub word_spelled : (s : List ℕ) (w : Word) (second : Option Data) (numbers : Numbers) → word_of_text s ≡ Some w → fits_word subject w ≡ true
-      → (Is w, numbers) ≡ test_of subject numbers (if_step label word (string s) first second)
+  pub word_spelled : (s : List ℕ) (w : Word) (second : Option Data) (numbers : Numbers) → word_of_text s ≡ Some w
+      → fits_word subject w ≡ true → (Is w, numbers) ≡ test_of subject numbers (if_step label word (string s) first second)
   unfolding test_of
   word_spelled s w None numbers e fits = rw (e, fits) refl
   word_spelled s w (Some d) numbers e fits = rw (e, fits) refl

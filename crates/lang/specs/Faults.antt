@@ -7,23 +7,23 @@ use Rattle.lang.specs.declared.fault.Code.{Code}
 use Rattle.lang.specs.declared.fault.Code.TheVariants as code
 use Rattle.lang.specs.declared.fault.Fault.{Fault}
 
-abbrev pub number_of : Code → ℕ
-number_of (code.Wrong NotJson) = 1
-number_of (code.Wrong Shape) = 2
-number_of (code.Wrong Name) = 3
-number_of (code.Wrong DuplicateObject) = 4
-number_of (code.Wrong UnknownObject) = 5
-number_of (code.Wrong UnknownOperation) = 6
-number_of (code.Wrong Argument) = 7
-number_of (code.Wrong UnknownLabel) = 8
-number_of (code.Wrong DuplicateLabel) = 9
-number_of (code.Wrong Condition) = 10
-number_of (code.Wrong Depth) = 11
-number_of (code.Wrong TooMany) = 12
-number_of (code.Wrong Start) = 13
-number_of code.Memory = 20
-number_of code.Input = 21
-number_of code.Output = 22
+abbrev pub code_number : Code → ℕ
+code_number (code.Wrong NotJson) = 1
+code_number (code.Wrong Shape) = 2
+code_number (code.Wrong Name) = 3
+code_number (code.Wrong DuplicateObject) = 4
+code_number (code.Wrong UnknownObject) = 5
+code_number (code.Wrong UnknownOperation) = 6
+code_number (code.Wrong Argument) = 7
+code_number (code.Wrong UnknownLabel) = 8
+code_number (code.Wrong DuplicateLabel) = 9
+code_number (code.Wrong Condition) = 10
+code_number (code.Wrong Depth) = 11
+code_number (code.Wrong TooMany) = 12
+code_number (code.Wrong Start) = 13
+code_number code.Memory = 20
+code_number code.Input = 21
+code_number code.Output = 22
 
 -- whether it may come of bytes alone: no input and no output failed
 abbrev pub is_of_reading : Code → Bool

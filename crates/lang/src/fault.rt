@@ -1,6 +1,6 @@
 //! Why a document has no report, and in which transaction.
 ghost use Rattle.std.specs.Prelude.{◌≡◌};
-ghost use Rattle.lang.specs.Faults.{fault_outside, number_of, wrong_outside};
+ghost use Rattle.lang.specs.Faults.{fault_outside, code_number, wrong_outside};
 
 use batch::NoMemory;
 use std::alloc::{AllocError, AllocFailed};
@@ -70,7 +70,7 @@ impl Wrong {
 impl Code {
     /// The number that stands for the code in what is printed.
     pub fn number(self) -> u8
-        ensures { result ≡ number_of self }
+        ensures { result ≡ code_number self }
     {
         match self {
             Code::Wrong(wrong) => wrong as u8,
@@ -94,7 +94,7 @@ impl Code {
 impl Fault {
     /// The number of its code.
     pub fn number(&self) -> u8
-        ensures { result ≡ number_of self.now.code }
+        ensures { result ≡ code_number self.now.code }
     {
         self.code.number()
     }

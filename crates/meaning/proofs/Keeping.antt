@@ -1,6 +1,6 @@
 -- What a run keeps: the kinds of the objects, and a bound on their numbers.
-use Rattle.std.proofs.Common.{◌≡◌, ℕ, zero, suc, ◌+◌, ◌≤◌, ◌<◌, ◌^◌, List, [], ◌∷◌, ◌++◌, length, take, Bool, true, false, Option, Some, None}
-use Rattle.std.proofs.Common.{refl, sym, ap, ◌∙◌, subst, arith}
+use Rattle.std.proofs.Common.{◌≡◌, ℕ, zero, suc, ◌+◌, ◌≤◌, ◌<◌, ◌^◌, List, [], ◌∷◌, ◌++◌, length, take, Bool, true, false}
+use Rattle.std.proofs.Common.{Option, Some, None, refl, sym, ap, ◌∙◌, subst, arith}
 use Rattle.std.specs.Prelude.{slice_index_or}
 use Rattle.atoms.proofs.AccountLemmas.{account_grows, account_has_room}
 use Rattle.atoms.proofs.CounterLemmas.{counter_grows, counter_has_room}
@@ -21,9 +21,9 @@ use Rattle.meaning.specs.Records.{Taken, TakenStep, TakenChild, TakenHandler, Ta
 use Rattle.meaning.specs.OneThread.{Run, Ran, state_of, operate, choose, is_for, choose_handler, act, go_on, go_on_children, one, one_step}
 use Rattle.meaning.specs.OneThread.{one_handler, one_children}
 use Rattle.meaning.specs.Batch.{settled, block_at, state_at}
-use Rattle.meaning.specs.WellFormed.{CallFits, operations, size_of, largest, largest_amount, HasRoom}
-use Rattle.meaning.specs.Running.{Keeps, PerformLaw, LimitLaw, CallKeepsLaw, BlockKeepsLaw, StepKeepsLaw, HandlersKeepLaw, ChildrenKeepLaw}
-use Rattle.meaning.specs.Running.{EntriesKeepLaw, all_operations, BatchKeepsLaw}
+use Rattle.meaning.specs.WellFormed.{CallFits, operations, size_of, largest, largest_amount, StateHasRoom}
+use Rattle.meaning.specs.Running.{KeepsKinds, PerformLaw, LimitLaw, CallKeepsLaw, BlockKeepsLaw, StepKeepsLaw, HandlersKeepLaw}
+use Rattle.meaning.specs.Running.{ChildrenKeepLaw, EntriesKeepLaw, all_operations, BatchKeepsLaw}
 use Rattle.meaning.proofs.Misfits.{after_call_rest}
 
 -- ---- one call
@@ -74,7 +74,7 @@ value_has_room (Account v) (to.Account c) room = account_has_room v c room
 value_has_room (Counter v) (to.Counter c) room = counter_has_room v c room
 value_has_room v c room = tt
 
-call_has_room : (state : State) (object : ℕ) (call : Call) → HasRoom state 1 → ObjectHasRoom state object call
+call_has_room : (state : State) (object : ℕ) (call : Call) → StateHasRoom state 1 → ObjectHasRoom state object call
 call_has_room [] object call room = tt
 call_has_room (v ∷ vs) zero call room = value_has_room v call (omega arith)
 call_has_room (v ∷ vs) (suc object) call room = call_has_room vs object call (omega arith)
@@ -87,46 +87,47 @@ limit state done left most all = omega arith
 
 -- ---- a run
 
-pub keeps_same : (state : State) (count : ℕ) → Keeps count state state
+pub keeps_same : (state : State) (count : ℕ) → KeepsKinds count state state
 keeps_same state count = record { same_kinds = refl; growth = omega arith }
 
-pub keeps_then : (first second : ℕ) (s t u : State) → Keeps first s t → Keeps second t u → Keeps (first + second) s u
+pub keeps_then : (first second : ℕ) (s t u : State) → KeepsKinds first s t → KeepsKinds second t u → KeepsKinds (first + second) s u
 keeps_then first second s t u h k = record { same_kinds = k.same_kinds ∙ h.same_kinds; growth = omega (arith, h.growth, k.growth) }
 
-pub keeps_weaker : (fewer more : ℕ) (s t : State) → fewer ≤ more → Keeps fewer s t → Keeps more s t
+pub keeps_weaker : (fewer more : ℕ) (s t : State) → fewer ≤ more → KeepsKinds fewer s t → KeepsKinds more s t
 keeps_weaker fewer more s t le h = record { same_kinds = h.same_kinds; growth = omega (arith, h.growth, le) }
 
 operation_keeps : (object : ℕ) (call : Call) (labelled : Bool) (state : State) (reply : Option Reply)
-    → Keeps 1 state (state_of (operate object call labelled state reply))
+    → KeepsKinds 1 state (state_of (operate object call labelled state reply))
 operation_keeps object call labelled state None = keeps_same state 1
 operation_keeps object call labelled state (Some reply) = call_keeps state object call
 
-choice_keeps : (test : Bool) (then else : State → Run Taken) (state : State) (m n : ℕ) → Keeps m state (state_of (then state))
-    → Keeps n state (state_of (else state)) → Keeps (m + n) state (state_of (choose test then else state))
+choice_keeps : (test : Bool) (then else : State → Run Taken) (state : State) (m n : ℕ) → KeepsKinds m state (state_of (then state))
+    → KeepsKinds n state (state_of (else state)) → KeepsKinds (m + n) state (state_of (choose test then else state))
 choice_keeps true then else state m n h k = keeps_weaker m (m + n) _ _ (omega arith) h
 choice_keeps false then else state m n h k = keeps_weaker n (m + n) _ _ (omega arith) k
 
 handler_choice_keeps : (test : Bool) (handler : State → Run Taken) (others : State → Run TakenHandler) (state : State) (m n : ℕ)
-    → Keeps m state (state_of (handler state)) → Keeps n state (state_of (others state))
-    → Keeps (m + n) state (state_of (choose_handler test handler others state))
+    → KeepsKinds m state (state_of (handler state)) → KeepsKinds n state (state_of (others state))
+    → KeepsKinds (m + n) state (state_of (choose_handler test handler others state))
 handler_choice_keeps true handler others state m n h k = keeps_weaker m (m + n) _ _ (omega arith) h
 handler_choice_keeps false handler others state m n h k = keeps_weaker n (m + n) _ _ (omega arith) k
 
 pub act_keeps : (labelled : Bool) (body : Run Taken) (handlers : Option ℕ → State → Run TakenHandler) (state : State) (m n : ℕ)
-    → Keeps m state (state_of body) → ((reason : Option ℕ) → Keeps n state (state_of (handlers reason state)))
-    → Keeps (m + n) state (state_of (act labelled body handlers state))
+    → KeepsKinds m state (state_of body) → ((reason : Option ℕ) → KeepsKinds n state (state_of (handlers reason state)))
+    → KeepsKinds (m + n) state (state_of (act labelled body handlers state))
 act_keeps labelled (Ran body Ended labels after_body) handlers state m n h k = keeps_weaker m (m + n) _ _ (omega arith) h
 act_keeps labelled (Ran body (Aborted reason) labels after_body) handlers state m n h k = keeps_weaker n (m + n) _ _ (omega arith)
     (k reason)
 
-go_on_keeps : (step : Run TakenStep) (rest : List Held → State → Run Taken) (state : State) (m n : ℕ) → Keeps m state (state_of step)
-    → ((labels : List Held) (mid : State) → Keeps n mid (state_of (rest labels mid))) → Keeps (m + n) state (state_of (go_on step rest))
+go_on_keeps : (step : Run TakenStep) (rest : List Held → State → Run Taken) (state : State) (m n : ℕ) → KeepsKinds m state (state_of step)
+    → ((labels : List Held) (mid : State) → KeepsKinds n mid (state_of (rest labels mid)))
+    → KeepsKinds (m + n) state (state_of (go_on step rest))
 go_on_keeps (Ran step Ended labels mid) rest state m n h k = keeps_then m n state mid _ h (k labels mid)
 go_on_keeps (Ran step (Aborted reason) labels mid) rest state m n h k = keeps_weaker m (m + n) _ _ (omega arith) h
 
 go_on_children_keeps : (child : Run TakenChild) (younger : State → Run TakenChildren) (state : State) (m n : ℕ)
-    → Keeps m state (state_of child) → ((mid : State) → Keeps n mid (state_of (younger mid)))
-    → Keeps (m + n) state (state_of (go_on_children child younger))
+    → KeepsKinds m state (state_of child) → ((mid : State) → KeepsKinds n mid (state_of (younger mid)))
+    → KeepsKinds (m + n) state (state_of (go_on_children child younger))
 go_on_children_keeps (Ran child Ended labels mid) younger state m n h k = keeps_then m n state mid _ h (k mid)
 go_on_children_keeps (Ran child (Aborted reason) labels mid) younger state m n h k = keeps_weaker m (m + n) _ _ (omega arith) h
 
@@ -174,7 +175,8 @@ entries_keep state (p ∷ ps) =
 
 -- ---- a batch
 
-settled_keeps : (before : State) (run : Run Taken) (count : ℕ) → Keeps count before (state_of run) → Keeps count before (settled before run)
+settled_keeps : (before : State) (run : Run Taken) (count : ℕ) → KeepsKinds count before (state_of run)
+    → KeepsKinds count before (settled before run)
 settled_keeps before (Ran taken Ended labels state) count h = h
 settled_keeps before (Ran taken (Aborted reason) labels state) count h = keeps_same before count
 
@@ -190,6 +192,6 @@ batch_keeps start batch zero within = keeps_same start _
 batch_keeps start batch (suc b) within =
     let before = state_at start batch b in
     let run = one (block_at batch b) [] before in
-    subst (λ n. Keeps n start (settled before run)) (sym (one_more_block batch b (omega arith)))
+    subst (λ n. KeepsKinds n start (settled before run)) (sym (one_more_block batch b (omega arith)))
     (keeps_then _ _ start before _ (batch_keeps start batch b (omega arith))
     (settled_keeps before run _ (block_keeps (block_at batch b) [] before)))

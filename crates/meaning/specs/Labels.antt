@@ -47,18 +47,18 @@ is_outcome word.Committed Ended = true
 is_outcome word.Aborted (Aborted reason) = true
 is_outcome w outcome = false
 
-abbrev pub number_of : Reply → Option ℤ
-number_of (Account (account.Number n)) = Some (pos n)
-number_of (Counter (counter.Number n)) = Some n
-number_of (Set (set.Number n)) = Some (pos n)
-number_of (Queue (queue.Number n)) = Some (pos n)
-number_of (Max (max.Number n)) = Some (pos n)
-number_of reply = None
+abbrev pub reply_number : Reply → Option ℤ
+reply_number (Account (account.Number n)) = Some (pos n)
+reply_number (Counter (counter.Number n)) = Some n
+reply_number (Set (set.Number n)) = Some (pos n)
+reply_number (Queue (queue.Number n)) = Some (pos n)
+reply_number (Max (max.Number n)) = Some (pos n)
+reply_number reply = None
 
-abbrev pub item_of : Reply → Option Item
-item_of (Queue (queue.Got item)) = Some item
-item_of (Directory (directory.Found value)) = Some value
-item_of reply = None
+abbrev pub reply_item : Reply → Option Item
+reply_item (Queue (queue.Got item)) = Some item
+reply_item (Directory (directory.Found value)) = Some value
+reply_item reply = None
 
 -- false where there is none
 abbrev pub if_there : {A : Type 0} → Option A → (A → Bool) → Bool
@@ -69,8 +69,8 @@ if_there (Some a) test = test a
 abbrev pub holds_of : Test → Held → Bool
 holds_of (Is w) (Replied reply) = is_word_of w reply
 holds_of (Is w) (Outcome outcome) = is_outcome w outcome
-holds_of (AtLeast number) (Replied reply) = if_there (number_of reply) (int_le number)
-holds_of (IsItem item) (Replied reply) = if_there (item_of reply) (λ found. found.0 == item.0)
+holds_of (AtLeast number) (Replied reply) = if_there (reply_number reply) (int_le number)
+holds_of (IsItem item) (Replied reply) = if_there (reply_item reply) (λ found. found.0 == item.0)
 holds_of test held = false
 
 -- whether it holds of the label at a place, where these are seen

@@ -29,8 +29,8 @@ followed older younger = Ran (both_taken (record_of older) (record_of younger)) 
     (state_of younger)
 
 -- the same, the later one made on the state before the earlier one
-abbrev pub joined : Run TakenChildren → Run TakenChildren → Run TakenChildren
-joined older younger = followed older (carried (kept_of_children (record_of older)) younger)
+abbrev pub one_after_other : Run TakenChildren → Run TakenChildren → Run TakenChildren
+one_after_other older younger = followed older (carried (kept_of_children (record_of older)) younger)
 
 -- A block is run on a state in which a list of entries is legal, and each entry of the run, dropped ones too, commutes
 -- forward with each of the list.
@@ -120,7 +120,7 @@ ForkLaw =
     → outcome_of (one_children older labels state) ≡ Ended
     → AllCommute (entries_of_children (record_of (one_children younger labels state)))
     (kept_of_children (record_of (one_children older labels state)))
-    → one_children (both older younger) labels state ≡ joined (one_children older labels state) (one_children younger labels state)
+    → one_children (both older younger) labels state ≡ one_after_other (one_children older labels state) (one_children younger labels state)
 
 -- Where the earlier part aborts, the later part is not reached.
 abbrev pub AbortedForkLaw : Type 0

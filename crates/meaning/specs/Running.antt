@@ -14,11 +14,12 @@ use Rattle.meaning.specs.declared.held.Held.TheVariants.{Replied, Outcome}
 use Rattle.meaning.specs.OneThread.{record_of, outcome_of, labels_of, state_of, one, one_step, one_handler, one_children}
 use Rattle.meaning.specs.Batch.{state_at}
 use Rattle.meaning.specs.WellFormed.{Label, OfCall, OfSubaction, CallFits, test_fits, added_by, added_by_children, operations}
-use Rattle.meaning.specs.WellFormed.{operations_of_step, operations_of_handlers, operations_of_children, largest, largest_amount, HasRoom}
+use Rattle.meaning.specs.WellFormed.{operations_of_step, operations_of_handlers, operations_of_children, largest, largest_amount}
+use Rattle.meaning.specs.WellFormed.{StateHasRoom}
 use Rattle.meaning.specs.declared.limits.TheConstants.{MAX_OPERATIONS, MAX_START}
 
 -- after at most so many operations
-pub record Keeps (count : ℕ) (before after : State) : Type 0 where
+pub record KeepsKinds (count : ℕ) (before after : State) : Type 0 where
   pub same_kinds : kinds after ≡ kinds before
   pub growth : largest after ≤ largest before + largest_amount * count
 
@@ -31,7 +32,7 @@ abbrev pub PerformLaw : Type 0
 PerformLaw =
     (state : State) (object : ℕ) (call : Call)
     → CallFits (kinds state) object call
-    → HasRoom state 1
+    → StateHasRoom state 1
     → CanPerform state object call
 
 -- A state that some operations led to has room for the others.
@@ -40,31 +41,32 @@ LimitLaw =
     (state : State) (done left : ℕ)
     → largest state ≤ MAX_START + largest_amount * done
     → done + left ≤ MAX_OPERATIONS
-    → HasRoom state left
+    → StateHasRoom state left
 
 abbrev pub CallKeepsLaw : Type 0
-CallKeepsLaw = (state : State) (object : ℕ) (call : Call) → Keeps 1 state (after_call state object call)
+CallKeepsLaw = (state : State) (object : ℕ) (call : Call) → KeepsKinds 1 state (after_call state object call)
 
 -- A run performs no more operations than its tree has.
 abbrev pub BlockKeepsLaw : Type 0
-BlockKeepsLaw = (block : Block) (labels : List Held) (state : State) → Keeps (operations block) state (state_of (one block labels state))
+BlockKeepsLaw = (block : Block) (labels : List Held) (state : State)
+    → KeepsKinds (operations block) state (state_of (one block labels state))
 
 abbrev pub StepKeepsLaw : Type 0
-StepKeepsLaw = (step : Step) (labels : List Held) (state : State) → Keeps (operations_of_step step) state
+StepKeepsLaw = (step : Step) (labels : List Held) (state : State) → KeepsKinds (operations_of_step step) state
     (state_of (one_step step labels state))
 
 abbrev pub HandlersKeepLaw : Type 0
 HandlersKeepLaw =
-    (handlers : Handlers) (labels : List Held) (reason : Option ℕ) (state : State) → Keeps (operations_of_handlers handlers) state
+    (handlers : Handlers) (labels : List Held) (reason : Option ℕ) (state : State) → KeepsKinds (operations_of_handlers handlers) state
     (state_of (one_handler handlers labels reason state))
 
 abbrev pub ChildrenKeepLaw : Type 0
-ChildrenKeepLaw = (children : Children) (labels : List Held) (state : State) → Keeps (operations_of_children children) state
+ChildrenKeepLaw = (children : Children) (labels : List Held) (state : State) → KeepsKinds (operations_of_children children) state
     (state_of (one_children children labels state))
 
 -- So do entries, and a run has no more entries than its tree has operations.
 abbrev pub EntriesKeepLaw : Type 0
-EntriesKeepLaw = (state : State) (ps : List Entry) → Keeps (length ps) state (after state ps)
+EntriesKeepLaw = (state : State) (ps : List Entry) → KeepsKinds (length ps) state (after state ps)
 
 abbrev pub EntriesCountLaw : Type 0
 EntriesCountLaw = (block : Block) (labels : List Held) (state : State) → length (entries (record_of (one block labels state))) ≤ operations
@@ -76,7 +78,7 @@ all_operations [] = 0
 all_operations (block ∷ blocks) = operations block + all_operations blocks
 
 abbrev pub BatchKeepsLaw : Type 0
-BatchKeepsLaw = (start : State) (batch : List Block) (b : ℕ) → b ≤ length batch → Keeps (all_operations (take b batch)) start
+BatchKeepsLaw = (start : State) (batch : List Block) (b : ℕ) → b ≤ length batch → KeepsKinds (all_operations (take b batch)) start
     (state_at start batch b)
 
 -- what a label of this kind can hold

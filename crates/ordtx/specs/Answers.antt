@@ -12,7 +12,7 @@ use Rattle.lang.specs.Reading.{Document, reading}
 use Rattle.carry.specs.Carried.{carried_text, first_unfit}
 use Rattle.carry.specs.declared.document.Unfit.{Unfit}
 use Rattle.carry.specs.declared.document.Unfit.TheVariants as unfit
-use Rattle.lang.specs.Faults.{number_of, wrong_outside}
+use Rattle.lang.specs.Faults.{code_number, wrong_outside}
 use Rattle.why.specs.Why.{IsWhyText}
 use Rattle.lang.specs.Found.{IsPlaceOf}
 use Rattle.lang.specs.declared.fault.Wrong.{Wrong}
@@ -114,7 +114,7 @@ place_text (LineColumn line column) = codes " line " ++ decimal line ++ codes " 
 
 -- the line of a fault and its place
 abbrev pub place_line : Fault → Place → List ℕ
-place_line fault place = line (codes "fault " ++ decimal (number_of fault.code) ++ codes " transaction " ++ decimal fault.transaction
+place_line fault place = line (codes "fault " ++ decimal (code_number fault.code) ++ codes " transaction " ++ decimal fault.transaction
     ++ codes " at" ++ place_text place)
 
 -- The bytes spell no document, and the text is the line of their first fault and its place.

@@ -15,7 +15,7 @@ use Rattle.meaning.specs.Records.{entries_of_child, entries_of_handler, entries_
 use Rattle.meaning.specs.Records.{kept_of_handler, kept_of_children, net}
 use Rattle.meaning.specs.OneThread.{Run, Ran, record_of, outcome_of, act, one, one_handler}
 use Rattle.meaning.specs.Batch.{block_at, state_at, answer, nets, net_of}
-use Rattle.meaning.specs.WellFormed.{CallFits, operations, operations_of_handlers, HasRoom}
+use Rattle.meaning.specs.WellFormed.{CallFits, operations, operations_of_handlers, StateHasRoom}
 use Rattle.meaning.specs.Running.{all_operations}
 use Rattle.meaning.proofs.Keeping.{perform, call_keeps, limit, batch_keeps}
 use Rattle.meaning.proofs.Counting.{entries_count, handlers_count}
@@ -26,7 +26,7 @@ use Rattle.batch.specs.Running.{CanTryHere, acted}
 use Rattle.intentions.specs.Levels.{AllHaveRoom}
 use Rattle.intentions.proofs.EntriesLemmas.{legal-fits}
 use Rattle.speculate.specs.Runs.{IsWithinOthers}
-use Rattle.speculate.proofs.Transactions.{operations_at}
+use Rattle.batch.proofs.CanRun.{operations_before}
 
 -- ---- legal entries have room where there is room for as many operations
 
@@ -36,7 +36,7 @@ legal_call_fits [] object call reply h = absurd cc
 legal_call_fits (v ∷ vs) zero call reply h = ap Some (legal-fits (v ∷ vs) zero call reply h)
 legal_call_fits (v ∷ vs) (suc object) call reply h = legal_call_fits vs object call reply h
 
-pub legal_has_room : (state : State) (ps : List Entry) (count : ℕ) → AreLegal state ps → length ps ≤ count → HasRoom state count
+pub legal_has_room : (state : State) (ps : List Entry) (count : ℕ) → AreLegal state ps → length ps ≤ count → StateHasRoom state count
     → AllHaveRoom state ps
 legal_has_room state [] count legal few room = tt
 legal_has_room state (p ∷ ps) zero legal few room = absurd (omega arith)
@@ -97,7 +97,7 @@ net-le taken (Aborted reason) = omega arith
 -- ---- what a child leaves is its body's or its handler's
 
 act_has_room : (labelled : Bool) (body : Run Taken) (handlers : Option ℕ → State → Run TakenHandler) (state : State) (m n : ℕ)
-    → HasRoom state m → HasRoom state n → length (entries (record_of body)) ≤ m
+    → StateHasRoom state m → StateHasRoom state n → length (entries (record_of body)) ≤ m
     → ((reason : Option ℕ) → length (entries_of_handler (record_of (handlers reason state))) ≤ n)
     → AreLegal state (kept_of_child (record_of (act labelled body handlers state)))
     → AllHaveRoom state (kept_of_child (record_of (act labelled body handlers state)))
@@ -131,14 +131,6 @@ operations_split [] zero = refl
 operations_split [] (suc b) = refl
 operations_split (block ∷ blocks) zero = omega arith
 operations_split (block ∷ blocks) (suc b) = let rest = operations_split blocks b in omega arith
-
--- those before a place, and a later one
-operations_before : (blocks : List Block) (b i : ℕ) → b ≤ i → all_operations (take b blocks) + operations
-    (block_at blocks i) ≤ all_operations blocks
-operations_before blocks zero i le = omega (arith, operations_at blocks i)
-operations_before [] (suc b) i le = omega arith
-operations_before (block ∷ blocks) (suc b) zero le = absurd (omega arith)
-operations_before (block ∷ blocks) (suc b) (suc i) le = let rest = operations_before blocks b i (omega arith) in omega arith
 
 -- what transactions leave
 nets_few : (start : State) (blocks : List Block) (b count : ℕ) → length (nets start blocks b count) ≤ all_operations (drop b blocks)

@@ -26,7 +26,7 @@ use Rattle.batch.specs.Views.{Tried, subaction_view, children_view}
 use Rattle.batch.specs.Running.{CanTryHere, CanRunAllHere, acted}
 use Rattle.batch.specs.declared.tree.Subaction.{Subaction}
 use Rattle.batch.proofs.CanRun.{can_try}
-use Rattle.intentions.specs.Levels.{Intentions as View, shown as state_of_view, AllHaveRoom, absorbed}
+use Rattle.intentions.specs.Levels.{Intentions as View, shown_values as state_of_view, AllHaveRoom, absorbed}
 use Rattle.committed.specs.Summaries.{entries_of, IsSummary}
 use Rattle.committed.specs.declared.marks.MarkedEntry.{MarkedEntry}
 use Rattle.committed.proofs.SummaryLemmas.{stands-summary}

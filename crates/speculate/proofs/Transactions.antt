@@ -12,14 +12,8 @@ use Rattle.batch.specs.Views.{block_view}
 use Rattle.batch.specs.Limits.{IsBatch}
 use Rattle.batch.specs.declared.tree.Block as declared_block
 use Rattle.batch.specs.Running.{CanRunHere}
-use Rattle.batch.proofs.CanRun.{well_formed_at, block_at_view}
+use Rattle.batch.proofs.CanRun.{well_formed_at, block_at_view, operations_before}
 use Rattle.speculate.specs.Runs.{IsWithinOthers}
-
--- a transaction has no more operations than all
-pub operations_at : (blocks : List Block) (i : ℕ) → operations (block_at blocks i) ≤ all_operations blocks
-operations_at [] i = omega arith
-operations_at (block ∷ blocks) zero = omega arith
-operations_at (block ∷ blocks) (suc i) = let rest = operations_at blocks i in omega arith
 
 -- a transaction can be run on objects of the batch's kinds that are no larger than all others can make them
 pub transaction_can_run : (start : State) (texts : Texts) (blocks : List declared_block.Block) (i : ℕ) (state : State)
@@ -28,7 +22,7 @@ pub transaction_can_run : (start : State) (texts : Texts) (blocks : List declare
     → i < length blocks → x ≡ get_or blocks i x → CanRunHere (block_view x) [] state
 transaction_can_run start texts blocks i state x is same within lt read =
     let size = length-map blocks block_view in
-    let few = operations_at (map block_view blocks) i in
+    let few = operations_before (map block_view blocks) zero i (omega arith) in
     let here : CanRunHere (block_at (map block_view blocks) i) [] state = record {
       labels = [];
       held_by = tt;

@@ -1,11 +1,11 @@
 -- A view as what a block is run on.
 use Rattle.std.specs.Prelude.{◌≡◌}
 use Rattle.batch.specs.Grounds.{Ground}
-use Rattle.intentions.specs.Levels.{Intentions as View, shown, absorbed}
+use Rattle.intentions.specs.Levels.{Intentions as View, shown_values, absorbed}
 
 -- all entries came to the view, and what is kept of them to its innermost net
 abbrev pub in_view : Ground View
 in_view = record {
-  state = shown;
+  state = shown_values;
   Took = λ before entries kept now. now ≡ absorbed before entries kept;
 }

@@ -3,7 +3,7 @@
 ghost use Rattle.std.specs.Prelude.{◌≡◌, ◌++◌, ◌-◌, ◌≤◌, ◌<◌, [], IfOk, OnOk, length, slice_range};
 ghost use Rattle.std.specs.Option.{ForSome};
 ghost use Rattle.std.specs.Thread.{IsSync};
-ghost use Rattle.intentions.specs.Levels.{shown as state_of_view};
+ghost use Rattle.intentions.specs.Levels.{shown_values as state_of_view};
 ghost use Rattle.meaning.specs.Records.{kept_of_child};
 ghost use Rattle.meaning.specs.OneThread.{record_of, one, one_step, one_children, one_handler};
 ghost use Rattle.batch.specs.Views.{block_view, steps_view, step_view, subaction_view, children_view};

@@ -6,8 +6,8 @@ use Rattle.objects.specs.declared.kind.Kind.{Kind}
 use Rattle.objects.specs.declared.kind.Kind.TheVariants as kind
 use Rattle.words.specs.declared.kind.TheConstants.{KINDS}
 use Rattle.words.specs.declared.word.Word.{Word}
-use Rattle.words.specs.declared.word.Word.TheVariants.{Ok, No, Added, Present, Removed, Absent, Yes, Got, Empty, Bound, Taken, Gone, Missing}
-use Rattle.words.specs.declared.word.Word.TheVariants.{Found, Committed, Aborted}
+use Rattle.words.specs.declared.word.Word.TheVariants.{Ok, No, Added, Present, Removed, Absent, Yes, Got, Empty, Bound, Taken, Gone}
+use Rattle.words.specs.declared.word.Word.TheVariants.{Missing, Found, Committed, Aborted}
 use Rattle.words.specs.declared.word.TheConstants.{WORDS}
 
 abbrev pub kind_text : Kind → List ℕ

@@ -7,7 +7,7 @@ use Rattle.objects.specs.declared.call.Reply.TheVariants.{Queue as queue_reply}
 use Rattle.atoms.specs.declared.item.Item.{Item}
 use Rattle.atoms.specs.declared.queue.QueueCall.TheVariants.{Enq}
 use Rattle.atoms.specs.declared.queue.QueueReply.TheVariants.{Ok}
-use Rattle.intentions.specs.Levels.{shown}
+use Rattle.intentions.specs.Levels.{shown_values}
 use Rattle.list_tests.proofs.intentions_tests.absorb_enq.Goals as goal
 
 -- an enqueueing on any queue has room and returns ok
@@ -30,7 +30,7 @@ enq_room (v ∷ values) zero x h = cc
 enq_room (v ∷ values) (suc object) x h = enq_room values object x h
 
 pub absorb-requires-clause-legal : goal.absorb-requires-clause-legal
-absorb-requires-clause-legal c = (enq (shown c.args.view.now) c.args.object c.args.item (c.fits.ensures.0 c.if-fits.true), tt)
+absorb-requires-clause-legal c = (enq (shown_values c.args.view.now) c.args.object c.args.item (c.fits.ensures.0 c.if-fits.true), tt)
 
 pub absorb-requires-clause-room : goal.absorb-requires-clause-room
-absorb-requires-clause-room c = (enq_room (shown c.args.view.now) c.args.object c.args.item (c.fits.ensures.0 c.if-fits.true), tt)
+absorb-requires-clause-room c = (enq_room (shown_values c.args.view.now) c.args.object c.args.item (c.fits.ensures.0 c.if-fits.true), tt)

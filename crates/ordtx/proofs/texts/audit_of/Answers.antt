@@ -11,5 +11,5 @@ returns-in_err-text-clause-fault g c =
 
 pub returns-in_err-text-clause-code : goal.returns-in_err-text-clause-code
 returns-in_err-text-clause-code g c =
-    passed_on c.from_residual-in_err-text.result (λ fault. is_of_reading fault.code ≡ true) memory_fault c.from_residual-in_err-text.ensures.1
-    refl
+    passed_on c.from_residual-in_err-text.result (λ fault. is_of_reading fault.code ≡ true) memory_fault
+    c.from_residual-in_err-text.ensures.1 refl

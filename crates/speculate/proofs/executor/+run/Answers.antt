@@ -5,7 +5,7 @@ use Rattle.meaning.specs.OneThread.{label_if}
 use Rattle.meaning.specs.declared.held.Held.TheVariants.{Outcome}
 use Rattle.batch.proofs.ViewLemmas.{subaction_view-labelled}
 use Rattle.batch.specs.Views.{subaction_view}
-use Rattle.intentions.specs.Levels.{shown as state_of_view}
+use Rattle.intentions.specs.Levels.{shown_values as state_of_view}
 use Rattle.batch.proofs.PartRuns.{part_run-start, part_run-more, part_run-aborted, part_run-ended}
 use Rattle.batch.proofs.CanRun.{op-can, if-bound}
 use Rattle.batch.proofs.StepShows.{op-shows, if-shows_then, if-shows_else, sub-shows, abort-shows, parallel-shows}

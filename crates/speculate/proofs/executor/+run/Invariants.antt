@@ -5,7 +5,7 @@ use Rattle.std.specs.Vec.Iter.{into_iter_items, into_iter_len}
 use Rattle.batch.specs.declared.tree.Block.{size-Block}
 use Rattle.batch.specs.declared.tree.Step.{size-Step}
 use Rattle.batch.specs.declared.tree.Subaction.{size-Subaction}
-use Rattle.intentions.specs.Levels.{shown as state_of_view}
+use Rattle.intentions.specs.Levels.{shown_values as state_of_view}
 use Rattle.speculate.specs.Ahead.{AreRunAhead}
 use Rattle.batch.proofs.PartRuns.{IsPartRun}
 use Rattle.batch.proofs.PartTried.{ArePartTried}

@@ -1,6 +1,6 @@
 use Rattle.std.proofs.Common.{◌<◌, ◌-◌, [], sym, subst, length, arith}
 use Rattle.batch.specs.Views.{block_view}
-use Rattle.intentions.specs.Levels.{shown as state_of_view}
+use Rattle.intentions.specs.Levels.{shown_values as state_of_view}
 use Rattle.batch.specs.Running.{CanRunHere}
 use Rattle.speculate.proofs.Transactions.{transaction_can_run}
 use Rattle.speculate.proofs.transaction.run_in.Goals as goal

@@ -3,7 +3,7 @@ use Rattle.std.proofs.lemmas.Bool.{eq-eqb}
 use Rattle.std.proofs.lemmas.Nat.Bits.{bit_at-zero}
 use Rattle.std.specs.Int.{bit_at}
 use Rattle.objects.specs.declared.entry.Entry.{Entry}
-use Rattle.committed.specs.Classes.{class_of, number_of}
+use Rattle.committed.specs.Classes.{class_of, class_number}
 use Rattle.committed.specs.Filter.{IsMarked}
 use Rattle.objects.specs.Entries.{CommuteForward}
 use Rattle.committed.proofs.StandsLemmas.{all_first}
@@ -26,7 +26,7 @@ returns-then-met-eq0 c =
     (c.self.invariant.filter k e (subst (λ xs. k < length xs) (sym c.self.view_is) (omega (arith, before, c.requires.within)))) in
     elim (c.met-met.ensures e other c.requires.mark marked) [
       | inl commutes ↦ commutes
-      | inr bit ↦ (let n : ℕ = number_of (class_of other.call other.reply) in
+      | inr bit ↦ (let n : ℕ = class_number (class_of other.call other.reply) in
           let none : bit_at c.met-met.result n ≡ 0 = ap (λ s. bit_at s n) c.if-met-eq0.true ∙ bit_at-zero n in
           absurd (omega (arith, bit, none)))
     ]) in

@@ -4,7 +4,7 @@ use Rattle.objects.specs.declared.entry.Entry.{Entry}
 use Rattle.committed.specs.declared.classes.Class.{Class}
 use Rattle.committed.specs.declared.classes.Class.TheVariants.{Deposit}
 use Rattle.committed.specs.declared.marks.Mark.{Mark}
-use Rattle.committed.specs.Classes.{class_of, number_of, classes}
+use Rattle.committed.specs.Classes.{class_of, class_number, classes}
 use Rattle.committed.specs.Items.{is_compared}
 use Rattle.committed.specs.Marks.{mark_of}
 use Rattle.committed.specs.Index.{key_against, IsLinked, IsListed}
@@ -26,9 +26,9 @@ returns-then-not-commutes c =
     )
 
 pub loop-class-preserved : goal.loop-class-preserved
-loop-class-preserved c k before listed number = elim (cases_lt (number_of class) at) [
+loop-class-preserved c k before listed number = elim (cases_lt (class_number class) at) [
   | inl earlier ↦ c.loop-class.invariant k before listed earlier
-  | inr late ↦ (let here : number_of class ≡ at = omega arith in
+  | inr late ↦ (let here : class_number class ≡ at = omega arith in
       let is : get_or classes at Deposit ≡ class = ap (λ n. get_or classes n Deposit) (sym here) ∙ class_at class in
       by_compared here is (is_compared e other) refl)
 ]
@@ -52,7 +52,8 @@ loop-class-preserved c k before listed number = elim (cases_lt (number_of class)
     inside_listed = subst (λ xs. IsListed c.self.inside.index.links.items k (get_or xs k e)) c.self.view_is
         (c.self.invariant.index.listed k e listed)
 
-    by_compared : number_of class ≡ at → get_or classes at Deposit ≡ class → (b : Bool) → is_compared e other ≡ b → CommuteForward e other
+    by_compared : class_number class ≡ at → get_or classes at Deposit ≡ class → (b : Bool) → is_compared e other ≡ b
+        → CommuteForward e other
     by_compared here is false compared = elsewhere e other compared
     by_compared here is true compared = elim c.if-met-bit-ne0.branch [
       | then-met-bit-ne0+else-not-commutes w ↦ (
@@ -66,8 +67,8 @@ loop-class-preserved c k before listed number = elim (cases_lt (number_of class)
           ∙ c.self.view_is) (w.commutes.ensures.found w.if-not-commutes.false k before linked))
       | else-met-bit-ne0 w ↦ (elim (c.requires.met k before) [
         | inl commutes ↦ commutes
-        | inr bit ↦ absurd (is_met c.args.met (number_of class) bit
-            (ap (λ d. bit_and c.args.met (2 ^ number_of d)) (sym is) ∙ ap (bit_and c.args.met) (sym c.bit.ensures)
+        | inr bit ↦ absurd (is_met c.args.met (class_number class) bit
+            (ap (λ d. bit_and c.args.met (2 ^ class_number d)) (sym is) ∙ ap (bit_and c.args.met) (sym c.bit.ensures)
             ∙ w.if-met-bit-ne0.false))
       ])
     ]

@@ -1,10 +1,10 @@
 use Rattle.std.proofs.Common.{ℕ, ◌<◌, get_or}
-use Rattle.committed.specs.Classes.{class_of, number_of}
+use Rattle.committed.specs.Classes.{class_of, class_number}
 use Rattle.objects.specs.Entries.{CommuteForward}
 use Rattle.committed.proofs.committed.Committed.commutes_with_met.Given as goal
 
 abbrev pub invariant-loop-class : goal.invariant-loop-class
 invariant-loop-class l =
     (k : ℕ) → k < l.upto → k < l.self-inside.index.listed
-    → number_of (class_of (get_or l.self k l.entry).call (get_or l.self k l.entry).reply) < l.class-index
+    → class_number (class_of (get_or l.self k l.entry).call (get_or l.self k l.entry).reply) < l.class-index
     → CommuteForward l.entry (get_or l.self k l.entry)

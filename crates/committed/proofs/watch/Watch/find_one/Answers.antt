@@ -2,7 +2,7 @@ use Rattle.std.proofs.Common.{◌≡◌, bit_and, ℕ, ◌<◌, arith, length, g
 use Rattle.committed.specs.declared.classes.Class.{Class}
 use Rattle.committed.specs.declared.classes.Class.TheVariants.{Deposit}
 use Rattle.committed.specs.Chains.{slot_of, HasLink}
-use Rattle.committed.specs.Classes.{classes, number_of}
+use Rattle.committed.specs.Classes.{classes, class_number}
 use Rattle.committed.specs.Index.{key_against}
 use Rattle.committed.proofs.ListsLemmas.{class_at, number-bound}
 use Rattle.committed.proofs.StandsLemmas.{is_met}
@@ -43,7 +43,7 @@ loop-class-preserved c =
                 c.loop-class.class-index
                 c.loop-class.invariant.sought
                 (record {
-                  all = λ bit run late has. absurd (is_met met (number_of class) bit (ap (bit_and met) (sym c.bit.ensures)
+                  all = λ bit run late has. absurd (is_met met (class_number class) bit (ap (bit_and met) (sym c.bit.ensures)
                       ∙ w.if-met-bit-ne0.false));
                 });
           })
@@ -58,7 +58,7 @@ returns-clause-stand c = λ run other late none watched.
     not_found_commutes watch c.args.from found run marked.entry other met late none watched
     (c.met-met.ensures marked.entry other marked.is_marked)
     (λ class.
-    let there : number_of class < c.loop-class.class-index = omega (arith, number-bound class, c.loop-class-test.false) in
+    let there : class_number class < c.loop-class.class-index = omega (arith, number-bound class, c.loop-class-test.false) in
     subst (λ m. IsSought watch.links.items (length watch.last.items) c.args.from found m met class) marked.is_marked
     (subst (IsSought watch.links.items (length watch.last.items) c.args.from found marked.mark met) (class_at class)
-    (c.loop-class.invariant.sought (number_of class) there)))
+    (c.loop-class.invariant.sought (class_number class) there)))
