@@ -8,9 +8,7 @@ use Rattle.atoms.specs.declared.item.Item.{Item}
 use Rattle.objects.specs.declared.call.Call.{Call}
 use Rattle.objects.specs.declared.value.Value.{Value}
 use Rattle.objects.specs.declared.value.Value.TheVariants as value
-use Rattle.words.specs.Verbs.{phrase_of}
-use Rattle.words.specs.declared.verb.Phrase.{Phrase}
-use Rattle.words.specs.declared.verb.Phrase.TheVariants.{OfAmount, OfItem, OfPair, Alone}
+use Rattle.words.specs.Verbs.{ItemsAre, phrase_of}
 use Rattle.meaning.specs.declared.test.Test.{Test}
 use Rattle.meaning.specs.declared.test.Test.TheVariants.{IsItem}
 use Rattle.meaning.specs.Trees.{Block, NoStep, Steps, Step, Operation, If, Subaction, Abort, Parallel, Handlers, ForReason, Otherwise, GoOn}
@@ -23,14 +21,8 @@ HasText texts item = item.0 < length texts.items
 abbrev pub HasReason : Texts → ℕ → Type 0
 HasReason texts reason = reason < length texts.reasons
 
-abbrev pub IsNamedPhrase : Texts → Phrase → Type 0
-IsNamedPhrase texts (OfAmount v a) = ⊤
-IsNamedPhrase texts (OfItem v x) = HasText texts x
-IsNamedPhrase texts (OfPair v k x) = HasText texts k × HasText texts x
-IsNamedPhrase texts (Alone v) = ⊤
-
 abbrev pub IsNamedCall : Texts → Call → Type 0
-IsNamedCall texts c = IsNamedPhrase texts (phrase_of c)
+IsNamedCall texts c = ItemsAre (HasText texts) (phrase_of c)
 
 abbrev pub IsNamedTest : Texts → Test → Type 0
 IsNamedTest texts (IsItem x) = HasText texts x

@@ -2,7 +2,7 @@
 use Rattle.std.specs.Prelude.{List, [], ◌∷◌}
 use Rattle.std.proofs.Props.{props}
 use Rattle.objects.specs.declared.call.Call.{Call}
-use Rattle.words.specs.Verbs.{phrase_of}
+use Rattle.words.specs.Verbs.{ItemsAre, phrase_of}
 use Rattle.words.specs.declared.verb.Phrase.{Phrase}
 use Rattle.words.specs.declared.verb.Phrase.TheVariants.{OfAmount, OfItem, OfPair, Alone}
 use Rattle.objects.specs.declared.value.Value.{Value}
@@ -12,17 +12,17 @@ use Rattle.meaning.specs.declared.test.Test.TheVariants.{Is, AtLeast, IsItem}
 use Rattle.meaning.specs.Trees.{Block, NoStep, Steps, Step, Operation, If, Subaction, Abort, Parallel, Handlers, ForReason, Otherwise, GoOn}
 use Rattle.meaning.specs.Trees.{Pass, Children, NoChild, Child}
 use Rattle.batch.specs.Names.{Texts}
-use Rattle.batch.specs.Named.{IsNamedCall, IsNamedPhrase, IsNamedTest, IsNamed, IsNamedStep, AreNamedHandlers, AreNamed, AllNamed}
+use Rattle.batch.specs.Named.{HasText, IsNamedCall, IsNamedTest, IsNamed, IsNamedStep, AreNamedHandlers, AreNamed, AllNamed}
 use Rattle.batch.specs.Named.{IsNamedValue, AllNamedValues}
 
-IsNamedPhrase-prop : (texts : Texts) (p : Phrase) → IsProp (IsNamedPhrase texts p)
-IsNamedPhrase-prop texts (OfAmount v a) = hlevel props
-IsNamedPhrase-prop texts (OfItem v x) = hlevel props
-IsNamedPhrase-prop texts (OfPair v k x) = hlevel props
-IsNamedPhrase-prop texts (Alone v) = hlevel props
+items-prop : (texts : Texts) (p : Phrase) → IsProp (ItemsAre (HasText texts) p)
+items-prop texts (OfAmount v a) = hlevel props
+items-prop texts (OfItem v x) = hlevel props
+items-prop texts (OfPair v k x) = hlevel props
+items-prop texts (Alone v) = hlevel props
 
 IsNamedCall-prop : (texts : Texts) (c : Call) → IsProp (IsNamedCall texts c)
-IsNamedCall-prop texts c = IsNamedPhrase-prop texts (phrase_of c)
+IsNamedCall-prop texts c = items-prop texts (phrase_of c)
 
 IsNamedTest-prop : (texts : Texts) (test : Test) → IsProp (IsNamedTest texts test)
 IsNamedTest-prop texts (Is word) = hlevel props

@@ -1,24 +1,7 @@
 -- Objects end with items that have texts, where they start so and the transactions name no others.
 use Rattle.std.proofs.Common.{◌≡◌, ℕ, zero, suc, inl, inr, Bool, true, false, not, cond, List, [], ◌∷◌, ◌++◌, Option, Some, None}
 use Rattle.std.proofs.Common.{refl, sym, subst, ◌∙◌, arith}
-use Rattle.std.specs.Prelude.{is_some, slice_index_or}
-use Rattle.std.specs.Ordering.{eq_by_cmp}
-use Rattle.std.proofs.lemmas.Bool.{and_parts, or_cases}
-use Rattle.std.proofs.lemmas.List.Elements.{All-push}
-use Rattle.std.specs.FinSet as finite_set
-use Rattle.std.specs.FinMap as finite_map
-use Rattle.atoms.specs.Item.{item_cmp}
-use Rattle.atoms.specs.ItemSet.{set_after}
-use Rattle.atoms.specs.Queue.{queue_after}
-use Rattle.atoms.specs.Directory.{directory_after}
-use Rattle.atoms.specs.declared.item.Item.{Item}
-use Rattle.atoms.specs.declared.item_set.SetCall.{SetCall}
-use Rattle.atoms.specs.declared.item_set.SetCall.TheVariants.{Insert, Remove, Has, Size}
-use Rattle.atoms.specs.declared.queue.QueueCall.{QueueCall}
-use Rattle.atoms.specs.declared.queue.QueueCall.TheVariants.{Enq, Deq, Length}
-use Rattle.atoms.specs.declared.directory.DirectoryCall.{DirectoryCall}
-use Rattle.atoms.specs.declared.directory.DirectoryCall.TheVariants.{Bind, Put, Unbind, Lookup}
-use Rattle.atoms.proofs.Items.{alike_is, items_total}
+use Rattle.std.specs.Prelude.{slice_index_or}
 use Rattle.objects.specs.Entries.{State, after_call, reply_at}
 use Rattle.objects.specs.Objects.{value_after}
 use Rattle.objects.specs.declared.call.Call.{Call}
@@ -26,6 +9,7 @@ use Rattle.objects.specs.declared.call.Call.TheVariants as to
 use Rattle.objects.specs.declared.call.Reply.{Reply}
 use Rattle.objects.specs.declared.value.Value.{Value}
 use Rattle.objects.specs.declared.value.Value.TheVariants as value
+use Rattle.words.proofs.Verbs.{directory_items, queue_items, set_items}
 use Rattle.meaning.specs.declared.end.End.TheVariants.{Ended, Aborted}
 use Rattle.meaning.specs.declared.held.Held.{Held}
 use Rattle.meaning.specs.Trees.{Block, NoStep, Steps, Step, Operation, If, Subaction, Abort, Parallel, Handlers, ForReason, Otherwise, GoOn}
@@ -44,55 +28,12 @@ use Rattle.batch.specs.Names.{Texts}
 module _ (texts : Texts) where
   -- ---- one call
 
-  set_named : (s : finite_set.FinSet item_cmp) (c : SetCall) → IsNamedValue texts (value.Set s) → IsNamedCall texts (to.Set c)
-      → IsNamedValue texts (value.Set (set_after s c))
-  set_named s (Insert y) had named = λ x is.
-      elim (or_cases (eq_by_cmp item_cmp x y) (finite_set.contains s x) (sym (finite_set.contains-insert items_total s y x) ∙ is)) [
-        | inl same ↦ subst (HasText texts) (sym (alike_is x y same)) named
-        | inr old ↦ had x old
-      ]
-  set_named s (Remove y) had named = λ x is.
-      had x (and_parts (not (eq_by_cmp item_cmp x y)) _ (sym (finite_set.contains-remove items_total s y x) ∙ is)).1
-  set_named s (Has y) had named = had
-  set_named s Size had named = had
-
-  queue_named : (q : List Item) (c : QueueCall) → IsNamedValue texts (value.Queue q) → IsNamedCall texts (to.Queue c)
-      → IsNamedValue texts (value.Queue (queue_after q c))
-  queue_named q (Enq x) had named = All-push (HasText texts) q x had named
-  queue_named [] Deq had named = had
-  queue_named (x ∷ q) Deq had named = λ k d below. had (suc k) d (omega arith)
-  queue_named q Length had named = had
-
-  insert_named : (d : finite_map.FinMap item_cmp Item) (k v : Item) → IsNamedValue texts (value.Directory d) → HasText texts k
-      → HasText texts v → IsNamedValue texts (value.Directory (finite_map.insert d k v))
-  insert_named d k v had key named q x is = by (eq_by_cmp item_cmp q k) refl (sym (finite_map.get-insert items_total d k v q) ∙ is)
-    where
-      by : (b : Bool) → eq_by_cmp item_cmp q k ≡ b → cond b (Some v) (finite_map.get d q) ≡ Some x → HasText texts q × HasText texts x
-      by true same bound = let value : v ≡ x = cc in
-          (subst (HasText texts) (sym (alike_is q k same)) key, subst (HasText texts) value named)
-      by false same bound = had q x bound
-
-  directory_named : (d : finite_map.FinMap item_cmp Item) (c : DirectoryCall) → IsNamedValue texts (value.Directory d)
-      → IsNamedCall texts (to.Directory c) → IsNamedValue texts (value.Directory (directory_after d c))
-  directory_named d (Bind k v) had named = by (is_some (finite_map.get d k))
-    where
-      by : (b : Bool) → IsNamedValue texts (value.Directory (cond b d (finite_map.insert d k v)))
-      by true = had
-      by false = insert_named d k v had named.0 named.1
-  directory_named d (Put k v) had named = insert_named d k v had named.0 named.1
-  directory_named d (Unbind k) had named = λ q x is. by q x (eq_by_cmp item_cmp q k) (sym (finite_map.get-remove items_total d k q) ∙ is)
-    where
-      by : (q x : Item) (b : Bool) → cond b None (finite_map.get d q) ≡ Some x → HasText texts q × HasText texts x
-      by q x true bound = cc
-      by q x false bound = had q x bound
-  directory_named d (Lookup k) had named = had
-
   value_named : (v : Value) (c : Call) → IsNamedValue texts v → IsNamedCall texts c → IsNamedValue texts (value_after v c)
   value_named (value.Account n) (to.Account c) had named = tt
   value_named (value.Counter n) (to.Counter c) had named = tt
-  value_named (value.Set s) (to.Set c) had named = set_named s c had named
-  value_named (value.Queue q) (to.Queue c) had named = queue_named q c had named
-  value_named (value.Directory d) (to.Directory c) had named = directory_named d c had named
+  value_named (value.Set s) (to.Set c) had named = set_items (HasText texts) s c had named
+  value_named (value.Queue q) (to.Queue c) had named = queue_items (HasText texts) q c had named
+  value_named (value.Directory d) (to.Directory c) had named = directory_items (HasText texts) d c had named
   value_named (value.Max n) (to.Max c) had named = tt
   value_named v c had named = had
 

@@ -4,7 +4,7 @@ use Rattle.atoms.specs.declared.item.Item.{Item}
 use Rattle.objects.specs.declared.call.Call.{Call}
 use Rattle.objects.specs.declared.value.Value.{Value}
 use Rattle.objects.specs.declared.value.Value.TheVariants as value
-use Rattle.words.specs.Verbs.{phrase_of}
+use Rattle.words.specs.Verbs.{ItemsAre, phrase_of}
 use Rattle.words.specs.declared.verb.Phrase.{Phrase}
 use Rattle.words.specs.declared.verb.Phrase.TheVariants.{OfAmount, OfItem, OfPair, Alone}
 use Rattle.meaning.specs.declared.test.Test.{Test}
@@ -13,7 +13,7 @@ use Rattle.meaning.specs.Trees as tree
 use Rattle.meaning.specs.Trees.{NoStep, Steps, Step, Operation, If, Subaction, Abort, Parallel, Handlers, ForReason, Otherwise, GoOn, Pass}
 use Rattle.meaning.specs.Trees.{Children, NoChild, Child}
 use Rattle.batch.specs.Names.{Texts}
-use Rattle.batch.specs.Named.{HasText, HasReason, IsNamedCall, IsNamedPhrase, IsNamedTest, IsNamed, IsNamedStep, AreNamed, AllNamed}
+use Rattle.batch.specs.Named.{HasText, HasReason, IsNamedCall, IsNamedTest, IsNamed, IsNamedStep, AreNamed, AllNamed}
 use Rattle.batch.specs.Named.{AreNamedHandlers, IsNamedValue, AllNamedValues}
 
 module _ (texts more : Texts) (items : length texts.items ≤ length more.items) (reasons : length texts.reasons ≤ length more.reasons) where
@@ -23,7 +23,7 @@ module _ (texts more : Texts) (items : length texts.items ≤ length more.items)
   reason_later : (reason : ℕ) → HasReason texts reason → HasReason more reason
   reason_later reason named = omega (arith, reasons, named)
 
-  phrase_later : (p : Phrase) → IsNamedPhrase texts p → IsNamedPhrase more p
+  phrase_later : (p : Phrase) → ItemsAre (HasText texts) p → ItemsAre (HasText more) p
   phrase_later (OfAmount v a) named = tt
   phrase_later (OfItem v x) named = item_later x named
   phrase_later (OfPair v k x) named = (item_later k named.0, item_later x named.1)

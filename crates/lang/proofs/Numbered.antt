@@ -10,7 +10,7 @@ use Rattle.meaning.specs.declared.test.Test.{Test}
 use Rattle.meaning.specs.Trees as tree
 use Rattle.meaning.specs.Trees.{Step, Handlers, for_reasons, handlers_of}
 use Rattle.batch.specs.Names.{Texts, is_name}
-use Rattle.batch.specs.Named.{AllNamed, AreNamed, AreNamedHandlers, HasReason, HasText, IsNamed, IsNamedCall, IsNamedPhrase}
+use Rattle.batch.specs.Named.{AllNamed, AreNamed, AreNamedHandlers, HasReason, HasText, IsNamed, IsNamedCall}
 use Rattle.batch.specs.Named.{IsNamedStep, IsNamedTest}
 use Rattle.batch.specs.Views.{Tried, children_of, steps_of}
 use Rattle.lang.specs.declared.steps.Sort.{Sort}
@@ -29,7 +29,7 @@ use Rattle.lang.specs.Amounts.{amount_of}
 use Rattle.lang.specs.Demand.{Demand, holds, in_transaction, one_more_node, one_more_operation}
 use Rattle.lang.specs.Look.{has, or_empty, text_member}
 use Rattle.lang.specs.Scope.{Numbers, Scope, Setting, number_of, with_item, with_label, with_reason}
-use Rattle.words.specs.Verbs.{amount_call, item_call, lone_call, pair_call}
+use Rattle.words.specs.Verbs.{ItemsAre, amount_call, item_call, lone_call, pair_call}
 use Rattle.words.proofs.Verbs.{amount_phrase, item_phrase, lone_phrase, pair_phrase}
 use Rattle.lang.specs.Asked.{abort_asked, abort_shape_asked, amount_item, arguments_asked, array_asked, block_asked, block_asked_if}
 use Rattle.lang.specs.Asked.{call_named, children_asked, children_in, handlers_asked, handlers_in, has_count, holds_item, holds_number}
@@ -48,16 +48,16 @@ use Rattle.lang.proofs.Tables.{texts_in}
 -- ---- calls
 
 item_call_named : (texts : Texts) (v : ItemVerb) (x : Item) → HasText texts x → IsNamedCall texts (item_call v x)
-item_call_named texts v x named = subst (IsNamedPhrase texts) (sym (item_phrase v x)) named
+item_call_named texts v x named = subst (ItemsAre (HasText texts)) (sym (item_phrase v x)) named
 
 pair_call_named : (texts : Texts) (v : PairVerb) (k x : Item) → HasText texts k → HasText texts x → IsNamedCall texts (pair_call v k x)
-pair_call_named texts v k x key named = subst (IsNamedPhrase texts) (sym (pair_phrase v k x)) (key, named)
+pair_call_named texts v k x key named = subst (ItemsAre (HasText texts)) (sym (pair_phrase v k x)) (key, named)
 
 amount_call_named : (texts : Texts) (v : AmountVerb) (n : ℕ) → IsNamedCall texts (amount_call v (amount_of n))
-amount_call_named texts v n = subst (IsNamedPhrase texts) (sym (amount_phrase v (amount_of n))) tt
+amount_call_named texts v n = subst (ItemsAre (HasText texts)) (sym (amount_phrase v (amount_of n))) tt
 
 lone_call_named : (texts : Texts) (v : LoneVerb) → IsNamedCall texts (lone_call v)
-lone_call_named texts v = subst (IsNamedPhrase texts) (sym (lone_phrase v)) tt
+lone_call_named texts v = subst (ItemsAre (HasText texts)) (sym (lone_phrase v)) tt
 
 call_numbered : (v : Verb) (numbers : Numbers) (op : Data) → Numbered IsNamedCall numbers (call_of v numbers op) (arguments_asked v op)
 unfolding call_of arguments_asked item_asked

@@ -1,5 +1,5 @@
 -- Verbs, and calls as they are said: a verb and its arguments.
-use Rattle.std.specs.Prelude.{ℕ, Bool, true, false, List, codes, Option, nat_le, ◌&&◌}
+use Rattle.std.specs.Prelude.{ℕ, Bool, true, false, List, codes, Option, nat_le, ◌&&◌, ⊤}
 use Rattle.std.specs.List.{find}
 use Rattle.std.specs.Str.{bytes_eq}
 use Rattle.atoms.specs.declared.item.Item.{Item}
@@ -128,6 +128,13 @@ phrase_verb (phrase.Alone v) = Alone v
 
 abbrev pub verb_of : Call → Verb
 verb_of c = phrase_verb (phrase_of c)
+
+-- each item that a call is said with
+abbrev pub ItemsAre : (Item → Type 0) → Phrase → Type 0
+ItemsAre P (phrase.OfAmount v a) = ⊤
+ItemsAre P (phrase.OfItem v x) = P x
+ItemsAre P (phrase.OfPair v k x) = P k × P x
+ItemsAre P (phrase.Alone v) = ⊤
 
 -- ---- replies
 
