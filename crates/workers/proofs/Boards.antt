@@ -1,6 +1,6 @@
 -- What is known of the seats of a board once all are back.
 use Rattle.std.proofs.Common.{◌≡◌, ◌⊎◌, ℕ, zero, suc, ◌+◌, ◌<◌, ◌≤◌, Bool, true, false, true≢false, ◌||◌, ltb, eqb, ne_eqb, List, [], ◌∷◌}
-use Rattle.std.proofs.Common.{length, replicate, sym, refl, ap, ◌∙◌, subst, inl, inr, ⊎_elim, arith}
+use Rattle.std.proofs.Common.{◌++◌, length, replicate, sym, refl, ap, ◌∙◌, subst, inl, inr, ⊎_elim, arith}
 use Rattle.std.proofs.lemmas.List.Elements.{All-tail}
 use native.Mathlib.Decide.{ℕ_discrete}
 use Rattle.std.proofs.lemmas.Bool.Decides.{nat_tests}
@@ -21,14 +21,18 @@ done_of_over : (n : ℕ) (b : Bool) → (ltb 0 n || b) ≡ true → ¬ (b ≡ tr
 done_of_over zero b over not = absurd (not over)
 done_of_over (suc n) b over not = omega arith
 
--- where all seats are over and none raised, all pieces were drawn
-pub all_pieces : (pieces drawn : ℕ) (stopped : Bool) (seats : List Seated) → 0 < length seats → All (λ s. is_over s.view ≡ true) seats
-    → stopped ≡ false → All (λ s. 0 < s.view.done → drawn ≡ pieces) seats
-    → All (λ s. s.view.stopped ≡ true → stopped ≡ true) seats → drawn ≡ pieces
-all_pieces pieces drawn stopped [] some over quiet done told = absurd (omega arith)
-all_pieces pieces drawn stopped (s ∷ seats) some over quiet done told =
+-- where some seats are over, beside those that didn't claim, and none raised, all pieces were drawn
+pub all_pieces : (pieces drawn : ℕ) (stopped : Bool) (unused seats : List Seated) → 0 < length seats
+    → All (λ s. is_over s.view ≡ true) seats → stopped ≡ false → All (λ s. 0 < s.view.done → drawn ≡ pieces) (unused ++ seats)
+    → All (λ s. s.view.stopped ≡ true → stopped ≡ true) (unused ++ seats) → drawn ≡ pieces
+all_pieces pieces drawn stopped [] [] some over quiet done told = absurd (omega arith)
+all_pieces pieces drawn stopped [] (s ∷ seats) some over quiet done told =
     done 0 s (omega arith) (done_of_over s.view.done s.view.stopped (over 0 s (omega arith))
     (λ was. true≢false (sym (told 0 s (omega arith) was) ∙ quiet)))
+all_pieces pieces drawn stopped (u ∷ unused) seats some over quiet done told =
+    all_pieces pieces drawn stopped unused seats some over quiet
+    (All-tail (λ s. 0 < s.view.done → drawn ≡ pieces) u (unused ++ seats) done)
+    (All-tail (λ s. s.view.stopped ≡ true → stopped ≡ true) u (unused ++ seats) told)
 
 -- what holds of each number of a list holds of one that stands in it
 pub in_list : (Q : ℕ → Type 0) (xs : List ℕ) (k : ℕ) → All Q xs → 0 < times k xs → Q k

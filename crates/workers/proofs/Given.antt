@@ -40,10 +40,8 @@ given_more gives before after seat claim x is each here =
     (All-push (IsGivenBy gives) before x each (record { seat = seat; claim = claim; given = here }))
 
 -- what is known of all that is given of one seat is known of each
-pub each_given : {X E : Type 0} (gives : Seated → Claim → X → Type 0) (Q : X → Type 0) (n : ℕ) (r : Result (Vec X Global) E)
-    → IfOk r (λ all. length all.items ≡ n) → IfOk r (λ all. All (IsGivenBy gives) all.items)
-    → ((seat : Seated) (claim : Claim) (x : X) → gives seat claim x → Q x)
-    → IfOk r (λ all. (length all.items ≡ n) × All Q all.items)
-each_given gives Q n (Ok all) count each known =
-    (count, λ k d lt. let by = each k d lt in known by.seat by.claim (get_or all.items k d) by.given)
-each_given gives Q n (Err e) count each known = tt
+pub each_given : {X Y E : Type 0} (gives : Seated → Claim → X → Type 0) (Q : X → Type 0) (r : Result (Vec X Global × Y) E)
+    → IfOk r (λ p. All (IsGivenBy gives) p.0.items) → ((seat : Seated) (claim : Claim) (x : X) → gives seat claim x → Q x)
+    → IfOk r (λ p. All Q p.0.items)
+each_given gives Q (Ok p) each known = λ k d lt. let by = each k d lt in known by.seat by.claim (get_or p.0.items k d) by.given
+each_given gives Q (Err e) each known = tt

@@ -1,8 +1,8 @@
 -- What the items of some pieces are, and what workers have given once they are back.
-use Rattle.std.proofs.Common.{◌≡◌, ℕ, zero, suc, ◌<◌, Bool, true, false, true≢false, List, [], ◌∷◌, ◌++◌, length, map}
+use Rattle.std.proofs.Common.{◌≡◌, ℕ, zero, suc, ◌<◌, Bool, true, false, true≢false, ◌||◌, List, [], ◌∷◌, ◌++◌, length, map}
 use Rattle.std.proofs.Common.{sym, refl, ap, ◌∙◌, subst, append_assoc, append-nil, arith}
 use Rattle.std.proofs.lemmas.Bool.{or_parts}
-use Rattle.std.proofs.lemmas.List.Elements.{All-tail}
+use Rattle.std.proofs.lemmas.List.Elements.{All-append, All-tail}
 use Rattle.std.proofs.lemmas.List.{length-map, append_cancel_left}
 use Rattle.std.specs.List.{All, list_any, flat_map}
 use Rattle.std.specs.declared.vec.Vec.{Vec}
@@ -17,6 +17,7 @@ use Rattle.claims.specs.Steps.{with_piece}
 use Rattle.claims.specs.Seated.{Seated, Opened, IsSeatOf, views_of}
 use Rattle.workers.specs.declared.work.Bench.{Bench}
 use Rattle.workers.specs.declared.work.Worked.{Worked}
+use Rattle.workers.specs.Seating.{IsNewSeat}
 use Rattle.workers.specs.Working.{IsLeft, CanGiveAll, given_at, Gives, IsAdded, AreGiven, AreGivenOnce, HasWorked}
 use Rattle.workers.specs.Working.{RaisedOnly}
 use Rattle.workers.proofs.Boards.{all_pieces}
@@ -65,25 +66,47 @@ module _ {X : Type 0} (giving : ℕ → List X → Type 0) where
       (each 0 w (omega arith))
       (all_given all (All-tail (λ u. AreGiven giving u.seat.view.drawn u.items.items) w all each))
 
+  -- seats that didn't claim drew nothing
+  drawn_same : (board : Opened) (unused seats : List Seated) → All (IsNewSeat board) unused
+      → all_drawn (views_of (unused ++ seats)) ≡ all_drawn (views_of seats)
+  drawn_same board [] seats new = refl
+  drawn_same board (s ∷ unused) seats new = ap (λ v. v.drawn ++ all_drawn (views_of (unused ++ seats))) (new 0 s (omega arith)).1
+      ∙ drawn_same board unused seats (All-tail (IsNewSeat board) s unused new)
+
+  -- nor did they raise
+  raised_same : (board : Opened) (unused seats : List Seated) → All (IsNewSeat board) unused
+      → list_any (λ v. v.raised) (views_of (unused ++ seats)) ≡ list_any (λ v. v.raised) (views_of seats)
+  raised_same board [] seats new = refl
+  raised_same board (s ∷ unused) seats new =
+      ap (λ v. v.raised || list_any (λ u. u.raised) (views_of (unused ++ seats))) (new 0 s (omega arith)).1
+      ∙ raised_same board unused seats (All-tail (IsNewSeat board) s unused new)
+
+  -- all seats are the board's
+  pub seats_own : (board : Opened) (unused : List Seated) (all : List (Worked X)) → All (IsNewSeat board) unused
+      → All (HasWorked giving board) all → All (IsSeatOf board) (unused ++ seats_of all)
+  seats_own board unused all new each = All-append (IsSeatOf board) unused (seats_of all) (λ k d lt. (new k d lt).0) (all_own board all each)
+
   -- where no worker raised, all pieces were given once
-  pub given_once : (board : Opened) (all : List (Worked X)) (seats : List Seated) (items : List X) (drawn : ℕ) (stopped : Bool)
-      → seats ≡ seats_of all → items ≡ flat_map (λ w. w.items.items) all → All (HasWorked giving board) all
-      → 0 < length all → stopped ≡ false → stopped ≡ list_any (λ v. v.raised) (views_of seats)
+  pub given_once : (board : Opened) (unused : List Seated) (all : List (Worked X)) (seats : List Seated) (items : List X) (drawn : ℕ)
+      (stopped : Bool)
+      → seats ≡ unused ++ seats_of all → items ≡ flat_map (λ w. w.items.items) all → All (IsNewSeat board) unused
+      → All (HasWorked giving board) all → 0 < length all → stopped ≡ false → stopped ≡ list_any (λ v. v.raised) (views_of seats)
       → HoldsEachBelow drawn (all_drawn (views_of seats)) → All (λ s. 0 < s.view.done → drawn ≡ board.pieces) seats
       → All (λ s. s.view.stopped ≡ true → stopped ≡ true) seats → AreGivenOnce giving board.pieces items
-  given_once board all seats items drawn stopped of_seats of_items each some quiet raised once done told =
-      let calm : All (λ w. w.seat.view.raised ≡ false) all = none_raised all (ap (λ ss. list_any (λ v. v.raised) (views_of ss))
-      (sym of_seats) ∙ sym raised ∙ quiet) in
-      let over : All (λ s. is_over s.view ≡ true) seats = subst (All (λ s. is_over s.view ≡ true)) (sym of_seats)
-      (each_seat (λ s. is_over s.view ≡ true) all (λ k d lt. (each k d lt).over)) in
-      let seated : 0 < length seats = omega (arith, some, ap length of_seats ∙ length-map all (λ w. w.seat)) in
-      let whole = all_pieces board.pieces drawn stopped seats seated over quiet done told in
+  given_once board unused all seats items drawn stopped of_seats of_items new each some quiet raised once done told =
+      let calm : All (λ w. w.seat.view.raised ≡ false) all = none_raised all (sym (raised_same board unused (seats_of all) new)
+      ∙ ap (λ ss. list_any (λ v. v.raised) (views_of ss)) (sym of_seats) ∙ sym raised ∙ quiet) in
+      let over : All (λ s. is_over s.view ≡ true) (seats_of all) = each_seat (λ s. is_over s.view ≡ true) all (λ k d lt. (each k d lt).over) in
+      let seated : 0 < length (seats_of all) = omega (arith, some, length-map all (λ w. w.seat)) in
+      let whole = all_pieces board.pieces drawn stopped unused (seats_of all) seated over quiet
+      (subst (All (λ s. 0 < s.view.done → drawn ≡ board.pieces)) of_seats done)
+      (subst (All (λ s. s.view.stopped ≡ true → stopped ≡ true)) of_seats told) in
+      let same = ap (λ ss. all_drawn (views_of ss)) of_seats ∙ drawn_same board unused (seats_of all) new in
       record {
-        order = all_drawn (views_of seats);
-        once = subst (λ n. HoldsEachBelow n (all_drawn (views_of seats))) whole once;
-        given = subst (λ ss. AreGiven giving (all_drawn (views_of ss)) items) (sym of_seats)
-            (subst (AreGiven giving (all_drawn (views_of (seats_of all)))) (sym of_items)
-            (all_given all (λ k d lt. (each k d lt).given (calm k d lt))));
+        order = all_drawn (views_of (seats_of all));
+        once = subst (λ n. HoldsEachBelow n (all_drawn (views_of (seats_of all)))) whole (subst (HoldsEachBelow drawn) same once);
+        given = subst (AreGiven giving (all_drawn (views_of (seats_of all)))) (sym of_items)
+            (all_given all (λ k d lt. (each k d lt).given (calm k d lt)));
       }
 
 -- the items of a seat, unless it raised

@@ -1,18 +1,15 @@
 -- What seats that seek the least failing piece know once they are back.
 use Rattle.std.proofs.Common.{◌≡◌, ◌⊎◌, ℕ, zero, suc, ◌<◌, ◌≤◌, min, Bool, true, List, [], ◌∷◌, ◌++◌, length, get_or, sym, refl, ap, ◌∙◌}
 use Rattle.std.proofs.Common.{subst, inl, ⊎_elim, arith}
-use Rattle.std.proofs.lemmas.List.Elements.{All-nil, All-tail}
+use Rattle.std.proofs.lemmas.List.Elements.{All-append, All-nil, All-tail}
 use native.Mathlib.Decide.{dec_le}
 use Rattle.std.specs.List.{All, list_any}
 use Rattle.claims.specs.Views.{fresh, is_over, HoldsEachBelow, all_drawn, least}
 use Rattle.claims.specs.Seated.{Seated, Opened, IsSeatOf, views_of}
 use Rattle.claims.specs.Steps.{with_piece}
-use Rattle.workers.specs.Testing.{Judged, LowFails, Sought, LowAndTold}
+use Rattle.workers.specs.Seating.{IsNewSeat}
+use Rattle.workers.specs.Testing.{Judged, LowFails, Sought, AreBack, LowAndTold}
 use Rattle.workers.proofs.Boards.{none_raised, all_pieces, in_list, in_some, once_some}
-
--- seats that have sought and are over
-abbrev pub Back : (ℕ → Type 0) → (ℕ → Type 0) → Opened → List Seated → Type 0
-Back passing failing board seats = All (λ s. Sought passing failing board s × (is_over s.view ≡ true)) seats
 
 -- what holds of two numbers holds of the lesser
 min_either : (Q : ℕ → Type 0) (m n : ℕ) → Q m → Q n → Q (min m n)
@@ -35,30 +32,53 @@ least_below pieces [] k d lt = absurd (omega arith)
 least_below pieces (s ∷ seats) zero d lt = omega arith
 least_below pieces (s ∷ seats) (suc k) d lt = omega (arith, least_below pieces seats k d (omega arith))
 
-module _ (passing failing : ℕ → Type 0) (board : Opened) (seats : List Seated) (first : ℕ) (each : Back passing failing board seats)
-    (is : first ≡ least (λ v. v.low) board.pieces (views_of seats)) where
+-- a seat that has taken no step
+sought_new : (passing failing : ℕ → Type 0) (board : Opened) (seat : Seated) → IsNewSeat board seat → Sought passing failing board seat
+sought_new passing failing board seat (own, unused) = record {
+  own = own;
+  judged = subst (λ v. All (Judged passing v) v.drawn) (sym unused) (All-nil (Judged passing (fresh 1 board.pieces)));
+  low = subst (LowFails failing board.pieces) (sym unused) (inl refl);
+  raised = ap (λ v. v.raised) unused;
+}
+
+-- all seats are the board's
+pub back_own : (passing failing : ℕ → Type 0) (board : Opened) (unused back : List Seated) → All (IsNewSeat board) unused
+    → AreBack passing failing board back → All (IsSeatOf board) (unused ++ back)
+back_own passing failing board unused back new each = All-append (IsSeatOf board) unused back (λ k d lt. (new k d lt).0)
+    (λ k d lt. (each k d lt).0.own)
+
+-- Seats that have sought, after those that didn't claim.
+module _ (passing failing : ℕ → Type 0) (board : Opened) (unused back : List Seated) (first : ℕ) (new : All (IsNewSeat board) unused)
+    (each : AreBack passing failing board back) (is : first ≡ least (λ v. v.low) board.pieces (views_of (unused ++ back))) where
+  abbrev seats : List Seated
+  seats = unused ++ back
+
+  all_sought : All (Sought passing failing board) seats
+  all_sought = All-append (Sought passing failing board) unused back (λ k d lt. sought_new passing failing board (get_or unused k d)
+      (new k d lt)) (λ k d lt. (each k d lt).0)
+
   -- the least number that a seat lowered to fails
   pub found : first < board.pieces → failing first
   found lt =
       let Q : ℕ → Type 0 = λ n. (n ≡ board.pieces) ⊎ ((n < board.pieces) × failing n) in
       ⊎_elim (λ (e : first ≡ board.pieces). absurd (omega arith)) (λ (e : (first < board.pieces) × failing first). e.1)
-      (subst Q (sym is) (attained Q board.pieces seats (inl refl) (λ k d below. (each k d below).0.low)))
+      (subst Q (sym is) (attained Q board.pieces seats (inl refl) (λ k d below. (all_sought k d below).low)))
 
   -- each piece below it passes: it was judged by the seat that drew it, and no seat lowered to, or got, a number at or below it
-  pub all_pass : (drawn : ℕ) (stopped : Bool) → stopped ≡ list_any (λ v. v.raised) (views_of seats) → 0 < length seats
+  pub all_pass : (drawn : ℕ) (stopped : Bool) → stopped ≡ list_any (λ v. v.raised) (views_of seats) → 0 < length back
       → HoldsEachBelow drawn (all_drawn (views_of seats))
       → All (λ s. 0 < s.view.done → drawn ≡ board.pieces) seats → All (λ s. s.view.stopped ≡ true → stopped ≡ true) seats
       → All (λ s. first ≤ s.view.told) seats → first ≤ board.pieces
       → (k : ℕ) → k < first → passing k
   all_pass drawn stopped raised some once done halted told within k lt =
-      let quiet = none_raised seats (λ i d below. (each i d below).0.raised) in
-      let all : drawn ≡ board.pieces = all_pieces board.pieces drawn stopped seats some (λ i d below. (each i d below).1)
+      let quiet = none_raised seats (λ i d below. (all_sought i d below).raised) in
+      let all : drawn ≡ board.pieces = all_pieces board.pieces drawn stopped unused back some (λ i d below. (each i d below).1)
       (raised ∙ quiet) done halted in
       in_some (passing k) seats k
       (λ i d below here. ⊎_elim (λ (e : passing k). e)
       (λ (e : ((get_or seats i d).view.low ≤ k) ⊎ ((get_or seats i d).view.told ≤ k)). ⊎_elim
       (λ low. absurd (omega (arith, is, least_below board.pieces seats i d below))) (λ heard. absurd (omega (arith, told i d below))) e)
-      (in_list (Judged passing (get_or seats i d).view) (get_or seats i d).view.drawn k (each i d below).0.judged here))
+      (in_list (Judged passing (get_or seats i d).view) (get_or seats i d).view.drawn k (all_sought i d below).judged here))
       (omega (arith, once k, once_some k drawn (omega arith)))
 
 -- a seat that has taken no step

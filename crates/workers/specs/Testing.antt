@@ -1,7 +1,8 @@
 -- What a seat that seeks the least failing piece knows.
-use Rattle.std.specs.Prelude.{◌≡◌, ℕ, ◌<◌, ◌≤◌, ◌⊎◌, Bool, true, false}
+use Rattle.std.specs.Prelude.{◌≡◌, ℕ, ◌<◌, ◌≤◌, ◌⊎◌, Bool, true, false, List}
 use Rattle.std.specs.List.{All}
 use Rattle.claims.specs.declared.view.View.{View}
+use Rattle.claims.specs.Views.{is_over}
 use Rattle.claims.specs.Seated.{Seated, Opened, IsSeatOf}
 
 -- the test, which may give this of each piece, may pass it or fail it
@@ -25,6 +26,10 @@ pub record Sought (passing failing : ℕ → Type 0) (board : Opened) (seat : Se
   pub judged : All (Judged passing seat.view) seat.view.drawn
   pub low : LowFails failing board.pieces seat.view
   pub raised : seat.view.raised ≡ false
+
+-- seats that have sought and are over
+abbrev pub AreBack : (ℕ → Type 0) → (ℕ → Type 0) → Opened → List Seated → Type 0
+AreBack passing failing board seats = All (λ s. Sought passing failing board s × (is_over s.view ≡ true)) seats
 
 -- only `low` and `told` changed
 abbrev pub LowAndTold : View → View → Type 0

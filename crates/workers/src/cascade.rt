@@ -1,5 +1,5 @@
 //! Threads that are started one after the other, as long as there are pieces left.
-ghost use Rattle.std.specs.Prelude.{◌≡◌, ◌+◌, length, IfOk};
+ghost use Rattle.std.specs.Prelude.{◌≡◌, ◌+◌, ◌<◌, length, IfOk};
 ghost use Rattle.std.specs.List.{All};
 ghost use Rattle.std.specs.Thread.{IsSync, IsSend};
 ghost use Rattle.std.specs.Vec.{vec_capacity};
@@ -9,11 +9,11 @@ use claims::{Board, Claim, Seat};
 use std::alloc::{AllocError, Global};
 use std::thread::{Threads, join};
 
-/// What `work` returns for each seat. It is called with the seat, and with what the seat's first
-/// claim returned.
+/// What `work` returns for each seat that claims, and the seats that don't. It is called with the
+/// seat, and with what the seat's first claim returned.
 ///
 /// A seat that draws a piece leaves the other seats to a new thread, where one can be made, and
-/// works in its own. A seat that draws none starts no thread.
+/// works in its own. Where a seat draws none there are no pieces left, so the others don't claim.
 ///
 /// Returns `AllocError` where there is no memory for the list of the results. No seat has claimed
 /// then.
@@ -23,18 +23,21 @@ pub(crate) fn at_each_seat<R: Threads + Sync, X: Send + Drop, F: Fn(Seat, Claim)
     board: &Board,
     work: &F,
     seats: Vec<Seat>,
-) -> Result<Vec<X>, AllocError>
+) -> Result<(Vec<X>, Vec<Seat>), AllocError>
     requires seats { All (IsNewSeat board.now) seats.items }
     requires can { CanWork board.now (F.pre work.now) }
-    ensures count { IfOk result (λ all. length all.items ≡ length seats.items) }
-    ensures each { IfOk result (λ all. All (IsGivenBy (F.post work.now)) all.items) }
+    ensures count { IfOk result (λ p. length p.0.items + length p.1.items ≡ length seats.items) }
+    ensures some { IfOk result (λ p. 0 < length seats.items → 0 < length p.0.items) }
+    ensures each { IfOk result (λ p. All (IsGivenBy (F.post work.now)) p.0.items) }
+    ensures unused { IfOk result (λ p. All (IsNewSeat board.now) p.1.items) }
 {
     let all = Vec::with_capacity(alloc, seats.len())?;
     Ok(seat_by_seat(threads, board, work, seats, all))
 }
 
-// Adds what `work` returns for each seat, for which there is room. The other seats are left to a
-// new thread before the piece is done, so that a long piece holds none of them up.
+// Adds what `work` returns for each seat that claims, for which there is room, and returns the seats
+// that don't claim. The other seats are left to a new thread before the piece is done, so that a long
+// piece holds none of them up.
 #[cycle(cascade)]
 fn seat_by_seat<R: Threads + Sync, X: Send + Drop, F: Fn(Seat, Claim) -> X + Sync>(
     threads: &R,
@@ -42,34 +45,38 @@ fn seat_by_seat<R: Threads + Sync, X: Send + Drop, F: Fn(Seat, Claim) -> X + Syn
     work: &F,
     mut seats: Vec<Seat>,
     mut all: Vec<X>,
-) -> Vec<X>
+) -> (Vec<X>, Vec<Seat>)
     requires next { AreNext board.now (F.post work.now) seats.items all.items (vec_capacity all) }
     requires can { CanWork board.now (F.pre work.now) }
-    ensures room { vec_capacity result ≡ vec_capacity all }
-    ensures count { length result.items ≡ length all.items + length seats.items }
-    ensures each { All (IsGivenBy (F.post work.now)) result.items }
+    ensures room { vec_capacity result.0 ≡ vec_capacity all }
+    ensures count { length result.0.items + length result.1.items ≡ length all.items + length seats.items }
+    ensures some { 0 < length seats.items → length all.items < length result.0.items }
+    ensures each { All (IsGivenBy (F.post work.now)) result.0.items }
+    ensures unused { All (IsNewSeat board.now) result.1.items }
 {
     let Some(mut seat) = seats.pop() else {
-        return all;
+        return (all, seats);
     };
     let first = board.claim(&mut seat);
     let has_piece = matches!(first, Claim::Piece(_));
     if !has_piece || seats.is_empty() {
         all.push_reserved(work(seat, first));
-        return seat_by_seat(threads, board, work, seats, all);
+        return (all, seats);
     }
-    let others = move || -> Vec<X>
+    let others = move || -> (Vec<X>, Vec<Seat>)
         requires { IsSync R.row × IsSync F.row × IsSend X.row × CanWork board.now (F.pre work.now)
             × AreNext board.now (F.post work.now) seats.items all.items (vec_capacity all) }
-        ensures { (vec_capacity result ≡ vec_capacity all)
-            × (length result.items ≡ length all.items + length seats.items)
-            × All (IsGivenBy (F.post work.entry.now)) result.items }
+        ensures { (vec_capacity result.0 ≡ vec_capacity all)
+            × (length result.0.items + length result.1.items ≡ length all.items + length seats.items)
+            × All (IsGivenBy (F.post work.entry.now)) result.0.items
+            × All (IsNewSeat board.entry.now) result.1.items
+            × (0 < length seats.items → length all.items < length result.0.items) }
     { seat_by_seat(threads, board, work, seats, all) };
     let own = move || -> X
         requires { F.pre work.now seat first }
         ensures { F.post work.entry.now seat first result }
     { work(seat, first) };
-    let (mut given, last) = join(threads, others, own);
+    let ((mut given, unused), last) = join(threads, others, own);
     given.push_reserved(last);
-    given
+    (given, unused)
 }

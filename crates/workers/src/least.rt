@@ -1,10 +1,10 @@
 //! The least piece that doesn't pass a test.
-ghost use Rattle.std.specs.Prelude.{◌≡◌, ℕ, ◌<◌, ◌≤◌, true, false, length, IfOk};
+ghost use Rattle.std.specs.Prelude.{◌≡◌, ℕ, ◌+◌, ◌<◌, ◌≤◌, true, false, length, IfOk};
 ghost use Rattle.std.specs.List.{All};
 ghost use Rattle.claims.specs.Views.{most_pieces, most_seats, is_over};
 ghost use Rattle.claims.specs.Seated.{IsSeatOf};
 ghost use Rattle.workers.specs.Seating.{IsNewSeat, HasClaimed};
-ghost use Rattle.workers.specs.Testing.{Passing, Failing, Judged, LowFails, Sought, LowAndTold};
+ghost use Rattle.workers.specs.Testing.{Passing, Failing, Judged, LowFails, Sought, AreBack, LowAndTold};
 
 use crate::cascade::at_each_seat;
 use crate::seats::seats_for;
@@ -47,19 +47,21 @@ fn seek<F: Fn(u32) -> bool>(board: &Board, passes: &F, mut seat: Seat, first: Cl
     seat
 }
 
-// Each seat seeks, in a thread of its own where one can be made and there are pieces left.
+// Each seat that claims seeks, in a thread of its own where one can be made. With them the seats
+// that don't claim, since there are no pieces left.
 fn seek_all<R: Threads + Sync, F: Fn(u32) -> bool + Sync>(
     threads: &R,
     alloc: Global,
     board: &Board,
     passes: &F,
     seats: Vec<Seat>,
-) -> Result<Vec<Seat>, AllocError>
+) -> Result<(Vec<Seat>, Vec<Seat>), AllocError>
     requires seats { All (IsNewSeat board.now) seats.items }
     requires can { (k : ℕ) → k < board.now.pieces → F.pre passes.now k }
-    ensures { IfOk result (λ all. (length all.items ≡ length seats.items)
-        × All (λ s. Sought (Passing (F.post passes.now)) (Failing (F.post passes.now)) board.now s
-        × (is_over s.view ≡ true)) all.items) }
+    ensures count { IfOk result (λ p. length p.0.items + length p.1.items ≡ length seats.items) }
+    ensures some { IfOk result (λ p. 0 < length seats.items → 0 < length p.0.items) }
+    ensures back { IfOk result (λ p. AreBack (Passing (F.post passes.now)) (Failing (F.post passes.now)) board.now p.0.items) }
+    ensures unused { IfOk result (λ p. All (IsNewSeat board.now) p.1.items) }
 {
     at_each_seat(
         threads,
@@ -95,7 +97,8 @@ pub fn first_failing<R: Threads + Sync, F: Fn(u32) -> bool + Sync>(
     ensures fails { IfOk result (λ n. n < pieces → F.post passes.now n false) }
 {
     let (board, seats) = Board::open(alloc, pieces, seats_for(pieces, workers))?;
-    let seats = seek_all(threads, alloc, &board, passes, seats)?;
+    let (mut back, mut seats) = seek_all(threads, alloc, &board, passes, seats)?;
+    seats.append(&mut back)?;
     let tally = board.gather(seats);
     Ok(tally.first)
 }

@@ -1,5 +1,5 @@
 //! What all pieces of a work give.
-ghost use Rattle.std.specs.Prelude.{◌≡◌, ◌≤◌, false, length, map, IfOk, IfSome, IsSome};
+ghost use Rattle.std.specs.Prelude.{◌≡◌, ◌+◌, ◌++◌, ◌<◌, ◌≤◌, false, length, map, IfOk, IfSome, IsSome};
 ghost use Rattle.std.specs.List.{All, flat_map};
 ghost use Rattle.claims.specs.Views.{most_pieces, most_seats};
 ghost use Rattle.claims.specs.Seated.{IsSeatOf};
@@ -102,7 +102,8 @@ fn work_one<D: Drop, X: Drop, F: Fn(u32, Bench<D, X>) -> Result<Bench<D, X>, NoM
     Worked { seat, items }
 }
 
-// Each seat works, in a thread of its own where one can be made and there are pieces left.
+// Each seat that claims works, in a thread of its own where one can be made. With them the seats
+// that don't claim, since there are no pieces left.
 fn work_all<
     R: Threads + Sync,
     D: Send + Drop,
@@ -114,11 +115,13 @@ fn work_all<
     board: &Board,
     give: &F,
     seats: Vec<Seat>,
-) -> Result<Vec<Worked<X>>, AllocError>
+) -> Result<(Vec<Worked<X>>, Vec<Seat>), AllocError>
     requires seats { All (IsNewSeat board.now) seats.items }
     requires can { CanGiveAll board.now.pieces (F.pre give.now) (F.post give.now) }
-    ensures { IfOk result (λ all. (length all.items ≡ length seats.items)
-        × All (HasWorked (Gives (F.post give.now)) board.now) all.items) }
+    ensures count { IfOk result (λ p. length p.0.items + length p.1.items ≡ length seats.items) }
+    ensures some { IfOk result (λ p. 0 < length seats.items → 0 < length p.0.items) }
+    ensures worked { IfOk result (λ p. All (HasWorked (Gives (F.post give.now)) board.now) p.0.items) }
+    ensures unused { IfOk result (λ p. All (IsNewSeat board.now) p.1.items) }
 {
     at_each_seat(
         threads,
@@ -132,12 +135,15 @@ fn work_all<
     )
 }
 
-// Splits the results: the seats, and all items in one list.
-fn part<X: Drop>(alloc: Global, all: Vec<Worked<X>>) -> Result<(Vec<Seat>, Vec<X>), AllocError>
-    ensures seats { IfOk result (λ p. p.0.items ≡ map (λ w. w.seat) all.items) }
+// Splits the results: the seats, after those that didn't claim, and all items in one list.
+fn part<X: Drop>(
+    alloc: Global,
+    all: Vec<Worked<X>>,
+    mut seats: Vec<Seat>,
+) -> Result<(Vec<Seat>, Vec<X>), AllocError>
+    ensures seats { IfOk result (λ p. p.0.items ≡ seats.items ++ map (λ w. w.seat) all.items) }
     ensures items { IfOk result (λ p. p.1.items ≡ flat_map (λ w. w.items.items) all.items) }
 {
-    let mut seats = Vec::with_capacity(alloc, all.len())?;
     let mut items = Vec::new(alloc);
     for worked in all {
         let Worked {
@@ -170,8 +176,8 @@ pub fn give_all<
     ensures { IfOk result (λ items. AreGivenOnce (Gives (F.post give.now)) pieces items.items) }
 {
     let (board, seats) = Board::open(alloc, pieces, seats_for(pieces, workers))?;
-    let all = work_all(threads, alloc, &board, give, seats)?;
-    let (seats, items) = part(alloc, all)?;
+    let (all, unused) = work_all(threads, alloc, &board, give, seats)?;
+    let (seats, items) = part(alloc, all, unused)?;
     let tally = board.gather(seats);
     if tally.stopped {
         return Err(NoMemory);
