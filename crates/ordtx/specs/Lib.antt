@@ -1,4 +1,3 @@
-pub mod CommandLine
 pub mod Answers
 pub mod Streams
 pub mod Laws

@@ -1,8 +1,6 @@
 //! Running documents from a source to a sink: the document is read, and its report is written.
 #![tactic(auto)]
 
-mod asked;
-mod command_line;
 mod input;
 pub mod laws;
 mod location;
@@ -13,8 +11,7 @@ mod source;
 mod streams;
 mod texts;
 
-pub use asked::{Command, Line, Refused};
-pub use command_line::line;
+pub use command_line::{Command, Line, Refused, line};
 pub use lang::{Code, Fault, Wrong};
 pub use marked::Marked;
 pub use rounds::Plan;

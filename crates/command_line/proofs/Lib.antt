@@ -1,0 +1,4 @@
+mod Walked
+mod Matches
+mod Matched
+mod Refusing

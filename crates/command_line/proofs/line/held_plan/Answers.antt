@@ -1,0 +1,11 @@
+use Rattle.std.proofs.Common.{arith, sym, true≢false}
+use Rattle.command_line.proofs.Matches.{number_is_within}
+use Rattle.command_line.proofs.line.held_plan.Goals as goal
+
+pub unreachable-requires : goal.unreachable-requires
+unreachable-requires c =
+    let workers = number_is_within 64 _ 4 c.held_number-workers.result (omega arith) (omega arith) (omega arith) c.requires.workers
+    c.held_number-workers.ensures in
+    let cut = number_is_within 1000 _ 16 c.held_number-cut.result (omega arith) (omega arith) (omega arith) c.requires.cut
+    c.held_number-cut.ensures in
+    absurd (true≢false (sym (c.in-None.ensures.some.1 (workers.0, workers.1, cut.0, cut.1))))

@@ -1,0 +1,12 @@
+use Rattle.command_line.proofs.line.line_of.Goals as goal
+
+pub returns : goal.returns
+returns c = record {
+  command = c.command_named-command.ensures;
+  file = c.in_ok-file.ensures;
+  workers = c.held_plan-plan.ensures.workers;
+  cut = c.held_plan-plan.ensures.cut;
+  audit = c.is_held-audit.ensures;
+  why = c.is_held-why.ensures;
+  progress = c.is_held-progress.ensures;
+}
