@@ -14,6 +14,6 @@ join-given-requires-after_bounds g t c κs within =
 
 pub returns-clause-each : goal.returns-clause-each
 returns-clause-each g t c =
-    given_more (λ s k x. g.F.Fn.post c.args.work.now (s, (k, tt)) x) c.join-given.result.0.items c.push_reserved-2.new.self.items
+    given_more (λ s k x. g.F.Fn.post c.args.work.now (s, (k, tt)) x) c.join-given.result.0.0.items c.push_reserved-2.new.self.items
     c.claim-first.new.seat c.claim-first.result c.join-given.result.1
     c.push_reserved-2.ensures.items c.join-given.ensures.first.2 c.join-given.ensures.second
