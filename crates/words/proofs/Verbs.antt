@@ -1,7 +1,7 @@
 -- Verbs and their calls: a call is said with its verb, a kind's verbs have its calls, and a call adds no items but those it is said with.
 use Rattle.std.proofs.Common.{◌≡◌, ℕ, suc, inl, inr, Bool, true, false, not, cond, List, [], ◌∷◌, Option, Some, None, refl, sym, subst, ◌∙◌}
 use Rattle.std.proofs.Common.{arith}
-use Rattle.std.specs.Prelude.{is_some}
+use Rattle.std.specs.Prelude.{is_some, ⊤}
 use Rattle.std.specs.Ordering.{eq_by_cmp}
 use Rattle.std.proofs.lemmas.Bool.{and_parts, or_cases}
 use Rattle.std.proofs.lemmas.List.Elements.{All-push}
@@ -73,7 +73,11 @@ HasKind k (OfItem v) = (x : Item) → kind_of_call (item_call v x) ≡ k
 HasKind k (OfPair v) = (key x : Item) → kind_of_call (pair_call v key x) ≡ k
 HasKind k (Alone v) = kind_of_call (lone_call v) ≡ k
 
-verbs_have : (k : Kind) → All (HasKind k) (verbs_of k)
+abbrev HaveKind : Kind → List Verb → Type 0
+HaveKind k [] = ⊤
+HaveKind k (v ∷ vs) = HasKind k v × HaveKind k vs
+
+verbs_have : (k : Kind) → HaveKind k (verbs_of k)
 verbs_have kind.Account = ((λ a. refl), ((λ a. refl), (refl, tt)))
 verbs_have kind.Counter = ((λ a. refl), ((λ a. refl), (refl, tt)))
 verbs_have kind.Set = ((λ x. refl), ((λ x. refl), ((λ x. refl), (refl, tt))))
@@ -81,19 +85,19 @@ verbs_have kind.Queue = ((λ x. refl), (refl, (refl, tt)))
 verbs_have kind.Directory = ((λ k x. refl), ((λ k x. refl), ((λ x. refl), ((λ x. refl), tt))))
 verbs_have kind.Max = ((λ a. refl), (refl, tt))
 
--- what holds of each element holds of the one that is found
-All-found : {X : Type 0} (P : X → Type 0) (test : X → Bool) (xs : List X) (found : X) → All P xs → find test xs ≡ Some found → P found
-All-found P test [] found all e = cc
-All-found P test (x ∷ xs) found all e = by (test x) (All-found P test xs found all.1) e
+-- so has the verb that is found among them
+found_has : (k : Kind) (test : Verb → Bool) (vs : List Verb) (v : Verb) → HaveKind k vs → find test vs ≡ Some v → HasKind k v
+found_has k test [] v have e = cc
+found_has k test (w ∷ vs) v have e = by (test w) (found_has k test vs v have.1) e
   where
-    by : (b : Bool) → (find test xs ≡ Some found → P found) → cond b (Some x) (find test xs) ≡ Some found → P found
-    by true later is = let same : x ≡ found = cc in subst P same all.0
+    by : (b : Bool) → (find test vs ≡ Some v → HasKind k v) → cond b (Some w) (find test vs) ≡ Some v → HasKind k v
+    by true later is = let same : w ≡ v = cc in subst (HasKind k) same have.0
     by false later is = later is
 
 -- the verb that a word names for a kind has calls of the kind
 pub named_has : (version : ℕ) (k : Kind) (s : List ℕ) (v : Verb) → verb_of_text version k s ≡ Some v → HasKind k v
 unfolding verb_of_text
-named_has version k s v e = All-found (HasKind k) _ (verbs_of k) v (verbs_have k) e
+named_has version k s v e = found_has k _ (verbs_of k) v (verbs_have k) e
 
 -- ---- items
 

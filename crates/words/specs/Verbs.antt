@@ -65,9 +65,13 @@ verbs_of kind.Queue = QUEUE_VERBS
 verbs_of kind.Directory = DIRECTORY_VERBS
 verbs_of kind.Max = MAX_VERBS
 
+-- whether the text is the word for the verb in a document of a version
+abbrev pub is_verb_text : ℕ → List ℕ → Verb → Bool
+is_verb_text version s v = bytes_eq (verb_text v) s && nat_le (verb_since v) version
+
 -- the verb of a kind that a word names in a document of a version
 unfoldable pub verb_of_text : ℕ → Kind → List ℕ → Option Verb
-verb_of_text version k s = find (λ v. bytes_eq (verb_text v) s && nat_le (verb_since v) version) (verbs_of k)
+verb_of_text version k s = find (is_verb_text version s) (verbs_of k)
 
 -- ---- calls
 

@@ -1,5 +1,5 @@
 -- The words of kinds, replies and outcomes.
-use Rattle.std.specs.Prelude.{ℕ, List, codes, Option, nat_le, ◌&&◌}
+use Rattle.std.specs.Prelude.{ℕ, Bool, List, codes, Option, nat_le, ◌&&◌}
 use Rattle.std.specs.List.{find}
 use Rattle.std.specs.Str.{bytes_eq}
 use Rattle.objects.specs.declared.kind.Kind.{Kind}
@@ -23,9 +23,13 @@ abbrev pub kind_since : Kind → ℕ
 kind_since kind.Max = 2
 kind_since k = 1
 
+-- whether the text is the word of the kind in a document of a version
+abbrev pub is_kind_text : ℕ → List ℕ → Kind → Bool
+is_kind_text version s k = bytes_eq (kind_text k) s && nat_le (kind_since k) version
+
 -- the kind that a word names in a document of a version
 unfoldable pub kind_of_text : ℕ → List ℕ → Option Kind
-kind_of_text version s = find (λ k. bytes_eq (kind_text k) s && nat_le (kind_since k) version) KINDS
+kind_of_text version s = find (is_kind_text version s) KINDS
 
 abbrev pub word_text : Word → List ℕ
 word_text Ok = codes "ok"

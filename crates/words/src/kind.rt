@@ -1,6 +1,6 @@
 //! The words of kinds.
 ghost use Rattle.std.specs.Prelude.{◌≡◌};
-ghost use Rattle.words.specs.Words.{kind_of_text, kind_since, kind_text};
+ghost use Rattle.words.specs.Words.{is_kind_text, kind_of_text, kind_since, kind_text};
 
 use objects::Kind;
 
@@ -38,6 +38,13 @@ fn kind_since(kind: Kind) -> u8
     }
 }
 
+// Whether the text is the word of the kind in a document of a version.
+fn is_kind_text(version: u8, text: &str, kind: Kind) -> bool
+    ensures { result ≡ is_kind_text version text.now kind }
+{
+    kind_text(kind) == text && kind_since(kind) <= version
+}
+
 /// The kind that a word names in a document of a version.
 #[tactic(auto, unfolding(crate::specs::Words::kind_of_text))]
 pub fn kind_of_text(version: u8, text: &str) -> Option<Kind>
@@ -45,6 +52,6 @@ pub fn kind_of_text(version: u8, text: &str) -> Option<Kind>
 {
     KINDS
         .iter()
-        .find(|kind| kind_text(**kind) == text && kind_since(**kind) <= version)
         .copied()
+        .find(|kind| is_kind_text(version, text, *kind))
 }

@@ -1,6 +1,6 @@
 //! Verbs, and calls as they are said: a verb and its arguments.
 ghost use Rattle.std.specs.Prelude.{◌≡◌};
-ghost use Rattle.words.specs.Verbs.{amount_call, has_item, has_number, has_word, item_call, lone_call, pair_call, phrase_of, verb_of_text, verb_since, verb_text, verbs_of};
+ghost use Rattle.words.specs.Verbs.{amount_call, has_item, has_number, has_word, is_verb_text, item_call, lone_call, pair_call, phrase_of, verb_of_text, verb_since, verb_text, verbs_of};
 
 use crate::word::Word;
 use objects::{
@@ -144,6 +144,13 @@ impl Verb {
         }
     }
 
+    // Whether the text is the word for the verb in a document of a version.
+    fn is_text(self, version: u8, text: &str) -> bool
+        ensures { result ≡ is_verb_text version text.now self }
+    {
+        self.text() == text && self.since() <= version
+    }
+
     /// The verb of a kind that a word names in a document of a version.
     #[tactic(auto, unfolding(crate::specs::Verbs::verb_of_text))]
     pub fn of_text(version: u8, kind: Kind, text: &str) -> Option<Verb>
@@ -151,8 +158,8 @@ impl Verb {
     {
         verbs_of(kind)
             .iter()
-            .find(|verb| verb.text() == text && verb.since() <= version)
             .copied()
+            .find(|verb| verb.is_text(version, text))
     }
 
     /// Whether a reply to the verb can begin with the word.

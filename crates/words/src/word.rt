@@ -73,6 +73,6 @@ impl Word {
     pub fn of_text(text: &str) -> Option<Word>
         ensures { result ≡ word_of_text text.now }
     {
-        WORDS.iter().find(|word| word.text() == text).copied()
+        WORDS.iter().copied().find(|word| word.text() == text)
     }
 }
