@@ -43,4 +43,4 @@ is_same_item (Some x) (Some y) = x.0 == y.0
 abbrev pub is_compared : Entry → Entry → Bool
 is_compared e other = (other.object == e.object)
     && is_same_item (if is_by_item (class_of other.call other.reply) then operation_item e.call e.reply else None)
-        (operation_item other.call other.reply)
+    (operation_item other.call other.reply)
