@@ -14,6 +14,7 @@ use Rattle.objects.specs.Objects.{kind_of_call}
 use Rattle.meaning.specs.declared.test.Test.{Test}
 use Rattle.meaning.specs.declared.test.Test.TheVariants.{Is, AtLeast, IsItem}
 use Rattle.meaning.specs.WellFormed.{Label, OfCall, OfSubaction, CallFits, test_fits}
+use Rattle.words.specs.declared.verb.LoneVerb.TheVariants.{Balance}
 use Rattle.words.specs.declared.verb.Verb.{Verb}
 use Rattle.words.specs.declared.verb.Verb.TheVariants.{OfAmount, OfItem, OfPair, Alone}
 use Rattle.lang.specs.declared.subject.Subject.{Subject}
