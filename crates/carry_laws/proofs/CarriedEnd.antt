@@ -11,10 +11,10 @@ use Rattle.meaning.proofs.Keeping.{batch_keeps}
 use Rattle.batch.specs.Names.{names_of}
 use Rattle.lang.specs.Asked.{asked}
 use Rattle.lang.specs.Demand.{first_fault}
-use Rattle.lang.specs.Faults.{fault_outside}
+use Rattle.lang.specs.Faults.{wrong_outside}
 use Rattle.lang.specs.Reading.{Document, reading, spelled_by, unless_fault, value_of}
 use Rattle.lang.specs.Spelled.{document_in}
-use Rattle.lang.specs.declared.fault.Code.TheVariants.{TooMany}
+use Rattle.lang.specs.declared.fault.Wrong.TheVariants.{TooMany}
 use Rattle.lang.specs.declared.fault.Fault.{Fault}
 use Rattle.lang.proofs.DistinctTexts.{items_differ, objects_differ}
 use Rattle.lang.proofs.FaultlessBatch.{faultless_is_batch}
@@ -36,7 +36,7 @@ of_value : (document : Document) (d : Data) (fault : Option Fault) → first_fau
 of_value document d None none e = record { value = d; faultless = none; is = cc }
 of_value document d (Some fault) none e = cc
 
-of_bytes : (document : Document) (large : Bool) (o : Option Data) → cond large (Err (fault_outside TooMany)) (spelled_by o) ≡ Ok document
+of_bytes : (document : Document) (large : Bool) (o : Option Data) → cond large (Err (wrong_outside TooMany)) (spelled_by o) ≡ Ok document
     → IsOf document
 of_bytes document true o e = cc
 of_bytes document false None e = cc

@@ -1,10 +1,10 @@
 -- The law of carrying over.
 use Rattle.std.proofs.Common.{cond, Err, ap, ◌∙◌}
 use Rattle.std.proofs.lemmas.Bool.{le-ltb}
-use Rattle.lang.specs.Faults.{fault_outside}
+use Rattle.lang.specs.Faults.{wrong_outside}
 use Rattle.lang.specs.Reading.{reading, spelled_by, unless_fault, value_of}
 use Rattle.lang.specs.Spelled.{document_in}
-use Rattle.lang.specs.declared.fault.Code.TheVariants.{TooMany}
+use Rattle.lang.specs.declared.fault.Wrong.TheVariants.{TooMany}
 use Rattle.carry.specs.Carried.{carried_text}
 use Rattle.carry_laws.proofs.CarriedData.{carried_data}
 use Rattle.carry_laws.specs.Carrying.{object_names}
@@ -25,7 +25,7 @@ carried_is_read names values c =
     let apart = all_apart names values c.items_apart in
     let faultless = carried_faultless names values c.few c.fit ok apart (distinct_apart (object_names names 0 values) c.objects_apart) in (
       document_in d,
-      ap (λ b. cond b (Err (fault_outside TooMany)) (spelled_by (value_of text))) (le-ltb _ _ (carried_length names values c.few c.fit ok))
+      ap (λ b. cond b (Err (wrong_outside TooMany)) (spelled_by (value_of text))) (le-ltb _ _ (carried_length names values c.few c.fit ok))
           ∙ ap spelled_by (carried_value names values ok) ∙ ap (unless_fault d) faultless,
       document_spelled names values c.fit apart,
     )

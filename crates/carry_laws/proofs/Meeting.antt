@@ -6,7 +6,7 @@ use Rattle.std.specs.List.{AllByRecursion}
 use Rattle.std.specs.Str.{bytes_eq}
 use Rattle.std.proofs.lemmas.Bool.{false_from_ne_true, lt-ltb, or_parts}
 use Rattle.std.proofs.lemmas.Slice.Eq.{bytes_eq-Decides}
-use Rattle.lang.specs.declared.fault.Code.{Code}
+use Rattle.lang.specs.declared.fault.Wrong.{Wrong}
 use Rattle.lang.specs.Demand.{Demand, and_then, check, fault_at, holds, limited, no_counts, one_more_start}
 use Rattle.lang.specs.Scope.{Table, is_listed, with_text}
 
@@ -24,10 +24,10 @@ pub record Meet (k : ℕ) (ds : List Demand) : Type 0 where
 pub meet_none : Meet 0 []
 meet_none = record { met = λ c few. (c, refl, omega arith) }
 
-pub meet_test : (k : ℕ) (b : Bool) (code : Code) (ds : List Demand) → b ≡ true → Meet k ds → Meet k (holds b code ∷ ds)
-meet_test k b code ds is rest = record {
+pub meet_test : (k : ℕ) (b : Bool) (wrong : Wrong) (ds : List Demand) → b ≡ true → Meet k ds → Meet k (holds b wrong ∷ ds)
+meet_test k b wrong ds is rest = record {
   met = λ c few. let later = rest.met c few in
-      (later.0, ap (λ t. and_then (cond t (Ok c) (Err (fault_at code c))) (λ next. check next ds)) is ∙ later.1, later.2);
+      (later.0, ap (λ t. and_then (cond t (Ok c) (Err (fault_at wrong c))) (λ next. check next ds)) is ∙ later.1, later.2);
 }
 
 pub meet_start : (k : ℕ) (ds : List Demand) → Meet k ds → Meet (suc k) (one_more_start ∷ ds)
