@@ -2,8 +2,8 @@
 #![tactic(auto)]
 
 mod asked;
-mod line;
+mod reading;
 
 pub use asked::{Command, Line, Refused};
-pub use line::line;
+pub use reading::line;
 pub use rounds::Plan;

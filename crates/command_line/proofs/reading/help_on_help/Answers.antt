@@ -1,6 +1,6 @@
 use Rattle.std.proofs.Common.{rules}
 use Rattle.command_line.proofs.Refusing.{never_parses}
-use Rattle.command_line.proofs.line.help_on_help.Goals as goal
+use Rattle.command_line.proofs.reading.help_on_help.Goals as goal
 
 pub unreachable-requires : goal.unreachable-requires
 unreachable-requires c =

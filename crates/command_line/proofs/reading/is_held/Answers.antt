@@ -1,7 +1,7 @@
 use Rattle.std.proofs.Common.{◌≡◌, ◌∙◌, rules, ap, sym, codes, Some, [], unwrap_or}
 use Rattle.clap.proofs.WalkLemmas.{first_value-rows}
 use Rattle.clap.specs.Words.{found_of}
-use Rattle.command_line.proofs.line.is_held.Goals as goal
+use Rattle.command_line.proofs.reading.is_held.Goals as goal
 
 pub returns-in-Some : goal.returns-in-Some
 returns-in-Some c =

@@ -3,7 +3,7 @@ use Rattle.clap.specs.Words.{found_of, rows_of}
 use Rattle.command_line.proofs.Matched.{can_be_matched}
 use Rattle.command_line.proofs.Matches.{subcommand_held}
 use Rattle.command_line.proofs.Refusing.{faultless, no_fault, refused_for, takes_words}
-use Rattle.command_line.proofs.line.line.Goals as goal
+use Rattle.command_line.proofs.reading.line.Goals as goal
 
 pub line_of-requires : goal.line_of-requires
 line_of-requires c =

@@ -1,4 +1,4 @@
-use Rattle.command_line.proofs.line.line_of.Goals as goal
+use Rattle.command_line.proofs.reading.line_of.Goals as goal
 
 pub returns : goal.returns
 returns c = record {

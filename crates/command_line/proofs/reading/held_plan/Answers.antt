@@ -1,6 +1,6 @@
 use Rattle.std.proofs.Common.{arith, sym, true≢false}
 use Rattle.command_line.proofs.Matches.{number_is_within}
-use Rattle.command_line.proofs.line.held_plan.Goals as goal
+use Rattle.command_line.proofs.reading.held_plan.Goals as goal
 
 pub unreachable-requires : goal.unreachable-requires
 unreachable-requires c =

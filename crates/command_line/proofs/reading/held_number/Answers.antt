@@ -5,7 +5,7 @@ use Rattle.clap.proofs.WalkLemmas.{one_text-rows}
 use Rattle.clap.specs.Words.{IsSignedIn, found_of, without_minus}
 use Rattle.command_line.proofs.Matches.{number_is_read, read_none, read_number}
 use Rattle.command_line.specs.CommandLine.{HoldsNumber}
-use Rattle.command_line.proofs.line.held_number.Goals as goal
+use Rattle.command_line.proofs.reading.held_number.Goals as goal
 
 pub returns-in-Ok-Some : goal.returns-in-Ok-Some
 returns-in-Ok-Some c =

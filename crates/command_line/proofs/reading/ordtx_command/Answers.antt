@@ -2,7 +2,7 @@ use Rattle.std.proofs.Common.{◌≡◌, ◌∙◌, rules, ap, ap₂, codes}
 use Rattle.std.proofs.lemmas.Result.{IfOk-weaker}
 use Rattle.clap.specs.Words.{App, app_of, new_app, with_subcommand}
 use Rattle.command_line.specs.CommandLine.{titled}
-use Rattle.command_line.proofs.line.ordtx_command.Goals as goal
+use Rattle.command_line.proofs.reading.ordtx_command.Goals as goal
 
 pub returns : goal.returns
 returns c =
