@@ -184,7 +184,7 @@ values_at-changed hs object h v (start ∷ starts) journal e nested =
     let earlier : take start (journal ++ object ∷ []) ≡ take start journal = take-append-le start journal (object ∷ []) nested.0 in
     ap (λ gs. values_now gs ∷ values_at gs starts (take start (journal ++ object ∷ []))) before
     ∙ ap (λ js. values_now (drafts_rewound hs (reverse (drop start journal)))
-        ∷ values_at (drafts_rewound hs (reverse (drop start journal))) starts js)
+    ∷ values_at (drafts_rewound hs (reverse (drop start journal))) starts js)
     earlier
 
 -- what is shown where an object that became this becomes what a call leaves
@@ -243,7 +243,7 @@ values_at-joined hs start (outer ∷ starts) journal nested =
     let earlier : take outer (take start journal) ≡ take outer journal = take-take outer start journal nested.1.0 in
     ap (λ gs. values_now gs ∷ values_at gs starts (take outer (take start journal))) before
     ∙ ap (λ js. values_now (drafts_rewound hs (reverse (drop outer journal)))
-        ∷ values_at (drafts_rewound hs (reverse (drop outer journal))) starts js)
+    ∷ values_at (drafts_rewound hs (reverse (drop outer journal))) starts js)
     earlier
 
 pub committed_level : (hs : List (History Value)) (start : ℕ) (starts journal : List ℕ) (state : States)

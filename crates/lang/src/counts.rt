@@ -46,7 +46,11 @@ impl Counts {
         ensures { MatchResult result (λ _. holds ≡ true)
             (λ fault. (holds ≡ false) × (fault ≡ fault_at wrong self.now)) }
     {
-        if holds { Ok(()) } else { Err(self.fault(wrong)) }
+        if holds {
+            Ok(())
+        } else {
+            Err(self.fault(wrong))
+        }
     }
 
     /// Counts an operation of a document of a version.

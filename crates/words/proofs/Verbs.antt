@@ -1,5 +1,5 @@
 -- Verbs and their calls: a call is said with its verb, a kind's verbs have its calls, and a call adds no items but those it is said with.
-use Rattle.std.proofs.Common.{◌≡◌, ℕ, suc, inl, inr, Bool, true, false, not, cond, List, [], ◌∷◌, Option, Some, None, refl, sym, subst, ◌∙◌}
+use Rattle.std.proofs.Common.{◌≡◌, ℕ, suc, inl, inr, Bool, true, false, not, cond, List, [], ◌∷◌, Some, None, refl, sym, subst, ◌∙◌}
 use Rattle.std.proofs.Common.{arith}
 use Rattle.std.specs.Prelude.{is_some, ⊤}
 use Rattle.std.specs.Ordering.{eq_by_cmp}

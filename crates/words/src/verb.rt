@@ -284,8 +284,14 @@ pub fn phrase_of(call: &Call) -> Phrase
     ensures { result ≡ phrase_of call.now }
 {
     match *call {
-        Call::Account(AccountCall::Deposit(amount)) => Phrase::OfAmount(AmountVerb::Deposit, amount),
-        Call::Account(AccountCall::Withdraw(amount)) => Phrase::OfAmount(AmountVerb::Withdraw, amount),
+        Call::Account(AccountCall::Deposit(amount)) => Phrase::OfAmount(
+            AmountVerb::Deposit,
+            amount,
+        ),
+        Call::Account(AccountCall::Withdraw(amount)) => Phrase::OfAmount(
+            AmountVerb::Withdraw,
+            amount,
+        ),
         Call::Account(AccountCall::Balance) => Phrase::Alone(LoneVerb::Balance),
         Call::Counter(CounterCall::Add(amount)) => Phrase::OfAmount(AmountVerb::Add, amount),
         Call::Counter(CounterCall::Sub(amount)) => Phrase::OfAmount(AmountVerb::Sub, amount),
@@ -297,7 +303,11 @@ pub fn phrase_of(call: &Call) -> Phrase
         Call::Queue(QueueCall::Enq(item)) => Phrase::OfItem(ItemVerb::Enq, item),
         Call::Queue(QueueCall::Deq) => Phrase::Alone(LoneVerb::Deq),
         Call::Queue(QueueCall::Length) => Phrase::Alone(LoneVerb::Length),
-        Call::Directory(DirectoryCall::Bind(key, item)) => Phrase::OfPair(PairVerb::Bind, key, item),
+        Call::Directory(DirectoryCall::Bind(key, item)) => Phrase::OfPair(
+            PairVerb::Bind,
+            key,
+            item,
+        ),
         Call::Directory(DirectoryCall::Put(key, item)) => Phrase::OfPair(PairVerb::Put, key, item),
         Call::Directory(DirectoryCall::Unbind(key)) => Phrase::OfItem(ItemVerb::Unbind, key),
         Call::Directory(DirectoryCall::Lookup(key)) => Phrase::OfItem(ItemVerb::Lookup, key),

@@ -4,7 +4,7 @@ use Rattle.std.proofs.Common.{subst, inl, ⊎_elim, arith}
 use Rattle.std.proofs.lemmas.List.Elements.{All-append, All-nil, All-tail}
 use native.Mathlib.Decide.{dec_le}
 use Rattle.std.specs.List.{All, list_any}
-use Rattle.claims.specs.Views.{fresh, is_over, HoldsEachBelow, all_drawn, least}
+use Rattle.claims.specs.Views.{fresh, HoldsEachBelow, all_drawn, least}
 use Rattle.claims.specs.Seated.{Seated, Opened, IsSeatOf, views_of}
 use Rattle.claims.specs.Steps.{with_piece}
 use Rattle.workers.specs.Seating.{IsNewSeat}

@@ -1,4 +1,4 @@
-use Rattle.std.proofs.Common.{◌≡◌, ◌<◌, ◌≤◌, ◌++◌, true, length, sym, subst, arith}
+use Rattle.std.proofs.Common.{◌≡◌, ◌<◌, ◌≤◌, true, length, sym, subst, arith}
 use Rattle.std.specs.List.{All, list_any}
 use Rattle.claims.proofs.Folds.{least_start}
 use Rattle.claims.specs.Seated.{IsSeatOf, views_of}

@@ -1,4 +1,4 @@
-use Rattle.std.proofs.Common.{◌<◌, length, subst, arith}
+use Rattle.std.proofs.Common.{◌<◌, length, subst}
 use Rattle.workers.specs.Working.{Gives, AreGivenOnce}
 use Rattle.workers.proofs.Boards.{some_dealt}
 use Rattle.workers.proofs.Gives.{seats_own, given_once}
