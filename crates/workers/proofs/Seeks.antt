@@ -81,15 +81,11 @@ module _ (passing failing : ℕ → Type 0) (board : Opened) (unused back : List
       (in_list (Judged passing (get_or seats i d).view) (get_or seats i d).view.drawn k (all_sought i d below).judged here))
       (omega (arith, once k, once_some k drawn (omega arith)))
 
--- a seat that has taken no step
+-- so has one as it was dealt
 pub sought_none : (passing failing : ℕ → Type 0) (board : Opened)
     → Sought passing failing board (record { board = board.id; view = fresh 1 board.pieces })
-sought_none passing failing board = record {
-  own = (refl, refl);
-  judged = All-nil (Judged passing (fresh 1 board.pieces));
-  low = inl refl;
-  raised = refl;
-}
+sought_none passing failing board = sought_new passing failing board (record { board = board.id; view = fresh 1 board.pieces })
+    ((refl, refl), refl)
 
 -- one element more
 all_push : (Q : ℕ → Type 0) (xs : List ℕ) (k : ℕ) → All Q xs → Q k → All Q (xs ++ k ∷ [])

@@ -13,7 +13,8 @@ use std::thread::{Threads, join};
 /// seat, and with what the seat's first claim returned.
 ///
 /// A seat that draws a piece leaves the other seats to a new thread, where one can be made, and
-/// works in its own. Where a seat draws none there are no pieces left, so the others don't claim.
+/// works in its own. Where a seat draws none, all pieces are drawn or a worker raised. Then the
+/// others don't claim.
 ///
 /// Returns `AllocError` where there is no memory for the list of the results. No seat has claimed
 /// then.

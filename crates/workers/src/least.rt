@@ -47,8 +47,8 @@ fn seek<F: Fn(u32) -> bool>(board: &Board, passes: &F, mut seat: Seat, first: Cl
     seat
 }
 
-// Each seat that claims seeks, in a thread of its own where one can be made. With them the seats
-// that don't claim, since there are no pieces left.
+// Each seat that claims seeks, in a thread of its own where one can be made. Beside them the
+// seats that don't claim.
 fn seek_all<R: Threads + Sync, F: Fn(u32) -> bool + Sync>(
     threads: &R,
     alloc: Global,

@@ -102,8 +102,8 @@ fn work_one<D: Drop, X: Drop, F: Fn(u32, Bench<D, X>) -> Result<Bench<D, X>, NoM
     Worked { seat, items }
 }
 
-// Each seat that claims works, in a thread of its own where one can be made. With them the seats
-// that don't claim, since there are no pieces left.
+// Each seat that claims works, in a thread of its own where one can be made. Beside them the
+// seats that don't claim.
 fn work_all<
     R: Threads + Sync,
     D: Send + Drop,
