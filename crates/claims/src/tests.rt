@@ -38,89 +38,108 @@ fn pair(rt: &impl Abort, alloc: Global, pieces: u32) -> (Board, Seat, Seat)
     (board, a, b)
 }
 
-// The two seats, as `gather` takes them.
-fn back(alloc: Global, a: Seat, b: Seat) -> Result<Vec<Seat>, AllocError>
-    ensures { IfOk result (λ seats. seats.items ≡ a ∷ b ∷ []) }
+// Claims, and stops the test where the claim returns another piece.
+fn draws(rt: &impl Abort, board: &Board, seat: &mut Seat, k: u32)
+    requires board { IsSeatOf board.now seat.old }
+    requires going { is_over seat.old.view ≡ false }
+    ensures board { IsSeatOf board.now seat.new }
+    ensures going { is_over seat.new.view ≡ false }
 {
-    let mut seats = Vec::with_capacity(alloc, 2)?;
+    let drawn = piece(rt, board, seat);
+    assert_eq!(rt; drawn, k);
+}
+
+// Claims, and stops the test where the claim returns something else.
+fn claims(rt: &impl Abort, board: &Board, seat: &mut Seat, expected: Claim)
+    requires board { IsSeatOf board.now seat.old }
+    requires going { is_over seat.old.view ≡ false }
+    ensures { IsSeatOf board.now seat.new }
+{
+    let claim = board.claim(seat);
+    assert_eq!(rt; claim, expected);
+}
+
+// Stops the test where the bound is another.
+fn bounded(rt: &impl Abort, board: &Board, seat: &mut Seat, expected: u32)
+    requires { IsSeatOf board.now seat.old }
+    ensures board { IsSeatOf board.now seat.new }
+    ensures going { is_over seat.new.view ≡ is_over seat.old.view }
+{
+    let bound = board.bound(seat);
+    assert_eq!(rt; bound, expected);
+}
+
+// Gathers the two seats, and stops the test where the tally is another.
+fn gathers(rt: &impl Abort, alloc: Global, board: Board, a: Seat, b: Seat, expected: Tally)
+    requires own { IsSeatOf board a × IsSeatOf board b }
+    requires all { board.seats ≡ 2 }
+{
+    let Ok(mut seats) = Vec::with_capacity(alloc, 2) else {
+        panic!(rt; "no memory")
+    };
     seats.push_reserved(a);
     seats.push_reserved(b);
-    Ok(seats)
+    let tally = board.gather(seats);
+    assert_eq!(rt; tally, expected);
 }
 
 #[test]
-fn two_seats_draw_each_piece_once(rt: HostRuntime) -> Result<(), Fail> {
+fn two_seats_draw_each_piece_once(rt: HostRuntime) {
     let (board, mut a, mut b) = pair(&rt, rt.alloc(), 3);
-    assert_eq!(rt; piece(&rt, &board, &mut a), 0);
-    assert_eq!(rt; piece(&rt, &board, &mut b), 1);
-    assert_eq!(rt; piece(&rt, &board, &mut b), 2);
-    assert_eq!(rt; board.claim(&mut a), Claim::Done);
+    draws(&rt, &board, &mut a, 0);
+    draws(&rt, &board, &mut b, 1);
+    draws(&rt, &board, &mut b, 2);
+    claims(&rt, &board, &mut a, Claim::Done);
     assert!(rt; a.is_over() && !b.is_over());
-    let tally = board.gather(back(rt.alloc(), a, b)?);
-    assert_eq!(rt;
-        tally,
-        Tally {
-            drawn: 3,
-            stopped: false,
-            first: 3
-        }
-    );
-    Ok(())
+    let tally = Tally {
+        drawn: 3,
+        stopped: false,
+        first: 3,
+    };
+    gathers(&rt, rt.alloc(), board, a, b, tally);
 }
 
 #[test]
-fn a_raise_stops_the_other_seat(rt: HostRuntime) -> Result<(), Fail> {
+fn a_raise_stops_the_other_seat(rt: HostRuntime) {
     let (board, mut a, mut b) = pair(&rt, rt.alloc(), 3);
-    assert_eq!(rt; piece(&rt, &board, &mut a), 0);
+    draws(&rt, &board, &mut a, 0);
     board.raise(&mut b);
-    assert_eq!(rt; board.claim(&mut a), Claim::Stopped);
-    let tally = board.gather(back(rt.alloc(), a, b)?);
-    assert_eq!(rt;
-        tally,
-        Tally {
-            drawn: 1,
-            stopped: true,
-            first: 3
-        }
-    );
-    Ok(())
+    claims(&rt, &board, &mut a, Claim::Stopped);
+    let tally = Tally {
+        drawn: 1,
+        stopped: true,
+        first: 3,
+    };
+    gathers(&rt, rt.alloc(), board, a, b, tally);
 }
 
 #[test]
-fn the_bound_is_the_least_that_any_seat_lowered_to(rt: HostRuntime) -> Result<(), Fail> {
+fn the_bound_is_the_least_that_any_seat_lowered_to(rt: HostRuntime) {
     let (board, mut a, mut b) = pair(&rt, rt.alloc(), 3);
     board.lower(&mut a, 1);
-    assert_eq!(rt; board.bound(&mut b), 1);
+    bounded(&rt, &board, &mut b, 1);
     board.lower(&mut b, 2);
-    assert_eq!(rt; board.bound(&mut a), 1);
-    let tally = board.gather(back(rt.alloc(), a, b)?);
-    assert_eq!(rt;
-        tally,
-        Tally {
-            drawn: 0,
-            stopped: false,
-            first: 1
-        }
-    );
-    Ok(())
+    bounded(&rt, &board, &mut a, 1);
+    let tally = Tally {
+        drawn: 0,
+        stopped: false,
+        first: 1,
+    };
+    gathers(&rt, rt.alloc(), board, a, b, tally);
 }
 
 #[test]
-fn a_board_of_no_pieces_is_done_at_once(rt: HostRuntime) -> Result<(), Fail> {
+fn a_board_of_no_pieces_is_done_at_once(rt: HostRuntime) {
     let (board, mut a, mut b) = pair(&rt, rt.alloc(), 0);
-    assert_eq!(rt; board.claim(&mut a), Claim::Done);
-    assert_eq!(rt; board.bound(&mut b), 0);
-    assert_eq!(rt; board.claim(&mut b), Claim::Done);
-    let tally = board.gather(back(rt.alloc(), a, b)?);
-    assert_eq!(rt;
-        tally,
-        Tally {
-            drawn: 0,
-            stopped: false,
-            first: 0
-        }
-    );
-    Ok(())
+    claims(&rt, &board, &mut a, Claim::Done);
+    bounded(&rt, &board, &mut b, 0);
+    claims(&rt, &board, &mut b, Claim::Done);
+    let tally = Tally {
+        drawn: 0,
+        stopped: false,
+        first: 0,
+    };
+    gathers(&rt, rt.alloc(), board, a, b, tally);
 }
 
 // Each seat claims once. In one thread the pieces come in order.

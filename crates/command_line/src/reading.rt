@@ -1,6 +1,6 @@
 //! Reading the command line.
 ghost use Rattle.std.specs.Prelude.{◌≡◌, ◌↔◌, [], Some, codes, map, option_map, IfErr, IfOk, IsTrue, OnOk, OnSome, false, string_bytes};
-ghost use Rattle.clap.specs.Words.{IsAmong, app_of, first_of, found_of, kind_of, one_of, rows_of, rule_of};
+ghost use Rattle.clap.specs.Words.{IsAmong, app_of, first_of, found_of, kind_of, one_of, rows_of, rule_of, with_subcommand};
 ghost use Rattle.clap.specs.declared.builder.command.Command.TheViews.{out-Command};
 ghost use Rattle.command_line.specs.CommandLine.{CanBeMatched, HoldsFrom1, HoldsLine, HoldsNumber, IsAboutHelp, IsLineOf, IsRefusalBy, IsRefusalOf, IsTaken, NamesCommand, command_name, faults_of, file_app, flag_rule, number_rule, ordtx_app, run_app};
 ghost use Rattle.speculate.specs.declared.transaction.TheConstants.{MAX_WORKERS};
@@ -212,79 +212,85 @@ fn refusal_of(alloc: Global, error: &clap::Error) -> Refused
 fn ordtx_command<'a>(alloc: Global) -> Result<clap::Command<'a>, AllocError>
     ensures { IfOk result (λ command. app_of command ≡ ordtx_app) }
 {
-    let run = run_command(alloc)?;
-    let serial = file_command(
-        alloc,
-        "serial",
-        "Runs the transactions by number on one thread, and prints the report without the rounds",
-    )?;
-    let carry = file_command(
-        alloc,
-        "carry",
-        "Runs the transactions by number on one thread, and prints a document of the objects as they end",
-    )?;
-    let check = file_command(
-        alloc,
-        "check",
-        "Reads a document, and prints how many objects, transactions and operations it has",
-    )?;
-    let locate = file_command(
-        alloc,
-        "locate",
-        "Reads a document, and prints where its first fault is; without a fault, what check prints",
-    )?;
-    clap::Command::new(alloc, "ordtx")
+    let run = clap::Command::new(alloc, "ordtx")
         .about(ABOUT)
         .after_help(HELP)
         .version("0.1.0")
         .propagate_version(true)
         .subcommand_required(true)
-        .subcommand(run)?
-        .subcommand(serial)?
-        .subcommand(carry)?
-        .subcommand(check)?
-        .subcommand(locate)
+        .subcommand(run_command(alloc)?)?;
+    let serial = add_file_command(
+        alloc,
+        run,
+        "serial",
+        "Runs the transactions by number on one thread, and prints the report without the rounds",
+    )?;
+    let carry = add_file_command(
+        alloc,
+        serial,
+        "carry",
+        "Runs the transactions by number on one thread, and prints a document of the objects as they end",
+    )?;
+    let check = add_file_command(
+        alloc,
+        carry,
+        "check",
+        "Reads a document, and prints how many objects, transactions and operations it has",
+    )?;
+    add_file_command(
+        alloc,
+        check,
+        "locate",
+        "Reads a document, and prints where its first fault is; without a fault, what check prints",
+    )
 }
 
 fn run_command<'a>(alloc: Global) -> Result<clap::Command<'a>, AllocError>
     ensures app { IfOk result (λ command. app_of command ≡ run_app) }
     ensures local { IfOk result (λ command. (out-Command command).has_globals ≡ false) }
 {
-    let workers = number_argument(
-        alloc,
-        "workers",
-        "N",
-        MOST_WORKERS,
-        "How many workers there are, 1 to 64 [default: 4]",
-    );
-    let cut = number_argument(
-        alloc,
-        "cut",
-        "K",
-        MOST_CUT,
-        "How many transactions a worker takes at a time at most, 1 to 1000 [default: 16]",
-    );
-    let audit = flag_argument(
-        alloc,
-        "audit",
-        "Print also how often each transaction was run",
-    );
-    let why = flag_argument(alloc, "why", "Print also which operations ended each round");
-    let progress = flag_argument(
-        alloc,
-        "progress",
-        "Show on standard error how far the run is",
-    );
     file_command(
         alloc,
         "run",
         "Runs the transactions of a document on workers, and prints the report",
     )?
-    .arg(workers)?
-    .arg(cut)?
-    .arg(audit)?
-    .arg(why)?
-    .arg(progress)
+    .arg(number_argument(
+        alloc,
+        "workers",
+        "N",
+        MOST_WORKERS,
+        "How many workers there are, 1 to 64 [default: 4]",
+    ))?
+    .arg(number_argument(
+        alloc,
+        "cut",
+        "K",
+        MOST_CUT,
+        "How many transactions a worker takes at a time at most, 1 to 1000 [default: 16]",
+    ))?
+    .arg(flag_argument(
+        alloc,
+        "audit",
+        "Print also how often each transaction was run",
+    ))?
+    .arg(flag_argument(alloc, "why", "Print also which operations ended each round"))?
+    .arg(flag_argument(
+        alloc,
+        "progress",
+        "Show on standard error how far the run is",
+    ))
+}
+
+// Adds a command that takes a file.
+fn add_file_command<'a>(
+    alloc: Global,
+    command: clap::Command<'a>,
+    name: &'a str,
+    about: &'a str,
+) -> Result<clap::Command<'a>, AllocError>
+    ensures { IfOk result (λ added. app_of added ≡ with_subcommand (app_of command.entry) (file_app name.entry.now).top) }
+{
+    command.subcommand(file_command(alloc, name, about)?)
 }
 
 // A command that takes a file.

@@ -1,6 +1,6 @@
 -- Entries that `==` finds equal are equal.
 use Rattle.std.proofs.Common.{◌≡◌, ◌&&◌, ℕ, true, nat_eq, ap, ◌∙◌}
-use Rattle.std.proofs.lemmas.Bool.{eqb-true, and_parts}
+use Rattle.std.proofs.lemmas.Bool.{eqb-true, and_parts, false≢true}
 use Rattle.atoms.proofs.AccountLemmas.{same_account_call, same_account_reply}
 use Rattle.atoms.proofs.CounterLemmas.{same_counter_call, same_counter_reply}
 use Rattle.atoms.proofs.ItemSetLemmas.{same_set_call, same_set_reply}
@@ -23,7 +23,7 @@ same_call (call.Set c) (call.Set d) h = ap call.Set (same_set_call c d h)
 same_call (call.Queue c) (call.Queue d) h = ap call.Queue (same_queue_call c d h)
 same_call (call.Directory c) (call.Directory d) h = ap call.Directory (same_directory_call c d h)
 same_call (call.Max c) (call.Max d) h = ap call.Max (same_max_call c d h)
-same_call c d h = absurd cc
+same_call c d h = absurd (false≢true h)
 
 same_reply : (c d : Reply) → reply_eq.ghosts.eq c d ≡ true → c ≡ d
 same_reply (reply.Account c) (reply.Account d) h = ap reply.Account (same_account_reply c d h)
@@ -32,7 +32,7 @@ same_reply (reply.Set c) (reply.Set d) h = ap reply.Set (same_set_reply c d h)
 same_reply (reply.Queue c) (reply.Queue d) h = ap reply.Queue (same_queue_reply c d h)
 same_reply (reply.Directory c) (reply.Directory d) h = ap reply.Directory (same_directory_reply c d h)
 same_reply (reply.Max c) (reply.Max d) h = ap reply.Max (same_max_reply c d h)
-same_reply c d h = absurd cc
+same_reply c d h = absurd (false≢true h)
 
 pub same_entry : (p q : Entry) → entry_eq.ghosts.eq p q ≡ true → p ≡ q
 same_entry p q h =

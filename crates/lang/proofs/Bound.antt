@@ -1,7 +1,7 @@
 -- Calls that fit, and labels that are bound.
 use Rattle.std.proofs.Common.{◌≡◌, ℕ, zero, suc, ◌+◌, ◌≤◌, ◌<◌, Bool, true, false, cond, not, ◌||◌, List, [], ◌∷◌, length, map, Option}
 use Rattle.std.proofs.Common.{None, Some, refl, sym, ap, subst, ◌∙◌, arith}
-use Rattle.std.specs.Prelude.{codes, is_some, unwrap_or, option_and_then, slice_get, IsTrue, IsSomeAnd}
+use Rattle.std.specs.Prelude.{is_some, unwrap_or, option_and_then, slice_get, IsTrue, IsSomeAnd}
 use Rattle.std.specs.List.{position_or_len}
 use Rattle.std.specs.Map.{keys_of}
 use Rattle.std.specs.Str.{bytes_eq}

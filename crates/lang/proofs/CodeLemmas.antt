@@ -1,5 +1,5 @@
 -- A document's faults come of bytes alone: none is of the input or the output.
-use Rattle.std.proofs.Common.{◌≡◌, ◌≢◌, ℕ, Bool, true, false, List, [], ◌∷◌, Option, Some, Result, Ok, Err, cond, refl, subst}
+use Rattle.std.proofs.Common.{◌≡◌, ◌≢◌, Bool, true, false, List, [], ◌∷◌, Some, Result, Ok, Err, cond, refl, subst}
 use Rattle.std.specs.Prelude.{IfErr, IfSome, nat_lt}
 use Rattle.serde_json.specs.Data.{Data}
 use Rattle.meaning.specs.declared.limits.TheConstants.{MAX_ENTRIES, MAX_NODES}

@@ -1,5 +1,5 @@
 -- The demands with places are those that are asked, and the fault that is found among them is the first.
-use Rattle.std.proofs.Common.{◌≡◌, ℕ, ◌+◌, zero, suc, List, [], ◌∷◌, ◌++◌, Option, None, Some, Result, Ok, Err, refl, sym, ap, ap₂, ◌∙◌}
+use Rattle.std.proofs.Common.{◌≡◌, ℕ, ◌+◌, zero, suc, List, [], ◌∷◌, ◌++◌, Option, None, Some, Result, Ok, Err, refl, sym, ap, ◌∙◌}
 use Rattle.std.proofs.Common.{append_assoc}
 use Rattle.std.proofs.lemmas.List.{append-nil}
 use Rattle.serde_json.specs.Data.{Data, Items, no_items, item, Members, no_members, member}
@@ -16,13 +16,13 @@ use Rattle.lang.specs.Demand.{Demand, check, one_more_node}
 use Rattle.lang.specs.Scope.{Scope, Setting, Table, with_label, with_text}
 use Rattle.lang.specs.Asked.{Asks, array_asked, array_start_asked, asked, block_asked, block_asked_if, children_asked, document_shape_asked}
 use Rattle.lang.specs.Asked.{elements_asked, entries_asked, handlers_asked, if_asked, if_label, if_shape_asked, key_of, label_asked}
-use Rattle.lang.specs.Asked.{label_in, member_asked, members_asked, object_asked, object_name, object_name_asked, object_shape_asked}
+use Rattle.lang.specs.Asked.{label_in, members_asked, object_asked, object_name, object_name_asked, object_shape_asked}
 use Rattle.lang.specs.Asked.{objects_asked, or_no_items, pairs_asked, parallel_asked, parallel_shape_asked, scope_after, seen_asked}
 use Rattle.lang.specs.Asked.{sort_of, start_asked, step_asked, step_asked_by, steps_asked, sub_asked, sub_shape_asked, subject_of}
 use Rattle.lang.specs.Asked.{test_asked, text_of, transactions_asked}
 use Rattle.lang.specs.Places.{Found, Placed, Places, Token, below, block_placed, block_placed_if, children_placed, demands_of}
 use Rattle.lang.specs.Places.{elements_placed, entries_placed, found_here, found_inside, go_on, handlers_placed, here, if_placed, inside}
-use Rattle.lang.specs.Places.{items_in, itself, list_placed, members_placed, no_asks, nothing, object_placed, objects_placed, pairs_placed}
+use Rattle.lang.specs.Places.{itself, list_placed, members_placed, nothing, object_placed, objects_placed, pairs_placed}
 use Rattle.lang.specs.Places.{parallel_placed, placed, seek, start_placed, step_placed, step_placed_by, steps_placed, sub_placed}
 use Rattle.lang.specs.Places.{transactions_placed}
 use Rattle.lang.proofs.Checks.{and_check, check-after, check-append, failed-before}

@@ -1,6 +1,5 @@
 -- What is asked of a document, with the places: the same demands as in `asked`, each under the part that it is asked of.
-use Rattle.std.specs.Prelude.{ℕ, ◌+◌, List, [], ◌∷◌, ◌++◌, codes, map, Option, None, Some, Result, Ok, Err, zero, suc, nat_lt, length}
-use Rattle.std.specs.Prelude.{option_map, unwrap_or, string_bytes, ◌≡◌, ◌≢◌}
+use Rattle.std.specs.Prelude.{ℕ, ◌+◌, List, [], ◌∷◌, ◌++◌, codes, Option, None, Some, Result, Ok, Err, zero, suc}
 use Rattle.std.specs.Fmt.{decimal}
 use Rattle.serde_json.specs.Data.{Data, Items, no_items, item, Members, no_members, member}
 use Rattle.serde_json.specs.Find.{as_array, get}
@@ -12,7 +11,7 @@ use Rattle.lang.specs.declared.steps.Sort.TheVariants.{Parallel as a_parallel}
 use Rattle.lang.specs.declared.subject.Subject.TheVariants.{Outcome}
 use Rattle.lang.specs.declared.fault.Fault.{Fault}
 use Rattle.lang.specs.declared.counts.Counts.{Counts}
-use Rattle.lang.specs.Demand.{Demand, one_more_node, in_transaction, check, no_counts}
+use Rattle.lang.specs.Demand.{Demand, one_more_node, in_transaction, check}
 use Rattle.lang.specs.Scope.{Scope, Setting, Table, with_label, with_text}
 use Rattle.lang.specs.Asked.{abort_asked, array_asked, array_start_asked, block_asked, children_in, document_shape_asked, element_asked}
 use Rattle.lang.specs.Asked.{entry_asked, handlers_in, if_label, if_shape_asked, key_of, kind_in, label_asked, label_in, member_asked}

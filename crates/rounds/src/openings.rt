@@ -85,6 +85,37 @@ fn records_of(alloc: Global, runs: Vec<PendingRun>) -> Result<Vec<Record>, NoMem
     Ok(records)
 }
 
+// What is at hand before the first round.
+#[derive(Drop)]
+struct Beginning {
+    objects: Objects,
+    runs: Vec<PendingRun>,
+    counts: Vec<u32>,
+    stale: Vec<usize>,
+    pending: Pending,
+}
+
+// The objects as they start, and all runs still to be made.
+fn begin(alloc: Global, batch: &Batch) -> Result<Beginning, NoMemory>
+    ensures objects { IfOk result (λ s. s.objects ≡ batch.now.objects) }
+    ensures runs { IfOk result (λ s. length s.runs.items ≡ length batch.now.transactions.items) }
+    ensures counts { IfOk result (λ s. (length s.counts.items ≡ length batch.now.transactions.items)
+        × ((i : ℕ) → slice_index_or s.counts.items i 0 ≡ 0)) }
+    ensures stale { IfOk result (λ s. length s.stale.items ≡ length batch.now.transactions.items) }
+    ensures below { IfOk result (λ s. (i : ℕ) → i < length batch.now.transactions.items → times i s.stale.items ≡ 1) }
+    ensures beyond { IfOk result (λ s. (i : ℕ) → length batch.now.transactions.items ≤ i → times i s.stale.items ≡ 0) }
+    ensures pending { IfOk result (λ s. s.pending.watch.count ≡ length batch.now.transactions.items) }
+{
+    let count = batch.transactions.len();
+    Ok(Beginning {
+        objects: batch.objects.copy()?,
+        runs: blank_runs(alloc, count)?,
+        counts: no_counts(alloc, count)?,
+        stale: all_numbers(alloc, count)?,
+        pending: Pending::new(alloc, count)?,
+    })
+}
+
 /// Runs a batch in rounds. It returns what one thread returns that runs the transactions by number,
 /// depth first.
 ///
@@ -111,11 +142,13 @@ pub fn execute<R: Threads + Sync, G: Gate>(
     ensures runs { IfOk result (λ o. AreCounts batch.now o.runs.items) }
 {
     let count = batch.transactions.len();
-    let mut objects = batch.objects.copy()?;
-    let mut runs = blank_runs(alloc, count)?;
-    let mut counts = no_counts(alloc, count)?;
-    let mut stale = all_numbers(alloc, count)?;
-    let mut pending = Pending::new(alloc, count)?;
+    let Beginning {
+        mut objects,
+        mut runs,
+        mut counts,
+        mut stale,
+        mut pending,
+    } = begin(alloc, batch)?;
     let mut opened: usize = 0;
     let mut passed: usize = 0;
     let mut rounds: u32 = 0;

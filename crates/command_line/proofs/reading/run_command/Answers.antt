@@ -5,14 +5,13 @@ use Rattle.command_line.proofs.reading.run_command.Goals as goal
 
 pub returns-clause-app : goal.returns-clause-app
 returns-clause-app c =
-    let workers = c.in_ok-arg.ensures.shape c.number_argument-workers.ensures.local
-    ∙ ap₂ with_rule c.in_ok-file_command.ensures.app c.number_argument-workers.ensures.rule in
-    let cut = c.in_ok-arg-2.ensures.shape c.number_argument-cut.ensures.local ∙ ap₂ with_rule workers c.number_argument-cut.ensures.rule in
-    let audit = c.in_ok-arg-3.ensures.shape c.flag_argument-audit.ensures.local
-    ∙ ap₂ with_rule cut c.flag_argument-audit.ensures.rule in
-    let why = c.in_ok-arg-4.ensures.shape c.flag_argument-why.ensures.local ∙ ap₂ with_rule audit c.flag_argument-why.ensures.rule in
-    IfOk-weaker c.arg-5.result _ _ (λ command added. added.shape c.flag_argument-progress.ensures.local
-    ∙ ap₂ with_rule why c.flag_argument-progress.ensures.rule) c.arg-5.ensures
+    let workers = c.in_ok-arg.ensures.shape c.number_argument.ensures.local
+    ∙ ap₂ with_rule c.in_ok-file_command.ensures.app c.number_argument.ensures.rule in
+    let cut = c.in_ok-arg-2.ensures.shape c.number_argument-2.ensures.local ∙ ap₂ with_rule workers c.number_argument-2.ensures.rule in
+    let audit = c.in_ok-arg-3.ensures.shape c.flag_argument.ensures.local ∙ ap₂ with_rule cut c.flag_argument.ensures.rule in
+    let why = c.in_ok-arg-4.ensures.shape c.flag_argument-2.ensures.local ∙ ap₂ with_rule audit c.flag_argument-2.ensures.rule in
+    IfOk-weaker c.arg-5.result _ _ (λ command added. added.shape c.flag_argument-3.ensures.local
+    ∙ ap₂ with_rule why c.flag_argument-3.ensures.rule) c.arg-5.ensures
 
 -- neither is global
 neither : (a b : Bool) → a ≡ false → b ≡ false → (a || b) ≡ false
@@ -21,8 +20,8 @@ neither true b first second = first
 
 pub returns-clause-local : goal.returns-clause-local
 returns-clause-local c =
-    let workers = c.in_ok-arg.ensures.globals ∙ neither _ _ c.in_ok-file_command.ensures.local c.number_argument-workers.ensures.local in
-    let cut = c.in_ok-arg-2.ensures.globals ∙ neither _ _ workers c.number_argument-cut.ensures.local in
-    let audit = c.in_ok-arg-3.ensures.globals ∙ neither _ _ cut c.flag_argument-audit.ensures.local in
-    let why = c.in_ok-arg-4.ensures.globals ∙ neither _ _ audit c.flag_argument-why.ensures.local in
-    IfOk-weaker c.arg-5.result _ _ (λ command added. added.globals ∙ neither _ _ why c.flag_argument-progress.ensures.local) c.arg-5.ensures
+    let workers = c.in_ok-arg.ensures.globals ∙ neither _ _ c.in_ok-file_command.ensures.local c.number_argument.ensures.local in
+    let cut = c.in_ok-arg-2.ensures.globals ∙ neither _ _ workers c.number_argument-2.ensures.local in
+    let audit = c.in_ok-arg-3.ensures.globals ∙ neither _ _ cut c.flag_argument.ensures.local in
+    let why = c.in_ok-arg-4.ensures.globals ∙ neither _ _ audit c.flag_argument-2.ensures.local in
+    IfOk-weaker c.arg-5.result _ _ (λ command added. added.globals ∙ neither _ _ why c.flag_argument-3.ensures.local) c.arg-5.ensures

@@ -1,5 +1,4 @@
-use Rattle.std.proofs.Common.{◌≡◌, ◌≢◌, [], Ok, Some, map, subst, sym, ap, ◌∙◌, arith, rules}
-use Rattle.json.specs.Lex.{tokens}
+use Rattle.std.proofs.Common.{◌≡◌, ◌≢◌, Ok, Some, map, subst, sym, ap, ◌∙◌, arith, rules}
 use Rattle.batch.specs.Limits.{IsBatch}
 use Rattle.batch.specs.Names.{texts_of}
 use Rattle.batch.specs.Views.{block_view}
@@ -7,14 +6,13 @@ use Rattle.lang.specs.Answer.{IsMet}
 use Rattle.lang.specs.Asked.{asked, document_shape_asked}
 use Rattle.lang.specs.Demand.{first_fault}
 use Rattle.lang.specs.Faults.{memory_fault}
-use Rattle.lang.specs.Pulled.{ReadsValue}
 use Rattle.lang.specs.Reading.{document_of, document_with, spelled_by, unless_fault}
 use Rattle.lang.specs.Scope.{numbers_of}
 use Rattle.lang.specs.Spelled.{Document}
 use Rattle.lang.proofs.CodeLemmas.{first_fault_code, memory_or}
 use Rattle.lang.proofs.DocumentLemmas.{failed_first, met_first, same_document}
 use Rattle.lang.proofs.FaultlessBatch.{faultless_is_batch}
-use Rattle.lang.proofs.RefusedLemmas.{refused_for, value_known}
+use Rattle.lang.proofs.RefusedLemmas.{refused_for}
 use Rattle.lang.proofs.SinglyLemmas.{matched_err, matched_ok}
 use Rattle.lang.proofs.document.read_singly.Goals as goal
 
@@ -24,43 +22,34 @@ batch_of-requires c =
     let d = answer.0 in
     let parts = c.in-Ok.parts in
     let done = matched_ok c.in_ok-answer.answer parts _ _ c.in-Ok.is answer.2 in
-    let last = numbers_of c.each_part.new.state.numbering in
+    let last = numbers_of c.read_bytes_singly.new.state.numbering in
     let read = same_document d parts.declared.objects (map block_view parts.transactions.items) last
     (texts_of parts.declared.names.keys) _ c.new-state.ensures.numbers done.1 done.2 in
     subst (λ (shown : Document). IsBatch shown.start shown.texts shown.transactions) (sym read)
     (faultless_is_batch d (met_first _ _ (asked d) c.new-state.ensures.counts done.0))
 
-pub returns-in-Ok : goal.returns-in-Ok
-returns-in-Ok c =
+pub returns-in_ok-batch-in-Ok : goal.returns-in_ok-batch-in-Ok
+returns-in_ok-batch-in-Ok c =
     let answer = c.in_ok-answer.ensures in
     let d = answer.0 in
     let parts = c.in-Ok.parts in
     let done = matched_ok c.in_ok-answer.answer parts _ _ c.in-Ok.is answer.2 in
-    let last = numbers_of c.each_part.new.state.numbering in
-    let bytes = c.args.bytes.now in
-    let text = c.in_ok-text.text.now in
-    let begun : c.in_ok-reader.reader ≡ tokens text = c.in_ok-reader.ensures in
-    let ended : c.each_part.new.reader ≡ [] = c.in_ok-pull_end.ensures in
-    let all = subst (λ ts. ReadsValue 127 ts d []) begun (subst (λ ts. ReadsValue 127 c.in_ok-reader.reader d ts) ended answer.1) in
-    let known = value_known bytes text 127 d (omega arith) c.in_ok-text.ensures.0 c.in_ok-text.ensures.1 all in
+    let last = numbers_of c.read_bytes_singly.new.state.numbering in
+    let known = answer.1 in
     let faultless = met_first _ _ (asked d) c.new-state.ensures.counts done.0 in
-    let shown : document_of c.in_ok-batch-in-Ok.batch ≡ document_with parts c.each_part.new.state.numbering = grind (arith, rules) in
+    let shown : document_of c.in_ok-batch-in-Ok.batch ≡ document_with parts c.read_bytes_singly.new.state.numbering = grind (arith, rules) in
     let read = same_document d parts.declared.objects (map block_view parts.transactions.items) last
     (texts_of parts.declared.names.keys) _ c.new-state.ensures.numbers done.1 done.2 in
     ap spelled_by known ∙ ap (unless_fault d) faultless ∙ ap Ok (sym (shown ∙ read))
 
-pub returns : goal.returns
-returns c =
+pub returns-in-Err : goal.returns-in-Err
+returns-in-Err c =
     let answer = c.in_ok-answer.ensures in
     let d = answer.0 in
     let e = c.in-Err.fault in
     let failed = matched_err c.in_ok-answer.answer e _ _ c.in-Err.is answer.2 in
     let bytes = c.args.bytes.now in
-    let text = c.in_ok-text.text.now in
-    let begun : c.in_ok-reader.reader ≡ tokens text = c.in_ok-reader.ensures in
-    let ended : c.each_part.new.reader ≡ [] = c.in_ok-pull_end.ensures in
-    let all = subst (λ ts. ReadsValue 127 ts d []) begun (subst (λ ts. ReadsValue 127 c.in_ok-reader.reader d ts) ended answer.1) in
-    let known = value_known bytes text 127 d (omega arith) c.in_ok-text.ensures.0 c.in_ok-text.ensures.1 all in
+    let known = answer.1 in
     let counts = c.new-state.ensures.counts in
     let shape = subst (λ s. IsMet s (document_shape_asked d) s) (sym counts) (c.requires d known) in
     let first : e ≢ memory_fault → first_fault (asked d) ≡ Some e =

@@ -16,19 +16,20 @@ opening-init g c =
     let count = c.len-count.ensures in
     let blocks : length (blocks_of c.args.batch.now) ≡ length c.args.batch.now.transactions.items =
     length-map c.args.batch.now.transactions.items block_view in
-    let runs = c.in_ok-runs.ensures in
-    let counts = c.in_ok-counts.ensures in
+    let begun = c.in_ok-objects in
+    let made = begun.field-0 in
+    let holds = begun.ensures in
     record {
       tells = record {
-        all = omega (arith, c.in_ok-pending.ensures);
+        all = omega (arith, holds.pending, holds.runs);
         watched = λ run d low high out.
-            let once = c.in_ok-stale.ensures.below run (omega arith) in
-            absurd (out (has_of_times c.in_ok-stale.stale.items run (omega arith)));
+            let once = holds.below run (omega (arith, high, holds.runs)) in
+            absurd (out (has_of_times made.stale.items run (omega (arith, once))));
       };
-      few = omega (arith, c.in_ok-stale.ensures.all);
-      at = starts c.args.batch.now (c.in_ok-objects.objects) c.in_ok-runs.runs.items c.in_ok-counts.counts.items c.in_ok-stale.stale.items
-          c.in_ok-objects.ensures (omega arith) (omega arith) c.in_ok-counts.ensures.1
-          (λ i lt. c.in_ok-stale.ensures.below i (omega arith)) (λ i le. c.in_ok-stale.ensures.beyond i (omega arith));
+      few = omega (arith, holds.stale);
+      at = starts c.args.batch.now made.objects made.runs.items made.counts.items made.stale.items holds.objects
+          (omega (arith, holds.runs)) (omega (arith, holds.counts.0)) holds.counts.1
+          (λ i lt. holds.below i (omega (arith, lt))) (λ i le. holds.beyond i (omega (arith, le)));
     }
 
 pub opening-preserved : goal.opening-preserved
@@ -39,15 +40,15 @@ opening-preserved g c =
     let count = c.len-count.ensures in
     let later = c.opening.opened + c.in_ok-seen.seen.first in
     record {
-      tells = subst (λ rs. Tells c.keep_all.new.pending rs later c.in_ok-stale-2.stale.items) c.deref-in-opening-3.ensures.value
-          c.in_ok-stale-2.ensures.tells;
-      few = c.in_ok-stale-2.ensures.few;
+      tells = subst (λ rs. Tells c.keep_all.new.pending rs later c.in_ok-stale.stale.items) c.deref-in-opening-3.ensures.value
+          c.in_ok-stale.ensures.tells;
+      few = c.in_ok-stale.ensures.few;
       at = (one_round c.args.batch.now c.opening.opened c.opening.rounds c.in_ok-seen.seen c.opening.objects c.commit.new.objects
           c.opening.runs.items c.renew.new.runs.items c.deref-in-opening.result.now c.deref-in-opening-2.result.now
           c.deref-in-opening-3.result.now c.opening.counts.items c.renew.new.counts.items c.deref.result.now c.opening.stale.items
-          c.in_ok-stale-2.stale.items c.opening.invariant.at c.deref.ensures.value c.in_ok-renew.ensures.renewed
+          c.in_ok-stale.stale.items c.opening.invariant.at c.deref.ensures.value c.in_ok-renew.ensures.renewed
           c.deref-in-opening.ensures.value c.in_ok-seen.ensures c.deref-in-opening-2.ensures.value c.in_ok-commit.ensures
-          c.deref-in-opening-3.ensures.value c.in_ok-stale-2.ensures.refuted (omega arith)).1;
+          c.deref-in-opening-3.ensures.value c.in_ok-stale.ensures.refuted (omega arith)).1;
     }
 
 pub opening-smaller : goal.opening-smaller
@@ -59,9 +60,9 @@ opening-smaller g c =
     let opening = (one_round c.args.batch.now c.opening.opened c.opening.rounds c.in_ok-seen.seen c.opening.objects c.commit.new.objects
     c.opening.runs.items c.renew.new.runs.items c.deref-in-opening.result.now c.deref-in-opening-2.result.now
     c.deref-in-opening-3.result.now c.opening.counts.items c.renew.new.counts.items c.deref.result.now c.opening.stale.items
-    c.in_ok-stale-2.stale.items c.opening.invariant.at c.deref.ensures.value c.in_ok-renew.ensures.renewed
+    c.in_ok-stale.stale.items c.opening.invariant.at c.deref.ensures.value c.in_ok-renew.ensures.renewed
     c.deref-in-opening.ensures.value c.in_ok-seen.ensures c.deref-in-opening-2.ensures.value c.in_ok-commit.ensures
-    c.deref-in-opening-3.ensures.value c.in_ok-stale-2.ensures.refuted (omega arith)).0 in
+    c.deref-in-opening-3.ensures.value c.in_ok-stale.ensures.refuted (omega arith)).0 in
     let on = comes_on (start_of c.args.batch.now) (blocks_of c.args.batch.now) c.opening.opened
     (c.opening.opened + c.in_ok-seen.seen.first) (omega arith) opening in
     omega arith
