@@ -1,36 +1,53 @@
 //! Documents, read from bytes.
-use lang::{Code, Item, Step, Value, read};
+use lang::{Item, Step, Value, read};
+use std::alloc::Global;
+use std::process::Abort;
 use std::test::Fail;
 
 /// What a document's bytes are refused for, as it is printed, or nothing where they are read.
-fn refusal(rt: &HostRuntime, text: &str) -> Result<String, Fail> {
-    let alloc = rt.alloc();
+fn refusal(alloc: Global, text: &str) -> Result<String, Fail> {
     match read(alloc, text.as_bytes()) {
         Ok(_) => Ok(String::new(alloc)),
         Err(fault) => Ok(format!(in alloc; "{fault}")?),
     }
 }
 
+/// Stops the test where the bytes are refused for something else than the answer. An empty answer
+/// says that they are read.
+fn refused(rt: &impl Abort, alloc: Global, text: &str, answer: &str) -> Result<(), Fail> {
+    let refusal = refusal(alloc, text)?;
+    assert_eq!(rt; refusal.as_str(), answer);
+    Ok(())
+}
+
+/// The same of a document of a version, of these objects and transactions.
+fn document_refused(
+    rt: &impl Abort,
+    alloc: Global,
+    version: u32,
+    objects: &str,
+    transactions: &str,
+    answer: &str,
+) -> Result<(), Fail> {
+    let text = document(alloc, version, objects, transactions)?;
+    refused(rt, alloc, text.as_str(), answer)
+}
+
 /// A document of a version, of these objects and transactions.
 pub(crate) fn document(
-    rt: &HostRuntime,
+    alloc: Global,
     version: u32,
     objects: &str,
     transactions: &str,
 ) -> Result<String, Fail> {
-    Ok(format!(in rt.alloc();
+    Ok(format!(in alloc;
         "{{\"ordtx\":{version},\"objects\":[{objects}],\"transactions\":[{transactions}]}}"
     )?)
 }
 
 /// Blocks of one step, each in the one before it, the innermost empty.
-pub(crate) fn nested(
-    rt: &HostRuntime,
-    levels: u32,
-    open: &str,
-    close: &str,
-) -> Result<String, Fail> {
-    let mut text = String::new(rt.alloc());
+pub(crate) fn nested(alloc: Global, levels: u32, open: &str, close: &str) -> Result<String, Fail> {
+    let mut text = String::new(alloc);
     for _ in 0..levels {
         text.push_str("[")?;
         text.push_str(open)?;
@@ -53,7 +70,7 @@ const ALL_STEPS: &str =
 
 #[test]
 fn a_document_is_read(rt: HostRuntime) -> Result<(), Fail> {
-    let text = document(&rt, 4, SIX, ALL_STEPS)?;
+    let text = document(rt.alloc(), 4, SIX, ALL_STEPS)?;
     let batch = read(rt.alloc(), text.as_bytes())?;
     assert_eq!(rt; batch.objects.len(), 6);
     assert!(rt; matches!(batch.objects.value(0), Some(Value::Account(5))));
@@ -92,7 +109,7 @@ fn a_document_is_read(rt: HostRuntime) -> Result<(), Fail> {
 
 #[test]
 fn texts_are_numbered_by_first_appearance(rt: HostRuntime) -> Result<(), Fail> {
-    let text = document(&rt, 4, SIX, ALL_STEPS)?;
+    let text = document(rt.alloc(), 4, SIX, ALL_STEPS)?;
     let batch = read(rt.alloc(), text.as_bytes())?;
     let items = [
         (0, "x"),
@@ -117,9 +134,16 @@ fn texts_are_numbered_by_first_appearance(rt: HostRuntime) -> Result<(), Fail> {
     Ok(())
 }
 
+/// Stops the test where the bytes of two documents don't spell the same.
+fn read_alike(rt: &impl Abort, alloc: Global, text: &str, other: &str) -> Result<(), Fail> {
+    let first = read_of(alloc, text)?;
+    let second = read_of(alloc, other)?;
+    assert_eq!(rt; first.as_str(), second.as_str());
+    Ok(())
+}
+
 /// How many objects, and which names and transactions a document's bytes spell, as they are printed.
-fn read_of(rt: &HostRuntime, text: &str) -> Result<String, Fail> {
-    let alloc = rt.alloc();
+fn read_of(alloc: Global, text: &str) -> Result<String, Fail> {
     let batch = read(alloc, text.as_bytes())?;
     let objects = batch.objects.len();
     let names = &batch.names;
@@ -135,19 +159,14 @@ fn the_same_is_read_without_a_tree(rt: HostRuntime) -> Result<(), Fail> {
     let common = format!(in rt.alloc();
         "{{\"ordtx\":4,\"objects\":[{objects}],\"transactions\":[{calls},{ALL_STEPS},[]]}}"
     )?;
-    let by_tokens = read_of(&rt, common.as_str())?;
     let turned_round = format!(in rt.alloc();
         "{{\"transactions\":[{calls},{ALL_STEPS},[]],\"objects\":[{objects}],\"ordtx\":4}}"
     )?;
-    let by_tree = read_of(&rt, turned_round.as_str())?;
-    assert_eq!(rt; by_tokens.as_str(), by_tree.as_str());
+    read_alike(&rt, rt.alloc(), common.as_str(), turned_round.as_str())?;
     let spaced = common.replace(rt.alloc(), ",", " ,\n ")?;
-    let with_spaces = read_of(&rt, spaced.as_str())?;
-    assert_eq!(rt; with_spaces.as_str(), by_tree.as_str());
+    read_alike(&rt, rt.alloc(), spaced.as_str(), turned_round.as_str())?;
     let said_again = common.replace(rt.alloc(), "{\"op\"", "{\"op\":1,\"op\"")?;
-    let with_members_twice = read_of(&rt, said_again.as_str())?;
-    assert_eq!(rt; with_members_twice.as_str(), by_tree.as_str());
-    Ok(())
+    read_alike(&rt, rt.alloc(), said_again.as_str(), turned_round.as_str())
 }
 
 #[test]
@@ -168,17 +187,16 @@ fn steps_in_any_order_are_read_alike(rt: HostRuntime) -> Result<(), Fail> {
     let after = "{\"if\":\"o\",\"is\":\"aborted\",\"then\":[{\"abort\":\"y\"}]}";
     let step = format!(in rt.alloc(); "{{{handlers},{handler},{label},\"sub\":[{enqueue}]}}")?;
     let by_tree = document(
-        &rt,
+        rt.alloc(),
         4,
         SIX,
         format!(in rt.alloc(); "[{step},{after}]")?.as_str(),
     )?;
-    let by_tree = read_of(&rt, by_tree.as_str())?;
     for row in &rows {
         let members = row.as_str();
         let steps = format!(in rt.alloc(); "[{{\"sub\":[{enqueue}],{members}}},{after}]")?;
-        let text = document(&rt, 4, SIX, steps.as_str())?;
-        assert_eq!(rt; read_of(&rt, text.as_str())?.as_str(), by_tree.as_str());
+        let text = document(rt.alloc(), 4, SIX, steps.as_str())?;
+        read_alike(&rt, rt.alloc(), text.as_str(), by_tree.as_str())?;
     }
     Ok(())
 }
@@ -194,22 +212,21 @@ fn each_step_is_read_alike_in_a_turned_document(rt: HostRuntime) -> Result<(), F
         "[{\"op\":[\"d\",\"lookup\",\"k\"],\"as\":\"n\"},{\"if\":\"n\",\"item\":\"v\",\"then\":[{\"op\":[\"q\",\"enq\",\"w\"]}]},{\"if\":\"n\",\"then\":[],\"item\":\"u\"}]",
     ];
     for row in rows {
-        let text = document(&rt, 4, SIX, row)?;
+        let text = document(rt.alloc(), 4, SIX, row)?;
         let turned = format!(in rt.alloc();
             "{{\"transactions\":[{row}],\"objects\":[{SIX}],\"ordtx\":4}}"
         )?;
-        let by_tree = read_of(&rt, turned.as_str())?;
-        assert_eq!(rt; read_of(&rt, text.as_str())?.as_str(), by_tree.as_str());
+        read_alike(&rt, rt.alloc(), text.as_str(), turned.as_str())?;
     }
     Ok(())
 }
 
 #[test]
 fn documents_are_refused(rt: HostRuntime) -> Result<(), Fail> {
-    assert_eq!(rt; refusal(&rt, "")?.as_str(), "fault 1 transaction 0");
-    assert_eq!(rt; refusal(&rt, "[]")?.as_str(), "fault 2 transaction 0");
+    refused(&rt, rt.alloc(), "", "fault 1 transaction 0")?;
+    refused(&rt, rt.alloc(), "[]", "fault 2 transaction 0")?;
     let fraction = "{\"ordtx\":1.0,\"objects\":[],\"transactions\":[]}";
-    assert_eq!(rt; refusal(&rt, fraction)?.as_str(), "fault 2 transaction 0");
+    refused(&rt, rt.alloc(), fraction, "fault 2 transaction 0")?;
     let rows = [
         (0, "fault 2 transaction 0"),
         (1, ""),
@@ -219,8 +236,7 @@ fn documents_are_refused(rt: HostRuntime) -> Result<(), Fail> {
         (5, "fault 2 transaction 0"),
     ];
     for (version, answer) in rows {
-        let text = document(&rt, version, "", "")?;
-        assert_eq!(rt; refusal(&rt, text.as_str())?.as_str(), answer);
+        document_refused(&rt, rt.alloc(), version, "", "", answer)?;
     }
     Ok(())
 }
@@ -241,19 +257,13 @@ fn bytes_that_are_no_json_are_refused(rt: HostRuntime) -> Result<(), Fail> {
         ("{\"a\":[1,2],\"b\":{\"c\":null}}", "fault 2 transaction 0"),
     ];
     for (text, answer) in rows {
-        assert_eq!(rt; refusal(&rt, text)?.as_str(), answer);
+        refused(&rt, rt.alloc(), text, answer)?;
     }
     // Arrays nest 127 deep, and no deeper.
-    let deepest = nested(&rt, 126, "", "")?;
-    assert_eq!(rt;
-        refusal(&rt, deepest.as_str())?.as_str(),
-        "fault 2 transaction 0"
-    );
-    let deeper = nested(&rt, 127, "", "")?;
-    assert_eq!(rt;
-        refusal(&rt, deeper.as_str())?.as_str(),
-        "fault 1 transaction 0"
-    );
+    let deepest = nested(rt.alloc(), 126, "", "")?;
+    refused(&rt, rt.alloc(), deepest.as_str(), "fault 2 transaction 0")?;
+    let deeper = nested(rt.alloc(), 127, "", "")?;
+    refused(&rt, rt.alloc(), deeper.as_str(), "fault 1 transaction 0")?;
     Ok(())
 }
 
@@ -304,7 +314,7 @@ fn other_shapes_are_refused(rt: HostRuntime) -> Result<(), Fail> {
         ),
     ];
     for (text, answer) in rows {
-        assert_eq!(rt; refusal(&rt, text)?.as_str(), answer);
+        refused(&rt, rt.alloc(), text, answer)?;
     }
     Ok(())
 }
@@ -343,12 +353,11 @@ fn the_first_fault_is_told_in_each_order_of_members(rt: HostRuntime) -> Result<(
         ("7", "[7]", "fault 2 transaction 0"),
     ];
     for (objects, transactions, answer) in rows {
-        let text = document(&rt, 1, objects, transactions)?;
-        assert_eq!(rt; refusal(&rt, text.as_str())?.as_str(), answer);
+        document_refused(&rt, rt.alloc(), 1, objects, transactions, answer)?;
         let turned = format!(in rt.alloc();
             "{{\"transactions\":[{transactions}],\"objects\":[{objects}],\"ordtx\":1}}"
         )?;
-        assert_eq!(rt; refusal(&rt, turned.as_str())?.as_str(), answer);
+        refused(&rt, rt.alloc(), turned.as_str(), answer)?;
     }
     Ok(())
 }
@@ -444,8 +453,7 @@ fn objects_are_refused(rt: HostRuntime) -> Result<(), Fail> {
         ),
     ];
     for (version, objects, answer) in rows {
-        let text = document(&rt, version, objects, "")?;
-        assert_eq!(rt; refusal(&rt, text.as_str())?.as_str(), answer);
+        document_refused(&rt, rt.alloc(), version, objects, "", answer)?;
     }
     Ok(())
 }
@@ -479,8 +487,7 @@ fn operations_are_refused(rt: HostRuntime) -> Result<(), Fail> {
         ),
     ];
     for (transactions, answer) in rows {
-        let text = document(&rt, 1, ACCOUNT, transactions)?;
-        assert_eq!(rt; refusal(&rt, text.as_str())?.as_str(), answer);
+        document_refused(&rt, rt.alloc(), 1, ACCOUNT, transactions, answer)?;
     }
     Ok(())
 }
@@ -530,8 +537,7 @@ fn labels_and_tests_are_refused(rt: HostRuntime) -> Result<(), Fail> {
         ),
     ];
     for (transactions, answer) in rows {
-        let text = document(&rt, 1, ACCOUNT, transactions)?;
-        assert_eq!(rt; refusal(&rt, text.as_str())?.as_str(), answer);
+        document_refused(&rt, rt.alloc(), 1, ACCOUNT, transactions, answer)?;
     }
     Ok(())
 }
@@ -558,17 +564,25 @@ fn versions_have_their_words(rt: HostRuntime) -> Result<(), Fail> {
         ),
     ];
     for (version, transactions, answer) in rows {
-        let text = document(&rt, version, ACCOUNT, transactions)?;
-        assert_eq!(rt; refusal(&rt, text.as_str())?.as_str(), answer);
+        document_refused(&rt, rt.alloc(), version, ACCOUNT, transactions, answer)?;
     }
     let queue = "{\"name\":\"q\",\"kind\":\"queue\",\"start\":[]}";
-    let text = document(&rt, 1, queue, "[{\"op\":[\"q\",\"length\"]}]")?;
-    assert_eq!(rt;
-        refusal(&rt, text.as_str())?.as_str(),
-        "fault 6 transaction 1"
-    );
-    let text = document(&rt, 2, queue, "[{\"op\":[\"q\",\"length\"]}]")?;
-    assert_eq!(rt; refusal(&rt, text.as_str())?.as_str(), "");
+    document_refused(
+        &rt,
+        rt.alloc(),
+        1,
+        queue,
+        "[{\"op\":[\"q\",\"length\"]}]",
+        "fault 6 transaction 1",
+    )?;
+    document_refused(
+        &rt,
+        rt.alloc(),
+        2,
+        queue,
+        "[{\"op\":[\"q\",\"length\"]}]",
+        "",
+    )?;
     Ok(())
 }
 
@@ -581,69 +595,85 @@ fn blocks_nest_24_deep(rt: HostRuntime) -> Result<(), Fail> {
         ("{\"parallel\":[{\"sub\":", "}]}"),
     ];
     for (open, close) in rows {
-        let within = nested(&rt, 23, open, close)?;
-        let text = document(&rt, 3, ACCOUNT, within.as_str())?;
-        assert_eq!(rt; refusal(&rt, text.as_str())?.as_str(), "");
-        let beyond = nested(&rt, 24, open, close)?;
-        let text = document(&rt, 3, ACCOUNT, beyond.as_str())?;
-        assert_eq!(rt;
-            refusal(&rt, text.as_str())?.as_str(),
-            "fault 11 transaction 1"
-        );
+        let within = nested(rt.alloc(), 23, open, close)?;
+        document_refused(&rt, rt.alloc(), 3, ACCOUNT, within.as_str(), "")?;
+        let beyond = nested(rt.alloc(), 24, open, close)?;
+        document_refused(
+            &rt,
+            rt.alloc(),
+            3,
+            ACCOUNT,
+            beyond.as_str(),
+            "fault 11 transaction 1",
+        )?;
     }
     let label = "{\"op\":[\"a\",\"balance\"],\"as\":\"n\"}";
     for (levels, answer) in [(22, ""), (23, "fault 11 transaction 1")] {
-        let ifs = nested(&rt, levels, "{\"if\":\"n\",\"atleast\":0,\"then\":", "}")?;
+        let ifs = nested(
+            rt.alloc(),
+            levels,
+            "{\"if\":\"n\",\"atleast\":0,\"then\":",
+            "}",
+        )?;
         let block = format!(in rt.alloc();
             "[{label},{{\"if\":\"n\",\"atleast\":0,\"then\":{ifs}}}]"
         )?;
-        let text = document(&rt, 1, ACCOUNT, block.as_str())?;
-        assert_eq!(rt; refusal(&rt, text.as_str())?.as_str(), answer);
+        document_refused(&rt, rt.alloc(), 1, ACCOUNT, block.as_str(), answer)?;
     }
     Ok(())
 }
 
-/// So many of a step, and then a block of the last.
+/// Stops the test where so many of a step, and then a block of the last, are refused for something
+/// else than the answer.
 fn counted(
-    rt: &HostRuntime,
+    rt: &impl Abort,
+    alloc: Global,
     version: u32,
-    number: u32,
-    step: &str,
+    (number, step): (u32, &str),
     last: &str,
-) -> Result<String, Fail> {
-    let mut steps = String::from_str(rt.alloc(), step)?;
+    answer: &str,
+) -> Result<(), Fail> {
+    let mut steps = String::from_str(alloc, step)?;
     for _ in 1..number {
         steps.push_str(",")?;
         steps.push_str(step)?;
     }
-    let blocks = format!(in rt.alloc(); "[{steps}],[{last}]")?;
-    let text = document(rt, version, ACCOUNT, blocks.as_str())?;
-    refusal(rt, text.as_str())
+    let blocks = format!(in alloc; "[{steps}],[{last}]")?;
+    document_refused(rt, alloc, version, ACCOUNT, blocks.as_str(), answer)
 }
 
 #[test]
 fn operations_are_counted(rt: HostRuntime) -> Result<(), Fail> {
     let step = "{\"op\":[\"a\",\"balance\"]}";
     let last = "{\"op\":[\"b\",\"balance\"]}";
-    let beyond = counted(&rt, 1, 100_000, step, last)?;
-    assert_eq!(rt; beyond.as_str(), "fault 12 transaction 2");
-    let within = counted(&rt, 1, 99_999, step, step)?;
-    assert_eq!(rt; within.as_str(), "");
-    Ok(())
+    let alloc = rt.alloc();
+    counted(
+        &rt,
+        alloc,
+        1,
+        (100_000, step),
+        last,
+        "fault 12 transaction 2",
+    )?;
+    counted(&rt, alloc, 1, (99_999, step), step, "")
 }
 
 #[test]
 fn version_4_has_more_operations(rt: HostRuntime) -> Result<(), Fail> {
     let step = "{\"op\":[\"a\",\"balance\"]}";
-    let within = counted(&rt, 4, 100_000, step, step)?;
-    assert_eq!(rt; within.as_str(), "");
-    Ok(())
+    counted(&rt, rt.alloc(), 4, (100_000, step), step, "")
 }
 
 #[test]
 fn other_nodes_are_counted(rt: HostRuntime) -> Result<(), Fail> {
+    let step = "{\"abort\":true}";
     let last = "{\"if\":\"n\",\"is\":\"ok\",\"then\":[]}";
-    let beyond = counted(&rt, 1, 100_000, "{\"abort\":true}", last)?;
-    assert_eq!(rt; beyond.as_str(), "fault 12 transaction 2");
-    Ok(())
+    counted(
+        &rt,
+        rt.alloc(),
+        1,
+        (100_000, step),
+        last,
+        "fault 12 transaction 2",
+    )
 }

@@ -1,12 +1,14 @@
 //! Tests of the committed list.
+ghost use Rattle.std.specs.Prelude.{◌≡◌, ◌<◌};
+
 use committed::{
-    Call, Committed, Entry, Mark, NoMemory, NumberSet, Reply, Watch, mark_all, summary_of,
+    Call, Committed, Entry, Mark, MarkedEntry, NumberSet, Reply, Watch, mark_all, summary_of,
 };
 use objects::{
     AccountCall, AccountReply, Amount, DirectoryCall, DirectoryReply, Item, MaxCall, MaxReply,
     QueueCall, QueueReply, SetCall, SetReply,
 };
-use std::alloc::Global;
+use std::alloc::AllocGlobal;
 use std::process::Abort;
 use std::test::Fail;
 
@@ -16,20 +18,54 @@ fn amount(rt: &impl Abort, number: u64) -> Amount {
 
 /// Whether the entries are still valid after the first `upto` of a list.
 fn stand_in(
+    rt: &(impl Abort + AllocGlobal),
     committed: &Committed,
-    alloc: Global,
     entries: &[Entry],
     upto: usize,
-) -> Result<bool, NoMemory> {
-    let marked = mark_all(alloc, entries)?;
-    Ok(committed.stands(&marked, upto.min(committed.len())))
+) -> bool {
+    let Ok(marked) = mark_all(rt.alloc(), entries) else {
+        panic!(rt; "no memory")
+    };
+    committed.stands(&marked, upto.min(committed.len()))
 }
 
-/// Whether the entries are still valid after others.
-fn stand(alloc: Global, entries: &[Entry], others: &[Entry]) -> Result<bool, NoMemory> {
-    let mut committed = Committed::new(alloc);
-    committed.append(others)?;
-    stand_in(&committed, alloc, entries, others.len())
+/// Stops the test where the entries are not still valid after the first `upto` of a list.
+fn valid_in(
+    rt: &(impl Abort + AllocGlobal),
+    committed: &Committed,
+    entries: &[Entry],
+    upto: usize,
+) {
+    assert!(rt; stand_in(rt, committed, entries, upto));
+}
+
+/// Stops the test where the entries are still valid after the first `upto` of a list.
+fn refuted_in(
+    rt: &(impl Abort + AllocGlobal),
+    committed: &Committed,
+    entries: &[Entry],
+    upto: usize,
+) {
+    assert!(rt; !stand_in(rt, committed, entries, upto));
+}
+
+/// A list of these entries.
+fn list_of(rt: &(impl Abort + AllocGlobal), entries: &[Entry]) -> Committed {
+    let mut committed = Committed::new(rt.alloc());
+    let Ok(()) = committed.append(entries) else {
+        panic!(rt; "no memory")
+    };
+    committed
+}
+
+/// Stops the test where the entries are not still valid after others.
+fn valid_after(rt: &(impl Abort + AllocGlobal), entries: &[Entry], others: &[Entry]) {
+    valid_in(rt, &list_of(rt, others), entries, others.len());
+}
+
+/// Stops the test where the entries are still valid after others.
+fn refuted_after(rt: &(impl Abort + AllocGlobal), entries: &[Entry], others: &[Entry]) {
+    refuted_in(rt, &list_of(rt, others), entries, others.len());
 }
 
 #[test]
@@ -51,15 +87,15 @@ fn stands(rt: HostRuntime) -> Result<(), Fail> {
     };
     let alloc = rt.alloc();
     let mut committed = Committed::new(alloc);
-    assert!(rt; stand_in(&committed, alloc, &[deposit, balance], 0)?);
+    valid_in(&rt, &committed, &[deposit, balance], 0);
     committed.append(&[elsewhere, deposit, deposit])?;
     committed.append(&[balance])?;
     assert_eq!(rt; committed.len(), 4);
-    assert!(rt; stand_in(&committed, alloc, &[deposit, elsewhere], 3)?);
-    assert!(rt; !stand_in(&committed, alloc, &[deposit], 4)?);
-    assert!(rt; stand_in(&committed, alloc, &[balance], 1)?);
-    assert!(rt; !stand_in(&committed, alloc, &[elsewhere, balance], 2)?);
-    assert!(rt; stand(alloc, &[balance], &[balance])?);
+    valid_in(&rt, &committed, &[deposit, elsewhere], 3);
+    refuted_in(&rt, &committed, &[deposit], 4);
+    valid_in(&rt, &committed, &[balance], 1);
+    refuted_in(&rt, &committed, &[elsewhere, balance], 2);
+    valid_after(&rt, &[balance], &[balance]);
     Ok(())
 }
 
@@ -89,15 +125,15 @@ fn operations_on_other_items_stand(rt: HostRuntime) -> Result<(), Fail> {
     let alloc = rt.alloc();
     let mut committed = Committed::new(alloc);
     committed.append(&[first, put])?;
-    assert!(rt; stand_in(&committed, alloc, &[second, put], 2)?);
-    assert!(rt; !stand_in(&committed, alloc, &[first], 2)?);
-    assert!(rt; stand(alloc, &[first], &[put])?);
-    assert!(rt; !stand_in(&committed, alloc, &[absent], 2)?);
-    assert!(rt; !stand_in(&committed, alloc, &[size], 2)?);
-    assert!(rt; !stand_in(&committed, alloc, &[lookup], 2)?);
+    valid_in(&rt, &committed, &[second, put], 2);
+    refuted_in(&rt, &committed, &[first], 2);
+    valid_after(&rt, &[first], &[put]);
+    refuted_in(&rt, &committed, &[absent], 2);
+    refuted_in(&rt, &committed, &[size], 2);
+    refuted_in(&rt, &committed, &[lookup], 2);
     committed.append(&[size])?;
-    assert!(rt; !stand_in(&committed, alloc, &[second], 3)?);
-    assert!(rt; stand(alloc, &[absent, size], &[put, size])?);
+    refuted_in(&rt, &committed, &[second], 3);
+    valid_after(&rt, &[absent, size], &[put, size]);
     Ok(())
 }
 
@@ -125,17 +161,15 @@ fn runs_of_equal_entries_are_searched(rt: HostRuntime) -> Result<(), Fail> {
         enq(7),
         refused,
     ];
-    let alloc = rt.alloc();
-    let mut committed = Committed::new(alloc);
-    committed.append(&entries)?;
+    let committed = list_of(&rt, &entries);
     assert_eq!(rt; committed.len(), 8);
-    assert!(rt; stand_in(&committed, alloc, &[enq(7), refused], 4)?);
-    assert!(rt; !stand_in(&committed, alloc, &[enq(7)], 8)?);
-    assert!(rt; !stand_in(&committed, alloc, &[enq(8)], 4)?);
-    assert!(rt; !stand(alloc, &[enq(7)], &entries[4..5])?);
-    assert!(rt; stand(alloc, &[enq(7)], &entries[5..8])?);
-    assert!(rt; !stand(alloc, &[enq(8)], &entries[6..8])?);
-    assert!(rt; stand(alloc, &[enq(8)], &entries[4..5])?);
+    valid_in(&rt, &committed, &[enq(7), refused], 4);
+    refuted_in(&rt, &committed, &[enq(7)], 8);
+    refuted_in(&rt, &committed, &[enq(8)], 4);
+    refuted_after(&rt, &[enq(7)], &entries[4..5]);
+    valid_after(&rt, &[enq(7)], &entries[5..8]);
+    refuted_after(&rt, &[enq(8)], &entries[6..8]);
+    valid_after(&rt, &[enq(8)], &entries[4..5]);
     Ok(())
 }
 
@@ -164,18 +198,16 @@ fn spans_of_raises_are_searched(rt: HostRuntime) -> Result<(), Fail> {
         raise(2),
         raise(8),
     ];
-    let alloc = rt.alloc();
-    let mut committed = Committed::new(alloc);
-    committed.append(&entries)?;
-    assert!(rt; stand_in(&committed, alloc, &[top(9), raise(6)], 7)?);
-    assert!(rt; !stand_in(&committed, alloc, &[top(8)], 7)?);
-    assert!(rt; stand_in(&committed, alloc, &[top(5)], 2)?);
-    assert!(rt; !stand_in(&committed, alloc, &[top(4)], 2)?);
-    assert!(rt; stand(alloc, &[top(8)], &entries[3..])?);
-    assert!(rt; !stand(alloc, &[top(7)], &entries[3..])?);
-    assert!(rt; stand(alloc, &[top(7)], &entries[3..6])?);
-    assert!(rt; !stand(alloc, &[top(6)], &entries[3..6])?);
-    assert!(rt; !stand(alloc, &[top(1)], &entries[5..6])?);
+    let committed = list_of(&rt, &entries);
+    valid_in(&rt, &committed, &[top(9), raise(6)], 7);
+    refuted_in(&rt, &committed, &[top(8)], 7);
+    valid_in(&rt, &committed, &[top(5)], 2);
+    refuted_in(&rt, &committed, &[top(4)], 2);
+    valid_after(&rt, &[top(8)], &entries[3..]);
+    refuted_after(&rt, &[top(7)], &entries[3..]);
+    valid_after(&rt, &[top(7)], &entries[3..6]);
+    refuted_after(&rt, &[top(6)], &entries[3..6]);
+    refuted_after(&rt, &[top(1)], &entries[5..6]);
     Ok(())
 }
 
@@ -194,16 +226,14 @@ fn dequeues_are_searched_by_item(rt: HostRuntime) -> Result<(), Fail> {
     let third = operation(QueueCall::Deq, QueueReply::Got(Item(3)));
     let none = operation(QueueCall::Deq, QueueReply::Empty);
     let length = operation(QueueCall::Length, QueueReply::Number(2));
-    let alloc = rt.alloc();
-    let mut committed = Committed::new(alloc);
-    committed.append(&[first, enq, second])?;
-    assert!(rt; stand_in(&committed, alloc, &[third, enq], 3)?);
-    assert!(rt; !stand_in(&committed, alloc, &[second], 3)?);
-    assert!(rt; !stand_in(&committed, alloc, &[none], 3)?);
-    assert!(rt; stand(alloc, &[first], &[second])?);
-    assert!(rt; !stand(alloc, &[length], &[second])?);
-    assert!(rt; !stand(alloc, &[first], &[second, none, length])?);
-    assert!(rt; stand(alloc, &[first, second, length], &[none])?);
+    let committed = list_of(&rt, &[first, enq, second]);
+    valid_in(&rt, &committed, &[third, enq], 3);
+    refuted_in(&rt, &committed, &[second], 3);
+    refuted_in(&rt, &committed, &[none], 3);
+    valid_after(&rt, &[first], &[second]);
+    refuted_after(&rt, &[length], &[second]);
+    refuted_after(&rt, &[first], &[second, none, length]);
+    valid_after(&rt, &[first, second, length], &[none]);
     Ok(())
 }
 
@@ -230,9 +260,13 @@ fn long_chains_are_searched(rt: HostRuntime) -> Result<(), Fail> {
     }
     for number in 1..501u64 {
         let upto = 2 * number as usize;
-        assert!(rt; stand_in(&committed, alloc, &[top(number)], upto)?);
-        assert!(rt; !stand_in(&committed, alloc, &[top(number)], upto + 1)? || number == 500);
-        assert!(rt; number == 1 || !stand_in(&committed, alloc, &[top(number - 1)], upto - 1)?);
+        valid_in(&rt, &committed, &[top(number)], upto);
+        if number < 500 {
+            refuted_in(&rt, &committed, &[top(number)], upto + 1);
+        }
+        if number > 1 {
+            refuted_in(&rt, &committed, &[top(number - 1)], upto - 1);
+        }
     }
     Ok(())
 }
@@ -253,10 +287,10 @@ fn grown_lists_are_searched(rt: HostRuntime) -> Result<(), Fail> {
     }
     for key in 0..4000u32 {
         let upto = key as usize;
-        assert!(rt; stand_in(&committed, alloc, &[put(key % 7, key, 2)], upto)?);
-        assert!(rt; !stand_in(&committed, alloc, &[put(key % 7, key, 2)], upto + 1)?);
-        assert!(rt; stand_in(&committed, alloc, &[put(key % 7, key, 1)], 4000)?);
-        assert!(rt; stand_in(&committed, alloc, &[put(key % 7 + 1, key, 2)], 4000)?);
+        valid_in(&rt, &committed, &[put(key % 7, key, 2)], upto);
+        refuted_in(&rt, &committed, &[put(key % 7, key, 2)], upto + 1);
+        valid_in(&rt, &committed, &[put(key % 7, key, 1)], 4000);
+        valid_in(&rt, &committed, &[put(key % 7 + 1, key, 2)], 4000);
     }
     Ok(())
 }
@@ -283,17 +317,15 @@ fn entries_of_one_hash_are_told_apart(rt: HostRuntime) -> Result<(), Fail> {
     for object in 0..40u32 {
         let twin = object + 2971215073;
         let upto = 3 * object as usize;
-        assert!(rt;
-            stand_in(
-                &committed,
-                alloc,
-                &[put(object, 7, 1), put(twin, 50920850, 2)],
-                120
-            )?
+        valid_in(
+            &rt,
+            &committed,
+            &[put(object, 7, 1), put(twin, 50920850, 2)],
+            120,
         );
-        assert!(rt; stand_in(&committed, alloc, &[put(twin, 50920850, 1)], upto + 1)?);
-        assert!(rt; !stand_in(&committed, alloc, &[put(twin, 50920850, 1)], upto + 2)?);
-        assert!(rt; !stand_in(&committed, alloc, &[put(object, 7, 2)], 120)?);
+        valid_in(&rt, &committed, &[put(twin, 50920850, 1)], upto + 1);
+        refuted_in(&rt, &committed, &[put(twin, 50920850, 1)], upto + 2);
+        refuted_in(&rt, &committed, &[put(object, 7, 2)], 120);
     }
     Ok(())
 }
@@ -327,18 +359,50 @@ fn crowded_slots_are_searched(rt: HostRuntime) -> Result<(), Fail> {
     }
     assert!(rt; crowd.len() > 300);
     for (place, key) in crowd.iter().enumerate() {
-        assert!(rt; stand_in(&committed, alloc, &[put(*key, 2)], place)?);
-        assert!(rt; !stand_in(&committed, alloc, &[put(*key, 2)], crowd.len())?);
-        assert!(rt;
-            stand_in(
-                &committed,
-                alloc,
-                &[put(*key, 1), put(key.wrapping_add(1), 2)],
-                crowd.len()
-            )?
+        valid_in(&rt, &committed, &[put(*key, 2)], place);
+        refuted_in(&rt, &committed, &[put(*key, 2)], crowd.len());
+        valid_in(
+            &rt,
+            &committed,
+            &[put(*key, 1), put(key.wrapping_add(1), 2)],
+            crowd.len(),
         );
     }
     Ok(())
+}
+
+/// Puts a run with these entries in.
+fn puts(rt: &(impl Abort + AllocGlobal), watch: &mut Watch, run: usize, entries: &[Entry])
+    requires { run < watch.old.count }
+    ensures { watch.new.count ≡ watch.old.count }
+{
+    let Ok(marked) = mark_all(rt.alloc(), entries) else {
+        panic!(rt; "no memory")
+    };
+    let Ok(()) = watch.put(run, &marked) else {
+        panic!(rt; "no memory")
+    };
+}
+
+/// Stops the test where other runs from one on are found than those expected.
+fn finds(
+    rt: &(impl Abort + AllocGlobal),
+    watch: &Watch,
+    from: usize,
+    entries: &[Entry],
+    expected: &[usize],
+) {
+    let Ok(marked) = mark_all(rt.alloc(), entries) else {
+        panic!(rt; "no memory")
+    };
+    let mut found = NumberSet::new(rt.alloc());
+    let Ok(()) = watch.find(from, &marked, &mut found) else {
+        panic!(rt; "no memory")
+    };
+    assert_eq!(rt; found.members().len(), expected.len());
+    for run in expected {
+        assert!(rt; found.contains(*run));
+    }
 }
 
 #[test]
@@ -353,21 +417,13 @@ fn runs_that_may_conflict_are_found(rt: HostRuntime) -> Result<(), Fail> {
     let insert = |item: u32| -> Entry { set(SetCall::Insert(Item(item)), SetReply::Added) };
     let absent = |item: u32| -> Entry { set(SetCall::Has(Item(item)), SetReply::No) };
     let size = set(SetCall::Size, SetReply::Number(0));
-    let alloc = rt.alloc();
-    let mut watch = Watch::new(alloc, 4, 6)?;
-    watch.put(0, &mark_all(alloc, &[insert(1)])?)?;
-    watch.put(1, &mark_all(alloc, &[insert(2), absent(3)])?)?;
-    watch.put(2, &mark_all(alloc, &[absent(1), absent(4)])?)?;
-    watch.put(3, &mark_all(alloc, &[size])?)?;
-    let mut found = NumberSet::new(alloc);
-    watch.find(1, &mark_all(alloc, &[insert(4), absent(1)])?, &mut found)?;
-    assert_eq!(rt; found.members().len(), 2);
-    assert!(rt; found.contains(2));
-    assert!(rt; found.contains(3));
-    found.clear();
-    watch.find(1, &mark_all(alloc, &[insert(1), insert(3)])?, &mut found)?;
-    assert_eq!(rt; found.members().len(), 3);
-    assert!(rt; !found.contains(0));
+    let mut watch = Watch::new(rt.alloc(), 4, 6)?;
+    puts(&rt, &mut watch, 0, &[insert(1)]);
+    puts(&rt, &mut watch, 1, &[insert(2), absent(3)]);
+    puts(&rt, &mut watch, 2, &[absent(1), absent(4)]);
+    puts(&rt, &mut watch, 3, &[size]);
+    finds(&rt, &watch, 1, &[insert(4), absent(1)], &[2, 3]);
+    finds(&rt, &watch, 1, &[insert(1), insert(3)], &[1, 2, 3]);
     assert!(rt; !watch.is_stale());
     Ok(())
 }
@@ -381,21 +437,42 @@ fn a_run_put_in_again_is_found_by_what_it_had(rt: HostRuntime) -> Result<(), Fai
             reply: Reply::Set(SetReply::Added),
         }
     };
-    let alloc = rt.alloc();
-    let mut watch = Watch::new(alloc, 8, 2)?;
-    watch.put(5, &mark_all(alloc, &[insert(1)])?)?;
-    watch.put(5, &mark_all(alloc, &[insert(2)])?)?;
-    for item in 1..3u32 {
-        let mut found = NumberSet::new(alloc);
-        watch.find(5, &mark_all(alloc, &[insert(item)])?, &mut found)?;
-        assert_eq!(rt; found.members().len(), 1);
-        assert!(rt; found.contains(5));
-    }
-    let mut found = NumberSet::new(alloc);
-    watch.find(5, &mark_all(alloc, &[insert(3)])?, &mut found)?;
-    watch.find(6, &mark_all(alloc, &[insert(1)])?, &mut found)?;
-    assert_eq!(rt; found.members().len(), 0);
+    let mut watch = Watch::new(rt.alloc(), 8, 2)?;
+    puts(&rt, &mut watch, 5, &[insert(1)]);
+    puts(&rt, &mut watch, 5, &[insert(2)]);
+    finds(&rt, &watch, 5, &[insert(1)], &[5]);
+    finds(&rt, &watch, 5, &[insert(2)], &[5]);
+    finds(&rt, &watch, 5, &[insert(3)], &[]);
+    finds(&rt, &watch, 6, &[insert(1)], &[]);
     Ok(())
+}
+
+#[test]
+fn a_cleared_set_has_no_number(rt: HostRuntime) -> Result<(), Fail> {
+    let mut numbers = NumberSet::new(rt.alloc());
+    numbers.insert(2)?;
+    numbers.clear();
+    assert!(rt; numbers.members().is_empty() && !numbers.contains(2));
+    Ok(())
+}
+
+/// Stops the test where a summary of two and the entries that it stands for differ: whether they
+/// are valid after another entry, and whether it is valid after them.
+fn summary_is_as(
+    rt: &(impl Abort + AllocGlobal),
+    summary: &[MarkedEntry],
+    entries: &[Entry],
+    other: Entry,
+) {
+    let committed = list_of(rt, &[other]);
+    let all_stand = stand_in(rt, &committed, entries, 1);
+    assert!(rt; committed.stands(summary, committed.len()) == all_stand);
+    let mut short = Committed::new(rt.alloc());
+    let Ok(()) = short.append_marked(summary) else {
+        panic!(rt; "no memory")
+    };
+    let past_all = stand_in(rt, &list_of(rt, entries), &[other], entries.len());
+    assert!(rt; stand_in(rt, &short, &[other], 2) == past_all);
 }
 
 #[test]
@@ -425,15 +502,7 @@ fn many_operations_have_a_short_summary(rt: HostRuntime) -> Result<(), Fail> {
         others.push(account(AccountCall::Balance, AccountReply::Number(number)))?;
     }
     for other in &others {
-        let mut committed = Committed::new(alloc);
-        committed.append(&[*other])?;
-        let all_stand = stand_in(&committed, alloc, &entries, 1)?;
-        let upto = committed.len();
-        assert_eq!(rt; committed.stands(&summary, upto), all_stand);
-        let past_all = stand(alloc, &[*other], &entries)?;
-        let mut short = Committed::new(alloc);
-        short.append_marked(&summary)?;
-        assert_eq!(rt; stand_in(&short, alloc, &[*other], 2)?, past_all);
+        summary_is_as(&rt, &summary, &entries, *other);
     }
     Ok(())
 }

@@ -22,14 +22,32 @@ fn objects(alloc: Global) -> Result<Objects, NoMemory> {
 }
 
 /// Performs a call that the view says fits and has room.
-fn perform(
-    rt: &impl Abort,
-    view: &mut View<'_>,
-    object: u32,
-    call: Call,
-) -> Result<Reply, NoMemory> {
-    assert!(rt; view.fits(object, &call) && view.has_room(object, &call)?);
-    view.perform(object, &call)
+fn perform(rt: &impl Abort, view: &mut View<'_>, object: u32, call: Call) -> Reply {
+    assert!(rt; view.fits(object, &call) && matches!(view.has_room(object, &call), Ok(true)));
+    let Ok(reply) = view.perform(object, &call) else {
+        panic!(rt; "no memory")
+    };
+    reply
+}
+
+/// Performs such a call, and stops the test where the reply is another.
+fn performs(rt: &impl Abort, view: &mut View<'_>, object: u32, call: Call, expected: Reply) {
+    let reply = perform(rt, view, object, call);
+    assert_eq!(rt; reply, expected);
+}
+
+/// Stops the test where the number of open levels, of all entries, or of the entries in the net of
+/// the innermost level is another.
+fn has_lengths(rt: &impl Abort, view: &View<'_>, expected: (usize, usize, usize)) {
+    let lengths = (view.depth(), view.entries().len(), view.net().len());
+    assert_eq!(rt; lengths, expected);
+}
+
+/// Opens a level.
+fn begin(rt: &impl Abort, view: &mut View<'_>) {
+    let Ok(()) = view.begin() else {
+        panic!(rt; "no memory")
+    };
 }
 
 /// Takes back the innermost level, which is open.
@@ -39,9 +57,11 @@ fn abort(rt: &impl Abort, view: &mut View<'_>) {
 }
 
 /// Commits the innermost level, which is open.
-fn commit(rt: &impl Abort, view: &mut View<'_>) -> Result<(), NoMemory> {
+fn commit(rt: &impl Abort, view: &mut View<'_>) {
     assert!(rt; view.depth() > 0);
-    view.commit()
+    let Ok(()) = view.commit() else {
+        panic!(rt; "no memory")
+    };
 }
 
 /// The lists of a view with no level but the base, which is then used again with spare lists.
@@ -77,42 +97,52 @@ fn levels(rt: HostRuntime) -> Result<(), Fail> {
     let enq = Call::Queue(QueueCall::Enq(Item(7)));
     let deq = Call::Queue(QueueCall::Deq);
     assert!(rt; !view.fits(0, &enq) && !view.fits(6, &enq));
-    assert_eq!(rt;
-        perform(&rt, &mut view, 0, withdraw)?,
-        Reply::Account(AccountReply::Ok)
+    performs(
+        &rt,
+        &mut view,
+        0,
+        withdraw,
+        Reply::Account(AccountReply::Ok),
     );
-    view.begin()?;
-    assert_eq!(rt;
-        perform(&rt, &mut view, 1, enq)?,
-        Reply::Queue(QueueReply::Ok)
+    begin(&rt, &mut view);
+    performs(&rt, &mut view, 1, enq, Reply::Queue(QueueReply::Ok));
+    begin(&rt, &mut view);
+    performs(
+        &rt,
+        &mut view,
+        0,
+        withdraw,
+        Reply::Account(AccountReply::No),
     );
-    view.begin()?;
-    assert_eq!(rt; view.depth(), 2);
-    assert_eq!(rt;
-        perform(&rt, &mut view, 0, withdraw)?,
-        Reply::Account(AccountReply::No)
+    performs(
+        &rt,
+        &mut view,
+        1,
+        deq,
+        Reply::Queue(QueueReply::Got(Item(7))),
     );
-    assert_eq!(rt;
-        perform(&rt, &mut view, 1, deq)?,
-        Reply::Queue(QueueReply::Got(Item(7)))
-    );
-    assert_eq!(rt; view.net().len(), 2);
+    has_lengths(&rt, &view, (2, 4, 2));
     abort(&rt, &mut view);
-    assert_eq!(rt; view.net().len(), 1);
-    commit(&rt, &mut view)?;
-    assert_eq!(rt;
-        perform(&rt, &mut view, 0, balance)?,
-        Reply::Account(AccountReply::Number(40))
+    has_lengths(&rt, &view, (1, 4, 1));
+    commit(&rt, &mut view);
+    performs(
+        &rt,
+        &mut view,
+        0,
+        balance,
+        Reply::Account(AccountReply::Number(40)),
     );
-    assert_eq!(rt;
-        perform(&rt, &mut view, 1, deq)?,
-        Reply::Queue(QueueReply::Got(Item(7)))
+    performs(
+        &rt,
+        &mut view,
+        1,
+        deq,
+        Reply::Queue(QueueReply::Got(Item(7))),
     );
-    assert_eq!(rt; view.entries().len(), 6);
-    assert_eq!(rt; view.depth(), 0);
+    has_lengths(&rt, &view, (0, 6, 4));
+    assert!(rt; view.depth() == 0);
     let Lists { entries, net } = view.into_run();
-    assert_eq!(rt; entries.len(), 6);
-    assert_eq!(rt; net.len(), 4);
+    assert_eq!(rt; (entries.len(), net.len()), (6, 4));
     Ok(())
 }
 
@@ -153,18 +183,18 @@ fn every_kind_is_taken_back(rt: HostRuntime) -> Result<(), Fail> {
         Reply::Counter(CounterReply::Number(-5)),
         Reply::Max(MaxReply::Number(5)),
     ];
-    view.begin()?;
-    view.begin()?;
+    begin(&rt, &mut view);
+    begin(&rt, &mut view);
     for (object, call) in changes {
-        let _reply = perform(&rt, &mut view, object, call)?;
+        let _reply = perform(&rt, &mut view, object, call);
     }
-    commit(&rt, &mut view)?;
+    commit(&rt, &mut view);
     for ((object, call), reply) in looks.into_iter().zip(after) {
-        assert_eq!(rt; perform(&rt, &mut view, object, call)?, reply);
+        performs(&rt, &mut view, object, call, reply);
     }
     abort(&rt, &mut view);
     for ((object, call), reply) in looks.into_iter().zip(before) {
-        assert_eq!(rt; perform(&rt, &mut view, object, call)?, reply);
+        performs(&rt, &mut view, object, call, reply);
     }
     Ok(())
 }
@@ -180,15 +210,14 @@ fn a_childs_lists_are_absorbed(rt: HostRuntime) -> Result<(), Fail> {
         Reply::Queue(QueueReply::Got(Item(8))),
         Reply::Queue(QueueReply::Empty),
     ];
-    let _reply = perform(&rt, &mut parent, 1, enq)?;
+    let _reply = perform(&rt, &mut parent, 1, enq);
     absorb_enq(&mut parent, 1, Item(8))?;
-    assert_eq!(rt; parent.entries().len(), 3);
-    assert_eq!(rt; parent.net().len(), 2);
+    has_lengths(&rt, &parent, (0, 3, 2));
     let state = parent.state()?;
     assert_eq!(rt; state.len(), 6);
     let mut later = View::open(rt.alloc(), &state)?;
     for reply in got {
-        assert_eq!(rt; perform(&rt, &mut later, 1, deq)?, reply);
+        performs(&rt, &mut later, 1, deq, reply);
     }
     Ok(())
 }
@@ -202,24 +231,23 @@ fn a_view_is_used_again(rt: HostRuntime) -> Result<(), Fail> {
     let sub = Call::Counter(CounterCall::Sub(five));
     let top = Call::Max(MaxCall::Top);
     let read = Call::Counter(CounterCall::Read);
-    let _reply = perform(&rt, &mut view, 5, raise)?;
+    let _reply = perform(&rt, &mut view, 5, raise);
     let lists = take_run(&rt, &mut view, Lists::empty(rt.alloc()))?;
-    assert_eq!(rt; lists.entries.len(), 1);
-    assert_eq!(rt; lists.net.len(), 1);
+    assert_eq!(rt; (lists.entries.len(), lists.net.len()), (1, 1));
     // In this run another object's draft is where that of object 5 was.
-    let _reply = perform(&rt, &mut view, 4, sub)?;
-    assert_eq!(rt;
-        perform(&rt, &mut view, 5, top)?,
-        Reply::Max(MaxReply::Number(0))
+    let _reply = perform(&rt, &mut view, 4, sub);
+    performs(&rt, &mut view, 5, top, Reply::Max(MaxReply::Number(0)));
+    performs(
+        &rt,
+        &mut view,
+        4,
+        read,
+        Reply::Counter(CounterReply::Number(-5)),
     );
-    assert_eq!(rt;
-        perform(&rt, &mut view, 4, read)?,
-        Reply::Counter(CounterReply::Number(-5))
-    );
-    assert_eq!(rt; view.entries().len(), 3);
+    has_lengths(&rt, &view, (0, 3, 3));
     let lists = take_run(&rt, &mut view, lists)?;
     assert_eq!(rt; lists.entries.len(), 3);
-    assert_eq!(rt; view.net().len(), 0);
+    has_lengths(&rt, &view, (0, 0, 0));
     Ok(())
 }
 
