@@ -1,10 +1,8 @@
 //! Tests of the documents that carry objects over.
-ghost use Rattle.std.specs.Prelude.{◌<◌, ◌^◌, IfOk, length};
-
 use carry::{Names, Objects, Unfit, carried, first_unfit};
 use objects::{Directory, Item, ItemSet, Queue, Value};
-use std::alloc::Global;
-use std::test::Fail;
+use std::alloc::AllocGlobal;
+use std::process::Abort;
 
 const DOCUMENT: &str = "{\"ordtx\": 4,
 \"objects\": [
@@ -20,102 +18,126 @@ const DOCUMENT: &str = "{\"ordtx\": 4,
 ]}
 ";
 
-fn texts(alloc: Global, words: &[&str]) -> Result<Vec<String>, Fail> {
-    let mut list = Vec::new(alloc);
+/// These words, each as a text of its own.
+fn texts(rt: &(impl Abort + AllocGlobal), words: &[&str]) -> Vec<String> {
+    let mut list = Vec::new(rt.alloc());
     for word in words {
-        list.push(String::from_str(alloc, word)?)?;
+        let Ok(text) = String::from_str(rt.alloc(), word) else {
+            panic!(rt; "no memory")
+        };
+        let Ok(()) = list.push(text) else {
+            panic!(rt; "no memory")
+        };
     }
-    Ok(list)
+    list
 }
 
-fn names_of(alloc: Global) -> Result<Names, Fail> {
-    let objects = texts(alloc, &["a", "c", "s", "q", "d", "m", "none"])?;
-    Ok(Names::new(objects, texts(alloc, &["x", "y"])?, Vec::new(alloc)))
+/// Adds an object.
+fn push(rt: &impl Abort, objects: &mut Objects, value: Value) {
+    let Ok(()) = objects.push(value) else {
+        panic!(rt; "no memory")
+    };
 }
 
-fn queue_of(alloc: Global, items: &[u32]) -> Result<Queue, Fail> {
-    let mut queue = Queue::new(alloc);
-    for item in items {
-        queue.push_back(Item(*item))?;
-    }
-    Ok(queue)
+/// Adds an item to the end of a queue.
+fn enqueue(rt: &impl Abort, queue: &mut Queue, item: u32) {
+    let Ok(()) = queue.push_back(Item(item)) else {
+        panic!(rt; "no memory")
+    };
 }
 
-fn objects_of(alloc: Global) -> Result<Objects, Fail> {
-    let mut set = ItemSet::new(alloc);
-    set.insert(Item(1))?;
-    set.insert(Item(0))?;
-    let mut directory = Directory::new(alloc);
-    directory.put(Item(1), Item(1))?;
-    directory.put(Item(0), Item(1))?;
-    let mut objects = Objects::new(alloc);
-    objects.push(Value::Account(5))?;
-    objects.push(Value::Counter(-7))?;
-    objects.push(Value::Set(set))?;
-    objects.push(Value::Queue(queue_of(alloc, &[1, 0, 1])?))?;
-    objects.push(Value::Directory(directory))?;
-    objects.push(Value::Max(9))?;
-    objects.push(Value::Set(ItemSet::new(alloc)))?;
-    Ok(objects)
+/// Adds an item to a set.
+fn insert(rt: &impl Abort, set: &mut ItemSet, item: u32) {
+    let Ok(_) = set.insert(Item(item)) else {
+        panic!(rt; "no memory")
+    };
 }
 
-// Objects that are so few that each has a number.
-fn few(objects: Objects) -> Result<Objects, Fail>
-    ensures { IfOk result (λ objects. length objects < 2 ^ 32) }
-{
-    if objects.len() > 1000 {
-        return Err(Fail::from("too many objects"));
-    }
-    Ok(objects)
+/// Binds a key of a directory.
+fn put(rt: &impl Abort, directory: &mut Directory, key: u32, value: u32) {
+    let Ok(()) = directory.put(Item(key), Item(value)) else {
+        panic!(rt; "no memory")
+    };
 }
 
-#[test]
-fn carries_each_kind(rt: HostRuntime) -> Result<(), Fail> {
-    let objects = few(objects_of(rt.alloc())?)?;
-    assert_eq!(rt; first_unfit(&objects), None);
-    let text = carried(rt.alloc(), &names_of(rt.alloc())?, &objects)?;
-    assert_eq!(rt; text.as_str(), DOCUMENT);
-    Ok(())
-}
-
-#[test]
-fn carries_no_object(rt: HostRuntime) -> Result<(), Fail> {
-    let text = carried(
-        rt.alloc(),
-        &names_of(rt.alloc())?,
-        &Objects::new(rt.alloc()),
-    )?;
-    assert_eq!(rt;
-        text.as_str(),
-        "{\"ordtx\": 4,\n\"objects\": [\n\n],\n\"transactions\": [\n]}\n"
-    );
-    Ok(())
-}
-
-#[test]
-fn finds_the_first_unfit(rt: HostRuntime) -> Result<(), Fail> {
-    let mut objects = Objects::new(rt.alloc());
-    objects.push(Value::Account(1_000_000_000_000_000))?;
-    objects.push(Value::Counter(-1_000_000_000_000_000))?;
-    assert_eq!(rt; first_unfit(&objects), None);
-    objects.push(Value::Counter(-1_000_000_000_000_001))?;
-    assert_eq!(rt; first_unfit(&objects), Some(Unfit::Start));
-    Ok(())
-}
-
-#[test]
-fn counts_all_entries(rt: HostRuntime) -> Result<(), Fail> {
-    let mut objects = objects_of(rt.alloc())?;
+/// An object of each kind, and an empty set.
+fn objects_of(rt: &(impl Abort + AllocGlobal)) -> Objects {
+    let mut set = ItemSet::new(rt.alloc());
+    insert(rt, &mut set, 1);
+    insert(rt, &mut set, 0);
     let mut queue = Queue::new(rt.alloc());
-    for _ in 0..99_993 {
-        queue.push_back(Item(0))?;
+    enqueue(rt, &mut queue, 1);
+    enqueue(rt, &mut queue, 0);
+    enqueue(rt, &mut queue, 1);
+    let mut directory = Directory::new(rt.alloc());
+    put(rt, &mut directory, 1, 1);
+    put(rt, &mut directory, 0, 1);
+    let mut objects = Objects::new(rt.alloc());
+    push(rt, &mut objects, Value::Account(5));
+    push(rt, &mut objects, Value::Counter(-7));
+    push(rt, &mut objects, Value::Set(set));
+    push(rt, &mut objects, Value::Queue(queue));
+    push(rt, &mut objects, Value::Directory(directory));
+    push(rt, &mut objects, Value::Max(9));
+    push(rt, &mut objects, Value::Set(ItemSet::new(rt.alloc())));
+    objects
+}
+
+/// Stops the test where another is the first unfit. The objects are so few that each has a number.
+fn unfit_is(rt: &impl Abort, objects: &Objects, unfit: Option<Unfit>) {
+    assert!(rt; objects.len() <= 1000);
+    assert_eq!(rt; first_unfit(objects), unfit);
+}
+
+/// Stops the test where the document that carries these few objects over is another.
+fn carries(rt: &(impl Abort + AllocGlobal), objects: &Objects, document: &str) {
+    assert!(rt; objects.len() <= 1000);
+    let named = texts(rt, &["a", "c", "s", "q", "d", "m", "none"]);
+    let names = Names::new(named, texts(rt, &["x", "y"]), Vec::new(rt.alloc()));
+    let Ok(text) = carried(rt.alloc(), &names, objects) else {
+        panic!(rt; "no memory")
+    };
+    assert_eq!(rt; text.as_str(), document);
+}
+
+#[test]
+fn carries_each_kind(rt: HostRuntime) {
+    let objects = objects_of(&rt);
+    unfit_is(&rt, &objects, None);
+    carries(&rt, &objects, DOCUMENT);
+}
+
+#[test]
+fn carries_no_object(rt: HostRuntime) {
+    let document = "{\"ordtx\": 4,\n\"objects\": [\n\n],\n\"transactions\": [\n]}\n";
+    carries(&rt, &Objects::new(rt.alloc()), document);
+}
+
+#[test]
+fn finds_the_first_unfit(rt: HostRuntime) {
+    let mut objects = Objects::new(rt.alloc());
+    push(&rt, &mut objects, Value::Account(1_000_000_000_000_000));
+    push(&rt, &mut objects, Value::Counter(-1_000_000_000_000_000));
+    unfit_is(&rt, &objects, None);
+    push(&rt, &mut objects, Value::Counter(-1_000_000_000_000_001));
+    unfit_is(&rt, &objects, Some(Unfit::Start));
+}
+
+/// Adds a queue of so many items.
+fn push_queue(rt: &(impl Abort + AllocGlobal), objects: &mut Objects, length: u32) {
+    let mut queue = Queue::new(rt.alloc());
+    for _ in 0..length {
+        enqueue(rt, &mut queue, 0);
     }
-    objects.push(Value::Queue(queue))?;
-    let mut objects = few(objects)?;
-    assert_eq!(rt; first_unfit(&objects), None);
-    objects.push(Value::Queue(queue_of(rt.alloc(), &[0])?))?;
-    objects.push(Value::Account(1_000_000_000_000_001))?;
-    let objects = few(objects)?;
-    assert_eq!(rt; first_unfit(&objects), Some(Unfit::TooMany));
-    Ok(())
+    push(rt, objects, Value::Queue(queue));
+}
+
+#[test]
+fn counts_all_entries(rt: HostRuntime) {
+    let mut objects = objects_of(&rt);
+    push_queue(&rt, &mut objects, 99_993);
+    unfit_is(&rt, &objects, None);
+    push_queue(&rt, &mut objects, 1);
+    push(&rt, &mut objects, Value::Account(1_000_000_000_000_001));
+    unfit_is(&rt, &objects, Some(Unfit::TooMany));
 }

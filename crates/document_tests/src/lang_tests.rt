@@ -1,63 +1,108 @@
 //! Documents, read from bytes.
+use batch::Batch;
 use lang::{Item, Step, Value, read};
-use std::alloc::Global;
+use std::alloc::AllocGlobal;
 use std::process::Abort;
-use std::test::Fail;
 
 /// What a document's bytes are refused for, as it is printed, or nothing where they are read.
-fn refusal(alloc: Global, text: &str) -> Result<String, Fail> {
-    match read(alloc, text.as_bytes()) {
-        Ok(_) => Ok(String::new(alloc)),
-        Err(fault) => Ok(format!(in alloc; "{fault}")?),
-    }
+fn refusal(rt: &(impl Abort + AllocGlobal), text: &str) -> String {
+    let alloc = rt.alloc();
+    let Err(fault) = read(alloc, text.as_bytes()) else {
+        return String::new(alloc);
+    };
+    let Ok(printed) = format!(in alloc; "{fault}") else {
+        panic!(rt; "no memory")
+    };
+    printed
 }
 
-/// Stops the test where the bytes are refused for something else than the answer. An empty answer
-/// says that they are read.
-fn refused(rt: &impl Abort, alloc: Global, text: &str, answer: &str) -> Result<(), Fail> {
-    let refusal = refusal(alloc, text)?;
-    assert_eq!(rt; refusal.as_str(), answer);
-    Ok(())
+/// Stops the test where a document's bytes are refused for something else.
+fn answers(rt: &(impl Abort + AllocGlobal), text: &str, answer: &str) {
+    assert_eq!(rt; refusal(rt, text).as_str(), answer);
 }
 
 /// The same of a document of a version, of these objects and transactions.
-fn document_refused(
-    rt: &impl Abort,
-    alloc: Global,
+fn document_answers(
+    rt: &(impl Abort + AllocGlobal),
     version: u32,
     objects: &str,
     transactions: &str,
     answer: &str,
-) -> Result<(), Fail> {
-    let text = document(alloc, version, objects, transactions)?;
-    refused(rt, alloc, text.as_str(), answer)
+) {
+    answers(
+        rt,
+        document(rt, version, objects, transactions).as_str(),
+        answer,
+    );
 }
 
 /// A document of a version, of these objects and transactions.
 pub(crate) fn document(
-    alloc: Global,
+    rt: &(impl Abort + AllocGlobal),
     version: u32,
     objects: &str,
     transactions: &str,
-) -> Result<String, Fail> {
-    Ok(format!(in alloc;
+) -> String {
+    let Ok(text) = format!(in rt.alloc();
         "{{\"ordtx\":{version},\"objects\":[{objects}],\"transactions\":[{transactions}]}}"
-    )?)
+    ) else {
+        panic!(rt; "no memory")
+    };
+    text
+}
+
+/// The same document, with its members in another order.
+fn turned(
+    rt: &(impl Abort + AllocGlobal),
+    version: u32,
+    objects: &str,
+    transactions: &str,
+) -> String {
+    let Ok(text) = format!(in rt.alloc();
+        "{{\"transactions\":[{transactions}],\"objects\":[{objects}],\"ordtx\":{version}}}"
+    ) else {
+        panic!(rt; "no memory")
+    };
+    text
+}
+
+/// Appends a part to a text.
+pub(crate) fn append(rt: &impl Abort, text: &mut String, part: &str) {
+    let Ok(()) = text.push_str(part) else {
+        panic!(rt; "no memory")
+    };
+}
+
+/// These parts, with commas between them.
+pub(crate) fn listed(rt: &(impl Abort + AllocGlobal), parts: &[&str]) -> String {
+    let mut text = String::new(rt.alloc());
+    for part in parts {
+        if !text.as_str().is_empty() {
+            append(rt, &mut text, ",");
+        }
+        append(rt, &mut text, part);
+    }
+    text
 }
 
 /// Blocks of one step, each in the one before it, the innermost empty.
-pub(crate) fn nested(alloc: Global, levels: u32, open: &str, close: &str) -> Result<String, Fail> {
-    let mut text = String::new(alloc);
+pub(crate) fn nested(
+    rt: &(impl Abort + AllocGlobal),
+    levels: u32,
+    open: &str,
+    close: &str,
+) -> String {
+    let mut text = String::new(rt.alloc());
     for _ in 0..levels {
-        text.push_str("[")?;
-        text.push_str(open)?;
+        append(rt, &mut text, "[");
+        append(rt, &mut text, open);
     }
-    text.push_str("[]")?;
+    append(rt, &mut text, "[]");
     for _ in 0..levels {
-        text.push_str(close)?;
-        text.push_str("]")?;
+        append(rt, &mut text, close);
+        append(rt, &mut text, "]");
     }
-    Ok(text)
+    text
 }
 
 pub(crate) const ACCOUNT: &str = "{\"name\":\"a\",\"kind\":\"account\",\"start\":100}";
@@ -68,30 +113,63 @@ const SIX: &str =
 const ALL_STEPS: &str =
     "[{\"op\":[\"d\",\"put\",\"new\",\"w\"],\"as\":\"l\"},{\"if\":\"l\",\"is\":\"ok\",\"then\":[{\"op\":[\"q\",\"enq\",\"t\"]}],\"else\":[{\"op\":[\"q\",\"enq\",\"e\"]}]},{\"sub\":[{\"abort\":\"late\"}],\"handlers\":{\"z\":[],\"early\":[{\"op\":[\"s\",\"insert\",\"h\"]}]},\"handler\":[{\"abort\":true}],\"as\":\"o\"},{\"parallel\":[{\"sub\":[{\"op\":[\"q\",\"deq\"],\"as\":\"g\"},{\"if\":\"g\",\"item\":\"p\",\"then\":[]}],\"as\":\"g\"},{\"sub\":[{\"abort\":\"early\"}]}]},{\"if\":\"g\",\"is\":\"committed\",\"then\":[]}]";
 
+/// The document of all kinds of objects and of all steps, read.
+fn all_read(rt: &(impl Abort + AllocGlobal)) -> Batch {
+    let Ok(batch) = read(rt.alloc(), document(rt, 4, SIX, ALL_STEPS).as_bytes()) else {
+        panic!(rt; "not read")
+    };
+    batch
+}
+
 #[test]
-fn a_document_is_read(rt: HostRuntime) -> Result<(), Fail> {
-    let text = document(rt.alloc(), 4, SIX, ALL_STEPS)?;
-    let batch = read(rt.alloc(), text.as_bytes())?;
-    assert_eq!(rt; batch.objects.len(), 6);
+fn numbers_are_read(rt: HostRuntime) {
+    let batch = all_read(&rt);
     assert!(rt; matches!(batch.objects.value(0), Some(Value::Account(5))));
     assert!(rt; matches!(batch.objects.value(1), Some(Value::Counter(-3))));
     assert!(rt; matches!(batch.objects.value(5), Some(Value::Max(7))));
+}
+
+#[test]
+fn a_set_is_read(rt: HostRuntime) {
+    let batch = all_read(&rt);
     match batch.objects.value(2) {
         Some(Value::Set(set)) => assert_eq!(rt; set.len(), 2),
         _ => assert!(rt; false),
     }
+}
+
+#[test]
+fn a_queue_is_read(rt: HostRuntime) {
+    let batch = all_read(&rt);
     match batch.objects.value(3) {
         Some(Value::Queue(queue)) => assert_eq!(rt; queue.items().len(), 2),
         _ => assert!(rt; false),
     }
+}
+
+#[test]
+fn a_directory_is_read(rt: HostRuntime) {
+    let batch = all_read(&rt);
     match batch.objects.value(4) {
         Some(Value::Directory(directory)) => assert_eq!(rt; directory.get(Item(0)), Some(Item(2))),
         _ => assert!(rt; false),
     }
-    assert_eq!(rt; batch.names.object(5), Some("m"));
-    assert_eq!(rt; batch.transactions.len(), 1);
+}
+
+#[test]
+fn objects_and_transactions_are_counted(rt: HostRuntime) {
+    let batch = all_read(&rt);
+    assert!(rt; batch.objects.len() == 6);
+    assert!(rt; batch.transactions.len() == 1);
+    assert!(rt; batch.transactions[0].steps.len() == 5);
+}
+
+#[test]
+fn steps_are_read(rt: HostRuntime) {
+    let batch = all_read(&rt);
+    assert!(rt; batch.transactions.len() == 1);
     let steps = &batch.transactions[0].steps;
-    assert_eq!(rt; steps.len(), 5);
+    assert!(rt; steps.len() == 5);
     assert!(rt;
         matches!(
             steps[0],
@@ -104,13 +182,16 @@ fn a_document_is_read(rt: HostRuntime) -> Result<(), Fail> {
     );
     assert!(rt; matches!(steps[1], Step::If { label: 0, .. }));
     assert!(rt; matches!(steps[4], Step::If { label: 2, .. }));
-    Ok(())
+}
+
+/// Stops the test where a name is another.
+fn is_named(rt: &impl Abort, name: Option<&str>, expected: Option<&str>) {
+    assert_eq!(rt; name, expected);
 }
 
 #[test]
-fn texts_are_numbered_by_first_appearance(rt: HostRuntime) -> Result<(), Fail> {
-    let text = document(rt.alloc(), 4, SIX, ALL_STEPS)?;
-    let batch = read(rt.alloc(), text.as_bytes())?;
+fn items_are_numbered_by_first_appearance(rt: HostRuntime) {
+    let batch = all_read(&rt);
     let items = [
         (0, "x"),
         (1, "y"),
@@ -124,85 +205,109 @@ fn texts_are_numbered_by_first_appearance(rt: HostRuntime) -> Result<(), Fail> {
         (9, "p"),
     ];
     for (number, item) in items {
-        assert_eq!(rt; batch.names.item(Item(number)), Some(item));
+        is_named(&rt, batch.names.item(Item(number)), Some(item));
     }
-    assert_eq!(rt; batch.names.item(Item(10)), None);
-    assert_eq!(rt; batch.names.reason(0), Some("late"));
-    assert_eq!(rt; batch.names.reason(1), Some("early"));
-    assert_eq!(rt; batch.names.reason(2), Some("z"));
-    assert_eq!(rt; batch.names.reason(3), None);
-    Ok(())
+    is_named(&rt, batch.names.item(Item(10)), None);
 }
 
-/// Stops the test where the bytes of two documents don't spell the same.
-fn read_alike(rt: &impl Abort, alloc: Global, text: &str, other: &str) -> Result<(), Fail> {
-    let first = read_of(alloc, text)?;
-    let second = read_of(alloc, other)?;
-    assert_eq!(rt; first.as_str(), second.as_str());
-    Ok(())
+#[test]
+fn objects_and_reasons_are_numbered_by_first_appearance(rt: HostRuntime) {
+    let batch = all_read(&rt);
+    is_named(&rt, batch.names.object(5), Some("m"));
+    is_named(&rt, batch.names.reason(0), Some("late"));
+    is_named(&rt, batch.names.reason(1), Some("early"));
+    is_named(&rt, batch.names.reason(2), Some("z"));
+    is_named(&rt, batch.names.reason(3), None);
 }
 
 /// How many objects, and which names and transactions a document's bytes spell, as they are printed.
-fn read_of(alloc: Global, text: &str) -> Result<String, Fail> {
-    let batch = read(alloc, text.as_bytes())?;
+fn read_of(rt: &(impl Abort + AllocGlobal), text: &str) -> String {
+    let alloc = rt.alloc();
+    let Ok(batch) = read(alloc, text.as_bytes()) else {
+        panic!(rt; "not read")
+    };
     let objects = batch.objects.len();
     let names = &batch.names;
     let transactions = &batch.transactions;
-    Ok(format!(in alloc; "{objects} {names:?} {transactions:?}")?)
+    let Ok(printed) = format!(in alloc; "{objects} {names:?} {transactions:?}") else {
+        panic!(rt; "no memory")
+    };
+    printed
+}
+
+/// Stops the test where a document is not read, or does not spell what another does.
+fn reads_alike(rt: &(impl Abort + AllocGlobal), text: &str, other: &str) {
+    assert_eq!(rt; read_of(rt, text).as_str(), read_of(rt, other).as_str());
+}
+
+/// Stops the test where transactions are not read alike in a turned document, which a tree reads.
+fn reads_alike_turned(rt: &(impl Abort + AllocGlobal), transactions: &str) {
+    let text = document(rt, 4, SIX, transactions);
+    let by_tree = turned(rt, 4, SIX, transactions);
+    reads_alike(rt, text.as_str(), by_tree.as_str());
+}
+
+const CALLS: &str =
+    "[{\"op\":[\"a\",\"balance\"],\"as\":\"b\"},{\"op\":[\"d\",\"bind\",\"k\",\"z\"]},{\"op\":[\"m\",\"raise\",9]},{\"if\":\"b\",\"atleast\":1,\"then\":[{\"op\":[\"c\",\"sub\",2]}]}]";
+
+/// Stops the test where a document in which a text is replaced is not read as the turned one.
+fn reads_alike_replaced(rt: &(impl Abort + AllocGlobal), from: &str, to: &str) {
+    let transactions = listed(rt, &[CALLS, ALL_STEPS, "[]"]);
+    let text = document(rt, 4, SIX, transactions.as_str());
+    let Ok(replaced) = text.replace(rt.alloc(), from, to) else {
+        panic!(rt; "no memory")
+    };
+    let by_tree = turned(rt, 4, SIX, transactions.as_str());
+    reads_alike(rt, replaced.as_str(), by_tree.as_str());
 }
 
 #[test]
-fn the_same_is_read_without_a_tree(rt: HostRuntime) -> Result<(), Fail> {
-    let objects = SIX;
-    let calls =
-        "[{\"op\":[\"a\",\"balance\"],\"as\":\"b\"},{\"op\":[\"d\",\"bind\",\"k\",\"z\"]},{\"op\":[\"m\",\"raise\",9]},{\"if\":\"b\",\"atleast\":1,\"then\":[{\"op\":[\"c\",\"sub\",2]}]}]";
-    let common = format!(in rt.alloc();
-        "{{\"ordtx\":4,\"objects\":[{objects}],\"transactions\":[{calls},{ALL_STEPS},[]]}}"
-    )?;
-    let turned_round = format!(in rt.alloc();
-        "{{\"transactions\":[{calls},{ALL_STEPS},[]],\"objects\":[{objects}],\"ordtx\":4}}"
-    )?;
-    read_alike(&rt, rt.alloc(), common.as_str(), turned_round.as_str())?;
-    let spaced = common.replace(rt.alloc(), ",", " ,\n ")?;
-    read_alike(&rt, rt.alloc(), spaced.as_str(), turned_round.as_str())?;
-    let said_again = common.replace(rt.alloc(), "{\"op\"", "{\"op\":1,\"op\"")?;
-    read_alike(&rt, rt.alloc(), said_again.as_str(), turned_round.as_str())
+fn the_same_is_read_without_a_tree(rt: HostRuntime) {
+    let transactions = listed(&rt, &[CALLS, ALL_STEPS, "[]"]);
+    reads_alike_turned(&rt, transactions.as_str());
+    reads_alike_replaced(&rt, ",", " ,\n ");
+    reads_alike_replaced(&rt, "{\"op\"", "{\"op\":1,\"op\"");
 }
 
-#[test]
-fn steps_in_any_order_are_read_alike(rt: HostRuntime) -> Result<(), Fail> {
-    let enqueue = "{\"op\":[\"q\",\"enq\",\"e\"]}";
-    let handlers =
-        "\"handlers\":{\"y\":[{\"op\":[\"q\",\"enq\",\"h\"]}],\"x\":[{\"abort\":\"z\"}]}";
-    let handler = "\"handler\":[{\"op\":[\"q\",\"enq\",\"g\"]},{\"abort\":true}]";
-    let label = "\"as\":\"o\"";
-    let rows = [
-        format!(in rt.alloc(); "{label},{handlers},{handler}")?,
-        format!(in rt.alloc(); "{handlers},{label},{handler}")?,
-        format!(in rt.alloc(); "{handlers},{handler},{label}")?,
-        format!(in rt.alloc(); "{handler},{handlers},{label}")?,
-        format!(in rt.alloc(); "{handler},{label},{handlers}")?,
-        format!(in rt.alloc(); "{label},{handler},{handlers},{label}")?,
-    ];
+const SUB: &str = "\"sub\":[{\"op\":[\"q\",\"enq\",\"e\"]}]";
+
+const HANDLERS: &str =
+    "\"handlers\":{\"y\":[{\"op\":[\"q\",\"enq\",\"h\"]}],\"x\":[{\"abort\":\"z\"}]}";
+
+const HANDLER: &str = "\"handler\":[{\"op\":[\"q\",\"enq\",\"g\"]},{\"abort\":true}]";
+
+const LABEL: &str = "\"as\":\"o\"";
+
+/// A document of a step of these members, and of a test of its label.
+fn document_of_step(rt: &(impl Abort + AllocGlobal), members: &[&str]) -> String {
+    let members = listed(rt, members);
+    let members = members.as_str();
     let after = "{\"if\":\"o\",\"is\":\"aborted\",\"then\":[{\"abort\":\"y\"}]}";
-    let step = format!(in rt.alloc(); "{{{handlers},{handler},{label},\"sub\":[{enqueue}]}}")?;
-    let by_tree = document(
-        rt.alloc(),
-        4,
-        SIX,
-        format!(in rt.alloc(); "[{step},{after}]")?.as_str(),
-    )?;
-    for row in &rows {
-        let members = row.as_str();
-        let steps = format!(in rt.alloc(); "[{{\"sub\":[{enqueue}],{members}}},{after}]")?;
-        let text = document(rt.alloc(), 4, SIX, steps.as_str())?;
-        read_alike(&rt, rt.alloc(), text.as_str(), by_tree.as_str())?;
-    }
-    Ok(())
+    let Ok(steps) = format!(in rt.alloc(); "[{{{members}}},{after}]") else {
+        panic!(rt; "no memory")
+    };
+    document(rt, 4, SIX, steps.as_str())
+}
+
+/// Stops the test where a step of these members is not read as the one whose `sub` stands last.
+fn step_reads_alike(rt: &(impl Abort + AllocGlobal), members: &[&str]) {
+    let text = document_of_step(rt, members);
+    let by_tree = document_of_step(rt, &[HANDLERS, HANDLER, LABEL, SUB]);
+    reads_alike(rt, text.as_str(), by_tree.as_str());
 }
 
 #[test]
-fn each_step_is_read_alike_in_a_turned_document(rt: HostRuntime) -> Result<(), Fail> {
+fn steps_in_any_order_are_read_alike(rt: HostRuntime) {
+    step_reads_alike(&rt, &[SUB, LABEL, HANDLERS, HANDLER]);
+    step_reads_alike(&rt, &[SUB, HANDLERS, LABEL, HANDLER]);
+    step_reads_alike(&rt, &[SUB, HANDLERS, HANDLER, LABEL]);
+    step_reads_alike(&rt, &[SUB, HANDLER, HANDLERS, LABEL]);
+    step_reads_alike(&rt, &[SUB, HANDLER, LABEL, HANDLERS]);
+    step_reads_alike(&rt, &[SUB, LABEL, HANDLER, HANDLERS, LABEL]);
+}
+
+#[test]
+fn each_step_is_read_alike_in_a_turned_document(rt: HostRuntime) {
     let rows = [
         "[{\"sub\":[]}]",
         "[{\"sub\":[{\"sub\":[{\"abort\":\"x\"}],\"handlers\":{\"y\":[],\"x\":[]}}],\"as\":\"n\"}]",
@@ -212,21 +317,16 @@ fn each_step_is_read_alike_in_a_turned_document(rt: HostRuntime) -> Result<(), F
         "[{\"op\":[\"d\",\"lookup\",\"k\"],\"as\":\"n\"},{\"if\":\"n\",\"item\":\"v\",\"then\":[{\"op\":[\"q\",\"enq\",\"w\"]}]},{\"if\":\"n\",\"then\":[],\"item\":\"u\"}]",
     ];
     for row in rows {
-        let text = document(rt.alloc(), 4, SIX, row)?;
-        let turned = format!(in rt.alloc();
-            "{{\"transactions\":[{row}],\"objects\":[{SIX}],\"ordtx\":4}}"
-        )?;
-        read_alike(&rt, rt.alloc(), text.as_str(), turned.as_str())?;
+        reads_alike_turned(&rt, row);
     }
-    Ok(())
 }
 
 #[test]
-fn documents_are_refused(rt: HostRuntime) -> Result<(), Fail> {
-    refused(&rt, rt.alloc(), "", "fault 1 transaction 0")?;
-    refused(&rt, rt.alloc(), "[]", "fault 2 transaction 0")?;
+fn documents_are_refused(rt: HostRuntime) {
+    answers(&rt, "", "fault 1 transaction 0");
+    answers(&rt, "[]", "fault 2 transaction 0");
     let fraction = "{\"ordtx\":1.0,\"objects\":[],\"transactions\":[]}";
-    refused(&rt, rt.alloc(), fraction, "fault 2 transaction 0")?;
+    answers(&rt, fraction, "fault 2 transaction 0");
     let rows = [
         (0, "fault 2 transaction 0"),
         (1, ""),
@@ -236,13 +336,12 @@ fn documents_are_refused(rt: HostRuntime) -> Result<(), Fail> {
         (5, "fault 2 transaction 0"),
     ];
     for (version, answer) in rows {
-        document_refused(&rt, rt.alloc(), version, "", "", answer)?;
+        document_answers(&rt, version, "", "", answer);
     }
-    Ok(())
 }
 
 #[test]
-fn bytes_that_are_no_json_are_refused(rt: HostRuntime) -> Result<(), Fail> {
+fn bytes_that_are_no_json_are_refused(rt: HostRuntime) {
     let rows = [
         ("7", "fault 2 transaction 0"),
         ("7 7", "fault 1 transaction 0"),
@@ -257,18 +356,26 @@ fn bytes_that_are_no_json_are_refused(rt: HostRuntime) -> Result<(), Fail> {
         ("{\"a\":[1,2],\"b\":{\"c\":null}}", "fault 2 transaction 0"),
     ];
     for (text, answer) in rows {
-        refused(&rt, rt.alloc(), text, answer)?;
+        answers(&rt, text, answer);
     }
-    // Arrays nest 127 deep, and no deeper.
-    let deepest = nested(rt.alloc(), 126, "", "")?;
-    refused(&rt, rt.alloc(), deepest.as_str(), "fault 2 transaction 0")?;
-    let deeper = nested(rt.alloc(), 127, "", "")?;
-    refused(&rt, rt.alloc(), deeper.as_str(), "fault 1 transaction 0")?;
-    Ok(())
 }
 
 #[test]
-fn other_shapes_are_refused(rt: HostRuntime) -> Result<(), Fail> {
+fn arrays_nest_127_deep_and_no_deeper(rt: HostRuntime) {
+    answers(
+        &rt,
+        nested(&rt, 126, "", "").as_str(),
+        "fault 2 transaction 0",
+    );
+    answers(
+        &rt,
+        nested(&rt, 127, "", "").as_str(),
+        "fault 1 transaction 0",
+    );
+}
+
+#[test]
+fn other_shapes_are_refused(rt: HostRuntime) {
     let rows = [
         (
             "{\"ordtx\":1,\"objects\":[],\"transactions\":[],\"at\":[]}",
@@ -314,13 +421,12 @@ fn other_shapes_are_refused(rt: HostRuntime) -> Result<(), Fail> {
         ),
     ];
     for (text, answer) in rows {
-        refused(&rt, rt.alloc(), text, answer)?;
+        answers(&rt, text, answer);
     }
-    Ok(())
 }
 
 #[test]
-fn the_first_fault_is_told_in_each_order_of_members(rt: HostRuntime) -> Result<(), Fail> {
+fn the_first_fault_is_told_in_each_order_of_members(rt: HostRuntime) {
     let broken = "{\"name\":\"b\",\"kind\":\"account\",\"start\":-1}";
     let rows = [
         (
@@ -353,17 +459,13 @@ fn the_first_fault_is_told_in_each_order_of_members(rt: HostRuntime) -> Result<(
         ("7", "[7]", "fault 2 transaction 0"),
     ];
     for (objects, transactions, answer) in rows {
-        document_refused(&rt, rt.alloc(), 1, objects, transactions, answer)?;
-        let turned = format!(in rt.alloc();
-            "{{\"transactions\":[{transactions}],\"objects\":[{objects}],\"ordtx\":1}}"
-        )?;
-        refused(&rt, rt.alloc(), turned.as_str(), answer)?;
+        document_answers(&rt, 1, objects, transactions, answer);
+        answers(&rt, turned(&rt, 1, objects, transactions).as_str(), answer);
     }
-    Ok(())
 }
 
 #[test]
-fn objects_are_refused(rt: HostRuntime) -> Result<(), Fail> {
+fn objects_are_refused(rt: HostRuntime) {
     let rows = [
         (
             1,
@@ -453,13 +555,12 @@ fn objects_are_refused(rt: HostRuntime) -> Result<(), Fail> {
         ),
     ];
     for (version, objects, answer) in rows {
-        document_refused(&rt, rt.alloc(), version, objects, "", answer)?;
+        document_answers(&rt, version, objects, "", answer);
     }
-    Ok(())
 }
 
 #[test]
-fn operations_are_refused(rt: HostRuntime) -> Result<(), Fail> {
+fn operations_are_refused(rt: HostRuntime) {
     let rows = [
         ("[],{}", "fault 2 transaction 2"),
         ("[{\"op\":[\"a\"]}]", "fault 2 transaction 1"),
@@ -487,13 +588,12 @@ fn operations_are_refused(rt: HostRuntime) -> Result<(), Fail> {
         ),
     ];
     for (transactions, answer) in rows {
-        document_refused(&rt, rt.alloc(), 1, ACCOUNT, transactions, answer)?;
+        document_answers(&rt, 1, ACCOUNT, transactions, answer);
     }
-    Ok(())
 }
 
 #[test]
-fn labels_and_tests_are_refused(rt: HostRuntime) -> Result<(), Fail> {
+fn labels_and_tests_are_refused(rt: HostRuntime) {
     let rows = [
         (
             "[{\"sub\":[{\"op\":[\"a\",\"balance\"],\"as\":\"n\"}]},{\"if\":\"n\",\"atleast\":1,\"then\":[]}]",
@@ -537,13 +637,12 @@ fn labels_and_tests_are_refused(rt: HostRuntime) -> Result<(), Fail> {
         ),
     ];
     for (transactions, answer) in rows {
-        document_refused(&rt, rt.alloc(), 1, ACCOUNT, transactions, answer)?;
+        document_answers(&rt, 1, ACCOUNT, transactions, answer);
     }
-    Ok(())
 }
 
 #[test]
-fn versions_have_their_words(rt: HostRuntime) -> Result<(), Fail> {
+fn versions_have_their_words(rt: HostRuntime) {
     let rows = [
         (2, "[{\"abort\":\"x\"}]", "fault 2 transaction 1"),
         (3, "[{\"abort\":\"x\"}]", ""),
@@ -564,30 +663,32 @@ fn versions_have_their_words(rt: HostRuntime) -> Result<(), Fail> {
         ),
     ];
     for (version, transactions, answer) in rows {
-        document_refused(&rt, rt.alloc(), version, ACCOUNT, transactions, answer)?;
+        document_answers(&rt, version, ACCOUNT, transactions, answer);
     }
-    let queue = "{\"name\":\"q\",\"kind\":\"queue\",\"start\":[]}";
-    document_refused(
-        &rt,
-        rt.alloc(),
-        1,
-        queue,
-        "[{\"op\":[\"q\",\"length\"]}]",
-        "fault 6 transaction 1",
-    )?;
-    document_refused(
-        &rt,
-        rt.alloc(),
-        2,
-        queue,
-        "[{\"op\":[\"q\",\"length\"]}]",
-        "",
-    )?;
-    Ok(())
 }
 
 #[test]
-fn blocks_nest_24_deep(rt: HostRuntime) -> Result<(), Fail> {
+fn version_2_has_the_length_of_a_queue(rt: HostRuntime) {
+    let queue = "{\"name\":\"q\",\"kind\":\"queue\",\"start\":[]}";
+    let length = "[{\"op\":[\"q\",\"length\"]}]";
+    document_answers(&rt, 1, queue, length, "fault 6 transaction 1");
+    document_answers(&rt, 2, queue, length, "");
+}
+
+/// Stops the test where blocks of this step, so many levels deep, have another answer.
+fn nesting_answers(
+    rt: &(impl Abort + AllocGlobal),
+    levels: u32,
+    open: &str,
+    close: &str,
+    answer: &str,
+) {
+    let blocks = nested(rt, levels, open, close);
+    document_answers(rt, 3, ACCOUNT, blocks.as_str(), answer);
+}
+
+#[test]
+fn blocks_nest_24_deep(rt: HostRuntime) {
     let rows = [
         ("{\"sub\":", "}"),
         ("{\"sub\":[],\"handler\":", "}"),
@@ -595,85 +696,67 @@ fn blocks_nest_24_deep(rt: HostRuntime) -> Result<(), Fail> {
         ("{\"parallel\":[{\"sub\":", "}]}"),
     ];
     for (open, close) in rows {
-        let within = nested(rt.alloc(), 23, open, close)?;
-        document_refused(&rt, rt.alloc(), 3, ACCOUNT, within.as_str(), "")?;
-        let beyond = nested(rt.alloc(), 24, open, close)?;
-        document_refused(
-            &rt,
-            rt.alloc(),
-            3,
-            ACCOUNT,
-            beyond.as_str(),
-            "fault 11 transaction 1",
-        )?;
+        nesting_answers(&rt, 23, open, close, "");
+        nesting_answers(&rt, 24, open, close, "fault 11 transaction 1");
     }
-    let label = "{\"op\":[\"a\",\"balance\"],\"as\":\"n\"}";
-    for (levels, answer) in [(22, ""), (23, "fault 11 transaction 1")] {
-        let ifs = nested(
-            rt.alloc(),
-            levels,
-            "{\"if\":\"n\",\"atleast\":0,\"then\":",
-            "}",
-        )?;
-        let block = format!(in rt.alloc();
-            "[{label},{{\"if\":\"n\",\"atleast\":0,\"then\":{ifs}}}]"
-        )?;
-        document_refused(&rt, rt.alloc(), 1, ACCOUNT, block.as_str(), answer)?;
-    }
-    Ok(())
 }
 
-/// Stops the test where so many of a step, and then a block of the last, are refused for something
-/// else than the answer.
-fn counted(
-    rt: &impl Abort,
-    alloc: Global,
+/// Stops the test where branches, so many levels deep in a first one, have another answer.
+fn branches_answer(rt: &(impl Abort + AllocGlobal), levels: u32, answer: &str) {
+    let label = "{\"op\":[\"a\",\"balance\"],\"as\":\"n\"}";
+    let branch = "{\"if\":\"n\",\"atleast\":0,\"then\":";
+    let within = nested(rt, levels, branch, "}");
+    let within = within.as_str();
+    let Ok(block) = format!(in rt.alloc(); "[{label},{branch}{within}}}]") else {
+        panic!(rt; "no memory")
+    };
+    document_answers(rt, 1, ACCOUNT, block.as_str(), answer);
+}
+
+#[test]
+fn branches_nest_24_deep(rt: HostRuntime) {
+    branches_answer(&rt, 22, "");
+    branches_answer(&rt, 23, "fault 11 transaction 1");
+}
+
+/// Stops the test where so many of a step, and then a block of the last, have another answer.
+fn counted_answers(
+    rt: &(impl Abort + AllocGlobal),
     version: u32,
-    (number, step): (u32, &str),
+    number: u32,
+    step: &str,
     last: &str,
     answer: &str,
-) -> Result<(), Fail> {
-    let mut steps = String::from_str(alloc, step)?;
+) {
+    let mut steps = String::new(rt.alloc());
     for _ in 1..number {
-        steps.push_str(",")?;
-        steps.push_str(step)?;
+        append(rt, &mut steps, step);
+        append(rt, &mut steps, ",");
     }
-    let blocks = format!(in alloc; "[{steps}],[{last}]")?;
-    document_refused(rt, alloc, version, ACCOUNT, blocks.as_str(), answer)
+    let steps = steps.as_str();
+    let Ok(blocks) = format!(in rt.alloc(); "[{steps}{step}],[{last}]") else {
+        panic!(rt; "no memory")
+    };
+    document_answers(rt, version, ACCOUNT, blocks.as_str(), answer);
 }
 
 #[test]
-fn operations_are_counted(rt: HostRuntime) -> Result<(), Fail> {
+fn operations_are_counted(rt: HostRuntime) {
     let step = "{\"op\":[\"a\",\"balance\"]}";
     let last = "{\"op\":[\"b\",\"balance\"]}";
-    let alloc = rt.alloc();
-    counted(
-        &rt,
-        alloc,
-        1,
-        (100_000, step),
-        last,
-        "fault 12 transaction 2",
-    )?;
-    counted(&rt, alloc, 1, (99_999, step), step, "")
+    counted_answers(&rt, 1, 100_000, step, last, "fault 12 transaction 2");
+    counted_answers(&rt, 1, 99_999, step, step, "");
 }
 
 #[test]
-fn version_4_has_more_operations(rt: HostRuntime) -> Result<(), Fail> {
+fn version_4_has_more_operations(rt: HostRuntime) {
     let step = "{\"op\":[\"a\",\"balance\"]}";
-    counted(&rt, rt.alloc(), 4, (100_000, step), step, "")
+    counted_answers(&rt, 4, 100_000, step, step, "");
 }
 
 #[test]
-fn other_nodes_are_counted(rt: HostRuntime) -> Result<(), Fail> {
+fn other_nodes_are_counted(rt: HostRuntime) {
     let step = "{\"abort\":true}";
     let last = "{\"if\":\"n\",\"is\":\"ok\",\"then\":[]}";
-    counted(
-        &rt,
-        rt.alloc(),
-        1,
-        (100_000, step),
-        last,
-        "fault 12 transaction 2",
-    )
+    counted_answers(&rt, 1, 100_000, step, last, "fault 12 transaction 2");
 }
