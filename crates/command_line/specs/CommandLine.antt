@@ -14,8 +14,7 @@ use Rattle.command_line.specs.declared.asked.Command.TheVariants.{Run, Serial, C
 use Rattle.command_line.specs.declared.asked.Line.{Line}
 use Rattle.command_line.specs.declared.asked.Refused.{Refused}
 use Rattle.command_line.specs.declared.asked.Refused.TheVariants.{Help, Memory, Words}
-use Rattle.speculate.specs.declared.transaction.TheConstants.{MAX_WORKERS}
-use Rattle.rounds.specs.declared.plan.TheConstants.{MAX_CUT}
+use Rattle.plan.specs.declared.plan.TheConstants.{MAX_CUT, MAX_WORKERS}
 
 -- `[FILE]`
 abbrev pub file_rule : Rule

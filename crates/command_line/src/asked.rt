@@ -1,7 +1,7 @@
 //! What a command line asks for, and why it is refused.
 ghost use Rattle.std.specs.Prelude.{◌≡◌};
 
-use rounds::Plan;
+use plan::Plan;
 use std::alloc::AllocError;
 use thiserror::Error;
 

@@ -5,5 +5,5 @@ mod asked;
 mod reading;
 
 pub use asked::{Command, Line, Refused};
+pub use plan::Plan;
 pub use reading::line;
-pub use rounds::Plan;

@@ -3,14 +3,13 @@ ghost use Rattle.std.specs.Prelude.{◌≡◌, ◌↔◌, [], Some, codes, map, 
 ghost use Rattle.clap.specs.Words.{IsAmong, app_of, first_of, found_of, kind_of, one_of, rows_of, rule_of, with_subcommand};
 ghost use Rattle.clap.specs.declared.builder.command.Command.TheViews.{out-Command};
 ghost use Rattle.command_line.specs.CommandLine.{CanBeMatched, HoldsFrom1, HoldsLine, HoldsNumber, IsAboutHelp, IsLineOf, IsRefusalBy, IsRefusalOf, IsTaken, NamesCommand, command_name, faults_of, file_app, flag_rule, number_rule, ordtx_app, run_app};
-ghost use Rattle.speculate.specs.declared.transaction.TheConstants.{MAX_WORKERS};
-ghost use Rattle.rounds.specs.declared.plan.TheConstants.{MAX_CUT};
+ghost use Rattle.plan.specs.declared.plan.TheConstants.{MAX_CUT, MAX_WORKERS};
 
 use crate::asked::{Command, Line, Refused};
 use clap::builder::ValueParser;
 use clap::error::ErrorKind;
 use clap::{Arg, ArgAction, ArgMatches};
-use rounds::{MAX_CUT, MAX_WORKERS, Plan};
+use plan::{MAX_CUT, MAX_WORKERS, Plan};
 use std::alloc::{AllocError, Global};
 
 /// How many workers there are where the command line doesn't say.

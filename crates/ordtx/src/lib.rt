@@ -14,7 +14,7 @@ mod texts;
 pub use command_line::{Command, Line, Refused, line};
 pub use lang::{Code, Fault, Wrong};
 pub use marked::Marked;
-pub use rounds::Plan;
+pub use plan::Plan;
 pub use sink::Sink;
 pub use source::{Failed, Source};
 pub use speculate::{Gate, NoGate, Progress, Run};

@@ -1,4 +1,3 @@
-pub mod Plans
 pub mod Views
 pub mod Passes
 pub mod PendingRuns

@@ -6,12 +6,12 @@ ghost use Rattle.rounds.specs.PendingRuns.{all_left, HoldsPast, HoldsAt, IsFirst
 ghost use Rattle.rounds.specs.Checks.{IsSeen};
 ghost use Rattle.rounds.specs.declared.pending_run.PendingRun.{PendingRun as OnePending};
 ghost use Rattle.meaning.specs.declared.limits.TheConstants.{MAX_TRANSACTIONS};
-ghost use Rattle.speculate.specs.declared.transaction.TheConstants.{MAX_WORKERS};
+ghost use Rattle.plan.specs.declared.plan.TheConstants.{MAX_WORKERS};
 
 use crate::crew::Crew;
 use crate::pending_run::{PendingRun, Sums};
-use crate::plan::Plan;
 use intentions::Committed;
+use plan::Plan;
 use speculate::{Gate, NoMemory, Run};
 use std::alloc::Global;
 use std::thread::Threads;

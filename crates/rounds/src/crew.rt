@@ -1,9 +1,9 @@
-//! The crew: what the passes of a round are run with, and how many workers pay.
-ghost use Rattle.std.specs.Prelude.{◌≡◌, ◌-◌, ◌*◌, ◌/◌, ◌<◌, ◌≤◌, ℕ, min, max, length, slice_index_or};
+//! The crew: what the passes of a round are run with, and how many workers a pass gets.
+ghost use Rattle.std.specs.Prelude.{◌≡◌, ◌<◌, ◌≤◌, ℕ, length, slice_index_or};
 
 use crate::pending_run::PendingRun;
-use crate::plan::Plan;
 use batch::Batch;
+use plan::Plan;
 use std::alloc::Global;
 
 /// The right to start threads, the allocator, how many workers there are, the gate that sees them,
@@ -38,29 +38,8 @@ impl<'a, R, G> Crew<'a, R, G> {
     }
 }
 
-/// How many operations a worker performs at the least for each transaction of the cut after the
-/// first. Fewer are done sooner than a thread starts.
-const OPERATIONS: usize = 256;
-
 /// About how many operations are checked in the time in which one is performed.
 const CHECKS: usize = 8;
-
-/// How many workers share so many operations. The results are the same for any number of them.
-///
-/// With a cut of 1 they are all workers of the plan, however few operations there are. With a
-/// larger cut there is one worker for each `256 * (cut - 1)` operations, at least 1 and at most all.
-pub(crate) fn paying(plan: Plan, operations: usize) -> u32
-    ensures within { (1 ≤ result) × (result ≤ plan.workers) }
-    ensures all { plan.cut ≡ 1 → result ≡ plan.workers }
-    ensures paid { 1 < plan.cut → result ≡ max 1 (min plan.workers (operations / (256 * (plan.cut - 1)))) }
-{
-    if plan.cut == 1 {
-        return plan.workers;
-    }
-    let share = OPERATIONS * (plan.cut as usize - 1);
-    let workers = (operations / share).min(plan.workers as usize);
-    workers.max(1) as u32
-}
 
 /// How many workers to make so many runs with: all of the plan with a cut of 1, and else as many as
 /// pay for the operations that the runs are taken to have.
@@ -68,7 +47,8 @@ pub(crate) fn makers<R, G>(crew: &Crew<R, G>, runs: usize) -> u32
     ensures within { (1 ≤ result) × (result ≤ crew.now.plan.workers) }
     ensures all { crew.now.plan.cut ≡ 1 → result ≡ crew.now.plan.workers }
 {
-    paying(crew.plan, runs.saturating_mul(crew.operations_each))
+    crew.plan
+        .workers_for(runs.saturating_mul(crew.operations_each))
 }
 
 /// How many workers to check the runs of these numbers with: all of the plan with a cut of 1, and
@@ -82,7 +62,7 @@ pub(crate) fn checkers(plan: Plan, runs: &[PendingRun], numbers: &[usize]) -> u3
     for number in numbers {
         operations = operations.saturating_add(runs[*number].sums.entries.len());
     }
-    paying(plan, operations / CHECKS)
+    plan.workers_for(operations / CHECKS)
 }
 
 // How many operations a transaction of the batch has on average, rounded up.

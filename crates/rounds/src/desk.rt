@@ -6,7 +6,7 @@ ghost use Rattle.rounds.specs.Views.{meaning};
 ghost use Rattle.rounds.specs.Passes.{CanBeMade};
 ghost use Rattle.rounds.specs.PendingRuns.{IsPendingOf};
 ghost use Rattle.meaning.specs.declared.limits.TheConstants.{MAX_TRANSACTIONS};
-ghost use Rattle.speculate.specs.declared.transaction.TheConstants.{MAX_WORKERS};
+ghost use Rattle.plan.specs.declared.plan.TheConstants.{MAX_WORKERS};
 
 use crate::pending_run::PendingRun;
 use batch::Batch;

@@ -11,11 +11,10 @@ mod make;
 mod openings;
 mod pending;
 mod pending_run;
-mod plan;
 mod renew;
 
 pub use batch::{Batch, Outcome, Record};
 pub use check::first_conflict;
 pub use openings::execute;
-pub use plan::{MAX_CUT, Plan};
-pub use speculate::{Entry, Gate, MAX_WORKERS, NoGate, NoMemory, Objects, Progress, Run};
+pub use plan::{MAX_CUT, MAX_WORKERS, Plan};
+pub use speculate::{Entry, Gate, NoGate, NoMemory, Objects, Progress, Run};

@@ -7,8 +7,7 @@ ghost use Rattle.rounds.specs.Passes.{CanBeMade};
 ghost use Rattle.rounds.specs.Desks.{IsDeskOn};
 ghost use Rattle.rounds.specs.PendingRuns.{AreMade, AreAdded};
 ghost use Rattle.meaning.specs.declared.limits.TheConstants.{MAX_TRANSACTIONS};
-ghost use Rattle.speculate.specs.declared.transaction.TheConstants.{MAX_WORKERS};
-ghost use Rattle.rounds.specs.declared.plan.TheConstants.{MAX_CUT};
+ghost use Rattle.plan.specs.declared.plan.TheConstants.{MAX_CUT, MAX_WORKERS};
 
 use crate::crew::{Crew, makers};
 use crate::desk::Desk;

@@ -15,5 +15,6 @@ pub use gate::{Gate, NoGate, Progress};
 pub use intentions::{Entry, NoMemory, Objects, View};
 pub use meaning::{End, Held};
 pub use one_thread::plain;
+pub use plan::MAX_WORKERS;
 pub use speculated::Run;
-pub use transaction::{MAX_WORKERS, run, run_in};
+pub use transaction::{run, run_in};

@@ -6,7 +6,7 @@ ghost use Rattle.objects.specs.Entries.{kinds};
 ghost use Rattle.meaning.specs.OneThread.{one};
 ghost use Rattle.meaning.specs.Batch.{block_at};
 ghost use Rattle.speculate.specs.Runs.{IsRunOf, IsWithinOthers};
-ghost use Rattle.speculate.specs.declared.transaction.TheConstants.{MAX_WORKERS};
+ghost use Rattle.plan.specs.declared.plan.TheConstants.{MAX_WORKERS};
 
 use crate::executor::{Making, run_block};
 use crate::gate::Gate;
@@ -16,9 +16,6 @@ use intentions::{Lists, NoMemory, Objects, View};
 use meaning::{End, Held};
 use std::alloc::Global;
 use std::thread::Threads;
-
-/// How many workers there are at most.
-pub const MAX_WORKERS: u32 = 64;
 
 /// Runs transaction `number` (from 1) of the batch on these objects, which stay as they are. At
 /// most `width` children of a parallel block are run at once.

@@ -1,7 +1,6 @@
 -- The plans that there are.
 use Rattle.std.specs.Prelude.{ℕ, ◌/◌, ◌≤◌, min, max}
-use Rattle.speculate.specs.declared.transaction.TheConstants.{MAX_WORKERS}
-use Rattle.rounds.specs.declared.plan.TheConstants.{MAX_CUT}
+use Rattle.plan.specs.declared.plan.TheConstants.{MAX_CUT, MAX_WORKERS}
 
 abbrev pub IsPlan : ℕ → ℕ → Type 0
 IsPlan workers cut = (1 ≤ workers) × (workers ≤ MAX_WORKERS) × (1 ≤ cut) × (cut ≤ MAX_CUT)

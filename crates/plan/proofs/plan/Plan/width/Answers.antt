@@ -1,6 +1,6 @@
 use Rattle.std.proofs.Common.{rules}
-use Rattle.rounds.specs.Plans.{width_of}
-use Rattle.rounds.proofs.plan.Plan.width.Goals as goal
+use Rattle.plan.specs.Plans.{width_of}
+use Rattle.plan.proofs.plan.Plan.width.Goals as goal
 
 pub returns-clause-shared : goal.returns-clause-shared
 unfolding width_of
