@@ -4,6 +4,7 @@ use Rattle.std.specs.Prelude.{String}
 use Rattle.std.specs.List.{list_all}
 use Rattle.std.specs.declared.alloc.Global.{Global}
 use Rattle.meaning.specs.Words.{Names}
+use Rattle.meaning.specs.declared.limits.TheConstants.{MAX_NAME}
 
 abbrev pub is_between : ℕ → ℕ → ℕ → Bool
 is_between low high x = nat_le low x && nat_le x high
@@ -12,9 +13,9 @@ is_between low high x = nat_le low x && nat_le x high
 abbrev pub is_name_byte : ℕ → Bool
 is_name_byte x = is_between 48 57 x || is_between 65 90 x || is_between 97 122 x || x == 95 || x == 45
 
--- 1 to 32 such bytes
+-- 1 to MAX_NAME such bytes
 unfoldable pub is_name : List ℕ → Bool
-is_name s = nat_lt 0 (length s) && nat_le (length s) 32 && list_all is_name_byte s
+is_name s = nat_lt 0 (length s) && nat_le (length s) MAX_NAME && list_all is_name_byte s
 
 abbrev pub AreNames : List (List ℕ) → Type 0
 AreNames texts = IsTrue (list_all is_name texts)

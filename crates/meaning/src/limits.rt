@@ -13,6 +13,9 @@ pub const MAX_OPERATIONS: usize = 1_000_000;
 /// parallel steps and aborts.
 pub const MAX_NODES: usize = 100_000;
 
+/// How many bytes a name has at most.
+pub const MAX_NAME: usize = 32;
+
 /// How deep blocks stand in one another at most.
 pub const MAX_DEPTH: usize = 24;
 
