@@ -3,6 +3,7 @@ use Rattle.std.specs.Prelude.{◌≡◌, ◌≢◌, List, ℕ, ◌+◌, ◌-◌,
 use Rattle.std.specs.Prelude.{bit_and, if◌then◌else◌}
 use Rattle.objects.specs.declared.entry.Entry.{Entry}
 use Rattle.committed.specs.declared.index.Index.{Index}
+use Rattle.committed.specs.declared.index.TheConstants.{MOST_LISTED}
 use Rattle.committed.specs.declared.index.Link.{Link}
 use Rattle.committed.specs.declared.classes.Class.{Class}
 use Rattle.committed.specs.declared.marks.Mark.{Mark}
@@ -115,4 +116,4 @@ pub record IsLastBelow (index : Index) (own upto found : ℕ) : Type 0 where
 
 -- each entry is listed, or as many as can be
 abbrev pub IsAllListed : List Entry → Index → Type 0
-IsAllListed entries index = index.listed ≡ min (length entries) 2147483647
+IsAllListed entries index = index.listed ≡ min (length entries) MOST_LISTED

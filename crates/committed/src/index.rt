@@ -9,6 +9,7 @@ ghost use Rattle.std.specs.Prelude.{◌≡◌, ◌≢◌, ◌<◌, ◌≤◌, �
 ghost use Rattle.objects.specs.declared.entry.Entry.{Entry as OneEntry};
 ghost use Rattle.committed.specs.Marks.{mark_of};
 ghost use Rattle.objects.specs.Entries.{CommuteForward};
+ghost use Rattle.committed.specs.declared.index.TheConstants.{MOST_LISTED};
 ghost use Rattle.committed.specs.Index.{key_of, key_against, slot_of, slot_in, link_at, key_at, place_at, IsEnd, IsLink, IsSpan, AreChains, AreSpans, IsLinked, IsIndexOf, IndexHasRoom, IsLastBelow};
 
 use crate::classes::Class;
@@ -21,10 +22,10 @@ use std::alloc::Global;
 const FEWEST: usize = 64;
 
 /// How many slots a table has at most.
-const MOST: usize = 1073741824;
+const MOST: usize = 1_073_741_824;
 
 /// How many entries are listed at most. Each has at most two links, which are counted in 32 bits.
-const MOST_LISTED: u32 = 2147483647;
+const MOST_LISTED: u32 = 2_147_483_647;
 
 /// An entry in the chain of a heading. A link's number is how many links there are up to it, so 0
 /// is no link.
@@ -157,10 +158,10 @@ impl Index {
     pub fn push(&mut self, entries: &[Entry], mark: &Mark)
         requires index { IsIndexOf entries.now self.old }
         requires next { self.old.listed < length entries.now }
-        requires mark { (d : OneEntry) → self.old.listed < 2147483647 → mark.now ≡ mark_of (slice_index_or entries.now self.old.listed d) }
+        requires mark { (d : OneEntry) → self.old.listed < MOST_LISTED → mark.now ≡ mark_of (slice_index_or entries.now self.old.listed d) }
         requires room { IndexHasRoom self.old 1 }
         ensures index { IsIndexOf entries.now self.new }
-        ensures listed { self.new.listed ≡ min (self.old.listed + 1) 2147483647 }
+        ensures listed { self.new.listed ≡ min (self.old.listed + 1) MOST_LISTED }
         ensures room { (more : ℕ) → IndexHasRoom self.old (more + 1) → IndexHasRoom self.new more }
     {
         let place = self.listed;
