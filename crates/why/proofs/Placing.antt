@@ -1,6 +1,6 @@
 -- The operations that are left to place.
 use Rattle.std.proofs.Common.{◌≡◌, ℕ, ◌+◌, ◌<◌, ◌≤◌, Bool, List, [], ◌∷◌, ◌++◌, length, get_or, drop, map, Option, Some, None, refl, sym}
-use Rattle.std.proofs.Common.{ap, ◌∙◌, append_assoc}
+use Rattle.std.proofs.Common.{ap, ◌∙◌, append-nil, append_assoc}
 use Rattle.std.proofs.Math.ListN.{drop_of_length-le}
 use Rattle.std.specs.Prelude.{codes, ◌&&◌}
 use Rattle.meaning.specs.declared.end.End.{End}
@@ -148,3 +148,13 @@ module _ (names : Names) (path : List ℕ) (stays : Bool) (child : Subaction) (b
       (handler_block (subaction_view child).handlers (reason_of (end_of (record_view body)))) (record_view done)) body_placed-is
       ∙ ap (λ outcome. body_placed ++ placed names (handler_path names path (subaction_view child).handlers (reason_of outcome)) 1 stays
       (handler_block (subaction_view child).handlers (reason_of outcome)) (record_view done)) (end_of-record_view body)
+
+  -- where nothing takes the abort
+  pub placed_child-untaken : (handler : Option Record) (done : Record) → handler ≡ Some done
+      → handler_block (subaction_view child).handlers (reason_of body.outcome) ≡ NoStep
+      → placed_child names path stays (subaction_view child).body (subaction_view child).handlers (tried_view (body, handler)) ≡ body_placed
+  placed_child-untaken handler done is none =
+      let at : List ℕ = handler_path names path (subaction_view child).handlers (reason_of body.outcome) in
+      placed_child-handler handler done is
+      ∙ ap (λ block. body_placed ++ placed names at 1 stays block (record_view done)) none
+      ∙ ap (λ rest. body_placed ++ rest) (none_placed names at stays 1 (record_view done)) ∙ append-nil body_placed

@@ -1,11 +1,15 @@
 //! The operations of a run, each with the path of its step.
-ghost use Rattle.std.specs.Prelude.{◌≡◌, [], ◌∷◌, ◌++◌, ◌&&◌, IfOk, OnOk, map, option_copied, string_bytes};
+ghost use Rattle.std.specs.Prelude.{◌≡◌, [], ◌∷◌, ◌++◌, ◌<◌, ◌&&◌, IfNone, IfOk, IfSome, OnOk, map, option_copied, string_bytes};
 ghost use Rattle.std.specs.Fmt.{decimal};
-ghost use Rattle.meaning.specs.Texts.{handler_path, handler_block, part, reason_of};
+ghost use Rattle.std.specs.Option.{ForSome};
+ghost use Rattle.meaning.specs.Texts.{branch_path, handler_block, part, reason_of};
+ghost use Rattle.meaning.specs.Trees.{NoStep};
 ghost use Rattle.batch.specs.Names.{names_of};
+ghost use Rattle.batch.specs.declared.tree.Block.{size-Block};
+ghost use Rattle.batch.specs.declared.tree.Subaction.{size-Subaction};
 ghost use Rattle.batch.specs.Views.{block_view, record_view, step_view, taken_view, subaction_view, tried_view, children_view, all_tried_view};
 ghost use Rattle.why.specs.Why.{has_ended, placed, placed_step, placed_child, placed_children};
-ghost use Rattle.why.specs.Places.{places_view};
+ghost use Rattle.why.specs.Places.{handler_place, places_view};
 
 use batch::{Block, Names, NoMemory, Otherwise, Record, Step, Subaction, Taken, handler_for};
 use meaning::End;
@@ -85,29 +89,17 @@ fn place_step(
             },
             Taken::If(holds, record),
         ) => {
-            if *holds {
-                let branch_path = format!(in alloc; "{path}.t")?;
-                place_block(
-                    alloc,
-                    places,
-                    names,
-                    branch_path.as_str(),
-                    left,
-                    then,
-                    record,
-                )
-            } else {
-                let branch_path = format!(in alloc; "{path}.e")?;
-                place_block(
-                    alloc,
-                    places,
-                    names,
-                    branch_path.as_str(),
-                    left,
-                    otherwise,
-                    record,
-                )
-            }
+            let branch = if *holds { then } else { otherwise };
+            let branch_path = branch_path(alloc, path, *holds)?;
+            place_block(
+                alloc,
+                places,
+                names,
+                branch_path.as_str(),
+                left,
+                branch,
+                record,
+            )
         }
         (Step::Sub(child), Taken::Sub(body, handler)) => {
             place_child(
@@ -153,68 +145,22 @@ fn place_child(
         &child.body,
         body,
     )?;
-    match handler {
-        Some(done) => place_handler(
-            alloc,
-            places,
-            names,
-            path,
-            left,
-            child,
-            reason_of(body.outcome),
-            done,
-        ),
-        None => Ok(()),
-    }
-}
-
-// The operations of the handler that takes an abort for this reason.
-#[cycle(places)]
-fn place_handler(
-    alloc: Global,
-    places: &mut Vec<Place>,
-    names: &Names,
-    path: &str,
-    left: bool,
-    child: &Subaction,
-    reason: Option<u32>,
-    done: &Record,
-) -> Result<(), NoMemory>
-    ensures { OnOk result (let handlers = (subaction_view child.now).handlers in
-        places_view places.new.items ≡ places_view places.old.items ++ placed (names_of names.now) (handler_path (names_of names.now) path.now handlers reason) 1 left (handler_block handlers reason) (record_view done.now)) }
-{
-    match handler_for(child, reason) {
-        Some(handler) => {
-            let name = reason_name(names, handler.reason);
-            let handler_path = format!(in alloc; "{path}.h:{name}")?;
-            let block = &handler.block;
-            place_block(
-                alloc,
-                places,
-                names,
-                handler_path.as_str(),
-                left,
-                block,
-                done,
-            )
-        }
-        None => match &child.otherwise {
-            Otherwise::Run(block) => {
-                let handler_path = format!(in alloc; "{path}.h")?;
-                place_block(
-                    alloc,
-                    places,
-                    names,
-                    handler_path.as_str(),
-                    left,
-                    block,
-                    done,
-                )
-            }
-            Otherwise::GoOn => Ok(()),
-            Otherwise::Pass => Ok(()),
-        },
-    }
+    let Some(done) = handler else {
+        return Ok(());
+    };
+    let reason = reason_of(body.outcome);
+    let Some((handler_path, block)) = handler_place(alloc, names, path, child, reason)? else {
+        return Ok(());
+    };
+    place_block(
+        alloc,
+        places,
+        names,
+        handler_path.as_str(),
+        left,
+        block,
+        done,
+    )
 }
 
 #[cycle(places)]
@@ -269,6 +215,43 @@ fn place_operation(
     };
     places.push(Place { path, entry, left })?;
     Ok(())
+}
+
+// The path and the block of what takes an abort for this reason, where a handler does.
+fn handler_place<'b>(
+    alloc: Global,
+    names: &Names,
+    path: &str,
+    child: &'b Subaction,
+    reason: Option<u32>,
+) -> Result<Option<(String, &'b Block)>, NoMemory>
+    ensures place { IfOk result (λ found. IfSome found (λ p.
+        (string_bytes p.0, block_view p.1.now) ≡ handler_place (names_of names.now) path.now reason (subaction_view child.now).handlers)) }
+    ensures none { IfOk result (λ found. IfNone found (handler_block (subaction_view child.now).handlers reason ≡ NoStep)) }
+    ensures inside { IfOk result (λ found. ForSome found (λ p. size-Block p.1.now < size-Subaction child.now)) }
+{
+    match handler_for(child, reason) {
+        Some(handler) => {
+            let name = reason_name(names, handler.reason);
+            Ok(Some((format!(in alloc; "{path}.h:{name}")?, &handler.block)))
+        }
+        None => match &child.otherwise {
+            Otherwise::Run(block) => Ok(Some((format!(in alloc; "{path}.h")?, block))),
+            Otherwise::GoOn => Ok(None),
+            Otherwise::Pass => Ok(None),
+        },
+    }
+}
+
+// The path of the branch that was taken.
+fn branch_path(alloc: Global, path: &str, holds: bool) -> Result<String, NoMemory>
+    ensures { IfOk result (λ t. string_bytes t ≡ branch_path path.now holds) }
+{
+    if holds {
+        Ok(format!(in alloc; "{path}.t")?)
+    } else {
+        Ok(format!(in alloc; "{path}.e")?)
+    }
 }
 
 // The path of the part of this number.

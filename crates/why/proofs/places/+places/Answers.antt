@@ -1,14 +1,14 @@
-use Rattle.std.proofs.Common.{◌≡◌, ◌<◌, ◌≤◌, ◌+◌, ◌++◌, length, refl, sym, ap, ◌∙◌, arith, append-nil, append_assoc, Some, None}
+use Rattle.std.proofs.Common.{◌≡◌, ◌<◌, ◌≤◌, ◌+◌, ◌++◌, length, refl, sym, ap, ◌∙◌, arith, append-nil, append_assoc}
 use Rattle.std.specs.Prelude.{codes, option_copied}
-use Rattle.meaning.specs.Texts.{part, reason_of}
+use Rattle.meaning.specs.Texts.{handler_block, handler_path, part, reason_of}
 use Rattle.batch.specs.Names.{names_of}
-use Rattle.batch.specs.Views.{record_view, subaction_view}
+use Rattle.batch.specs.Views.{block_view, record_view, subaction_view}
 use Rattle.batch.proofs.ViewLemmas.{block_view-is, record_view-is, step_view-Parallel, taken_view-Parallel}
 use Rattle.why.specs.Places.{places_view}
+use Rattle.why.specs.Why.{placed}
 use Rattle.why.proofs.Placing.{rest_placed-start, rest_placed-more, rest_placed-no_step, rest_placed-end, rest_children_placed-start}
 use Rattle.why.proofs.Placing.{rest_children_placed-more, rest_children_placed-no_child, rest_children_placed-end, after_more}
-use Rattle.why.proofs.Placing.{body_placed, placed_child-body, placed_child-handler}
-use Rattle.why.proofs.HandlerPlaces.{handled_places, handled_places-is, otherwise_places-Run, otherwise_places-GoOn, otherwise_places-Pass}
+use Rattle.why.proofs.Placing.{body_placed, placed_child-body, placed_child-handler, placed_child-untaken}
 use Rattle.why.proofs.places.+places.Goals as goal
 
 -- ---- steps one after the other
@@ -65,67 +65,42 @@ place_step-returns-in-Parallel-Parallel t c =
 
 -- ---- a subaction
 
-pub place_child-returns : goal.place_child-returns
-place_child-returns t c =
+pub place_child-returns-in_default : goal.place_child-returns-in_default
+place_child-returns-in_default t c =
     let names = names_of c.args.names.now in
     let path : c.as_str.result.now ≡ c.args.path.now ++ codes ".b" = c.as_str.ensures.value ∙ c.in_ok-body_path.ensures.ok in
     rw (placed_child-body names c.args.path.now c.args.left c.args.child.now c.args.body.now (option_copied c.args.handler)
-    (ap option_copied c.in-None.is))
+    (ap option_copied c.in_default.is))
     (rw (path, c.is_left-stays.ensures) at c.in_ok-place_block.ensures)
 
-pub place_child-returns-in-Some : goal.place_child-returns-in-Some
-place_child-returns-in-Some t c =
+pub place_child-returns-in_default-2 : goal.place_child-returns-in_default-2
+place_child-returns-in_default-2 t c =
     let names = names_of c.args.names.now in
     let path : c.as_str.result.now ≡ c.args.path.now ++ codes ".b" = c.as_str.ensures.value ∙ c.in_ok-body_path.ensures.ok in
-    let these = body_placed names c.args.path.now c.args.left c.args.child.now c.args.body.now in
+    rw (placed_child-untaken names c.args.path.now c.args.left c.args.child.now c.args.body.now (option_copied c.args.handler)
+    c.in-Some.done.now (ap option_copied c.in-Some.is)
+    (rw (c.in_default-2.is, c.reason_of-reason.ensures) at c.in_ok-handler_path.ensures.none))
+    (rw (path, c.is_left-stays.ensures) at c.in_ok-place_block.ensures)
+
+pub place_child-returns : goal.place_child-returns
+place_child-returns t c =
+    let names = names_of c.args.names.now in
+    let here = c.args.path.now in
+    let done = record_view c.in-Some.done.now in
+    let handlers = (subaction_view c.args.child.now).handlers in
+    let path : c.as_str.result.now ≡ here ++ codes ".b" = c.as_str.ensures.value ∙ c.in_ok-body_path.ensures.ok in
+    let these = body_placed names here c.args.left c.args.child.now c.args.body.now in
     let made : places_view c.place_block.new.places.items ≡ places_view c.args.places.now.items ++ these =
     rw (path, c.is_left-stays.ensures) at c.in_ok-place_block.ensures in
-    let handled = handled_places names c.args.path.now c.args.left (reason_of c.args.body.now.outcome) (record_view c.in-Some.done.now)
-    (subaction_view c.args.child.now).handlers in
+    let place = rw (c.in-Some-2.is, c.reason_of-reason.ensures) at c.in_ok-handler_path.ensures.place in
+    let handled = placed names (handler_path names here handlers (reason_of c.args.body.now.outcome)) 1 c.args.left
+    (handler_block handlers (reason_of c.args.body.now.outcome)) done in
+    let handled_is : placed names c.as_str-2.result.now 1 c.args.left (block_view c.in-Some-2.block.now) done ≡ handled =
+    ap (λ text. placed names text 1 c.args.left (block_view c.in-Some-2.block.now) done) c.as_str-2.ensures.value
+    ∙ ap (λ p. placed names p.0 1 c.args.left p.1 done) place in
     rw (
-      placed_child-handler names c.args.path.now c.args.left c.args.child.now c.args.body.now (option_copied c.args.handler)
+      placed_child-handler names here c.args.left c.args.child.now c.args.body.now (option_copied c.args.handler)
           c.in-Some.done.now (ap option_copied c.in-Some.is),
       sym (append_assoc (places_view c.args.places.now.items) these handled),
     )
-    (rw (made, c.reason_of.ensures) at c.place_handler.ensures)
-
--- ---- what takes an abort
-
-pub place_handler-returns-in_ok-handler_path-in-Some : goal.place_handler-returns-in_ok-handler_path-in-Some
-place_handler-returns-in_ok-handler_path-in-Some t c =
-    let names = names_of c.args.names.now in
-    let here = c.args.path.now in
-    let handler = c.in-Some.handler.now in
-    let name = c.reason_name-name.ensures in
-    let path : c.as_str.result.now ≡ here ++ codes ".h:" ++ names.reason handler.reason =
-    c.as_str.ensures.value ∙ c.in_ok-handler_path-in-Some.ensures.ok ∙ ap (λ text. here ++ (codes ".h:" ++ text)) name
-    ∙ sym (append_assoc here (codes ".h:") (names.reason handler.reason)) in
-    let done = record_view c.args.done.now in
-    let places = handled_places-is names here c.args.left c.args.reason done c.args.child.now (Some handler) c.in-Some.ensures.first in
-    rw places (rw path at c.place_block.ensures)
-
-pub place_handler-returns-in_ok-handler_path-in-Run : goal.place_handler-returns-in_ok-handler_path-in-Run
-place_handler-returns-in_ok-handler_path-in-Run t c =
-    let names = names_of c.args.names.now in
-    let here = c.args.path.now in
-    let done = record_view c.args.done.now in
-    let path : c.as_str-in-Run.result.now ≡ here ++ codes ".h" = c.as_str-in-Run.ensures.value ∙ c.in_ok-handler_path-in-Run.ensures.ok in
-    let places = handled_places-is names here c.args.left c.args.reason done c.args.child.now None c.in-None.ensures.first in
-    let last = otherwise_places-Run names here c.args.left c.args.reason done c.args.child.now c.in-Run.block c.in-Run.is in
-    rw (places ∙ last) (rw path at c.place_block-in-Run.ensures)
-
-pub place_handler-returns-in-GoOn : goal.place_handler-returns-in-GoOn
-place_handler-returns-in-GoOn t c =
-    let names = names_of c.args.names.now in
-    let done = record_view c.args.done.now in
-    let places = handled_places-is names c.args.path.now c.args.left c.args.reason done c.args.child.now None c.in-None.ensures.first in
-    let last = otherwise_places-GoOn names c.args.path.now c.args.left c.args.reason done c.args.child.now c.in-GoOn.is in
-    rw (places ∙ last) (sym (append-nil _))
-
-pub place_handler-returns-in-Pass : goal.place_handler-returns-in-Pass
-place_handler-returns-in-Pass t c =
-    let names = names_of c.args.names.now in
-    let done = record_view c.args.done.now in
-    let places = handled_places-is names c.args.path.now c.args.left c.args.reason done c.args.child.now None c.in-None.ensures.first in
-    let last = otherwise_places-Pass names c.args.path.now c.args.left c.args.reason done c.args.child.now c.in-Pass.is in
-    rw (places ∙ last) (sym (append-nil _))
+    (rw (made, handled_is) at c.place_block-2.ensures)

@@ -1,0 +1,38 @@
+use Rattle.std.proofs.Common.{◌≡◌, ◌++◌, sym, ap, ◌∙◌, append_assoc, Some, None}
+use Rattle.std.specs.Prelude.{codes, string_bytes}
+use Rattle.batch.specs.Names.{names_of}
+use Rattle.batch.specs.Views.{block_view}
+use Rattle.why.proofs.HandlerPlaces.{handler_place-is, otherwise_place-Run, otherwise_block-GoOn, otherwise_block-Pass}
+use Rattle.why.proofs.places.handler_place.Goals as goal
+
+pub returns-in_ok-format-in-Some-clause-place : goal.returns-in_ok-format-in-Some-clause-place
+returns-in_ok-format-in-Some-clause-place c =
+    let names = names_of c.args.names.now in
+    let here = c.args.path.now in
+    let handler = c.in-Some.handler.now in
+    let path : string_bytes c.in_ok-format-in-Some.field-0 ≡ here ++ codes ".h:" ++ names.reason handler.reason =
+    c.in_ok-format-in-Some.ensures.ok ∙ ap (λ text. here ++ (codes ".h:" ++ text)) c.reason_name-name.ensures
+    ∙ sym (append_assoc here (codes ".h:") (names.reason handler.reason)) in
+    ap (λ text. (text, block_view handler.block)) path
+    ∙ sym (handler_place-is names here c.args.reason c.args.child.now (Some handler) c.in-Some.ensures.first)
+
+pub returns-in_ok-format-in-Run-clause-place : goal.returns-in_ok-format-in-Run-clause-place
+returns-in_ok-format-in-Run-clause-place c =
+    let names = names_of c.args.names.now in
+    let here = c.args.path.now in
+    let block = c.in-Run.block in
+    ap (λ text. (text, block_view block)) c.in_ok-format-in-Run.ensures.ok
+    ∙ sym (handler_place-is names here c.args.reason c.args.child.now None c.in-None.ensures.first
+    ∙ otherwise_place-Run names here c.args.reason c.args.child.now block c.in-Run.is)
+
+pub returns-in-GoOn-clause-none : goal.returns-in-GoOn-clause-none
+returns-in-GoOn-clause-none c =
+    let names = names_of c.args.names.now in
+    ap (λ p. p.1) (handler_place-is names c.args.path.now c.args.reason c.args.child.now None c.in-None.ensures.first)
+    ∙ otherwise_block-GoOn names c.args.path.now c.args.reason c.args.child.now c.in-GoOn.is
+
+pub returns-in-Pass-clause-none : goal.returns-in-Pass-clause-none
+returns-in-Pass-clause-none c =
+    let names = names_of c.args.names.now in
+    ap (λ p. p.1) (handler_place-is names c.args.path.now c.args.reason c.args.child.now None c.in-None.ensures.first)
+    ∙ otherwise_block-Pass names c.args.path.now c.args.reason c.args.child.now c.in-Pass.is
