@@ -1,5 +1,5 @@
 pub mod AnswerLemmas
-pub mod HandlerLemmas
+pub mod HandlerPlaces
 pub mod Joined
 pub mod NameLemmas
 pub mod SortedLemmas

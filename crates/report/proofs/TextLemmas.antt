@@ -1,6 +1,6 @@
 -- The lines that are left to write.
 use Rattle.std.proofs.Common.{◌≡◌, ℕ, ◌+◌, ◌<◌, ◌≤◌, List, [], ◌∷◌, ◌++◌, length, get_or, drop, map, Option, Some, None, refl, sym, ap, ◌∙◌}
-use Rattle.std.proofs.Common.{append_assoc}
+use Rattle.std.proofs.Common.{append-nil, append_assoc}
 use Rattle.std.proofs.Math.ListN.{drop_of_length-le}
 use Rattle.std.specs.Prelude.{codes}
 use Rattle.meaning.specs.declared.end.End.{End}
@@ -154,3 +154,13 @@ module _ (names : Names) (path : List ℕ) (child : Subaction) (body : Record) w
       (handler_block (subaction_view child).handlers (reason_of (end_of (record_view body)))) (record_view done)) body_lines-is
       ∙ ap (λ outcome. body_lines ++ steps_text names (handler_path names path (subaction_view child).handlers (reason_of outcome)) 1
       (handler_block (subaction_view child).handlers (reason_of outcome)) (record_view done)) (end_of-record_view body)
+
+  -- where nothing takes the abort
+  pub child_text-untaken : (handler : Option Record) (done : Record) → handler ≡ Some done
+      → handler_block (subaction_view child).handlers (reason_of body.outcome) ≡ NoStep
+      → child_text names path (subaction_view child).body (subaction_view child).handlers (tried_view (body, handler)) ≡ body_lines
+  child_text-untaken handler done is none =
+      let at : List ℕ = handler_path names path (subaction_view child).handlers (reason_of body.outcome) in
+      child_text-handler handler done is
+      ∙ ap (λ block. body_lines ++ steps_text names at 1 block (record_view done)) none
+      ∙ ap (λ rest. body_lines ++ rest) (no_text names at 1 (record_view done)) ∙ append-nil body_lines

@@ -6,9 +6,11 @@ mod answer;
 mod calls;
 mod lines;
 mod names;
+mod paths;
 mod values;
 
 pub use answer::{render, render_audit, render_check, render_plain};
 pub use batch::{Batch, NoMemory, Outcome, Plain};
 pub use calls::{write_call, write_reply};
 pub use names::{item_name, object_name, reason_name};
+pub use paths::{branch_path, handler_place, part_path, reason_of};

@@ -1,12 +1,13 @@
 //! The lines of a record.
 ghost use Rattle.std.specs.Prelude.{◌≡◌, ◌++◌, IfOk, OnOk, codes, option_copied, string_bytes};
-ghost use Rattle.meaning.specs.Texts.{line, reason_text, outcome_text, choice_text, operation_line, steps_text, step_text, child_text, children_text, handler_path, handler_block, part, reason_of};
+ghost use Rattle.meaning.specs.Texts.{line, reason_text, outcome_text, choice_text, operation_line, steps_text, step_text, child_text, children_text};
 ghost use Rattle.batch.specs.Names.{names_of};
 ghost use Rattle.batch.specs.Views.{block_view, record_view, step_view, taken_view, subaction_view, tried_view, children_view, all_tried_view};
 
 use crate::calls::{write_call, write_reply};
 use crate::names::{object_name, reason_name};
-use batch::{Block, Names, Otherwise, Record, Step, Subaction, Taken, handler_for};
+use crate::paths::{branch_path, handler_place, part_path, reason_of};
+use batch::{Block, Names, Record, Step, Subaction, Taken};
 use meaning::End;
 use objects::{Call, NoMemory, Reply};
 use std::alloc::Global;
@@ -58,13 +59,9 @@ fn write_step(
             Taken::If(holds, record),
         ) => {
             write_choice(out, path, *holds)?;
-            if *holds {
-                let branch_path = format!(in alloc; "{path}.t")?;
-                write_block(alloc, out, names, branch_path.as_str(), then, record)
-            } else {
-                let branch_path = format!(in alloc; "{path}.e")?;
-                write_block(alloc, out, names, branch_path.as_str(), otherwise, record)
-            }
+            let branch = if *holds { then } else { otherwise };
+            let branch_path = branch_path(alloc, path, *holds)?;
+            write_block(alloc, out, names, branch_path.as_str(), branch, record)
         }
         (Step::Sub(child), Taken::Sub(body, handler)) => {
             write_child(alloc, out, names, path, child, body, handler.as_deref())
@@ -93,50 +90,14 @@ fn write_child(
     write_outcome(out, names, path, body.outcome)?;
     let body_path = format!(in alloc; "{path}.b")?;
     write_block(alloc, out, names, body_path.as_str(), &child.body, body)?;
-    match handler {
-        Some(done) => write_handler(
-            alloc,
-            out,
-            names,
-            path,
-            child,
-            reason_of(body.outcome),
-            done,
-        ),
-        None => Ok(()),
-    }
-}
-
-// Writes the lines of the handler that takes an abort for this reason.
-#[cycle(lines)]
-fn write_handler(
-    alloc: Global,
-    out: &mut String,
-    names: &Names,
-    path: &str,
-    child: &Subaction,
-    reason: Option<u32>,
-    done: &Record,
-) -> Result<(), NoMemory>
-    ensures { OnOk result (let handlers = (subaction_view child.now).handlers in
-        string_bytes out.new ≡ string_bytes out.old ++ steps_text (names_of names.now) (handler_path (names_of names.now) path.now handlers reason) 1 (handler_block handlers reason) (record_view done.now)) }
-{
-    match handler_for(child, reason) {
-        Some(handler) => {
-            let name = reason_name(names, handler.reason);
-            let handler_path = format!(in alloc; "{path}.h:{name}")?;
-            let block = &handler.block;
-            write_block(alloc, out, names, handler_path.as_str(), block, done)
-        }
-        None => match &child.otherwise {
-            Otherwise::Run(block) => {
-                let handler_path = format!(in alloc; "{path}.h")?;
-                write_block(alloc, out, names, handler_path.as_str(), block, done)
-            }
-            Otherwise::GoOn => Ok(()),
-            Otherwise::Pass => Ok(()),
-        },
-    }
+    let Some(done) = handler else {
+        return Ok(());
+    };
+    let reason = reason_of(body.outcome);
+    let Some((handler_path, block)) = handler_place(alloc, names, path, child, reason)? else {
+        return Ok(());
+    };
+    write_block(alloc, out, names, handler_path.as_str(), block, done)
 }
 
 #[cycle(lines)]
@@ -168,13 +129,6 @@ fn write_children(
         )?;
     }
     Ok(())
-}
-
-// The path of the part of this number.
-fn part_path(alloc: Global, path: &str, number: usize) -> Result<String, NoMemory>
-    ensures { IfOk result (λ t. string_bytes t ≡ part path.now number) }
-{
-    Ok(format!(in alloc; "{path}.{number}")?)
 }
 
 fn write_operation(
@@ -245,13 +199,4 @@ pub(crate) fn write_end(out: &mut String, names: &Names, outcome: End) -> Result
         }
     }
     Ok(())
-}
-
-fn reason_of(outcome: End) -> Option<u32>
-    ensures { result ≡ reason_of outcome }
-{
-    match outcome {
-        End::Ended => None,
-        End::Aborted(reason) => reason,
-    }
 }

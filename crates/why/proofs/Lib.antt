@@ -1,5 +1,4 @@
 pub mod Placing
-pub mod HandlerPlaces
 pub mod Linked
 pub mod Searching
 pub mod Room

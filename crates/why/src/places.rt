@@ -1,20 +1,15 @@
 //! The operations of a run, each with the path of its step.
-ghost use Rattle.std.specs.Prelude.{◌≡◌, [], ◌∷◌, ◌++◌, ◌<◌, ◌&&◌, IfNone, IfOk, IfSome, OnOk, map, option_copied, string_bytes};
+ghost use Rattle.std.specs.Prelude.{◌≡◌, [], ◌∷◌, ◌++◌, ◌&&◌, IfOk, OnOk, map, option_copied, string_bytes};
 ghost use Rattle.std.specs.Fmt.{decimal};
-ghost use Rattle.std.specs.Option.{ForSome};
-ghost use Rattle.meaning.specs.Texts.{branch_path, handler_block, part, reason_of};
-ghost use Rattle.meaning.specs.Trees.{NoStep};
 ghost use Rattle.batch.specs.Names.{names_of};
-ghost use Rattle.batch.specs.declared.tree.Block.{size-Block};
-ghost use Rattle.batch.specs.declared.tree.Subaction.{size-Subaction};
 ghost use Rattle.batch.specs.Views.{block_view, record_view, step_view, taken_view, subaction_view, tried_view, children_view, all_tried_view};
 ghost use Rattle.why.specs.Why.{has_ended, placed, placed_step, placed_child, placed_children};
-ghost use Rattle.why.specs.Places.{handler_place, places_view};
+ghost use Rattle.why.specs.Places.{places_view};
 
-use batch::{Block, Names, NoMemory, Otherwise, Record, Step, Subaction, Taken, handler_for};
+use batch::{Block, Names, NoMemory, Record, Step, Subaction, Taken};
 use meaning::End;
 use objects::{Call, Entry, Reply};
-use report::reason_name;
+use report::{branch_path, handler_place, part_path, reason_of};
 use std::alloc::Global;
 
 /// An operation of a run with the path of its step, and whether the run leaves it.
@@ -217,50 +212,6 @@ fn place_operation(
     Ok(())
 }
 
-// The path and the block of what takes an abort for this reason, where a handler does.
-fn handler_place<'b>(
-    alloc: Global,
-    names: &Names,
-    path: &str,
-    child: &'b Subaction,
-    reason: Option<u32>,
-) -> Result<Option<(String, &'b Block)>, NoMemory>
-    ensures place { IfOk result (λ found. IfSome found (λ p.
-        (string_bytes p.0, block_view p.1.now) ≡ handler_place (names_of names.now) path.now reason (subaction_view child.now).handlers)) }
-    ensures none { IfOk result (λ found. IfNone found (handler_block (subaction_view child.now).handlers reason ≡ NoStep)) }
-    ensures inside { IfOk result (λ found. ForSome found (λ p. size-Block p.1.now < size-Subaction child.now)) }
-{
-    match handler_for(child, reason) {
-        Some(handler) => {
-            let name = reason_name(names, handler.reason);
-            Ok(Some((format!(in alloc; "{path}.h:{name}")?, &handler.block)))
-        }
-        None => match &child.otherwise {
-            Otherwise::Run(block) => Ok(Some((format!(in alloc; "{path}.h")?, block))),
-            Otherwise::GoOn => Ok(None),
-            Otherwise::Pass => Ok(None),
-        },
-    }
-}
-
-// The path of the branch that was taken.
-fn branch_path(alloc: Global, path: &str, holds: bool) -> Result<String, NoMemory>
-    ensures { IfOk result (λ t. string_bytes t ≡ branch_path path.now holds) }
-{
-    if holds {
-        Ok(format!(in alloc; "{path}.t")?)
-    } else {
-        Ok(format!(in alloc; "{path}.e")?)
-    }
-}
-
-// The path of the part of this number.
-fn part_path(alloc: Global, path: &str, number: usize) -> Result<String, NoMemory>
-    ensures { IfOk result (λ t. string_bytes t ≡ part path.now number) }
-{
-    Ok(format!(in alloc; "{path}.{number}")?)
-}
-
 // Whether what a body did is left.
 fn is_left(left: bool, outcome: End) -> bool
     ensures { result ≡ (left && has_ended outcome) }
@@ -274,14 +225,5 @@ fn has_ended(outcome: End) -> bool
     match outcome {
         End::Ended => true,
         End::Aborted(_) => false,
-    }
-}
-
-fn reason_of(outcome: End) -> Option<u32>
-    ensures { result ≡ reason_of outcome }
-{
-    match outcome {
-        End::Ended => None,
-        End::Aborted(reason) => reason,
     }
 }

@@ -1,14 +1,12 @@
-use Rattle.std.proofs.Common.{◌≡◌, ◌<◌, ◌≤◌, ◌+◌, ◌++◌, length, refl, sym, ap, ◌∙◌, arith, append-nil, append_assoc, string_bytes, Some}
-use Rattle.std.proofs.Common.{None}
+use Rattle.std.proofs.Common.{◌≡◌, ◌<◌, ◌≤◌, ◌+◌, ◌++◌, length, refl, sym, ap, ◌∙◌, arith, append-nil, append_assoc, string_bytes}
 use Rattle.std.specs.Prelude.{codes, option_copied}
-use Rattle.meaning.specs.Texts.{part, reason_of}
+use Rattle.meaning.specs.Texts.{handler_block, handler_path, part, reason_of, steps_text}
 use Rattle.batch.specs.Names.{names_of}
-use Rattle.batch.specs.Views.{record_view, subaction_view}
+use Rattle.batch.specs.Views.{block_view, record_view, subaction_view}
 use Rattle.batch.proofs.ViewLemmas.{block_view-is, record_view-is, step_view-Parallel, taken_view-Parallel}
 use Rattle.report.proofs.TextLemmas.{rest_text-start, rest_text-more, rest_text-no_step, rest_text-end, rest_children_text-start}
 use Rattle.report.proofs.TextLemmas.{rest_children_text-more, rest_children_text-no_child, rest_children_text-end, after_text, after_two}
-use Rattle.report.proofs.TextLemmas.{body_lines, child_text-body, child_text-handler}
-use Rattle.report.proofs.HandlerLemmas.{handled_text, handled_text-is, otherwise_text-Run, otherwise_text-GoOn, otherwise_text-Pass}
+use Rattle.report.proofs.TextLemmas.{body_lines, child_text-body, child_text-handler, child_text-untaken}
 use Rattle.report.proofs.lines.+lines.Goals as goal
 
 -- ---- steps one after the other
@@ -65,67 +63,41 @@ write_step-returns-in-Parallel-Parallel t c =
 
 -- ---- a subaction
 
-pub write_child-returns : goal.write_child-returns
-write_child-returns t c =
+pub write_child-returns-in_default : goal.write_child-returns-in_default
+write_child-returns-in_default t c =
     let path : c.as_str.result.now ≡ c.args.path.now ++ codes ".b" = c.as_str.ensures.value ∙ c.in_ok-body_path.ensures.ok in
     after_two _ _ _ _ _ c.in_ok-write_outcome.ensures (rw path at c.in_ok-write_block.ensures)
     ∙ ap (λ text. string_bytes c.args.out.now ++ text)
     (sym (child_text-body _ c.args.path.now c.args.child.now c.args.body.now (option_copied c.args.handler)
-    (ap option_copied c.in-None.is)))
+    (ap option_copied c.in_default.is)))
 
-pub write_child-returns-in-Some : goal.write_child-returns-in-Some
-write_child-returns-in-Some t c =
+pub write_child-returns-in_default-2 : goal.write_child-returns-in_default-2
+write_child-returns-in_default-2 t c =
     let path : c.as_str.result.now ≡ c.args.path.now ++ codes ".b" = c.as_str.ensures.value ∙ c.in_ok-body_path.ensures.ok in
+    after_two _ _ _ _ _ c.in_ok-write_outcome.ensures (rw path at c.in_ok-write_block.ensures)
+    ∙ ap (λ text. string_bytes c.args.out.now ++ text)
+    (sym (child_text-untaken _ c.args.path.now c.args.child.now c.args.body.now (option_copied c.args.handler) c.in-Some.done.now
+    (ap option_copied c.in-Some.is) (rw (c.in_default-2.is, c.reason_of-reason.ensures) at c.in_ok-handler_path.ensures.none)))
+
+pub write_child-returns : goal.write_child-returns
+write_child-returns t c =
     let names = names_of c.args.names.now in
-    let lines = body_lines names c.args.path.now c.args.child.now c.args.body.now in
+    let here = c.args.path.now in
+    let done = record_view c.in-Some.done.now in
+    let handlers = (subaction_view c.args.child.now).handlers in
+    let path : c.as_str.result.now ≡ here ++ codes ".b" = c.as_str.ensures.value ∙ c.in_ok-body_path.ensures.ok in
+    let lines = body_lines names here c.args.child.now c.args.body.now in
     let wrote : string_bytes c.write_block.new.out ≡ string_bytes c.args.out.now ++ lines =
     after_two _ _ _ _ _ c.in_ok-write_outcome.ensures (rw path at c.in_ok-write_block.ensures) in
-    let handled = handled_text names c.args.path.now (reason_of c.args.body.now.outcome) (record_view c.in-Some.done.now)
-    (subaction_view c.args.child.now).handlers in
+    let place = rw (c.in-Some-2.is, c.reason_of-reason.ensures) at c.in_ok-handler_path.ensures.place in
+    let handled = steps_text names (handler_path names here handlers (reason_of c.args.body.now.outcome)) 1
+    (handler_block handlers (reason_of c.args.body.now.outcome)) done in
+    let handled_is : steps_text names c.as_str-2.result.now 1 (block_view c.in-Some-2.block.now) done ≡ handled =
+    ap (λ text. steps_text names text 1 (block_view c.in-Some-2.block.now) done) c.as_str-2.ensures.value
+    ∙ ap (λ p. steps_text names p.0 1 p.1 done) place in
     rw (
-      child_text-handler names c.args.path.now c.args.child.now c.args.body.now (option_copied c.args.handler) c.in-Some.done.now
+      child_text-handler names here c.args.child.now c.args.body.now (option_copied c.args.handler) c.in-Some.done.now
           (ap option_copied c.in-Some.is),
       sym (append_assoc (string_bytes c.args.out.now) lines handled),
     )
-    (rw (wrote, c.reason_of.ensures) at c.write_handler.ensures)
-
--- ---- what takes an abort
-
-pub write_handler-returns-in_ok-handler_path-in-Some : goal.write_handler-returns-in_ok-handler_path-in-Some
-write_handler-returns-in_ok-handler_path-in-Some t c =
-    let names = names_of c.args.names.now in
-    let here = c.args.path.now in
-    let handler = c.in-Some.handler.now in
-    let name = c.reason_name-name.ensures in
-    let path : c.as_str.result.now ≡ here ++ codes ".h:" ++ names.reason handler.reason =
-    c.as_str.ensures.value ∙ c.in_ok-handler_path-in-Some.ensures.ok ∙ ap (λ text. here ++ (codes ".h:" ++ text)) name
-    ∙ sym (append_assoc here (codes ".h:") (names.reason handler.reason)) in
-    let done = record_view c.args.done.now in
-    let text = handled_text-is names here c.args.reason done c.args.child.now (Some handler) c.in-Some.ensures.first in
-    rw text (rw path at c.write_block.ensures)
-
-pub write_handler-returns-in_ok-handler_path-in-Run : goal.write_handler-returns-in_ok-handler_path-in-Run
-write_handler-returns-in_ok-handler_path-in-Run t c =
-    let names = names_of c.args.names.now in
-    let here = c.args.path.now in
-    let done = record_view c.args.done.now in
-    let path : c.as_str-in-Run.result.now ≡ here ++ codes ".h" = c.as_str-in-Run.ensures.value ∙ c.in_ok-handler_path-in-Run.ensures.ok in
-    let text = handled_text-is names here c.args.reason done c.args.child.now None c.in-None.ensures.first in
-    let last = otherwise_text-Run names here c.args.reason done c.args.child.now c.in-Run.block c.in-Run.is in
-    rw (text ∙ last) (rw path at c.write_block-in-Run.ensures)
-
-pub write_handler-returns-in-GoOn : goal.write_handler-returns-in-GoOn
-write_handler-returns-in-GoOn t c =
-    let names = names_of c.args.names.now in
-    let done = record_view c.args.done.now in
-    let text = handled_text-is names c.args.path.now c.args.reason done c.args.child.now None c.in-None.ensures.first in
-    let last = otherwise_text-GoOn names c.args.path.now c.args.reason done c.args.child.now c.in-GoOn.is in
-    rw (text ∙ last) (sym (append-nil _))
-
-pub write_handler-returns-in-Pass : goal.write_handler-returns-in-Pass
-write_handler-returns-in-Pass t c =
-    let names = names_of c.args.names.now in
-    let done = record_view c.args.done.now in
-    let text = handled_text-is names c.args.path.now c.args.reason done c.args.child.now None c.in-None.ensures.first in
-    let last = otherwise_text-Pass names c.args.path.now c.args.reason done c.args.child.now c.in-Pass.is in
-    rw (text ∙ last) (sym (append-nil _))
+    (rw (wrote, handled_is) at c.write_block-2.ensures)

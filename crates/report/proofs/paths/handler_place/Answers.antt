@@ -2,8 +2,8 @@ use Rattle.std.proofs.Common.{◌≡◌, ◌++◌, sym, ap, ◌∙◌, append_as
 use Rattle.std.specs.Prelude.{codes, string_bytes}
 use Rattle.batch.specs.Names.{names_of}
 use Rattle.batch.specs.Views.{block_view}
-use Rattle.why.proofs.HandlerPlaces.{handler_place-is, otherwise_place-Run, otherwise_block-GoOn, otherwise_block-Pass}
-use Rattle.why.proofs.places.handler_place.Goals as goal
+use Rattle.report.proofs.HandlerPlaces.{handler_place-is, otherwise_place-Run, otherwise_block-GoOn, otherwise_block-Pass}
+use Rattle.report.proofs.paths.handler_place.Goals as goal
 
 pub returns-in_ok-format-in-Some-clause-place : goal.returns-in_ok-format-in-Some-clause-place
 returns-in_ok-format-in-Some-clause-place c =

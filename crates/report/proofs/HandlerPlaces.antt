@@ -13,7 +13,7 @@ use Rattle.batch.specs.declared.tree.Handler.{Handler}
 use Rattle.batch.specs.declared.tree.Otherwise.{Run, GoOn, Pass}
 use Rattle.batch.specs.declared.tree.Subaction.{Subaction, out-Subaction}
 use Rattle.batch.proofs.ViewLemmas.{handler_view-is, otherwise_view-Run, otherwise_view-GoOn, otherwise_view-Pass, subaction_view-handlers}
-use Rattle.why.specs.Places.{handler_place}
+use Rattle.report.specs.Paths.{handler_place}
 
 module _ (names : Names) (path : List ℕ) (reason : Option ℕ) where
   abbrev found_place : Option Handler → Handlers → List ℕ × meant.Block
