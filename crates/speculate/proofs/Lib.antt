@@ -1,4 +1,6 @@
 pub mod Absorbed
+pub mod Bodies
+pub mod Choices
 pub mod Measures
 pub mod InView
 pub mod Room

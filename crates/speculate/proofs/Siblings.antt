@@ -1,13 +1,14 @@
 -- Runs of children that were made ahead, and what keeping them shows.
 use Rattle.std.proofs.Common.{◌≡◌, ℕ, zero, suc, ◌+◌, ◌-◌, ◌<◌, ◌≤◌, List, [], ◌∷◌, ◌++◌, length, get_or, take, drop, refl, sym, ap, subst}
 use Rattle.std.proofs.Common.{◌∙◌, arith, add-one, drop-cons, drop-drop, take-add, length-append, Option, Some, None, Bool, true, ◌↔◌}
-use Rattle.std.proofs.Common.{Global}
+use Rattle.std.proofs.Common.{Global, Vec, Result, Ok, Err}
 use Rattle.std.proofs.lemmas.List.{append-nil}
 use Rattle.std.proofs.Math.Seq.{drop-append_seam, take-length}
 use Rattle.std.specs.Vec.Iter.{into_iter_items, into_iter_len, into_iter_steps}
 use Rattle.std.specs.Bool.{IsTrue}
 use Rattle.std.specs.Int.{div_ceil}
 use Rattle.std.specs.Option.{ForSome}
+use Rattle.std.specs.Result.{IfOk, IsOkAnd}
 use Rattle.std.specs.List.{slice_range}
 use Rattle.std.specs.declared.vec.IntoIter.{IntoIter}
 use Rattle.objects.specs.declared.entry.Entry.{Entry}
@@ -33,8 +34,8 @@ use Rattle.committed.proofs.SummaryLemmas.{stands-summary}
 use Rattle.committed.proofs.StandsLemmas.{length-range}
 use Rattle.batch.specs.Shows.{ShowsTried}
 use Rattle.speculate.specs.Running.{in_view}
-use Rattle.speculate.specs.Ahead.{CanAllTry, Leads, IsRunAhead, AreRunAhead, IsRunBefore}
-use Rattle.speculate.specs.declared.executor.Ahead.{Ahead}
+use Rattle.speculate.specs.Ahead.{CanAllTry, Leads, IsRunAhead, AreRunAhead, IsRunBefore, IsKept}
+use Rattle.speculate.specs.declared.ahead.Ahead.{Ahead}
 use Rattle.batch.specs.declared.tried.Tried as executed
 use Rattle.speculate.proofs.Absorbed.{shown-absorbed}
 use Rattle.batch.proofs.PartTried.{acted_leads}
@@ -117,7 +118,7 @@ module _ (child : Tried) (held : List Held) (since : List Entry) (state : State)
   net_here = ap (λ (v : View). v.net) before.ahead.0.took ∙ ap kept_of_child (sym same_here.taken)
 
   -- and that is what is added to the list of what siblings left
-  pub net_listed : (net later : List Entry) → net ≡ run.net.items → later ≡ since ++ net
+  net_listed : (net later : List Entry) → net ≡ run.net.items → later ≡ since ++ net
       → later ≡ since ++ kept_of_child (record_of (acted child held state))
   net_listed net later is more = more ∙ ap (λ es. since ++ es) (is ∙ net_here)
 
@@ -131,7 +132,7 @@ module _ (child : Tried) (held : List Held) (since : List Entry) (state : State)
   net_has_room can = subst (AllHaveRoom state) (sym net_here) (child_has_room child held state can (acted_leads child held state).0)
 
   -- and its run can be taken in
-  pub taken_in : (view next : View) (entries net : List Entry) → entries ≡ run.entries.items → net ≡ run.net.items
+  taken_in : (view next : View) (entries net : List Entry) → entries ≡ run.entries.items → net ≡ run.net.items
       → next ≡ absorbed view entries net → ShowsTried in_view child (acted child held state) run.tried view next
   taken_in view next entries net entries_are net_is is =
       let shows = before.ahead.0 in
@@ -142,6 +143,21 @@ module _ (child : Tried) (held : List Held) (since : List Entry) (state : State)
         took = is ∙ ap (λ es. absorbed view es net) (entries_are ∙ entries_here)
             ∙ ap (absorbed view (entries_of_child (record_of (acted child held state)))) (net_is ∙ net_here);
       }
+
+-- a run that was taken in shows what the child does here
+pub kept_shows : (child : Tried) (held : List Held) (since later : List Entry) (run : Ahead) (view next : View) (done : executed.Tried)
+    → IsRunBefore child held since (state_of_view view) run → IsKept run since view done later next
+    → ShowsTried in_view child (acted child held (state_of_view view)) done view next
+kept_shows child held since later run view next done before kept =
+    subst (λ t. ShowsTried in_view child (acted child held (state_of_view view)) t view next) (sym kept.tried)
+    (taken_in child held since (state_of_view view) run before kept.commute view next run.entries.items run.net.items refl refl kept.took)
+
+-- and is listed as what the child leaves here
+pub kept_listed : (child : Tried) (held : List Held) (since later : List Entry) (run : Ahead) (view next : View) (done : executed.Tried)
+    → IsRunBefore child held since (state_of_view view) run → IsKept run since view done later next
+    → later ≡ since ++ kept_of_child (record_of (acted child held (state_of_view view)))
+kept_listed child held since later run view next done before kept =
+    net_listed child held since (state_of_view view) run before kept.commute run.net.items later refl kept.listed
 
 -- ---- children from place to place
 
@@ -182,7 +198,7 @@ range-one xs i x lt is =
     ap (λ n. take n (drop i xs)) one ∙ ap (take 1) (drop-cons xs i x lt) ∙ ap (λ y. y ∷ []) (sym is)
 
 -- two halves
-pub halves : (children : List Subaction) (from middle upto : ℕ) (held : List Held) (state : State) (runs others : List Ahead)
+halves : (children : List Subaction) (from middle upto : ℕ) (held : List Held) (state : State) (runs others : List Ahead)
     → from ≤ middle → middle ≤ upto → upto ≤ length children
     → length runs ≡ middle - from → AreRunAhead (slice_range children from middle) held state runs
     → AreRunAhead (slice_range children middle upto) held state others → AreRunAhead (slice_range children from upto) held state
@@ -192,9 +208,29 @@ halves children from middle upto held state runs others first second within all 
     (runs-append (slice_range children from middle) (slice_range children middle upto) held state runs others
     (all ∙ sym (length-range children from middle (omega arith))) front back)
 
-pub both_long : (runs others : List Ahead) (from middle upto : ℕ) → from ≤ middle → middle ≤ upto → length runs ≡ middle - from
+both_long : (runs others : List Ahead) (from middle upto : ℕ) → from ≤ middle → middle ≤ upto → length runs ≡ middle - from
     → length others ≡ upto - middle → length (runs ++ others) ≡ upto - from
 both_long runs others from middle upto first second front back = omega (arith, length-append runs others)
+
+-- these runs are those of the children from one place to another
+abbrev AreOfPart : List Subaction → ℕ → ℕ → List Held → State → List Ahead → Type 0
+AreOfPart children from upto held state runs =
+    (length runs ≡ upto - from) × AreRunAhead (slice_range children from upto) held state runs
+
+-- two halves that were joined
+pub joined_halves : {E : Type 0} (children : List Subaction) (from middle upto : ℕ) (held : List Held) (state : State)
+    (front back : Result (Vec Ahead Global) E) (runs : List Ahead) → from ≤ middle → middle ≤ upto → upto ≤ length children
+    → IfOk front (λ first. AreOfPart children from middle held state first.items)
+    → IfOk back (λ second. AreOfPart children middle upto held state second.items)
+    → IsOkAnd front (λ first. IsOkAnd back (λ second. runs ≡ first.items ++ second.items))
+    → AreOfPart children from upto held state runs
+joined_halves children from middle upto held state (Ok first) (Ok second) runs lower upper within here there is =
+    subst (AreOfPart children from upto held state) (sym is) (
+      both_long first.items second.items from middle upto lower upper here.0 there.0,
+      halves children from middle upto held state first.items second.items lower upper within here.0 here.1 there.1,
+    )
+joined_halves children from middle upto held state (Ok first) (Err e) runs lower upper within here there is = absurd is
+joined_halves children from middle upto held state (Err e) back runs lower upper within here there is = absurd is
 
 -- the middle lies between
 pub to_middle : (from upto half : ℕ) → from ≤ upto → half ≡ div_ceil (upto - from) 2 → (from ≤ from + half) × (from + half ≤ upto)
@@ -244,17 +280,21 @@ left-others child children held since view next tried run runs left shows =
       ahead = left.ahead.1;
     }
 
--- what a child adds to the net of its parent's level, listed
-pub added_listed : (child : Tried) (held : List Held) (view next : View) (tried : executed.Tried) (since later was now : List Entry)
-    → ShowsTried in_view child (acted child held (state_of_view view)) tried view next
-    → was ≡ view.net → now ≡ next.net → later ≡ since ++ slice_range now (length was) (length now)
-    → later ≡ since ++ kept_of_child (record_of (acted child held (state_of_view view)))
-added_listed child held view next tried since later was now shows was_is now_is listed =
-    let net = kept_of_child (record_of (acted child held (state_of_view view))) in
-    let more : now ≡ was ++ net = now_is ∙ ap (λ (v : View). v.net) shows.took ∙ ap (λ es. es ++ net) (sym was_is) in
-    let count : length now - length was ≡ length net = omega (arith, ap length more, length-append was net) in
-    listed ∙ ap (λ n. since ++ take n (drop (length was) now)) count ∙ ap (λ es. since ++ take (length net) (drop (length was) es)) more
-    ∙ ap (λ es. since ++ take (length net) es) (drop-append_seam was net) ∙ ap (λ es. since ++ es) (take-length net)
+-- what a child adds to the net of its parent's level
+module _ (child : Tried) (held : List Held) (view next : View) (tried : executed.Tried) (was : List Entry)
+    (shows : ShowsTried in_view child (acted child held (state_of_view view)) tried view next) (was_is : was ≡ view.net) where
+  net_after : next.net ≡ was ++ kept_of_child (record_of (acted child held (state_of_view view)))
+  net_after = ap (λ (v : View). v.net) shows.took
+      ∙ ap (λ es. es ++ kept_of_child (record_of (acted child held (state_of_view view)))) (sym was_is)
+
+  pub net_grows : length was ≤ length next.net
+  net_grows = omega (arith, ap length net_after, length-append was (kept_of_child (record_of (acted child held (state_of_view view)))))
+
+  pub added_listed : (since later : List Entry) → later ≡ since ++ drop (length was) next.net
+      → later ≡ since ++ kept_of_child (record_of (acted child held (state_of_view view)))
+  added_listed since later listed =
+      listed ∙ ap (λ es. since ++ drop (length was) es) net_after
+      ∙ ap (λ es. since ++ es) (drop-append_seam was (kept_of_child (record_of (acted child held (state_of_view view)))))
 
 next_of : (children : List Subaction) (place : ℕ) (x : Subaction) → place < length children → x ≡ get_or children place x
     → drop place children ≡ x ∷ drop (place + 1) children

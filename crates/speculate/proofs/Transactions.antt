@@ -1,8 +1,7 @@
 -- The transactions of a batch, each of which can be run where all others were.
-use Rattle.std.proofs.Common.{◌≡◌, ℕ, zero, suc, ◌-◌, ◌<◌, ◌≤◌, List, [], ◌∷◌, map, length, get_or, sym, subst, arith}
+use Rattle.std.proofs.Common.{◌≡◌, ℕ, zero, ◌-◌, ◌<◌, List, [], map, length, get_or, sym, subst, arith}
 use Rattle.std.proofs.lemmas.List.{length-map}
 use Rattle.objects.specs.Entries.{State, kinds}
-use Rattle.meaning.specs.Trees.{Block}
 use Rattle.meaning.specs.Batch.{block_at}
 use Rattle.meaning.specs.WellFormed.{IsWellFormed, operations}
 use Rattle.meaning.specs.Running.{all_operations}

@@ -1,16 +1,17 @@
 -- Runs of parallel children that were made ahead, on the state at their step's entry.
-use Rattle.std.specs.Prelude.{◌≡◌, List, [], ◌∷◌, ⊤}
+use Rattle.std.specs.Prelude.{◌≡◌, List, [], ◌∷◌, ◌++◌, ⊤}
 use Rattle.std.specs.List.{All}
 use Rattle.objects.specs.declared.entry.Entry.{Entry}
 use Rattle.meaning.specs.declared.held.Held.{Held}
-use Rattle.objects.specs.Entries.{State, AreLegal, after}
+use Rattle.objects.specs.Entries.{State, AreLegal, AllCommute, after}
 use Rattle.batch.specs.Views.{Tried, subaction_view}
 use Rattle.batch.specs.Running.{CanTryHere, acted}
 use Rattle.batch.specs.declared.tree.Subaction.{Subaction}
 use Rattle.committed.specs.Summaries.{entries_of, IsSummary}
-use Rattle.intentions.specs.Levels.{opened, absorbed}
-use Rattle.speculate.specs.declared.executor.Ahead.{Ahead}
+use Rattle.intentions.specs.Levels.{Intentions, opened, absorbed}
+use Rattle.speculate.specs.declared.ahead.Ahead.{Ahead}
 use Rattle.batch.specs.Shows.{ShowsTried}
+use Rattle.batch.specs.declared.tried.Tried as executed
 use Rattle.speculate.specs.Running.{in_view}
 
 -- each of the children can be tried here
@@ -39,3 +40,11 @@ pub record IsRunBefore (child : Tried) (held : List Held) (since : List Entry) (
   pub from : State
   pub leads : Leads from since state
   pub ahead : IsRunAhead child held from run
+
+-- the run was taken in, as each of its entries commutes forward with all that earlier siblings left
+pub record IsKept (run : Ahead) (since : List Entry) (before : Intentions) (done : executed.Tried) (later : List Entry)
+    (now : Intentions) : Type 0 where
+  pub commute : AllCommute run.entries.items since
+  pub tried : done ≡ run.tried
+  pub took : now ≡ absorbed before run.entries.items run.net.items
+  pub listed : later ≡ since ++ run.net.items

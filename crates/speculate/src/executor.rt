@@ -1,24 +1,24 @@
 //! Running a block depth first in a view of the objects. Where there is width for it, children of a
 //! parallel step are run ahead, at once, and are then kept in order.
-ghost use Rattle.std.specs.Prelude.{◌≡◌, ◌++◌, ◌-◌, ◌≤◌, ◌<◌, [], IfOk, OnOk, length, slice_range};
+ghost use Rattle.std.specs.Prelude.{◌≡◌, ◌++◌, ◌-◌, ◌≤◌, IfOk, OnOk, length, slice_range};
 ghost use Rattle.std.specs.Option.{ForSome};
 ghost use Rattle.std.specs.Thread.{IsSync};
 ghost use Rattle.intentions.specs.Levels.{shown_values as state_of_view};
 ghost use Rattle.meaning.specs.Records.{kept_of_child};
-ghost use Rattle.meaning.specs.OneThread.{record_of, one, one_step, one_children, one_handler};
+ghost use Rattle.meaning.specs.OneThread.{record_of, one, one_step, one_children};
 ghost use Rattle.batch.specs.Views.{block_view, steps_view, step_view, subaction_view, children_view};
-ghost use Rattle.batch.specs.Running.{CanRunHere, CanStepHere, CanTryHere, CanRunAllHere, CanHandleHere, StillSeen, acted};
-ghost use Rattle.batch.specs.Shows.{ShowsRun, ShowsStep, ShowsTried, ShowsHandler, ShowsChildren};
+ghost use Rattle.batch.specs.Running.{CanRunHere, CanStepHere, CanTryHere, CanRunAllHere, StillSeen, acted};
+ghost use Rattle.batch.specs.Shows.{ShowsRun, ShowsStep, ShowsTried, ShowsChildren};
 ghost use Rattle.speculate.specs.Running.{in_view};
 ghost use Rattle.speculate.specs.Ahead.{CanAllTry, IsRunAhead, AreRunAhead, IsRunBefore};
 
+use crate::ahead::{Ahead, Fork, both_halves, list_since};
 use crate::gate::Gate;
-use crate::spare::{Spare, boxed, list_of, put_at, spare_at};
-use crate::worth::is_worth;
-use batch::{
-    Block, Record, Step, Subaction, Taken, Tried, add_label, handled, taker, test_holds, untaken,
-};
-use intentions::{Committed, Entry, Lists, MarkedEntry, NoMemory, Objects, View, summary_of};
+use crate::reached::Reached;
+use crate::spare::{Spare, boxed, list_of, put_at, record_of, spare_at, with_room};
+use crate::step::{branch_of, perform, undo};
+use batch::{Block, Record, Step, Subaction, Taken, Tried, handled, test_holds};
+use intentions::{Committed, NoMemory, View};
 use meaning::{End, Held};
 use std::alloc::Global;
 use std::thread::{Threads, join};
@@ -38,26 +38,6 @@ impl<T: Threads + Sync, G: Gate> Making<'_, T, G> {
         let child = u32::try_from(place).unwrap_or(u32::MAX);
         self.gate.pass(self.number, child.saturating_add(1));
     }
-}
-
-/// What those children of a parallel step share that are run ahead: the labels and the state that
-/// their parent sees at the step.
-#[derive(Drop)]
-struct Fork {
-    alloc: Global,
-    number: u32,
-    labels: Vec<Held>,
-    state: Objects,
-}
-
-/// The run of a child in a view of its own: all its entries, a summary of them, and its net (Weihl
-/// 1988: an intentions list).
-#[derive(Drop)]
-struct Ahead {
-    tried: Tried,
-    entries: Vec<Entry>,
-    summary: Vec<MarkedEntry>,
-    net: Vec<Entry>,
 }
 
 /// Runs a block. Its labels are forgotten at its end. The record uses the memory of the spare list.
@@ -81,6 +61,7 @@ pub(crate) fn run_block<T: Threads + Sync, G: Gate>(
     Ok(record)
 }
 
+// Runs steps one after the other, up to the first that aborts.
 #[cycle(run)]
 fn run_steps<T: Threads + Sync, G: Gate>(
     making: &Making<'_, T, G>,
@@ -95,30 +76,20 @@ fn run_steps<T: Threads + Sync, G: Gate>(
         (λ r. ShowsRun in_view (one (steps_view steps.now) labels.old.items (state_of_view view.old)) r view.old view.new) }
     ensures labels { OnOk result (StillSeen labels.old.items labels.new.items) }
 {
-    let mut taken = spare;
-    taken.reserve_exact(steps.len().saturating_sub(taken.len()))?;
+    let mut taken = with_room(spare, steps.len())?;
     for (place, step) in steps.iter().enumerate() {
         let mut spare = spare_at(&mut taken, place);
         let (done, end) = run_step(making, step, labels, view, width, &mut spare)?;
         put_at(&mut taken, place, done)?;
         match end {
             End::Ended => {}
-            End::Aborted(_) => {
-                taken.truncate(place + 1);
-                return Ok(Record {
-                    taken,
-                    outcome: end,
-                });
-            }
+            End::Aborted(_) => return Ok(record_of(taken, place + 1, end)),
         }
     }
-    taken.truncate(steps.len());
-    Ok(Record {
-        taken,
-        outcome: End::Ended,
-    })
+    Ok(record_of(taken, steps.len(), End::Ended))
 }
 
+// Runs a step, and returns how the block goes on. Its labels are added to those that are seen.
 #[cycle(run)]
 fn run_step<T: Threads + Sync, G: Gate>(
     making: &Making<'_, T, G>,
@@ -139,8 +110,7 @@ fn run_step<T: Threads + Sync, G: Gate>(
             call,
             labelled,
         } => {
-            let reply = view.perform(*object, call)?;
-            add_label(labels, *labelled, Held::Replied(reply))?;
+            let reply = perform(*object, call, *labelled, labels, view)?;
             Ok((Taken::Op(reply), End::Ended))
         }
         Step::If {
@@ -150,7 +120,7 @@ fn run_step<T: Threads + Sync, G: Gate>(
             otherwise,
         } => {
             let holds = test_holds(test, &labels[*label as usize]);
-            let branch = if holds { then } else { otherwise };
+            let branch = branch_of(holds, then, otherwise);
             let list = list_of(making.alloc, &mut spare.body);
             let record = run_block(making, branch, labels, view, width, list)?;
             let end = record.outcome;
@@ -161,16 +131,13 @@ fn run_step<T: Threads + Sync, G: Gate>(
         }
         Step::Sub(child) => {
             let tried = run_subaction(making, child, labels, view, width, spare)?;
-            add_label(labels, child.labelled, Held::Outcome(tried.body.outcome))?;
-            let end = tried.end;
-            Ok((spare.into_taken(making.alloc, tried)?, end))
+            let (done, end) = spare.into_step(making.alloc, labels, child.labelled, tried)?;
+            Ok((done, end))
         }
         Step::Abort(reason) => Ok((Taken::Abort, End::Aborted(*reason))),
         Step::Parallel(children) => {
-            let mut outcomes = Vec::new(making.alloc);
-            let (tried, end) = run_children(making, children, labels, &mut outcomes, view, width)?;
-            labels.append(&mut outcomes)?;
-            Ok((Taken::Parallel(tried), end))
+            let (reached, end) = run_children(making, children, labels, view, width)?;
+            Ok((reached.into_taken(labels)?, end))
         }
     }
 }
@@ -202,72 +169,50 @@ fn run_subaction<T: Threads + Sync, G: Gate>(
                 end: End::Ended,
             })
         }
-        End::Aborted(reason) => {
-            view.abort();
-            let list = list_of(making.alloc, &mut spare.handler);
-            let (handler, end) = run_handler(making, child, reason, labels, view, width, list)?;
-            Ok(Tried { body, handler, end })
-        }
+        End::Aborted(reason) => match undo(child, reason, view) {
+            Ok(block) => {
+                let list = list_of(making.alloc, &mut spare.handler);
+                let done = run_block(making, block, labels, view, width, list)?;
+                let (handler, end) = handled(done);
+                Ok(Tried { body, handler, end })
+            }
+            Err(end) => Ok(Tried {
+                body,
+                handler: None,
+                end,
+            }),
+        },
     }
 }
 
-// Runs the block that takes an abort for this reason, if one does, and returns how the block around
-// goes on.
-#[cycle(run)]
-fn run_handler<T: Threads + Sync, G: Gate>(
-    making: &Making<'_, T, G>,
-    child: &Subaction,
-    reason: Option<u32>,
-    labels: &mut Vec<Held>,
-    view: &mut View<'_>,
-    width: u32,
-    spare: Vec<Taken>,
-) -> Result<(Option<Record>, End), NoMemory>
-    requires { CanHandleHere (subaction_view child.now).handlers labels.old.items (state_of_view view.old) }
-    ensures shows { IfOk result
-        (λ r. ShowsHandler in_view (one_handler (subaction_view child.now).handlers labels.old.items reason (state_of_view view.old)) r.0 r.1 view.old view.new) }
-    ensures labels { OnOk result (labels.new.items ≡ labels.old.items) }
-{
-    match taker(child, reason) {
-        Some(block) => {
-            let record = run_block(making, block, labels, view, width, spare)?;
-            Ok(handled(record))
-        }
-        None => Ok((None, untaken(child, reason))),
-    }
-}
-
+// Runs the children of a parallel step in order, up to the first that aborts.
 #[cycle(run)]
 #[tactic(auto, using(batch::proofs::PartTried::can_try_rules))]
 fn run_children<T: Threads + Sync, G: Gate>(
     making: &Making<'_, T, G>,
     children: &[Subaction],
     labels: &mut Vec<Held>,
-    outcomes: &mut Vec<Held>,
     view: &mut View<'_>,
     width: u32,
-) -> Result<(Vec<(Record, Option<Record>)>, End), NoMemory>
-    requires can { CanRunAllHere (children_view children.now) labels.old.items (state_of_view view.old) }
-    requires none_yet { outcomes.old.items ≡ [] }
+) -> Result<(Reached, End), NoMemory>
+    requires { CanRunAllHere (children_view children.now) labels.old.items (state_of_view view.old) }
     ensures shows { IfOk result
-        (λ r. ShowsChildren in_view (one_children (children_view children.now) labels.old.items (state_of_view view.old)) r.0.items r.1 outcomes.new.items view.old view.new) }
+        (λ r. ShowsChildren in_view (one_children (children_view children.now) labels.old.items (state_of_view view.old)) r.0.all.items r.1 r.0.outcomes.items view.old view.new) }
     ensures labels { OnOk result (labels.new.items ≡ labels.old.items) }
 {
-    let mut all = Vec::with_capacity(making.alloc, children.len())?;
+    let mut reached = Reached::new(making.alloc, children.len())?;
     let mut ahead = run_if_wide(making, children, labels, view, width)?.into_iter();
     let mut kept = Committed::new(making.alloc);
     for (place, child) in children.iter().enumerate() {
         let run = ahead.next();
         let tried = run_child(making, child, place, run, &mut kept, labels, view, width)?;
-        add_label(outcomes, child.labelled, Held::Outcome(tried.body.outcome))?;
-        let end = tried.end;
-        all.push((tried.body, tried.handler))?;
+        let end = reached.add(child.labelled, tried)?;
         match end {
             End::Ended => {}
-            End::Aborted(_) => return Ok((all, end)),
+            End::Aborted(_) => return Ok((reached, end)),
         }
     }
-    Ok((all, End::Ended))
+    Ok((reached, End::Ended))
 }
 
 // Takes in a child's run that was made ahead, where each of its entries commutes forward with all
@@ -297,20 +242,17 @@ fn run_child<T: Threads + Sync, G: Gate>(
         making.pass(place);
         return run_subaction(making, child, labels, view, width, &mut Spare::none());
     };
-    if kept.stands(&run.summary, kept.len()) {
-        view.absorb(&run.entries, &run.net)?;
-        kept.append(&run.net)?;
-        return Ok(run.tried);
+    if let Some(tried) = run.keep(kept, view)? {
+        return Ok(tried);
     }
     let before = view.net().len();
     making.pass(place);
     let tried = run_subaction(making, child, labels, view, 1, &mut Spare::none())?;
-    kept.append(&view.net()[before..])?;
+    list_since(kept, view, before)?;
     Ok(tried)
 }
 
-// Runs children ahead, all on a copy of the state that their parent shows. It does so where there
-// are several, the width is for more than one, and they are worth the copies.
+// Runs children ahead, all on a copy of the state that their parent shows, where they are to be.
 #[cycle(run)]
 fn run_if_wide<T: Threads + Sync, G: Gate>(
     making: &Making<'_, T, G>,
@@ -322,14 +264,9 @@ fn run_if_wide<T: Threads + Sync, G: Gate>(
     requires { CanAllTry children.now labels.now (state_of_view view.now) }
     ensures { IfOk result (λ runs. AreRunAhead children.now labels.now (state_of_view view.now) runs.items) }
 {
-    if width < 2 || children.len() < 2 || !is_worth(children, labels.len(), view.snapshot()) {
+    let fork = Fork::if_wide(making.alloc, making.number, children, labels, view, width)?;
+    let Some(fork) = fork else {
         return Ok(Vec::new(making.alloc));
-    }
-    let fork = Fork {
-        alloc: making.alloc,
-        number: making.number,
-        labels: Vec::from_slice(making.alloc, labels)?,
-        state: view.state()?,
     };
     run_ahead(
         making.threads,
@@ -379,10 +316,7 @@ fn run_ahead<T: Threads + Sync, G: Gate>(
             ensures { IfOk result (λ runs. (length runs.items ≡ upto - middle) × AreRunAhead (slice_range children.entry.now middle upto) fork.entry.now.labels.items fork.entry.now.state runs.items) }
         { run_ahead(threads, gate, fork, children, middle, upto, back_width) },
     );
-    let mut runs = front?;
-    let mut others = back?;
-    runs.append(&mut others)?;
-    Ok(runs)
+    Ok(both_halves(front, back)?)
 }
 
 // The runs of the children from one place to before another, one after the other.
@@ -439,12 +373,5 @@ fn run_alone<T: Threads + Sync, G: Gate>(
         width,
         &mut Spare::none(),
     )?;
-    let Lists { entries, net } = view.into_run();
-    let summary = summary_of(making.alloc, &entries, Vec::new(making.alloc))?;
-    Ok(Ahead {
-        tried,
-        entries,
-        summary,
-        net,
-    })
+    Ok(Ahead::of(making.alloc, tried, view)?)
 }

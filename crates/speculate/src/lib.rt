@@ -2,11 +2,14 @@
 //! it performed.
 #![tactic(auto)]
 
+mod ahead;
 mod executor;
 mod gate;
 pub mod laws;
+mod reached;
 mod spare;
 mod speculated;
+mod step;
 mod transaction;
 mod worth;
 

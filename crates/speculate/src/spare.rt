@@ -1,10 +1,13 @@
 //! The memory of a record, for the record of the next run of the same block.
 ghost use Rattle.std.specs.Prelude.{◌≡◌, ◌≤◌, ◌+◌, ◌++◌, ◌∷◌, [], length, take, IfOk, OnOk};
+ghost use Rattle.meaning.specs.OneThread.{label_if};
 ghost use Rattle.meaning.specs.Shown.{Acted};
+ghost use Rattle.meaning.specs.declared.held.Held.TheVariants.{Outcome};
 ghost use Rattle.batch.specs.Views.{taken_view, tried_view};
 
-use batch::{Record, Taken, Tried};
+use batch::{Record, Taken, Tried, add_label};
 use intentions::NoMemory;
+use meaning::{End, Held};
 use std::alloc::Global;
 use std::mem::replace;
 
@@ -50,6 +53,24 @@ impl Spare {
             None => None,
         };
         Ok(Taken::Sub(body, handler))
+    }
+
+    /// A subaction as a step that was taken, in these boxes, and how the block around goes on. Its
+    /// label holds its outcome.
+    pub(crate) fn into_step(
+        &mut self,
+        alloc: Global,
+        labels: &mut Vec<Held>,
+        labelled: bool,
+        tried: Tried,
+    ) -> Result<(Taken, End), NoMemory>
+        ensures taken { IfOk result (λ step. taken_view step.0 ≡ Acted (tried_view (tried.body, tried.handler))) }
+        ensures end { IfOk result (λ step. step.1 ≡ tried.end) }
+        ensures labels { OnOk result (labels.new.items ≡ labels.old.items ++ label_if labelled (Outcome tried.body.outcome)) }
+    {
+        add_label(labels, labelled, Held::Outcome(tried.body.outcome))?;
+        let end = tried.end;
+        Ok((self.into_taken(alloc, tried)?, end))
     }
 }
 
@@ -103,4 +124,19 @@ pub(crate) fn put_at(taken: &mut Vec<Taken>, place: usize, done: Taken) -> Resul
         taken.push(done)?;
     }
     Ok(())
+}
+
+/// The list with room for so many steps.
+pub(crate) fn with_room(mut taken: Vec<Taken>, count: usize) -> Result<Vec<Taken>, NoMemory> {
+    taken.reserve_exact(count.saturating_sub(taken.len()))?;
+    Ok(taken)
+}
+
+/// The record of the first steps of a list. What is left there of the spare ones is dropped.
+pub(crate) fn record_of(mut taken: Vec<Taken>, count: usize, outcome: End) -> Record
+    ensures taken { result.taken.items ≡ take count taken.items }
+    ensures outcome { result.outcome ≡ outcome }
+{
+    taken.truncate(count);
+    Record { taken, outcome }
 }

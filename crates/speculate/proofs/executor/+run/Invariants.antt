@@ -26,9 +26,6 @@ decreases-run_step g l = deep (size-Step l.step.now) 0
 abbrev pub decreases-run_subaction : goal.decreases-run_subaction
 decreases-run_subaction g l = deep (size-Subaction l.child.now) 1
 
-abbrev pub decreases-run_handler : goal.decreases-run_handler
-decreases-run_handler g l = deep (size-Subaction l.child.now) 0
-
 abbrev pub decreases-run_child : goal.decreases-run_child
 decreases-run_child g l = deep (size-Subaction l.child.now) 2
 
@@ -62,7 +59,7 @@ invariant-run_steps-loop-place g l = record {
 abbrev pub invariant-run_children-loop-place : goal.invariant-run_children-loop-place
 invariant-run_children-loop-place g l = record {
   same : l.labels.items ≡ l.fn.labels.items;
-  part : ArePartTried in_view l.children l.labels.items l.fn.view l.place l.all.items l.outcomes.items l.view;
+  part : ArePartTried in_view l.children l.labels.items l.fn.view l.place l.reached.all.items l.reached.outcomes.items l.view;
   left : 0 < into_iter_len l.ahead → AreLeft (drop l.place l.children) l.labels.items l.kept (state_of_view l.view)
       (into_iter_items l.ahead);
 }
