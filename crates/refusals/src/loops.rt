@@ -53,34 +53,43 @@ fn call_of(turn: u32) -> Call {
     }
 }
 
-/// Calls on objects, on copies of them and of their values.
+/// Calls on objects, on copies of them and of their values, up to the first refusal.
 fn try_objects(objects: &mut Objects) -> Seen {
     for turn in 0..TURNS {
-        let object = turn % 4;
-        let call = call_of(turn);
-        let before = Sizes::of(objects);
-        if objects.fits(object, &call) && objects.has_room(object, &call) {
-            if objects.perform(object, &call).is_err() {
-                return refused(Sizes::of(objects) == before);
-            }
-        }
-        let before = Sizes::of(objects);
-        match objects.copy() {
-            Ok(copied) => {
-                if Sizes::of(&copied) != before {
-                    return Seen::Changed;
-                }
-            }
-            Err(NoMemory) => return refused(Sizes::of(objects) == before),
-        }
-        if let Some(value) = objects.value(object) {
-            let seen = try_value(value, &call);
-            if seen != Seen::Whole {
-                return seen;
-            }
+        let seen = try_object(objects, turn % 4, &call_of(turn));
+        if seen != Seen::Whole {
+            return seen;
         }
     }
     Seen::Whole
+}
+
+/// A call on an object, on copies of all objects and of its value.
+fn try_object(objects: &mut Objects, object: u32, call: &Call) -> Seen {
+    let before = Sizes::of(objects);
+    if objects.fits(object, call) && objects.has_room(object, call) {
+        if objects.perform(object, call).is_err() {
+            return refused(Sizes::of(objects) == before);
+        }
+    }
+    let seen = try_copy(objects);
+    if seen != Seen::Whole {
+        return seen;
+    }
+    match objects.value(object) {
+        Some(value) => try_value(value, call),
+        None => Seen::Whole,
+    }
+}
+
+/// A copy of objects, which is as they are.
+fn try_copy(objects: &Objects) -> Seen {
+    let before = Sizes::of(objects);
+    match objects.copy() {
+        Ok(copied) if Sizes::of(&copied) == before => Seen::Whole,
+        Ok(_) => Seen::Changed,
+        Err(NoMemory) => refused(Sizes::of(objects) == before),
+    }
 }
 
 /// A call on a copy of a value, which stays as it was where the call is refused memory.
@@ -106,34 +115,55 @@ fn size(value: &Value) -> usize {
     }
 }
 
-/// Levels of a view, with a call in each. Every third level is aborted. Then another view and a
-/// committed list take in the view's entries.
+/// Calls on a view, and on another one and a committed list that take its entries in.
 fn try_view(alloc: Global, objects: &Objects) -> Seen {
     let Ok(mut view) = View::open(alloc, objects) else {
         return Seen::Changed;
     };
+    try_calls(alloc, &mut view, objects)
+}
+
+/// Levels of a view, with a call in each. Then its state, and what takes its entries in.
+fn try_calls(alloc: Global, view: &mut View<'_>, objects: &Objects) -> Seen {
+    let seen = try_levels(view, objects);
+    if seen != Seen::Whole {
+        return seen;
+    }
+    if view.state().is_err() {
+        return refused(is_as(view, objects, (0, TURNS as usize)));
+    }
+    try_entries(alloc, objects, view.entries())
+}
+
+/// Levels of a view, up to the first refusal.
+fn try_levels(view: &mut View<'_>, objects: &Objects) -> Seen {
     for turn in 0..TURNS {
-        let before = (view.depth(), view.entries().len());
-        if view.begin().is_err() {
-            return refused(is_as(&view, objects, before));
-        }
-        let before = (view.depth(), view.entries().len());
-        match perform_turn(&mut view, turn) {
-            Ok(()) => {}
-            Err(NoMemory) => return refused(is_as(&view, objects, before)),
-        }
-        if view.depth() > 0 {
-            if turn % 3 == 0 {
-                view.abort();
-            } else if view.commit().is_err() {
-                return Seen::Changed;
-            }
+        let seen = try_level(view, objects, turn);
+        if seen != Seen::Whole {
+            return seen;
         }
     }
-    match view.state() {
-        Ok(_) => try_entries(alloc, objects, view.entries()),
-        Err(NoMemory) => refused(is_as(&view, objects, (0, TURNS as usize))),
+    Seen::Whole
+}
+
+/// A level with the call of a turn in it. Every third level is aborted.
+fn try_level(view: &mut View<'_>, objects: &Objects, turn: u32) -> Seen {
+    let before = (view.depth(), view.entries().len());
+    if view.begin().is_err() {
+        return refused(is_as(view, objects, before));
     }
+    let before = (view.depth(), view.entries().len());
+    if perform_turn(view, turn).is_err() {
+        return refused(is_as(view, objects, before));
+    }
+    if view.depth() > 0 {
+        if turn % 3 == 0 {
+            view.abort();
+        } else if view.commit().is_err() {
+            return Seen::Changed;
+        }
+    }
+    Seen::Whole
 }
 
 /// The call of a turn.
@@ -162,18 +192,40 @@ fn try_entries(alloc: Global, objects: &Objects, entries: &[Entry]) -> Seen {
         return Seen::Changed;
     };
     let mut committed = Committed::new(alloc);
-    let none: [Entry; 0] = [];
+    try_turns(&mut view, objects, &mut committed, entries)
+}
+
+/// These take entries in, up to the first refusal.
+fn try_turns(
+    view: &mut View<'_>,
+    objects: &Objects,
+    committed: &mut Committed,
+    entries: &[Entry],
+) -> Seen {
     for _ in 0..TURNS {
-        let before = (view.depth(), view.entries().len());
-        let absorbed = view.absorb(entries, none.as_slice());
-        if absorbed.is_err() {
-            return refused(is_as(&view, objects, before));
+        let seen = try_turn(view, objects, committed, entries);
+        if seen != Seen::Whole {
+            return seen;
         }
-        let before = committed.len();
-        let appended = committed.append(entries);
-        if appended.is_err() {
-            return refused(committed.len() == before);
-        }
+    }
+    Seen::Whole
+}
+
+/// A view takes entries in, and then a committed list does.
+fn try_turn(
+    view: &mut View<'_>,
+    objects: &Objects,
+    committed: &mut Committed,
+    entries: &[Entry],
+) -> Seen {
+    let none: [Entry; 0] = [];
+    let before = (view.depth(), view.entries().len());
+    if view.absorb(entries, none.as_slice()).is_err() {
+        return refused(is_as(view, objects, before));
+    }
+    let before = committed.len();
+    if committed.append(entries).is_err() {
+        return refused(committed.len() == before);
     }
     Seen::Whole
 }

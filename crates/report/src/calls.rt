@@ -1,6 +1,6 @@
 //! Writes calls and replies.
 ghost use Rattle.std.specs.Prelude.{◌≡◌, ◌++◌, OnOk, codes, string_bytes};
-ghost use Rattle.std.specs.Fmt.{decimal};
+ghost use Rattle.std.specs.Fmt.{decimal, signed_decimal};
 ghost use Rattle.meaning.specs.Words.{call_text, reply_text};
 ghost use Rattle.words.specs.Verbs.{verb_text};
 ghost use Rattle.batch.specs.Names.{names_of};
@@ -40,35 +40,50 @@ pub fn write_reply(out: &mut String, names: &Names, reply: &Reply) -> Result<(),
         Reply::Account(AccountReply::Number(number))
         | Reply::Set(SetReply::Number(number))
         | Reply::Queue(QueueReply::Number(number))
-        | Reply::Max(MaxReply::Number(number)) => write!(out, "{number}")?,
-        Reply::Counter(CounterReply::Number(number)) => write!(out, "{number}")?,
+        | Reply::Max(MaxReply::Number(number)) => write_natural(out, *number),
+        Reply::Counter(CounterReply::Number(number)) => write_integer(out, *number),
         Reply::Queue(QueueReply::Got(item)) => {
             write_word(out, Word::Got.text())?;
-            write_item(out, names, *item)?
+            write_item(out, names, *item)
         }
         Reply::Directory(DirectoryReply::Found(item)) => {
             write_word(out, Word::Found.text())?;
-            write_item(out, names, *item)?
+            write_item(out, names, *item)
         }
         Reply::Account(AccountReply::Ok)
         | Reply::Counter(CounterReply::Ok)
         | Reply::Queue(QueueReply::Ok)
         | Reply::Directory(DirectoryReply::Ok)
-        | Reply::Max(MaxReply::Ok) => write_word(out, Word::Ok.text())?,
+        | Reply::Max(MaxReply::Ok) => write_word(out, Word::Ok.text()),
         Reply::Account(AccountReply::No) | Reply::Set(SetReply::No) => {
-            write_word(out, Word::No.text())?
+            write_word(out, Word::No.text())
         }
-        Reply::Set(SetReply::Added) => write_word(out, Word::Added.text())?,
-        Reply::Set(SetReply::Present) => write_word(out, Word::Present.text())?,
-        Reply::Set(SetReply::Removed) => write_word(out, Word::Removed.text())?,
-        Reply::Set(SetReply::Absent) => write_word(out, Word::Absent.text())?,
-        Reply::Set(SetReply::Yes) => write_word(out, Word::Yes.text())?,
-        Reply::Queue(QueueReply::Empty) => write_word(out, Word::Empty.text())?,
-        Reply::Directory(DirectoryReply::Bound) => write_word(out, Word::Bound.text())?,
-        Reply::Directory(DirectoryReply::Taken) => write_word(out, Word::Taken.text())?,
-        Reply::Directory(DirectoryReply::Gone) => write_word(out, Word::Gone.text())?,
-        Reply::Directory(DirectoryReply::Missing) => write_word(out, Word::Missing.text())?,
+        Reply::Set(SetReply::Added) => write_word(out, Word::Added.text()),
+        Reply::Set(SetReply::Present) => write_word(out, Word::Present.text()),
+        Reply::Set(SetReply::Removed) => write_word(out, Word::Removed.text()),
+        Reply::Set(SetReply::Absent) => write_word(out, Word::Absent.text()),
+        Reply::Set(SetReply::Yes) => write_word(out, Word::Yes.text()),
+        Reply::Queue(QueueReply::Empty) => write_word(out, Word::Empty.text()),
+        Reply::Directory(DirectoryReply::Bound) => write_word(out, Word::Bound.text()),
+        Reply::Directory(DirectoryReply::Taken) => write_word(out, Word::Taken.text()),
+        Reply::Directory(DirectoryReply::Gone) => write_word(out, Word::Gone.text()),
+        Reply::Directory(DirectoryReply::Missing) => write_word(out, Word::Missing.text()),
     }
+}
+
+// Writes a number of at least 0.
+fn write_natural(out: &mut String, number: u64) -> Result<(), NoMemory>
+    ensures { OnOk result (string_bytes out.new ≡ string_bytes out.old ++ decimal number) }
+{
+    write!(out, "{number}")?;
+    Ok(())
+}
+
+// Writes a number that may be below 0.
+fn write_integer(out: &mut String, number: i64) -> Result<(), NoMemory>
+    ensures { OnOk result (string_bytes out.new ≡ string_bytes out.old ++ signed_decimal number) }
+{
+    write!(out, "{number}")?;
     Ok(())
 }
 

@@ -15,6 +15,8 @@ pub use meeting::Meeting;
 pub use tally::Tally;
 
 #[cfg(test)]
+mod documents;
+#[cfg(test)]
 mod plain_tests;
 #[cfg(test)]
 mod rounds_tests;

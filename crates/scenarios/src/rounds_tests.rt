@@ -1,55 +1,45 @@
 //! Tests of the passes of a round on two workers. Two of their calls meet, runs are made as often
 //! as they must be, and the first conflict is the same for any number of workers.
+use crate::documents::{batch_of, copies_of};
 use crate::{Counting, Meeting};
 use batch::{Record, Taken};
-use intentions::{Entry, NoMemory};
-use lang::read;
+use intentions::Entry;
 use objects::{AccountCall, AccountReply, Amount, Call, Reply};
 use rounds::{NoGate, Plan, execute, first_conflict};
 use speculate::{Gate, Run};
-use std::alloc::Global;
-use std::test::Fail;
+use std::alloc::AllocGlobal;
+use std::process::Abort;
 use std::thread::Threads;
 
-// Withdrawals from `a`, which has 100, and deposits on `b`, which has nothing.
-const HEAD: &str =
-    "{\"ordtx\":1,\"objects\":[{\"name\":\"a\",\"kind\":\"account\",\"start\":100},{\"name\":\"b\",\"kind\":\"account\",\"start\":0},{\"name\":\"c\",\"kind\":\"account\",\"start\":0}],\"transactions\":[";
+// Withdrawals are from `a`, which has 100, and deposits on `b` and `c`, which have nothing.
+const ACCOUNTS: &str =
+    "{\"name\":\"a\",\"kind\":\"account\",\"start\":100},{\"name\":\"b\",\"kind\":\"account\",\"start\":0},{\"name\":\"c\",\"kind\":\"account\",\"start\":0}";
 
-/// Runs these transactions with two workers and pieces of one transaction.
-fn run_by_two<R: Threads + Sync, G: Gate>(
-    threads: &R,
-    alloc: Global,
+/// Runs these transactions with two workers and pieces of one transaction. Returns the rounds.
+fn rounds_of<G: Gate>(
+    rt: &(impl Threads + Sync + Abort + AllocGlobal),
+    objects: &str,
     transactions: &str,
     gate: &G,
-) -> Result<u32, Fail> {
-    let document = format!(in alloc; "{HEAD}{transactions}]}}")?;
-    run_document(threads, alloc, document.as_str(), gate)
+) -> u32 {
+    let batch = batch_of(rt, 1, objects, transactions);
+    let plan = Plan::new(2, 1).expect(rt, "a plan");
+    let Ok(outcome) = execute(rt, rt.alloc(), &batch, plan, gate) else {
+        panic!(rt; "no memory")
+    };
+    outcome.rounds
 }
 
-/// Runs a document with two workers and pieces of one transaction.
-fn run_document<R: Threads + Sync, G: Gate>(
-    threads: &R,
-    alloc: Global,
-    document: &str,
-    gate: &G,
-) -> Result<u32, Fail> {
-    let batch = read(alloc, document.as_bytes()).ok().ok_or("a batch")?;
-    let plan = Plan::new(2, 1).ok_or("a plan")?;
-    let outcome = execute(threads, alloc, &batch, plan, gate)?;
-    Ok(outcome.rounds)
-}
-
-/// Whether the held call of `pass` met the other one.
-fn meets<R: Threads + Sync>(
-    threads: &R,
-    alloc: Global,
+/// Stops the test where the held call of `pass` doesn't meet the other one.
+fn meets(
+    rt: &(impl Threads + Sync + Abort + AllocGlobal),
     transactions: &str,
     held: (u32, u32),
     other: (u32, u32),
-) -> Result<bool, Fail> {
+) {
     let gate = Meeting::new(held, other);
-    run_by_two(threads, alloc, transactions, &gate)?;
-    Ok(gate.has_met())
+    let _rounds = rounds_of(rt, ACCOUNTS, transactions, &gate);
+    assert!(rt; gate.has_met());
 }
 
 const ON_TWO: &str = "[{\"op\":[\"a\",\"withdraw\",30]}],[{\"op\":[\"b\",\"deposit\",1]}]";
@@ -58,130 +48,135 @@ const ON_THREE: &str =
     "[{\"op\":[\"a\",\"withdraw\",30]}],[{\"op\":[\"b\",\"deposit\",1]}],[{\"op\":[\"c\",\"deposit\",1]}]";
 
 #[test]
-fn two_runs_meet(rt: HostRuntime) -> Result<(), Fail> {
-    assert!(rt; meets(&rt, rt.alloc(), ON_TWO, (1, 0), (2, 0))?);
-    Ok(())
+fn two_runs_meet(rt: HostRuntime) {
+    meets(&rt, ON_TWO, (1, 0), (2, 0));
 }
 
 #[test]
-fn third_run_meets(rt: HostRuntime) -> Result<(), Fail> {
-    assert!(rt; meets(&rt, rt.alloc(), ON_THREE, (1, 0), (3, 0))?);
-    Ok(())
+fn third_run_meets(rt: HostRuntime) {
+    meets(&rt, ON_THREE, (1, 0), (3, 0));
 }
 
 #[test]
-fn two_checks_meet(rt: HostRuntime) -> Result<(), Fail> {
-    assert!(rt; meets(&rt, rt.alloc(), ON_TWO, (0, 1), (0, 2))?);
-    Ok(())
+fn two_checks_meet(rt: HostRuntime) {
+    meets(&rt, ON_TWO, (0, 1), (0, 2));
 }
 
 #[test]
-fn two_keeps_meet(rt: HostRuntime) -> Result<(), Fail> {
+fn two_keeps_meet(rt: HostRuntime) {
     let transactions =
         "[{\"op\":[\"a\",\"withdraw\",30]}],[{\"op\":[\"a\",\"withdraw\",50]}],[{\"op\":[\"a\",\"withdraw\",10]}],[{\"op\":[\"b\",\"deposit\",1]}]";
-    assert!(rt; meets(&rt, rt.alloc(), transactions, (0, 10001), (0, 10002))?);
-    Ok(())
+    meets(&rt, transactions, (0, 10001), (0, 10002));
 }
 
 #[test]
-fn runs_are_made(rt: HostRuntime) -> Result<(), Fail> {
+fn runs_are_made(rt: HostRuntime) {
     let transactions = "[{\"op\":[\"a\",\"withdraw\",80]}],[{\"op\":[\"a\",\"withdraw\",50]}]";
     let gate = Counting::new();
-    assert_eq!(rt; run_by_two(&rt, rt.alloc(), transactions, &gate)?, 2);
+    assert_eq!(rt; rounds_of(&rt, ACCOUNTS, transactions, &gate), 2);
     assert_eq!(rt; gate.made(), [1, 2, 0]);
     assert_eq!(rt; gate.refused(), [0, 2, 0]);
-    Ok(())
 }
 
 #[test]
-fn each_withdrawal_is_made_again_until_its_round(rt: HostRuntime) -> Result<(), Fail> {
-    let mut transactions = String::from_str(rt.alloc(), "[{\"op\":[\"a\",\"withdraw\",1]}]")?;
-    for _ in 1..100 {
-        transactions.push_str(",[{\"op\":[\"a\",\"withdraw\",1]}]")?;
-    }
+fn each_withdrawal_is_made_again_until_its_round(rt: HostRuntime) {
+    let transactions = copies_of(&rt, "[{\"op\":[\"a\",\"withdraw\",1]}]", 100);
     let gate = Counting::new();
-    assert_eq!(rt;
-        run_by_two(&rt, rt.alloc(), transactions.as_str(), &gate)?,
-        100
-    );
+    assert_eq!(rt; rounds_of(&rt, ACCOUNTS, transactions.as_str(), &gate), 100);
     assert_eq!(rt; gate.begun(), [1, 2, 3]);
     assert_eq!(rt; gate.all(), 5050);
-    Ok(())
 }
 
 #[test]
-fn another_keys_lookup_is_not_made_again(rt: HostRuntime) -> Result<(), Fail> {
-    let document =
-        "{\"ordtx\":1,\"objects\":[{\"name\":\"d\",\"kind\":\"directory\",\"start\":[]}],\"transactions\":[[{\"op\":[\"d\",\"bind\",\"k\",\"v\"]}],[{\"op\":[\"d\",\"lookup\",\"k\"]}],[{\"op\":[\"d\",\"lookup\",\"j\"]}]]}";
+fn another_keys_lookup_is_not_made_again(rt: HostRuntime) {
+    let directory = "{\"name\":\"d\",\"kind\":\"directory\",\"start\":[]}";
+    let transactions =
+        "[{\"op\":[\"d\",\"bind\",\"k\",\"v\"]}],[{\"op\":[\"d\",\"lookup\",\"k\"]}],[{\"op\":[\"d\",\"lookup\",\"j\"]}]";
     let gate = Counting::new();
-    assert_eq!(rt; run_document(&rt, rt.alloc(), document, &gate)?, 2);
+    assert_eq!(rt; rounds_of(&rt, directory, transactions, &gate), 2);
     assert_eq!(rt; gate.begun(), [1, 2, 1]);
-    Ok(())
 }
 
 #[test]
-fn a_run_that_still_stands_is_not_made_again(rt: HostRuntime) -> Result<(), Fail> {
+fn a_run_that_still_stands_is_not_made_again(rt: HostRuntime) {
     let transactions =
         "[{\"op\":[\"a\",\"withdraw\",30]}],[{\"op\":[\"a\",\"withdraw\",50]}],[{\"op\":[\"b\",\"deposit\",1]}]";
     let gate = Counting::new();
-    assert_eq!(rt; run_by_two(&rt, rt.alloc(), transactions, &gate)?, 2);
+    assert_eq!(rt; rounds_of(&rt, ACCOUNTS, transactions, &gate), 2);
     assert_eq!(rt; gate.begun(), [1, 2, 1]);
-    Ok(())
+}
+
+/// A list of one item.
+fn list_of<T: Drop>(rt: &(impl Abort + AllocGlobal), item: T) -> Vec<T> {
+    let mut list = Vec::new(rt.alloc());
+    let Ok(()) = list.push(item) else {
+        panic!(rt; "no memory")
+    };
+    list
 }
 
 /// The run of one call on an account, with the reply `ok`.
-fn run_of(alloc: Global, object: u32, call: AccountCall) -> Result<Run, NoMemory> {
+fn run_of(rt: &(impl Abort + AllocGlobal), object: u32, call: AccountCall) -> Run {
     let reply = Reply::Account(AccountReply::Ok);
     let entry = Entry {
         object,
         call: Call::Account(call),
         reply,
     };
-    let mut taken = Vec::new(alloc);
-    let mut entries = Vec::new(alloc);
-    let mut net = Vec::new(alloc);
-    taken.push(Taken::Op(reply))?;
-    entries.push(entry)?;
-    net.push(entry)?;
     let tree = Record {
-        taken,
+        taken: list_of(rt, Taken::Op(reply)),
         outcome: meaning::End::Ended,
     };
-    Ok(Run { tree, entries, net })
+    Run {
+        tree,
+        entries: list_of(rt, entry),
+        net: list_of(rt, entry),
+    }
+}
+
+/// The run of a withdrawal from the account.
+fn withdrawal(rt: &(impl Abort + AllocGlobal), object: u32, amount: u64) -> Run {
+    let amount = Amount::new(amount).expect(rt, "an amount");
+    run_of(rt, object, AccountCall::Withdraw(amount))
+}
+
+/// The run of a deposit of 1 on the account.
+fn deposit(rt: &(impl Abort + AllocGlobal), object: u32) -> Run {
+    let amount = Amount::new(1).expect(rt, "an amount");
+    run_of(rt, object, AccountCall::Deposit(amount))
+}
+
+/// Stops the test where another run of these few is the first that conflicts, for some workers.
+fn first_conflict_is(rt: &(impl Threads + Sync + Abort + AllocGlobal), runs: &[Run], place: usize) {
+    assert!(rt; runs.len() <= 3);
+    for workers in [1, 2, 64] {
+        let first = first_conflict(rt, rt.alloc(), runs, workers, &NoGate);
+        assert!(rt;
+            matches!(first, Ok(first) if first == place),
+            "workers {workers}"
+        );
+    }
 }
 
 #[test]
-fn the_first_conflict_is_the_same_for_any_workers(rt: HostRuntime) -> Result<(), Fail> {
-    let alloc = rt.alloc();
-    let less = AccountCall::Withdraw(Amount::new(30).ok_or("an amount")?);
-    let more = AccountCall::Withdraw(Amount::new(50).ok_or("an amount")?);
-    let deposit = AccountCall::Deposit(Amount::new(1).ok_or("an amount")?);
-    let none = [];
-    let apart = [
-        run_of(alloc, 0, less)?,
-        run_of(alloc, 1, deposit)?,
-        run_of(alloc, 0, deposit)?,
-    ];
+fn the_first_conflict_is_the_same_for_any_workers(rt: HostRuntime) {
     let at_odds = [
-        run_of(alloc, 0, less)?,
-        run_of(alloc, 0, more)?,
-        run_of(alloc, 1, deposit)?,
+        withdrawal(&rt, 0, 30),
+        withdrawal(&rt, 0, 50),
+        deposit(&rt, 1),
     ];
-    for workers in [1, 2, 64] {
-        assert_eq!(rt;
-            first_conflict(&rt, alloc, none.as_slice(), workers, &NoGate)?,
-            0
-        );
-        assert_eq!(rt;
-            first_conflict(&rt, alloc, apart.as_slice(), workers, &NoGate)?,
-            3
-        );
-        assert_eq!(rt;
-            first_conflict(&rt, alloc, at_odds.as_slice(), workers, &NoGate)?,
-            1
-        );
-    }
-    Ok(())
+    first_conflict_is(&rt, &at_odds, 1);
+}
+
+#[test]
+fn runs_apart_have_no_conflict(rt: HostRuntime) {
+    let apart = [withdrawal(&rt, 0, 30), deposit(&rt, 1), deposit(&rt, 0)];
+    first_conflict_is(&rt, &apart, 3);
+}
+
+#[test]
+fn no_runs_have_no_conflict(rt: HostRuntime) {
+    first_conflict_is(&rt, &[], 0);
 }
 
 #[test]

@@ -3,6 +3,11 @@
 ghost use Rattle.std.specs.Prelude.{◌≡◌, ◌<◌, false, Some};
 
 use ordtx::{Failed, Sink, Source};
+use std::alloc::AllocGlobal;
+use std::process::Abort;
+
+// How many bytes a sink has room for beforehand: more than any text of the tests.
+const ROOM: usize = 200;
 
 /// A source of these bytes that moves at most `most` bytes a call. A fetch fails once `sound` bytes
 /// were given.
@@ -80,12 +85,15 @@ pub struct TestSink {
 }
 
 impl TestSink {
-    /// A sink that adds to `taken`. Where `taken` has room beforehand, a put needs no memory.
-    pub fn new(taken: Vec<u8>, most: usize, sound: usize) -> TestSink
+    /// A sink that has taken nothing. It has room beforehand, so that a put needs no memory. Stops
+    /// the test where there is no room.
+    pub fn new(rt: &(impl Abort + AllocGlobal), most: usize, sound: usize) -> TestSink
         requires { 0 < most }
-        ensures taken { result.taken ≡ taken }
-        ensures unmarked { result.failed ≡ false }
+        ensures { result.failed ≡ false }
     {
+        let Ok(taken) = Vec::with_capacity(rt.alloc(), ROOM) else {
+            panic!(rt; "no memory")
+        };
         TestSink {
             taken,
             most,

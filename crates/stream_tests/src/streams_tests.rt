@@ -1,12 +1,16 @@
 //! Tests of streams that move a few bytes a call and fail, and of whole batches.
+ghost use Rattle.std.specs.Prelude.{◌≡◌, false};
+
 use crate::memory::{TestSink, TestSource};
 use ordtx::{
-    Code, Marked, NoGate, Plan, Sink, Source, Wrong, audit_stream, carry_stream, check_stream,
-    run_stream, serial_stream,
+    Code, Fault, Marked, NoGate, Plan, Sink, Source, Wrong, audit_stream, carry_stream,
+    check_stream, run_stream, serial_stream,
 };
+use std::alloc::AllocGlobal;
 use std::io;
 use std::io::{ErrorKind, Read, Write};
-use std::test::Fail;
+use std::process::Abort;
+use std::thread::Threads;
 
 const DOCUMENT: &[u8] =
     b"{\"ordtx\":1,\"objects\":[{\"name\":\"a\",\"kind\":\"account\",\"start\":100}],\"transactions\":[[{\"op\":[\"a\",\"withdraw\",10]}],[{\"op\":[\"a\",\"withdraw\",95]}]]}";
@@ -32,73 +36,92 @@ const UNFIT: &[u8] =
 
 const ALWAYS: usize = usize::MAX;
 
-fn plan() -> Result<Plan, Fail> {
-    Ok(Plan::new(4, 16).ok_or("a plan")?)
+/// Runs the document of a source with the plan that `ordtx run` has without options.
+fn answer_of<R: Source, W: Sink>(
+    rt: &(impl Threads + Sync + Abort + AllocGlobal),
+    source: &mut R,
+    sink: &mut W,
+) -> Result<(), Fault>
+    requires unended { R.has_ended source.old ≡ false }
+    requires unread { R.has_failed source.old ≡ false }
+    requires unwritten { W.has_failed sink.old ≡ false }
+{
+    let plan = Plan::new(4, 16).expect(rt, "a plan");
+    run_stream(rt, rt.alloc(), source, sink, plan, &NoGate)
 }
 
 #[test]
-fn moves_a_byte_a_call(rt: HostRuntime) -> Result<(), Fail> {
+fn moves_a_byte_a_call(rt: HostRuntime) {
     let mut source = TestSource::new(DOCUMENT, 1, ALWAYS);
-    let mut sink = TestSink::new(Vec::with_capacity(rt.alloc(), 200)?, 1, ALWAYS);
-    assert!(rt; run_stream(&rt, rt.alloc(), &mut source, &mut sink, plan()?, &NoGate).is_ok());
+    let mut sink = TestSink::new(&rt, 1, ALWAYS);
+    assert!(rt; answer_of(&rt, &mut source, &mut sink).is_ok());
     assert!(rt; sink.taken() == REPORT);
-    Ok(())
 }
 
 #[test]
-fn writes_run_counts(rt: HostRuntime) -> Result<(), Fail> {
+fn writes_run_counts(rt: HostRuntime) {
+    let plan = Plan::new(4, 16).expect(&rt, "a plan");
     let mut source = Marked::new(DOCUMENT);
-    let mut sink = TestSink::new(Vec::with_capacity(rt.alloc(), 200)?, 9, ALWAYS);
-    assert!(rt; audit_stream(&rt, rt.alloc(), &mut source, &mut sink, plan()?, &NoGate).is_ok());
+    let mut sink = TestSink::new(&rt, 9, ALWAYS);
+    assert!(rt; audit_stream(&rt, rt.alloc(), &mut source, &mut sink, plan, &NoGate).is_ok());
     assert!(rt; sink.taken().starts_with(REPORT) && sink.taken().ends_with(COUNTS));
     assert_eq!(rt; sink.taken().len(), REPORT.len() + COUNTS.len());
-    Ok(())
 }
 
 #[test]
-fn answers_on_one_thread(rt: HostRuntime) -> Result<(), Fail> {
-    let mut sink = TestSink::new(Vec::with_capacity(rt.alloc(), 200)?, ALWAYS, ALWAYS);
+fn answers_on_one_thread(rt: HostRuntime) {
+    let mut sink = TestSink::new(&rt, ALWAYS, ALWAYS);
     assert!(rt; serial_stream(rt.alloc(), &mut Marked::new(DOCUMENT), &mut sink).is_ok());
     assert!(rt; sink.taken() == PLAIN);
-    let mut sink = TestSink::new(Vec::with_capacity(rt.alloc(), 200)?, ALWAYS, ALWAYS);
-    assert!(rt; check_stream(rt.alloc(), &mut Marked::new(DOCUMENT), &mut sink).is_ok());
-    assert!(rt; sink.taken() == HELD);
-    Ok(())
 }
 
 #[test]
-fn carries_objects_over(rt: HostRuntime) -> Result<(), Fail> {
-    let mut sink = TestSink::new(Vec::with_capacity(rt.alloc(), 200)?, ALWAYS, ALWAYS);
+fn writes_how_much_a_document_has(rt: HostRuntime) {
+    let mut sink = TestSink::new(&rt, ALWAYS, ALWAYS);
+    assert!(rt; check_stream(rt.alloc(), &mut Marked::new(DOCUMENT), &mut sink).is_ok());
+    assert!(rt; sink.taken() == HELD);
+}
+
+#[test]
+fn carries_objects_over(rt: HostRuntime) {
+    let mut sink = TestSink::new(&rt, ALWAYS, ALWAYS);
     assert!(rt; carry_stream(rt.alloc(), &mut Marked::new(DOCUMENT), &mut sink).is_ok());
     assert!(rt; sink.taken() == CARRIED);
-    let mut sink = TestSink::new(Vec::with_capacity(rt.alloc(), 200)?, ALWAYS, ALWAYS);
+}
+
+#[test]
+fn carries_no_unfit_object(rt: HostRuntime) {
+    let mut sink = TestSink::new(&rt, ALWAYS, ALWAYS);
     let answer = carry_stream(rt.alloc(), &mut Marked::new(UNFIT), &mut sink);
     assert!(rt; answer == Err(Wrong::Start.outside()));
     assert!(rt; sink.taken().is_empty());
-    Ok(())
+}
+
+/// Stops the test where a sink that fails after so many bytes hasn't taken exactly the first ones
+/// of the report.
+fn writes_first(rt: &(impl Threads + Sync + Abort + AllocGlobal), sound: usize) {
+    let mut source = TestSource::new(DOCUMENT, 7, ALWAYS);
+    let mut sink = TestSink::new(rt, 4, sound);
+    let answer = answer_of(rt, &mut source, &mut sink);
+    assert!(rt; answer == Err(Code::Output.outside()), "after {sound}");
+    assert!(rt; sink.failed() && !source.failed());
+    assert!(rt; Some(sink.taken()) == REPORT.get(..sound));
 }
 
 #[test]
-fn writes_a_beginning(rt: HostRuntime) -> Result<(), Fail> {
+fn writes_a_beginning(rt: HostRuntime) {
     for sound in [0, 1, 50, REPORT.len() - 1] {
-        let mut source = TestSource::new(DOCUMENT, 7, ALWAYS);
-        let mut sink = TestSink::new(Vec::with_capacity(rt.alloc(), 200)?, 4, sound);
-        let answer = run_stream(&rt, rt.alloc(), &mut source, &mut sink, plan()?, &NoGate);
-        assert!(rt; answer == Err(Code::Output.outside()), "after {sound}");
-        assert!(rt; sink.failed() && !source.failed());
-        assert!(rt; sink.taken() == &REPORT[..sound]);
+        writes_first(&rt, sound);
     }
-    Ok(())
 }
 
 #[test]
-fn fails_to_read(rt: HostRuntime) -> Result<(), Fail> {
+fn fails_to_read(rt: HostRuntime) {
     let mut source = TestSource::new(DOCUMENT, ALWAYS, 20);
-    let mut sink = TestSink::new(Vec::with_capacity(rt.alloc(), 200)?, ALWAYS, ALWAYS);
-    let answer = run_stream(&rt, rt.alloc(), &mut source, &mut sink, plan()?, &NoGate);
+    let mut sink = TestSink::new(&rt, ALWAYS, ALWAYS);
+    let answer = answer_of(&rt, &mut source, &mut sink);
     assert!(rt; answer == Err(Code::Input.outside()));
     assert!(rt; sink.taken().is_empty());
-    Ok(())
 }
 
 /// A reader and a writer of which one call fails, after some that moved at most 7 bytes each. It
@@ -154,36 +177,53 @@ impl<'a> Write for FailsOnce<'a> {
     }
 }
 
-#[test]
-fn a_failed_read_is_not_tried_again(rt: HostRuntime) -> Result<(), Fail> {
-    for before in [0, 1, 5] {
-        let mut source = Marked::new(FailsOnce::new(DOCUMENT, before));
-        let mut sink = TestSink::new(Vec::with_capacity(rt.alloc(), 200)?, ALWAYS, ALWAYS);
-        let answer = run_stream(&rt, rt.alloc(), &mut source, &mut sink, plan()?, &NoGate);
-        assert!(rt; answer == Err(Code::Input.outside()));
-        assert!(rt; Source::failed(&source) && !source.ended() && sink.taken().is_empty());
-        let device = source.into_inner();
-        assert!(rt; device.failed && device.after == 0);
-    }
-    Ok(())
+/// Stops the test where a read that fails after so many others is tried again, or isn't the answer.
+fn read_fails_once(rt: &(impl Threads + Sync + Abort + AllocGlobal), before: usize) {
+    let mut source = Marked::new(FailsOnce::new(DOCUMENT, before));
+    let mut sink = TestSink::new(rt, ALWAYS, ALWAYS);
+    let answer = answer_of(rt, &mut source, &mut sink);
+    assert!(rt; answer == Err(Code::Input.outside()));
+    assert!(rt; Source::failed(&source) && !source.ended() && sink.taken().is_empty());
+    let device = source.into_inner();
+    assert!(rt; device.failed && device.after == 0);
 }
 
 #[test]
-fn a_failed_write_is_not_tried_again(rt: HostRuntime) -> Result<(), Fail> {
+fn a_failed_read_is_not_tried_again(rt: HostRuntime) {
     for before in [0, 1, 5] {
-        let mut source = Marked::new(DOCUMENT);
-        let mut sink = Marked::new(FailsOnce::new(b"", before));
-        let answer = run_stream(&rt, rt.alloc(), &mut source, &mut sink, plan()?, &NoGate);
-        assert!(rt; answer == Err(Code::Output.outside()));
-        assert!(rt; source.ended() && !source.failed() && Sink::failed(&sink));
-        let device = sink.into_inner();
-        assert!(rt; device.failed && device.after == 0);
+        read_fails_once(&rt, before);
     }
-    Ok(())
+}
+
+/// Stops the test where a write that fails after so many others is tried again, or isn't the answer.
+fn write_fails_once(rt: &(impl Threads + Sync + Abort + AllocGlobal), before: usize) {
+    let mut source = Marked::new(DOCUMENT);
+    let mut sink = Marked::new(FailsOnce::new(b"", before));
+    let answer = answer_of(rt, &mut source, &mut sink);
+    assert!(rt; answer == Err(Code::Output.outside()));
+    assert!(rt; source.ended() && !source.failed() && Sink::failed(&sink));
+    let device = sink.into_inner();
+    assert!(rt; device.failed && device.after == 0);
 }
 
 #[test]
-fn writes_nothing_for_a_fault(rt: HostRuntime) -> Result<(), Fail> {
+fn a_failed_write_is_not_tried_again(rt: HostRuntime) {
+    for before in [0, 1, 5] {
+        write_fails_once(&rt, before);
+    }
+}
+
+/// Stops the test where a document isn't refused for this fault, or something is written.
+fn writes_nothing(rt: &(impl Threads + Sync + Abort + AllocGlobal), document: &[u8], wrong: Wrong) {
+    let mut source = Marked::new(document);
+    let mut sink = TestSink::new(rt, ALWAYS, ALWAYS);
+    let answer = answer_of(rt, &mut source, &mut sink);
+    assert!(rt; answer == Err(wrong.outside()));
+    assert!(rt; sink.taken().is_empty() && !source.failed());
+}
+
+#[test]
+fn writes_nothing_for_a_fault(rt: HostRuntime) {
     let documents: [(&[u8], Wrong); 3] = [
         (b"", Wrong::NotJson),
         (
@@ -193,22 +233,16 @@ fn writes_nothing_for_a_fault(rt: HostRuntime) -> Result<(), Fail> {
         (b"{\"ordtx\":1}", Wrong::Shape),
     ];
     for (document, wrong) in documents {
-        let mut source = Marked::new(document);
-        let mut sink = TestSink::new(Vec::with_capacity(rt.alloc(), 200)?, ALWAYS, ALWAYS);
-        let answer = run_stream(&rt, rt.alloc(), &mut source, &mut sink, plan()?, &NoGate);
-        assert!(rt; answer == Err(wrong.outside()));
-        assert!(rt; sink.taken().is_empty() && !source.failed());
+        writes_nothing(&rt, document, wrong);
     }
-    Ok(())
 }
 
 // A slice takes no byte once it is full.
 #[test]
-fn takes_no_byte(rt: HostRuntime) -> Result<(), Fail> {
+fn takes_no_byte(rt: HostRuntime) {
     let mut source = Marked::new(DOCUMENT);
     let mut full = [0u8; 0];
     let mut sink = Marked::new(full.as_mut_slice());
-    let answer = run_stream(&rt, rt.alloc(), &mut source, &mut sink, plan()?, &NoGate);
+    let answer = answer_of(&rt, &mut source, &mut sink);
     assert!(rt; answer == Err(Code::Output.outside()));
-    Ok(())
 }

@@ -12,17 +12,9 @@ use Rattle.batch.specs.declared.batch.Batch.{Batch}
 use Rattle.intentions.specs.Levels.{AllHaveRoom}
 use Rattle.speculate.specs.declared.speculated.Run.{Run}
 use Rattle.why.specs.Why.{WhyFrom, IsLast, IsEnded, IsWhyText, why_line}
-use Rattle.why.specs.Rounds.{IsRound, IsStopped, IsStoppedBy, IsWritten}
+use Rattle.why.specs.Rounds.{HasReached, IsRound, IsStopped, IsStoppedBy, IsWritten}
 use Rattle.why.specs.declared.round.Round.{Round}
 use Rattle.speculate.proofs.Room.{nets_have_room}
-
--- opening b was reached, with the lines of the rounds before it
-pub record HasReached (batch : Batch) (b number : ℕ) (state : State) (text : List ℕ) : Type 0 where
-  pub within : b ≤ length (blocks_of batch)
-  pub few : number ≤ b + 1
-  pub reached : state ≡ state_at (start_of batch) (blocks_of batch) b
-  pub goes_on : (rest : List ℕ) → WhyFrom (names_of batch.names) (start_of batch) (blocks_of batch) b number rest
-      → IsWhyText (names_of batch.names) (start_of batch) (blocks_of batch) (text ++ rest)
 
 pub at_start : (batch : Batch) (state : State) (text : List ℕ) → state ≡ start_of batch → text ≡ [] → HasReached batch 0 1 state text
 unfolding state_at

@@ -1,19 +1,20 @@
 //! The lines that say why each round but the last ended.
-ghost use Rattle.std.specs.Prelude.{◌≡◌, ◌++◌, ◌+◌, ◌<◌, IfOk, OnOk, length, string_bytes};
-ghost use Rattle.meaning.specs.Batch.{state_at, run_nets};
+ghost use Rattle.std.specs.Prelude.{◌≡◌, ◌++◌, ◌+◌, ◌<◌, [], IfOk, OnOk, length, string_bytes};
+ghost use Rattle.meaning.specs.Batch.{state_at, alone, run_nets};
 ghost use Rattle.objects.specs.Entries.{CommuteForward, CommutesWith};
 ghost use Rattle.batch.specs.Names.{names_of};
 ghost use Rattle.batch.specs.Parts.{start_of, blocks_of};
+ghost use Rattle.speculate.specs.Runs.{IsRunOf};
 ghost use Rattle.why.specs.Why.{IsConflict, IsFirstWithout, IsWhyText, place_text, placed_nets, why_line};
 ghost use Rattle.why.specs.Places.{place_view};
-ghost use Rattle.why.specs.Rounds.{AreRuns, IsRound, IsStopped, IsEarliest, IsWritten};
+ghost use Rattle.why.specs.Rounds.{AreRuns, HasReached, HasPassed, IsRound, IsStopped, HasEarly, IsEarliest, IsWritten};
 
 use crate::places::{Place, places_of};
 use crate::round::{Round, round_from};
 use crate::search::{first_early, first_late};
 use batch::{Batch, Names, NoMemory};
 use intentions::perform_each;
-use objects::Entry;
+use objects::{Entry, Objects};
 use report::{object_name, write_call, write_reply};
 use speculate::Run;
 use std::alloc::Global;
@@ -37,19 +38,57 @@ pub fn render_why<T: Threads + Sync>(
 {
     let mut out = String::new(alloc);
     let mut objects = batch.objects.copy()?;
+    write_rounds(threads, alloc, &mut out, batch, &mut objects)?;
+    Ok(out)
+}
+
+// Writes the line of each round but the last. The objects are those of the start, and become those
+// of the last opening.
+fn write_rounds<T: Threads + Sync>(
+    threads: &T,
+    alloc: Global,
+    out: &mut String,
+    batch: &Batch,
+    objects: &mut Objects,
+) -> Result<(), NoMemory>
+    requires start { objects.old ≡ start_of batch.now }
+    requires empty { string_bytes out.old ≡ [] }
+    ensures { OnOk result (IsWhyText (names_of batch.now.names) (start_of batch.now) (blocks_of batch.now) (string_bytes out.new)) }
+{
     let mut opened: usize = 0;
     let mut number: usize = 1;
     'opening: while opened < batch.transactions.len() {
-        let round = round_from(threads, alloc, batch, &objects, opened)?;
-        let Some(stopped) = &round.conflict else {
-            return Ok(out);
-        };
-        write_round(alloc, &mut out, batch, opened, number, &round, stopped)?;
-        perform_each(&mut objects, round.nets.entries())?;
+        let round = round_from(threads, alloc, batch, objects, opened)?;
+        if !pass_round(alloc, out, batch, opened, number, &round, objects)? {
+            return Ok(());
+        }
         opened += round.passed.len();
         number += 1;
     }
-    Ok(out)
+    Ok(())
+}
+
+// Writes the line of the round from an opening on, and performs what its runs leave. Returns whether
+// it did: for each round but the last.
+fn pass_round(
+    alloc: Global,
+    out: &mut String,
+    batch: &Batch,
+    opened: usize,
+    number: usize,
+    round: &Round,
+    objects: &mut Objects,
+) -> Result<bool, NoMemory>
+    requires reached { HasReached batch.now opened number objects.old (string_bytes out.old) }
+    requires round { IsRound batch.now opened round.now }
+    ensures { IfOk result (HasPassed batch.now opened number round.now objects.new (string_bytes out.new)) }
+{
+    let Some(stopped) = &round.conflict else {
+        return Ok(false);
+    };
+    write_round(alloc, out, batch, opened, number, round, stopped)?;
+    perform_each(objects, round.nets.entries())?;
+    Ok(true)
 }
 
 // Writes the line of the round from an opening on, which this run ends.
@@ -95,15 +134,35 @@ fn write_earliest(
     ensures { OnOk result (IsEarliest batch.now opened (length passed.now) late.now (string_bytes out.old) (string_bytes out.new)) }
 {
     for (index, run) in passed.iter().enumerate() {
-        let place = opened + index;
-        let block = &batch.transactions[place];
-        let places = places_of(alloc, &batch.names, place + 1, block, &run.tree)?;
-        if let Some(early) = first_early(&places, late) {
-            write_place(out, &batch.names, early)?;
+        if write_early(alloc, out, batch, opened, opened + index, run, late)? {
             return Ok(());
         }
     }
     unreachable!()
+}
+
+// Writes the first operation that this run leaves with which the entry doesn't commute forward, and
+// returns whether there is one.
+fn write_early(
+    alloc: Global,
+    out: &mut String,
+    batch: &Batch,
+    opened: usize,
+    place: usize,
+    run: &Run,
+    late: &Entry,
+) -> Result<bool, NoMemory>
+    requires run { IsRunOf (alone (start_of batch.now) (blocks_of batch.now) place opened) run.now }
+    requires within { place < length (blocks_of batch.now) }
+    ensures { IfOk result (HasEarly batch.now opened place late.now (string_bytes out.old) (string_bytes out.new)) }
+{
+    let block = &batch.transactions[place];
+    let places = places_of(alloc, &batch.names, place + 1, block, &run.tree)?;
+    let Some(early) = first_early(&places, late) else {
+        return Ok(false);
+    };
+    write_place(out, &batch.names, early)?;
+    Ok(true)
 }
 
 fn write_place(out: &mut String, names: &Names, place: &Place) -> Result<(), NoMemory>

@@ -1,7 +1,7 @@
 use Rattle.std.proofs.Common.{◌-◌, length, string_bytes}
 use Rattle.batch.specs.Parts.{blocks_of}
-use Rattle.why.proofs.Reaching.{HasReached}
-use Rattle.why.proofs.lines.render_why.Given as goal
+use Rattle.why.specs.Rounds.{HasReached}
+use Rattle.why.proofs.lines.write_rounds.Given as goal
 
 abbrev pub invariant-opening : goal.invariant-opening
 invariant-opening g l = HasReached l.batch l.opened l.number l.objects (string_bytes l.out)
