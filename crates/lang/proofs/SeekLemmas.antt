@@ -1,24 +1,23 @@
 -- The first demand that is not met, of a step and of a block.
 use Rattle.std.specs.Result.{IfErr, IsErrAnd}
 use Rattle.std.specs.Prelude.{codes, nat_lt}
-use Rattle.std.proofs.Common.{◌≡◌, ℕ, zero, suc, ◌<◌, ◌≤◌, Bool, true, false, cond, None, Some, Result, Ok, Err, [], ◌∷◌, List}
+use Rattle.std.proofs.Common.{◌≡◌, ℕ, zero, suc, ◌<◌, ◌≤◌, Bool, true, false, cond, None, Some, Result, Ok, Err, [], List}
 use Rattle.std.proofs.Common.{length, inr, refl, subst, sym, ap, ap₂, ◌∙◌, arith}
 use Rattle.std.proofs.lemmas.Bool.{le-ltb}
 use Rattle.serde_json.specs.Data.{Data, Items}
-use Rattle.serde_json.specs.Find.{as_array, get}
+use Rattle.serde_json.specs.Find.{as_array}
 use Rattle.lang.specs.declared.counts.Counts.{Counts}
 use Rattle.lang.specs.declared.fault.Wrong.TheVariants.{Depth, Shape, TooMany}
 use Rattle.lang.specs.declared.fault.Fault.{Fault}
 use Rattle.lang.specs.declared.places.Place.{Place}
 use Rattle.lang.specs.declared.places.Place.TheVariants.{Whole, Pointer, LineColumn}
 use Rattle.lang.specs.declared.places.Unmet.{Unmet}
-use Rattle.lang.specs.declared.subject.Subject.{Subject}
-use Rattle.lang.specs.Asked.{asked, block_asked, declared_by, document_shape_asked, if_label, if_shape_asked, objects_asked, objects_in}
-use Rattle.lang.specs.Asked.{part, seen_asked, setting_in, subject_of, test_asked, transactions_in, version_in}
-use Rattle.lang.specs.Demand.{check, fault_at, fault_of, no_counts, one_more_node}
+use Rattle.lang.specs.Asked.{asked, block_asked, declared_by, document_shape_asked, objects_asked, objects_in}
+use Rattle.lang.specs.Asked.{setting_in, transactions_in, version_in}
+use Rattle.lang.specs.Demand.{check, fault_at, fault_of, no_counts}
 use Rattle.lang.specs.Faults.{wrong_outside}
 use Rattle.lang.specs.Found.{IsPlaceOf, Shows, found_of, pointer_text}
-use Rattle.lang.specs.Places.{Found, Placed, Places, block_placed, block_placed_if, found_here, if_placed, inside, itself, member_named}
+use Rattle.lang.specs.Places.{Found, Placed, block_placed, found_here, inside, member_named}
 use Rattle.lang.specs.Places.{nothing, objects_placed, placed, seek, steps_placed, transactions_placed}
 use Rattle.lang.specs.Reading.{Document, reading, spelled_by, unless_fault, value_of}
 use Rattle.lang.specs.Scope.{Scope, Setting}
@@ -40,25 +39,6 @@ pub found_plain : (u : Unmet) (e fault : Fault) → u.fault ≡ e → u.pointer 
 found_plain u e fault at none is =
     let make : Fault → List ℕ → Found = λ f p. record { fault = f; pointer = p } in
     ap₂ make (sym (at ∙ is)) (sym (ap pointer_text none))
-
--- the demands on an `if` itself are met, and those on its branches decide
-pub if_parts : (places : Places) (scope : Scope) (d : Data) (label : List ℕ) (subject : Subject) (c next : Counts)
-    → check c (if_shape_asked d) ≡ Ok c → check c (one_more_node ∷ []) ≡ Ok next → label ≡ if_label d
-    → check next (seen_asked scope label) ≡ Ok next → subject ≡ subject_of label scope → check next (test_asked subject d) ≡ Ok next
-    → seek c (if_placed places scope d) ≡ seek next (inside (member_named (codes "then")) (places scope (part (codes "then") d))
-    (inside (member_named (codes "else")) (block_placed_if places scope (get (codes "else") d)) nothing))
-unfolding if_placed
-if_parts places scope d label subject c next shape node is seen of test =
-    let seen' = ap (λ l. check next (seen_asked scope l)) (sym is) ∙ seen in
-    let test' = ap (λ s. check next (test_asked s d)) (sym (of ∙ ap (λ l. subject_of l scope) is)) ∙ test in
-    let branches = inside (member_named (codes "then")) (places scope (part (codes "then") d))
-    (inside (member_named (codes "else")) (block_placed_if places scope (get (codes "else") d)) nothing) in
-    let tested = itself (test_asked (subject_of (if_label d) scope) d) branches in
-    let labelled = itself (seen_asked scope (if_label d)) tested in
-    own_first c c (if_shape_asked d) (itself (one_more_node ∷ []) labelled) shape
-    ∙ own_first c next (one_more_node ∷ []) labelled node
-    ∙ own_first next next (seen_asked scope (if_label d)) tested seen'
-    ∙ own_first next next (test_asked (subject_of (if_label d) scope) d) branches test'
 
 module _ (setting : Setting) (scope : Scope) (d : Data) where
   pub no_array_found : (n : ℕ) (c : Counts) → as_array d ≡ None → seek c (block_placed setting n scope d) ≡ Err

@@ -1,6 +1,7 @@
 //! Where a document's first fault stands.
 ghost use Rattle.std.specs.Prelude.{◌≡◌, ◌≢◌, ◌++◌, [], codes, string_bytes, Ok, Err, IfErr, IfOk, OnOk};
 ghost use Rattle.serde_json.specs.View.{view};
+ghost use Rattle.lang.specs.declared.counts.Counts.{Counts};
 ghost use Rattle.lang.specs.Demand.{no_counts};
 ghost use Rattle.lang.specs.Faults.{memory_fault};
 ghost use Rattle.lang.specs.Found.{IsFound, IsPlaceOf, Shows, found_of, pointer_text};
@@ -136,6 +137,15 @@ fn seek_document(alloc: Global, value: &Value, state: &mut State) -> Result<(), 
     Ok(())
 }
 
+/// That the demands on a document are met, or the first that is not, where nothing is read before it.
+fn seek_whole(alloc: Global, value: &Value, hashing: NameHashing) -> Result<(), Unmet>
+    ensures met { OnOk result ((next : Counts) × (seek no_counts (placed (view value.now)) ≡ Ok next)) }
+    ensures unmet { IfErr result (IsFound no_counts (placed (view value.now))) }
+{
+    let mut state = State::new(alloc, hashing);
+    seek_document(alloc, value, &mut state)
+}
+
 /// The place of the fault that [`read`](crate::read) returns for these bytes.
 ///
 /// `Memory` is returned where a request for memory was refused.
@@ -159,8 +169,7 @@ pub fn locate(alloc: Global, bytes: &[u8], fault: Fault) -> Result<Place, Fault>
             });
         }
     };
-    let mut state = State::new(alloc, NameHashing::of(bytes));
-    match seek_document(alloc, &value, &mut state) {
+    match seek_whole(alloc, &value, NameHashing::of(bytes)) {
         Ok(()) => Ok(Place::Whole),
         Err(unmet) => place_of(unmet),
     }

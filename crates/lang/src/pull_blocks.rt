@@ -23,17 +23,18 @@ ghost use Rattle.meaning.specs.declared.limits.TheConstants.{MAX_DEPTH};
 
 use crate::declared::Declared;
 use crate::hashing::Labels;
-use crate::labels::{add_labels, add_new_label, seen_label};
+use crate::heads::{if_step, no_labels, subaction_of};
+use crate::labels::add_new_label;
 use crate::operations::item_of;
 use crate::pull::{
     pull_begin_array, pull_begin_object, pull_end_object, pull_key, pull_members, pull_name,
     pull_object, pull_operation, pull_text, pull_whole,
 };
+use crate::pull_heads::{begin_parallel, end_parallel, new_sub_step, pull_if_head};
 use crate::state::{Numbering, State, number_of};
-use crate::steps::{Sort, read_members, read_reason, read_step, taking};
+use crate::steps::{Sort, read_members, read_reason, read_step};
 use crate::subject::{Subject, fits_item, fits_number, fits_word};
 use batch::{Block, Handler, Step, Subaction, Test, is_name};
-use indexmap::IndexMap;
 use json::{Reader, Token};
 use serde_json::Map;
 use std::alloc::Global;
@@ -243,13 +244,7 @@ fn pull_sub<'a>(
     let body = pull_block(alloc, reader, levels, declared, state)?;
     let rest = pull_sub_rest(alloc, reader, levels, declared, state)?;
     let label = rest.label;
-    let (handlers, otherwise) = taking(alloc, rest.handlers, rest.handler);
-    let read = Subaction {
-        body,
-        handlers,
-        otherwise,
-        labelled: label.is_some(),
-    };
+    let read = subaction_of(alloc, body, rest.handlers, rest.handler, label.is_some());
     Some((read, label))
 }
 
@@ -273,15 +268,8 @@ fn pull_sub_step(
         × (scope_of state.new.labels.entries ≡ scope_after (setting_of declared.now) (scope_of state.old.labels.entries) d)) }
 {
     let (read, label) = pull_sub(alloc, reader, levels, declared, state)?;
-    add_new_label(
-        alloc,
-        label,
-        Subject::Outcome,
-        &mut state.labels,
-        &state.counts,
-    )
-    .ok()?;
-    Some(Step::Sub(Box::new(alloc, read).ok()?))
+    let step = new_sub_step(alloc, read, label, &mut state.labels, &state.counts)?;
+    Some(step)
 }
 
 // ---- children
@@ -339,22 +327,17 @@ fn pull_parallel(
         (scope_of state.old.labels.entries) (numbers_of state.old.numbering) d)
         × (scope_of state.new.labels.entries ≡ scope_after (setting_of declared.now) (scope_of state.old.labels.entries) d)) }
 {
-    state.counts.one_more_node().ok()?;
-    pull_begin_array(reader)?;
-    let mut elder = IndexMap::with_hasher(alloc, *state.labels.hasher());
+    begin_parallel(reader, &mut state.counts)?;
+    let mut elder = no_labels(alloc, &state.labels);
     let children = pull_children(alloc, reader, levels, declared, &mut elder, state)?;
-    pull_end_object(reader)?;
-    let all_new = add_labels(alloc, &elder, &mut state.labels).ok()?;
-    if !all_new {
-        return None;
-    }
-    Some(Step::Parallel(children))
+    let step = end_parallel(alloc, reader, children, elder, &mut state.labels)?;
+    Some(step)
 }
 
 // ---- conditions and aborts
 
 /// The test of an `if` against what its label is of, where the test stands next.
-fn pull_test(
+pub(crate) fn pull_test(
     alloc: Global,
     subject: Subject,
     reader: &mut Reader<'_>,
@@ -448,19 +431,11 @@ fn pull_if(
         (scope_of state.old.labels.entries) (numbers_of state.old.numbering) d)
         × (scope_of state.new.labels.entries ≡ scope_after (setting_of declared.now) (scope_of state.old.labels.entries) d)) }
 {
-    let name = pull_text(reader)?;
-    state.counts.one_more_node().ok()?;
-    let (label, subject) = seen_label(name, &state.labels, &state.counts).ok()?;
-    let test = pull_test(alloc, subject, reader, &mut state.numbering)?;
-    pull_key(reader, "then")?;
+    let head = pull_if_head(alloc, reader, state)?;
     let then = pull_block(alloc, reader, levels, declared, state)?;
     let otherwise = pull_else(alloc, reader, levels, declared, state)?;
-    Some(Step::If {
-        label,
-        test,
-        then: Box::new(alloc, then).ok()?,
-        otherwise: Box::new(alloc, otherwise).ok()?,
-    })
+    let step = if_step(alloc, head.label, head.test, then, Some(otherwise)).ok()?;
+    Some(step)
 }
 
 /// The reason of an abort, where it has one and the version has reasons, and the step's end.

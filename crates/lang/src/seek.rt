@@ -9,19 +9,18 @@ ghost use Rattle.lang.specs.Places.{block_placed, block_placed_if, children_plac
 ghost use Rattle.lang.specs.Scope.{Extends, scope_of, setting_of, with_label, with_labels};
 ghost use Rattle.meaning.specs.declared.limits.TheConstants.{MAX_TRANSACTIONS};
 
-use crate::conditions::{if_shape_of, read_test};
 use crate::declared::Declared;
 use crate::fault::{Fault, Wrong};
 use crate::hashing::Labels;
-use crate::labels::{add_label, add_labels, check_label, seen_label};
+use crate::heads::{if_head, no_labels, parallel_head, sub_head, take_labels};
+use crate::labels::add_label;
 use crate::look::text_member;
 use crate::operations::read_operation;
 use crate::places::Unmet;
 use crate::state::State;
-use crate::steps::{Sort, children_of, read_abort, sort_of, sub_shape_of};
+use crate::steps::{Sort, read_abort, sort_of};
 use crate::subject::Subject;
 use batch::is_name;
-use indexmap::IndexMap;
 use meaning::limits::MAX_DEPTH;
 use serde_json::{Map, Value};
 use std::alloc::Global;
@@ -29,7 +28,7 @@ use std::alloc::Global;
 // ---- the steps that hold blocks
 
 #[cycle(seek)]
-#[tactic(auto, unfolding(crate::specs::Places::if_placed))]
+#[tactic(auto, using(crate::proofs::HeadPlaces::placed_heads))]
 fn seek_if(
     alloc: Global,
     step: &Value,
@@ -43,11 +42,8 @@ fn seek_if(
         (scope_of state.old.labels.entries) (view step.now))) }
     ensures labels { OnOk result (scope_of state.new.labels.entries ≡ scope_of state.old.labels.entries) }
 {
-    let shape = if_shape_of(step, &state.counts)?;
-    state.counts.one_more_node()?;
-    let (_, subject) = seen_label(shape.label, &state.labels, &state.counts)?;
-    read_test(alloc, subject, step, &state.counts, &mut state.numbering)?;
-    if let Err(unmet) = seek_block(alloc, shape.then, levels, declared, state) {
+    let head = if_head(alloc, step, state)?;
+    if let Err(unmet) = seek_block(alloc, head.then, levels, declared, state) {
         return Err(unmet.in_member(alloc, "then"));
     }
     if let Err(unmet) = seek_block_if(alloc, step.get("else"), levels, declared, state) {
@@ -105,7 +101,7 @@ fn seek_handlers(
 
 /// A subaction, or a child whose earlier siblings have these labels. Its own label is not yet seen.
 #[cycle(seek)]
-#[tactic(auto, unfolding(crate::specs::Places::sub_placed))]
+#[tactic(auto, using(crate::proofs::HeadPlaces::placed_heads))]
 fn seek_sub(
     alloc: Global,
     step: &Value,
@@ -120,13 +116,17 @@ fn seek_sub(
         (scope_of state.old.labels.entries) (unwrap_or (option_map (λ labels. scope_of labels.now.entries) elder.entry) []) (view step.now))) }
     ensures labels { OnOk result (scope_of state.new.labels.entries ≡ scope_of state.old.labels.entries) }
 {
-    let shape = sub_shape_of(step, declared.version, &state.counts)?;
-    state.counts.one_more_node()?;
-    check_label(shape.label, &state.labels, elder, &state.counts)?;
-    if let Err(unmet) = seek_block(alloc, shape.body, levels, declared, state) {
+    let head = sub_head(
+        step,
+        declared.version,
+        &state.labels,
+        elder,
+        &mut state.counts,
+    )?;
+    if let Err(unmet) = seek_block(alloc, head.body, levels, declared, state) {
         return Err(unmet.in_member(alloc, "sub"));
     }
-    if let Err(unmet) = seek_handlers(alloc, shape.handlers, levels, declared, state) {
+    if let Err(unmet) = seek_handlers(alloc, head.handlers, levels, declared, state) {
         return Err(unmet.in_member(alloc, "handlers"));
     }
     if let Err(unmet) = seek_block_if(alloc, step.get("handler"), levels, declared, state) {
@@ -187,7 +187,7 @@ fn seek_children(
 }
 
 #[cycle(seek)]
-#[tactic(auto, unfolding(crate::specs::Places::parallel_placed))]
+#[tactic(auto, using(crate::proofs::HeadPlaces::placed_heads))]
 fn seek_parallel(
     alloc: Global,
     step: &Value,
@@ -202,13 +202,12 @@ fn seek_parallel(
     ensures labels { OnOk result (scope_of state.new.labels.entries
         ≡ with_labels (labels_of [] (children_in (view step.now))) (scope_of state.old.labels.entries)) }
 {
-    let list = children_of(step, &state.counts)?;
-    state.counts.one_more_node()?;
-    let mut elder = IndexMap::with_hasher(alloc, *state.labels.hasher());
+    let list = parallel_head(step, &mut state.counts)?;
+    let mut elder = no_labels(alloc, &state.labels);
     if let Err(unmet) = seek_children(alloc, list, levels, declared, &mut elder, state) {
         return Err(unmet.in_member(alloc, "parallel"));
     }
-    add_labels(alloc, &elder, &mut state.labels)?;
+    take_labels(alloc, elder, &mut state.labels)?;
     Ok(())
 }
 

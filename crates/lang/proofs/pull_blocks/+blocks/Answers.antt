@@ -1,31 +1,30 @@
-use Rattle.std.proofs.Common.{◌≡◌, ℕ, true, Ok, List, [], ◌∷◌, ◌++◌, Some, None, map, length, refl, sym, subst, ap, ap₂, ◌∙◌, ◌+◌, ◌*◌}
+use Rattle.std.proofs.Common.{◌≡◌, ℕ, true, List, [], ◌∷◌, ◌++◌, Some, None, map, length, refl, sym, subst, ap, ap₂, ◌∙◌, ◌+◌, ◌*◌}
 use Rattle.std.proofs.Common.{append-nil, arith, rules, ◌-◌, suc, option_map, le-leb, Vec, Global}
 use Rattle.std.proofs.lemmas.List.{map-append}
 use Rattle.json.specs.Json.{after_end_array, read_key}
 use Rattle.serde_json.specs.Data.{Items, no_items, item, array, no_members, object, member, put, string}
 use Rattle.meaning.specs.Trees as tree
-use Rattle.batch.specs.Views.{block_view, step_view, steps_of, Tried, handler_view, otherwise_view, subaction_view, children_of}
+use Rattle.batch.specs.Views.{block_view, step_view, steps_of, Tried, handler_view, subaction_view, children_of}
 use Rattle.lang.specs.Asked.{label_asked, block_asked, scope_after, step_asked, steps_asked, label_in, member_asked, members_asked}
-use Rattle.lang.specs.Asked.{children_asked, labels_of, sub_asked, block_asked_if, seen_asked, subject_of, test_asked}
+use Rattle.lang.specs.Asked.{children_asked, labels_of, sub_asked, block_asked_if}
 use Rattle.lang.specs.Demand.{check, holds, one_more_node}
 use Rattle.lang.specs.Scope.{AreUnseen, Extends, Numbers, Scope, Table, number_of, numbers_of, scope_of, setting_of, with_label}
-use Rattle.lang.specs.Scope.{with_labels, with_text, label_number}
+use Rattle.lang.specs.Scope.{with_labels, with_text}
 use Rattle.lang.specs.Spelled.{block_of, steps_spelled, spelled_map, member_of, members_of, sub_step, tried, children_spelled, sub_of}
-use Rattle.lang.specs.Spelled.{block_of_if, or_no_step, test_of}
+use Rattle.lang.specs.Spelled.{block_of_if, or_no_step}
 use Rattle.lang.specs.Pulled.{IsAfter, ReadsValue, SubTail, sub_members, ReadsMembers, if_step, test_key, with_else}
 use Rattle.lang.proofs.Checks.{check_met}
 use Rattle.lang.proofs.ListLemmas.{in_front, in_front_none, in_front_push}
 use Rattle.lang.proofs.LabelLemmas.{child_label_met, extends_twice, scope_after_extends, cut_back}
 use Rattle.lang.proofs.PulledLemmas.{reads_item, reads_no_items, reads_shorter, reads_array, reads_deeper, reads_member, reads_no_members}
-use Rattle.lang.proofs.PulledLemmas.{reads_object, reads_string}
+use Rattle.lang.proofs.PulledLemmas.{reads_object}
 use Rattle.json.specs.Token.{Token}
 use Rattle.batch.specs.declared.tree.Block.{roll-Block}
-use Rattle.batch.proofs.ViewLemmas.{block_view-is, step_view-If, step_view-Sub, step_view-Parallel}
+use Rattle.batch.proofs.ViewLemmas.{block_view-is}
 use Rattle.lang.proofs.BlockLemmas.{block_asks, block_spells}
-use Rattle.std.specs.Prelude.{codes, is_some, IfOk}
+use Rattle.std.specs.Prelude.{codes, is_some}
 use Rattle.json.proofs.Grammar.{read_key-shorter}
 use Rattle.batch.specs.declared.tree.Handler.{Handler, roll-Handler, the_lemmas as handler_lemmas}
-use Rattle.batch.specs.declared.tree.Subaction.{roll-Subaction, the_lemmas}
 use Rattle.meaning.specs.Trees.{for_reasons, handlers_of}
 use Rattle.lang.specs.Answer.{IsMet}
 use Rattle.lang.proofs.PulledSubs.{label_anywhere, sub_label, sub_met, sub_sort, sub_spelled, sub_step_met, sub_step_scope}
@@ -33,7 +32,6 @@ use Rattle.lang.proofs.PulledSubs.{sub_step_spelled, tail_handler, tail_handlers
 use Rattle.lang.proofs.PulledSubs.{parallel_spelled, parallel_step}
 use Rattle.lang.specs.declared.subject.Subject.TheVariants.{Outcome}
 use Rattle.std.proofs.lemmas.Option.{IfSome_then}
-use Rattle.batch.specs.declared.tree.Step.{If}
 use Rattle.batch.specs.Names.{is_name, texts_of}
 use Rattle.lang.specs.declared.fault.Wrong.TheVariants.{Name}
 use Rattle.lang.proofs.PulledHandlers.{after_both, put_after}
@@ -377,21 +375,7 @@ pull_sub-returns t c =
     (reads_deeper (5 * c.args.levels) k old b mid (omega arith) done.1)
     (tail.reads b ms new (reads_no_members k ms behind.0 new behind.2)) in
     let flag : c.is_some.result ≡ is_some label = grind (arith, rules) in
-    let taken : for_reasons (map handler_view c.taking-handlers.result.0.items) (otherwise_view c.taking-handlers.result.1)
-    ≡ handlers_of handlers handler = grind (arith, rules) in
-    let child = roll-Subaction (record {
-      body = c.in_ok-body.body;
-      handlers = c.taking-handlers.result.0;
-      otherwise = c.taking-handlers.result.1;
-      labelled = c.is_some.result;
-    }) in
-    let plain : subaction_view child ≡ record {
-      body = block_view c.in_ok-body.body;
-      handlers = for_reasons (map handler_view c.taking-handlers.result.0.items) (otherwise_view c.taking-handlers.result.1);
-      labelled = c.is_some.result;
-    } = search (rules, the_lemmas) in
-    let shown : subaction_view child ≡ tried (block_view c.in_ok-body.body) handlers handler (is_some label) = plain
-    ∙ rw (taken, flag) refl in (
+    let shown = c.subaction_of-read.ensures ∙ ap (tried (block_view c.in_ok-body.body) handlers handler) flag in (
       object ms,
       reads_deeper (suc k) (5 * c.args.levels + 2) _ (object ms) new (omega arith)
           (reads_object k (Token.key (codes "sub") ∷ old) ms new members),
@@ -415,23 +399,21 @@ pull_sub_step-returns t c =
     let next = c.pull_sub.new.state.counts in
     let numbers = numbers_of c.args.state.now.numbering in
     let last = numbers_of c.pull_sub.new.state.numbering in
-    let child = c.in_ok-ok-2.field-0 in
-    let boxes : child.value ≡ c.in_ok-read.read = grind (arith, rules) in
     let done = c.in_ok-read.ensures in
     let d = done.0 in
     let label : option_map (λ text. text.now) c.in_ok-read.label ≡ label_in d = done.4 in
     let within : scope_of c.pull_sub.new.state.labels.entries ≡ scope = done.6 in
     let named : IsMet next (label_asked (scope_of c.pull_sub.new.state.labels.entries) [] (option_map
     (λ text. text.now) c.in_ok-read.label)) next = grind (arith, rules) in
-    let added : scope_of c.add_new_label.new.labels.entries ≡ with_label (option_map (λ text. text.now) c.in_ok-read.label) Outcome
+    let added : scope_of c.new_sub_step.new.labels.entries ≡ with_label (option_map (λ text. text.now) c.in_ok-read.label) Outcome
     (scope_of c.pull_sub.new.state.labels.entries) = grind (arith, rules) in
+    let shown : step_view c.in_ok-step.step ≡ sub_step (subaction_view c.in_ok-read.read) = grind (arith, rules) in
     let allowed = subst (λ s. IsMet next (label_asked s [] (label_in d)) next) within
     (subst (λ o. IsMet next (label_asked (scope_of c.pull_sub.new.state.labels.entries) [] o) next) label named) in (
       d,
       done.1,
       sub_step_met setting scope d asks start next done.5 (done.2 [] allowed),
-      ap (λ (x : tree.Step). (x, last)) (step_view-Sub child) ∙ ap (λ read. (sub_step (subaction_view read), last)) boxes
-          ∙ ap (spelled_map sub_step) done.3
+      ap (λ (x : tree.Step). (x, last)) shown ∙ ap (spelled_map sub_step) done.3
           ∙ sym (sub_step_spelled setting scope d block numbers done.5),
       added ∙ ap (λ s. with_label (option_map (λ text. text.now) c.in_ok-read.label) Outcome s) within
           ∙ ap (λ o. with_label o Outcome scope) label ∙ sym (sub_step_scope setting scope d done.5),
@@ -535,29 +517,25 @@ pull_parallel-returns t c =
     let block = block_of setting c.args.levels in
     let scope = scope_of c.args.state.now.labels.entries in
     let start = c.args.state.now.counts in
-    let counted = c.one_more_node.new.self in
+    let counted = c.begin_parallel.new.counts in
     let next = c.pull_children.new.state.counts in
     let numbers = numbers_of c.args.state.now.numbering in
     let last = numbers_of c.pull_children.new.state.numbering in
-    let inside = c.pull_begin_array.new.reader in
+    let inside = c.begin_parallel.new.reader in
     let behind = c.pull_children.new.reader in
-    let new = c.pull_end_object.new.reader in
+    let new = c.end_parallel.new.reader in
     let old = c.args.reader.now in
     let done = c.in_ok-children.ensures in
     let ds = done.0 in
     let begun : old ≡ Token.begin_array ∷ inside = grind (arith, rules) in
-    let ended : behind ≡ Token.end_object ∷ new = grind (arith, rules) in
+    let ended = c.in_ok-step.ensures.tokens in
     let one : IsMet start (one_more_node ∷ []) counted = grind (arith, rules) in
-    let empty : scope_of c.with_hasher-elder.result.entries ≡ [] = grind (arith, rules) in
-    let all_new : c.in_ok-all_new.all_new ≡ true = grind (arith, rules) in
+    let empty = c.no_labels-elder.ensures in
     let found = scope_of c.pull_children.new.elder.entries in
-    let told : c.add_labels.result ≡ Ok c.in_ok-all_new.all_new = grind (arith, rules) in
-    let unseen : AreUnseen found scope = subst (λ (s : Scope). AreUnseen found s) done.5
-    (subst (λ r. IfOk r (λ all. all ≡ true → AreUnseen found (scope_of c.pull_children.new.state.labels.entries))) told
-    c.add_labels.ensures.new all_new) in
+    let unseen : AreUnseen found scope = subst (λ (s : Scope). AreUnseen found s) done.5 c.in_ok-step.ensures.unseen in
     let met = subst (λ e. IsMet counted (children_asked version asks scope e ds) next) empty (done.2 unseen) in
     let labels = done.4 ∙ ap (λ (e : Scope). labels_of e ds) empty in
-    let added : scope_of c.add_labels.new.labels.entries ≡ with_labels (scope_of c.pull_children.new.elder.entries)
+    let added : scope_of c.end_parallel.new.labels.entries ≡ with_labels (scope_of c.pull_children.new.elder.entries)
     (scope_of c.pull_children.new.state.labels.entries) = grind (arith, rules) in
     let ms = member (codes "parallel") (array ds) no_members in
     let list = subst (λ ts. ReadsValue k ts (array ds) behind) (sym begun)
@@ -570,7 +548,7 @@ pull_parallel-returns t c =
       reads_deeper (suc k) (5 * c.args.levels + 4) _ (object ms) new (omega arith) (reads_object k (Token.key
           (codes "parallel") ∷ old) ms new members),
       parallel_met setting scope ds asks start counted next one met,
-      ap (λ (x : tree.Step). (x, last)) (step_view-Parallel c.in_ok-children.children)
+      ap (λ (x : tree.Step). (x, last)) c.in_ok-step.ensures.value
           ∙ ap (spelled_map (λ (children : List Tried). tree.Parallel (children_of children))) done.3
           ∙ sym (parallel_spelled setting scope ds block numbers),
       added ∙ ap₂ (λ (a b : Scope). with_labels a b) labels done.5 ∙ sym (parallel_scope setting scope ds),
@@ -584,25 +562,24 @@ pull_if-returns t c =
     let block = block_of setting c.args.levels in
     let scope = scope_of c.args.state.now.labels.entries in
     let start = c.args.state.now.counts in
-    let counted = c.one_more_node.new.self in
+    let counted = c.pull_if_head.new.state.counts in
     let inside = c.pull_block.new.state.counts in
     let next = c.pull_else.new.state.counts in
     let numbers = numbers_of c.args.state.now.numbering in
-    let tested = numbers_of c.pull_test.new.numbering in
+    let tested = numbers_of c.pull_if_head.new.state.numbering in
     let after = numbers_of c.pull_block.new.state.numbering in
     let last = numbers_of c.pull_else.new.state.numbering in
     let old = c.args.reader.now in
-    let r1 = c.pull_text.new.reader in
-    let r2 = c.pull_test.new.reader in
-    let r3 = c.pull_key.new.reader in
+    let r3 = c.pull_if_head.new.reader in
     let r4 = c.pull_block.new.reader in
     let new = c.pull_else.new.reader in
-    let s = c.in_ok-name.name.now in
-    let test = c.in_ok-test.ensures in
+    let head = c.in_ok-head.ensures in
+    let s = head.0 in
+    let key = head.1 in
+    let v = head.2 in
+    let within = head.9 in
     let done = c.in_ok-then.ensures in
     let rest = c.in_ok-otherwise.ensures in
-    let key = test.0 in
-    let v = test.1 in
     let first = done.0 in
     let second = rest.0 in
     let m1 = member (codes "if") (string s) no_members in
@@ -610,36 +587,24 @@ pull_if-returns t c =
     let m3 = put (codes "then") first m2 in
     let ms = with_else second m3 in
     let whole = if_step s key v first second in
-    let named : old ≡ Token.string s ∷ r1 = grind (arith, rules) in
-    let keyed : r2 ≡ Token.key (codes "then") ∷ r3 = grind (arith, rules) in
-    let one : IsMet start (one_more_node ∷ []) counted = grind (arith, rules) in
-    let seen : IsMet counted (seen_asked scope s) counted = grind (arith, rules) in
-    let number : c.in_ok-label.label ≡ label_number s scope = grind (arith, rules) in
-    let subject : c.in_ok-label.subject ≡ subject_of s scope = grind (arith, rules) in
-    let tests = subst (λ x. IsMet counted (test_asked x whole) counted) subject (test.3 s first second counted) in
-    let spells = subst (λ x. (c.in_ok-test.test, tested) ≡ test_of x numbers whole) subject (test.4 s first second) in
-    let later = subst (λ l. IsMet inside (block_asked_if asks l second) next) done.4 rest.2 in
+    let same = done.4 ∙ within in
+    let met = subst (λ l. IsMet counted (asks l first) inside) within done.2 in
+    let spells = subst (λ l. (block_view c.in_ok-then.then, after) ≡ block l tested first) within done.3 in
+    let later = subst (λ l. IsMet inside (block_asked_if asks l second) next) same rest.2 in
     let ends = subst (λ l. (block_view c.in_ok-otherwise.otherwise, last)
-    ≡ spelled_map or_no_step (block_of_if block l after second)) done.4 rest.3 in
-    let reads3 = subst (λ ts. ReadsMembers k m2 ts ms new) (sym keyed)
-    (reads_member k m2 (codes "then") (Token.key (codes "then") ∷ r3) r3 r4 new first ms refl (omega arith) done.1 (rest.1 m3)) in
-    let reads1 = reads_member k no_members (codes "if") (Token.key (codes "if") ∷ Token.string s ∷ r1) (Token.string s ∷ r1) r1 new
-    (string s) ms refl
-    (omega arith) (reads_string k s r1) (test.2 k m1 ms new reads3) in
-    let boxes : c.in_ok-ok-2.field-0.value ≡ c.in_ok-then.then = grind (arith, rules) in
-    let boxes_too : c.in_ok-ok-3.field-0.value ≡ c.in_ok-otherwise.otherwise = grind (arith, rules) in
-    let shown : step_view (If c.in_ok-label.label c.in_ok-test.test c.in_ok-ok-2.field-0 c.in_ok-ok-3.field-0)
-    ≡ tree.If (label_number s scope) c.in_ok-test.test (block_view c.in_ok-then.then) (block_view c.in_ok-otherwise.otherwise)
-    = step_view-If c.in_ok-label.label c.in_ok-test.test c.in_ok-ok-2.field-0 c.in_ok-ok-3.field-0
-    ∙ rw (number, boxes, boxes_too) refl in (
+    ≡ spelled_map or_no_step (block_of_if block l after second)) same rest.3 in
+    let reads = head.3 k ms new (reads_member k m2 (codes "then") (Token.key (codes "then") ∷ r3) r3 r4 new first ms refl (omega arith)
+    done.1 (rest.1 m3)) in
+    let shown : step_view c.in_ok-step.step ≡ tree.If c.in_ok-head.head.label c.in_ok-head.head.test (block_view c.in_ok-then.then)
+    (block_view c.in_ok-otherwise.otherwise) = grind (arith, rules) in (
       whole,
-      subst (λ ts. ReadsValue (5 * c.args.levels + 1) (Token.begin_object ∷ Token.key (codes "if") ∷ ts) whole new) (sym named)
-          (reads_deeper (suc k) (k + 1) _ whole new (omega arith) (reads_object k _ ms new reads1)),
-      if_met setting scope s key v first second asks start counted inside next one seen tests done.2 later,
-      ap (λ (x : tree.Step). (x, last)) shown
-          ∙ if_spelled setting scope s key v first second block numbers tested after last c.in_ok-test.test (block_view c.in_ok-then.then)
-          (block_view c.in_ok-otherwise.otherwise) spells done.3 ends,
-      rest.4 ∙ done.4 ∙ sym (if_scope setting scope s key v first second),
+      reads_deeper (suc k) (5 * c.args.levels + 1) _ whole new (omega arith) (reads_object k (Token.key (codes "if") ∷ old) ms new reads),
+      if_met setting scope s key v first second asks start counted inside next head.4 head.5 (head.6 first second) met later,
+      ap (λ (x : tree.Step). (x, last)) (shown ∙ ap (λ n. tree.If n c.in_ok-head.head.test (block_view c.in_ok-then.then)
+          (block_view c.in_ok-otherwise.otherwise)) head.8)
+          ∙ if_spelled setting scope s key v first second block numbers tested after last c.in_ok-head.head.test
+          (block_view c.in_ok-then.then) (block_view c.in_ok-otherwise.otherwise) (head.7 first second) spells ends,
+      rest.4 ∙ same ∙ sym (if_scope setting scope s key v first second),
     )
 
 pub pull_else-returns-in-Some-EndObject : goal.pull_else-returns-in-Some-EndObject
@@ -680,6 +645,56 @@ pull_else-returns-in_ok-pull_end_object-in-Some-Key-else t c =
       done.3,
       done.4,
     )
+
+pub pull_step-returns-in-op : goal.pull_step-returns-in-op
+pull_step-returns-in-op t c =
+    let k = 5 * c.args.levels + 4 in
+    let asks = block_asked (setting_of c.args.declared.now) c.args.levels in
+    let block = block_of (setting_of c.args.declared.now) c.args.levels in
+    let inside = c.pull_first_key.new.reader in
+    let named : c.in_ok-name.name.now ≡ codes "op" = grind (arith, rules) in
+    let begun = c.in_ok-name.ensures ∙ ap (λ n. Token.begin_object ∷ Token.key n ∷ inside) named in
+    IfSome_then c.pull_operation.result c.pull_operation.ensures
+    (λ step w. (
+      w.0,
+      subst (λ ts. ReadsValue k ts w.0 c.pull_operation.new.reader) (sym begun)
+          (reads_deeper 2 k _ w.0 c.pull_operation.new.reader (omega arith) w.1),
+      w.2 asks,
+      w.3 block,
+      w.4,
+    ))
+
+pub pull_step-returns-in-sub : goal.pull_step-returns-in-sub
+pull_step-returns-in-sub t c =
+    let k = 5 * c.args.levels + 4 in
+    let inside = c.pull_first_key.new.reader in
+    let named : c.in_ok-name.name.now ≡ codes "sub" = grind (arith, rules) in
+    let begun = c.in_ok-name.ensures ∙ ap (λ n. Token.begin_object ∷ Token.key n ∷ inside) named in
+    IfSome_then c.pull_sub_step.result c.pull_sub_step.ensures
+    (λ step w. (
+      w.0,
+      subst (λ ts. ReadsValue k ts w.0 c.pull_sub_step.new.reader) (sym begun)
+          (reads_deeper (5 * c.args.levels + 2) k _ w.0 c.pull_sub_step.new.reader (omega arith) w.1),
+      w.2,
+      w.3,
+      w.4,
+    ))
+
+pub pull_step-returns-in-if : goal.pull_step-returns-in-if
+pull_step-returns-in-if t c =
+    let k = 5 * c.args.levels + 4 in
+    let inside = c.pull_first_key.new.reader in
+    let named : c.in_ok-name.name.now ≡ codes "if" = grind (arith, rules) in
+    let begun = c.in_ok-name.ensures ∙ ap (λ n. Token.begin_object ∷ Token.key n ∷ inside) named in
+    IfSome_then c.pull_if.result c.pull_if.ensures
+    (λ step w. (
+      w.0,
+      subst (λ ts. ReadsValue k ts w.0 c.pull_if.new.reader) (sym begun)
+          (reads_deeper (5 * c.args.levels + 1) k _ w.0 c.pull_if.new.reader (omega arith) w.1),
+      w.2,
+      w.3,
+      w.4,
+    ))
 
 pub pull_step-returns-in-parallel : goal.pull_step-returns-in-parallel
 pull_step-returns-in-parallel t c =

@@ -1,12 +1,14 @@
 use Rattle.std.proofs.Common.{◌≡◌, ℕ, ◌+◌, ◌-◌, List, [], ◌∷◌, None, Err, drop, map, string_bytes, subst, sym, ap, ap₂, ◌∙◌, arith, rules}
+use Rattle.std.proofs.Common.{Vec, Global, option_map}
+use Rattle.std.specs.Prelude.{is_some}
 use Rattle.std.proofs.lemmas.List.{map-append}
 use Rattle.serde_json.specs.Find.{as_array}
 use Rattle.serde_json.specs.View.{items_view, members_view, view}
 use Rattle.meaning.specs.Trees as tree
-use Rattle.batch.specs.Views.{Tried, handler_view, step_view, steps_of, subaction_view, children_of}
+use Rattle.batch.specs.Views.{Tried, block_view, handler_view, step_view, steps_of, subaction_view, children_of}
 use Rattle.lang.specs.Answer.{IsFirst}
 use Rattle.lang.specs.Asked.{block_asked, children_asked, label_in, labels_of, member_asked, members_asked, scope_after, step_asked}
-use Rattle.lang.specs.Asked.{steps_asked, sub_asked}
+use Rattle.lang.specs.Asked.{if_asked, steps_asked, sub_asked}
 use Rattle.lang.specs.Demand.{check}
 use Rattle.lang.specs.Scope.{Extends, Numbers, Scope, numbers_of, scope_of, setting_of, with_label}
 use Rattle.lang.specs.Spelled.{block_of, children_spelled, spelled_map, steps_spelled}
@@ -14,9 +16,12 @@ use Rattle.lang.specs.declared.subject.Subject.TheVariants.{Outcome}
 use Rattle.lang.proofs.Checks.{check_failed, check_met, passed_on}
 use Rattle.lang.proofs.ListLemmas.{in_front, in_front_push, items_from}
 use Rattle.batch.specs.declared.tree.Block.{roll-Block}
-use Rattle.batch.proofs.ViewLemmas.{block_view-is, step_view-Parallel}
-use Rattle.lang.specs.Spelled.{parallel_of, members_of}
+use Rattle.batch.specs.declared.tree.Handler.{Handler}
+use Rattle.batch.proofs.ViewLemmas.{block_view-is}
+use Rattle.lang.specs.Spelled.{parallel_of, members_of, tried}
 use Rattle.lang.proofs.BlockLemmas.{block_asks, block_spells, no_array, too_deep}
+use Rattle.lang.proofs.HeadLemmas.{if_else_failed, if_head_failed, if_parts_met, if_read, if_then_failed, sub_body_failed}
+use Rattle.lang.proofs.HeadLemmas.{sub_handler_failed, sub_handlers_failed, sub_head_failed, sub_parts_met, sub_read}
 use Rattle.lang.proofs.LabelLemmas.{cut_back, extends_twice, scope_after_extends}
 use Rattle.lang.proofs.steps.+steps.Goals as goal
 
@@ -185,18 +190,6 @@ read_children-loop-child-preserved t c =
       labels = done.labels ∙ l.invariant.labels;
     }
 
-pub read_parallel-returns-clause-value : goal.read_parallel-returns-clause-value
-unfolding parallel_of
-read_parallel-returns-clause-value t c =
-    let setting = setting_of c.args.declared.now in
-    let block = block_of setting c.args.levels in
-    let scope = scope_of c.args.state.now.labels.entries in
-    let numbers = numbers_of c.args.state.now.numbering in
-    let make = λ (children : List Tried). tree.Parallel (children_of children) in
-    ap (λ (step : tree.Step). (step, numbers_of c.read_children.new.state.numbering)) (step_view-Parallel c.in_ok-children.children)
-    ∙ ap (spelled_map make) c.in_ok-children.ensures.value
-    ∙ ap (λ ds. spelled_map make (children_spelled block scope numbers ds)) c.in_ok-list.ensures.children
-
 pub read_members-returns-in_err-read_handler-clause-first : goal.read_members-returns-in_err-read_handler-clause-first
 read_members-returns-in_err-read_handler-clause-first t c =
     let l = c.loop-reason in
@@ -242,3 +235,161 @@ read_members-loop-reason-preserved t c =
           ∙ ap (map handler_view) (sym c.in_ok-push.ensures.items));
       labels = done.labels ∙ l.invariant.labels;
     }
+
+pub read_parallel-returns-clause-value : goal.read_parallel-returns-clause-value
+unfolding parallel_of
+read_parallel-returns-clause-value t c =
+    let setting = setting_of c.args.declared.now in
+    let block = block_of setting c.args.levels in
+    let scope = scope_of c.args.state.now.labels.entries in
+    let numbers = numbers_of c.args.state.now.numbering in
+    let make = λ (children : List Tried). tree.Parallel (children_of children) in
+    ap (λ (step : tree.Step). (step, numbers_of c.read_children.new.state.numbering)) c.in_ok-read.ensures.value
+    ∙ ap (spelled_map make) c.in_ok-children.ensures.value
+    ∙ ap (λ ds. spelled_map make (children_spelled block scope numbers ds)) c.in_ok-list.ensures.children
+
+pub read_if-returns-in_err-head-clause-first : goal.read_if-returns-in_err-head-clause-first
+read_if-returns-in_err-head-clause-first t c =
+    let asks = block_asked (setting_of c.args.declared.now) c.args.levels in
+    let scope = scope_of c.args.state.now.labels.entries in
+    let d = view c.args.step.now in
+    let start = c.args.state.now.counts in
+    let e = c.in_err-head.field-0.0 in
+    passed_on c.from_residual.result (IsFirst start (if_asked asks scope d)) e c.from_residual.ensures.1
+    (λ other. if_head_failed asks scope d start e (c.in_err-head.ensures.first other))
+
+pub read_if-returns-in_err-then-clause-first : goal.read_if-returns-in_err-then-clause-first
+read_if-returns-in_err-then-clause-first t c =
+    let asks = block_asked (setting_of c.args.declared.now) c.args.levels in
+    let scope = scope_of c.args.state.now.labels.entries in
+    let d = view c.args.step.now in
+    let start = c.args.state.now.counts in
+    let head = c.in_ok-head.ensures in
+    let e = c.in_err-then.field-0.0 in
+    passed_on c.from_residual-in_err-then.result (IsFirst start (if_asked asks scope d)) e c.from_residual-in_err-then.ensures.1
+    (λ other. if_then_failed asks scope d start c.if_head.new.state.counts e head.met
+    (rw (head.then, head.labels) at (c.in_err-then.ensures.first other)))
+
+pub read_if-returns-in_err-otherwise-clause-first : goal.read_if-returns-in_err-otherwise-clause-first
+read_if-returns-in_err-otherwise-clause-first t c =
+    let asks = block_asked (setting_of c.args.declared.now) c.args.levels in
+    let scope = scope_of c.args.state.now.labels.entries in
+    let d = view c.args.step.now in
+    let start = c.args.state.now.counts in
+    let head = c.in_ok-head.ensures in
+    let done = c.in_ok-then.ensures in
+    let e = c.in_err-otherwise.field-0.0 in
+    passed_on c.from_residual-in_err-otherwise.result (IsFirst start (if_asked asks scope d)) e
+    c.from_residual-in_err-otherwise.ensures.1
+    (λ other. if_else_failed asks scope d start c.if_head.new.state.counts c.read_block.new.state.counts e head.met
+    (rw (head.then, head.labels) at done.met)
+    (rw (done.labels, head.labels, c.get.ensures) at (c.in_err-otherwise.ensures.first other)))
+
+pub read_if-returns-clause-met : goal.read_if-returns-clause-met
+read_if-returns-clause-met t c =
+    let asks = block_asked (setting_of c.args.declared.now) c.args.levels in
+    let scope = scope_of c.args.state.now.labels.entries in
+    let head = c.in_ok-head.ensures in
+    let done = c.in_ok-then.ensures in
+    if_parts_met asks scope (view c.args.step.now) c.args.state.now.counts c.if_head.new.state.counts c.read_block.new.state.counts
+    c.read_block_if.new.state.counts head.met (rw (head.then, head.labels) at done.met)
+    (rw (done.labels, head.labels, c.get.ensures) at c.in_ok-otherwise.ensures.met)
+
+pub read_if-returns-clause-value : goal.read_if-returns-clause-value
+read_if-returns-clause-value t c =
+    let block = block_of (setting_of c.args.declared.now) c.args.levels in
+    let scope = scope_of c.args.state.now.labels.entries in
+    let head = c.in_ok-head.ensures in
+    let done = c.in_ok-then.ensures in
+    let last = numbers_of c.read_block_if.new.state.numbering in
+    ap (λ (step : tree.Step). (step, last)) c.in_ok-read.ensures.value
+    ∙ if_read block scope (view c.args.step.now) (numbers_of c.args.state.now.numbering) (numbers_of c.if_head.new.state.numbering)
+    (numbers_of c.read_block.new.state.numbering) last c.in_ok-head.head.label c.in_ok-head.head.test (block_view c.in_ok-then.then)
+    (option_map block_view c.in_ok-otherwise.otherwise) head.label head.test (rw (head.then, head.labels) at done.value)
+    (rw (done.labels, head.labels, c.get.ensures) at c.in_ok-otherwise.ensures.value)
+
+pub read_sub-returns-in_err-head-clause-first : goal.read_sub-returns-in_err-head-clause-first
+read_sub-returns-in_err-head-clause-first t c =
+    let asks = block_asked (setting_of c.args.declared.now) c.args.levels in
+    let scope = scope_of c.args.state.now.labels.entries in
+    let version = c.args.declared.now.version in
+    let d = view c.args.step.now in
+    let start = c.args.state.now.counts in
+    let e = c.in_err-head.field-0.0 in
+    passed_on c.from_residual.result (IsFirst start (sub_asked version asks scope _ d)) e c.from_residual.ensures.1
+    (λ other. sub_head_failed version asks scope _ d start e (c.in_err-head.ensures.first other))
+
+pub read_sub-returns-in_err-body-clause-first : goal.read_sub-returns-in_err-body-clause-first
+read_sub-returns-in_err-body-clause-first t c =
+    let asks = block_asked (setting_of c.args.declared.now) c.args.levels in
+    let scope = scope_of c.args.state.now.labels.entries in
+    let version = c.args.declared.now.version in
+    let d = view c.args.step.now in
+    let start = c.args.state.now.counts in
+    let head = c.in_ok-head.ensures in
+    let e = c.in_err-body.field-0.0 in
+    passed_on c.from_residual-in_err-body.result (IsFirst start (sub_asked version asks scope _ d)) e c.from_residual-in_err-body.ensures.1
+    (λ other. sub_body_failed version asks scope _ d start c.sub_head.new.counts e head.met
+    (rw head.body at (c.in_err-body.ensures.first other)))
+
+pub read_sub-returns-in_err-handlers-clause-first : goal.read_sub-returns-in_err-handlers-clause-first
+read_sub-returns-in_err-handlers-clause-first t c =
+    let asks = block_asked (setting_of c.args.declared.now) c.args.levels in
+    let scope = scope_of c.args.state.now.labels.entries in
+    let version = c.args.declared.now.version in
+    let d = view c.args.step.now in
+    let start = c.args.state.now.counts in
+    let head = c.in_ok-head.ensures in
+    let done = c.in_ok-body.ensures in
+    let e = c.in_err-handlers.field-0.0 in
+    passed_on c.from_residual-in_err-handlers.result (IsFirst start (sub_asked version asks scope _ d)) e
+    c.from_residual-in_err-handlers.ensures.1
+    (λ other. sub_handlers_failed version asks scope _ d start c.sub_head.new.counts c.read_block.new.state.counts e head.met
+    (rw head.body at done.met) (rw (done.labels, head.handlers) at (c.in_err-handlers.ensures.first other)))
+
+pub read_sub-returns-in_err-handler-clause-first : goal.read_sub-returns-in_err-handler-clause-first
+read_sub-returns-in_err-handler-clause-first t c =
+    let asks = block_asked (setting_of c.args.declared.now) c.args.levels in
+    let scope = scope_of c.args.state.now.labels.entries in
+    let version = c.args.declared.now.version in
+    let d = view c.args.step.now in
+    let start = c.args.state.now.counts in
+    let head = c.in_ok-head.ensures in
+    let done = c.in_ok-body.ensures in
+    let taken = c.in_ok-handlers.ensures in
+    let e = c.in_err-handler.field-0.0 in
+    passed_on c.from_residual-in_err-handler.result (IsFirst start (sub_asked version asks scope _ d)) e
+    c.from_residual-in_err-handler.ensures.1
+    (λ other. sub_handler_failed version asks scope _ d start c.sub_head.new.counts c.read_block.new.state.counts
+    c.read_handlers.new.state.counts e head.met (rw head.body at done.met) (rw (done.labels, head.handlers) at taken.met)
+    (rw (taken.labels, done.labels, c.get.ensures) at (c.in_err-handler.ensures.first other)))
+
+pub read_sub-returns-clause-met : goal.read_sub-returns-clause-met
+read_sub-returns-clause-met t c =
+    let asks = block_asked (setting_of c.args.declared.now) c.args.levels in
+    let scope = scope_of c.args.state.now.labels.entries in
+    let head = c.in_ok-head.ensures in
+    let done = c.in_ok-body.ensures in
+    let taken = c.in_ok-handlers.ensures in
+    sub_parts_met c.args.declared.now.version asks scope _ (view c.args.step.now) c.args.state.now.counts c.sub_head.new.counts
+    c.read_block.new.state.counts c.read_handlers.new.state.counts c.read_block_if.new.state.counts head.met
+    (rw head.body at done.met) (rw (done.labels, head.handlers) at taken.met)
+    (rw (taken.labels, done.labels, c.get.ensures) at c.in_ok-handler.ensures.met)
+
+pub read_sub-returns-clause-value : goal.read_sub-returns-clause-value
+read_sub-returns-clause-value t c =
+    let block = block_of (setting_of c.args.declared.now) c.args.levels in
+    let scope = scope_of c.args.state.now.labels.entries in
+    let head = c.in_ok-head.ensures in
+    let done = c.in_ok-body.ensures in
+    let taken = c.in_ok-handlers.ensures in
+    let last = numbers_of c.read_block_if.new.state.numbering in
+    let b = block_view c.in_ok-body.body in
+    let hs = option_map {T = Vec Handler Global} (λ list. map handler_view list.items) c.in_ok-handlers.handlers in
+    let h = option_map block_view c.in_ok-handler.handler in
+    let flag : c.is_some-labelled.result ≡ is_some (label_in (view c.args.step.now)) = grind (arith, rules) in
+    ap (λ (child : Tried). (child, last)) (c.subaction_of.ensures ∙ ap (tried b hs h) flag)
+    ∙ sub_read block scope (view c.args.step.now) (numbers_of c.args.state.now.numbering) (numbers_of c.read_block.new.state.numbering)
+    (numbers_of c.read_handlers.new.state.numbering) last b hs h (rw head.body at done.value)
+    (rw (done.labels, head.handlers) at taken.value)
+    (rw (taken.labels, done.labels, c.get.ensures) at c.in_ok-handler.ensures.value)
