@@ -84,7 +84,8 @@ module _ {X : Type 0} (giving : ℕ → List X → Type 0) where
   -- all seats are the board's
   pub seats_own : (board : Opened) (unused : List Seated) (all : List (Worked X)) → All (IsNewSeat board) unused
       → All (HasWorked giving board) all → All (IsSeatOf board) (unused ++ seats_of all)
-  seats_own board unused all new each = All-append (IsSeatOf board) unused (seats_of all) (λ k d lt. (new k d lt).0) (all_own board all each)
+  seats_own board unused all new each =
+      All-append (IsSeatOf board) unused (seats_of all) (λ k d lt. (new k d lt).0) (all_own board all each)
 
   -- where no worker raised, all pieces were given once
   pub given_once : (board : Opened) (unused : List Seated) (all : List (Worked X)) (seats : List Seated) (items : List X) (drawn : ℕ)
@@ -96,7 +97,8 @@ module _ {X : Type 0} (giving : ℕ → List X → Type 0) where
   given_once board unused all seats items drawn stopped of_seats of_items new each some quiet raised once done told =
       let calm : All (λ w. w.seat.view.raised ≡ false) all = none_raised all (sym (raised_same board unused (seats_of all) new)
       ∙ ap (λ ss. list_any (λ v. v.raised) (views_of ss)) (sym of_seats) ∙ sym raised ∙ quiet) in
-      let over : All (λ s. is_over s.view ≡ true) (seats_of all) = each_seat (λ s. is_over s.view ≡ true) all (λ k d lt. (each k d lt).over) in
+      let over : All (λ s. is_over s.view ≡ true) (seats_of all) =
+      each_seat (λ s. is_over s.view ≡ true) all (λ k d lt. (each k d lt).over) in
       let seated : 0 < length (seats_of all) = omega (arith, some, length-map all (λ w. w.seat)) in
       let whole = all_pieces board.pieces drawn stopped unused (seats_of all) seated over quiet
       (subst (All (λ s. 0 < s.view.done → drawn ≡ board.pieces)) of_seats done)

@@ -37,7 +37,8 @@ returns-in_ok-batch-in-Ok c =
     let last = numbers_of c.read_bytes_singly.new.state.numbering in
     let known = answer.1 in
     let faultless = met_first _ _ (asked d) c.new-state.ensures.counts done.0 in
-    let shown : document_of c.in_ok-batch-in-Ok.batch ≡ document_with parts c.read_bytes_singly.new.state.numbering = grind (arith, rules) in
+    let shown : document_of c.in_ok-batch-in-Ok.batch ≡ document_with parts c.read_bytes_singly.new.state.numbering =
+    grind (arith, rules) in
     let read = same_document d parts.declared.objects (map block_view parts.transactions.items) last
     (texts_of parts.declared.names.keys) _ c.new-state.ensures.numbers done.1 done.2 in
     ap spelled_by known ∙ ap (unless_fault d) faultless ∙ ap Ok (sym (shown ∙ read))
