@@ -8,6 +8,10 @@
 //! no argument it prints nothing.
 #![tactic(auto)]
 
+ghost use Rattle.std.specs.Prelude.{◌≤◌, IfSome, length};
+ghost use Rattle.meaning.specs.declared.limits.TheConstants.{MAX_OBJECTS};
+
+use batch::Plain;
 use lang::read;
 use one_thread::plain;
 use report::render_plain;
@@ -38,17 +42,43 @@ fn time_value(rt: &HostRuntime, alloc: Global, bytes: &[u8]) -> Option<()> {
     Some(())
 }
 
-fn time_stages(rt: &HostRuntime, alloc: Global, bytes: &[u8]) -> Option<()> {
+// Reads a batch, and returns the milliseconds of that.
+fn time_read<R: Clock>(rt: &R, alloc: Global, bytes: &[u8]) -> Option<(Batch, u64)> {
     let start = Instant::now(rt).ok()?;
     let batch = read(alloc, bytes).ok()?;
-    let read = since(rt, start);
+    let taken = since(rt, start);
+    Some((batch, taken))
+}
+
+// Runs a batch on one thread, and returns the milliseconds of that.
+fn time_plain<R: Clock>(rt: &R, alloc: Global, batch: &Batch) -> Option<(Plain, u64)>
+    ensures { IfSome result (λ timed. length timed.0.objects ≤ MAX_OBJECTS) }
+{
     let start = Instant::now(rt).ok()?;
-    let answer = plain(alloc, &batch).ok()?;
-    let run = since(rt, start);
+    let answer = plain(alloc, batch).ok()?;
+    let taken = since(rt, start);
+    Some((answer, taken))
+}
+
+// Writes the report into a text, and returns its bytes and the milliseconds of that.
+fn time_report<R: Clock>(
+    rt: &R,
+    alloc: Global,
+    batch: &Batch,
+    answer: &Plain,
+) -> Option<(usize, u64)>
+    requires { length answer.now.objects ≤ MAX_OBJECTS }
+{
     let start = Instant::now(rt).ok()?;
-    let text = render_plain(alloc, &batch, &answer).ok()?;
-    let written = since(rt, start);
-    let size = text.len();
+    let text = render_plain(alloc, batch, answer).ok()?;
+    let taken = since(rt, start);
+    Some((text.len(), taken))
+}
+
+fn time_stages(rt: &HostRuntime, alloc: Global, bytes: &[u8]) -> Option<()> {
+    let (batch, read) = time_read(rt, alloc, bytes)?;
+    let (answer, run) = time_plain(rt, alloc, &batch)?;
+    let (size, written) = time_report(rt, alloc, &batch, &answer)?;
     let _ = println!(rt; "read {read} ms, run {run} ms, text {written} ms ({size} bytes)");
     Some(())
 }
@@ -82,9 +112,7 @@ struct Runs {
 
 fn time_runs<R: Clock + Threads + Sync>(rt: &R, alloc: Global, bytes: &[u8]) -> Option<Runs> {
     let batch = read(alloc, bytes).ok()?;
-    let start = Instant::now(rt).ok()?;
-    let answer = plain(alloc, &batch).ok()?;
-    let serial = since(rt, start);
+    let (answer, serial) = time_plain(rt, alloc, &batch)?;
     drop(answer);
     Some(Runs {
         serial,
