@@ -1,3 +1,4 @@
 pub mod Journals
 pub mod InPlace
 pub mod Answered
+pub mod Bodies

@@ -8,6 +8,7 @@ use Rattle.batch.proofs.PartRuns.{part_run-start, part_run-more, part_run-aborte
 use Rattle.batch.proofs.CanRun.{op-can, if-bound}
 use Rattle.batch.proofs.StepShows.{op-shows, if-shows_then, if-shows_else, sub-shows, abort-shows, parallel-shows}
 use Rattle.batch.proofs.PartTried.{part_tried-start, part_tried-more, part_tried-aborted, part_tried-ended}
+use Rattle.one_thread.proofs.Bodies.{body_ended, abort_handled}
 use Rattle.one_thread.proofs.InPlace.{ground, call_took}
 use Rattle.one_thread.proofs.executor.+run.Goals as goal
 use Rattle.one_thread.proofs.executor.+run.Goals.{run_step-then-holds, run_step-else-holds}
@@ -129,3 +130,17 @@ run_handler-returns-in_ok-run_block-in-Some-clause-shows t c =
 pub run_handler-returns-in-None-clause-shows : goal.run_handler-returns-in-None-clause-shows
 run_handler-returns-in-None-clause-shows t c =
     shows_none ground _ _ c.args.reason c.args.workspace.now _ c.in-None.ensures.takes c.untaken.ensures
+
+-- ---- a subaction
+
+pub run_subaction-returns-in-Ended-clause-shows : goal.run_subaction-returns-in-Ended-clause-shows
+run_subaction-returns-in-Ended-clause-shows t c =
+    body_ended c.args.child.now c.args.labels.now.items c.args.workspace.now c.run_block.new.workspace c.in_ok-body.body
+    c.in_ok-body.ensures.shows _ c.in-Ended.is refl refl refl
+
+pub run_subaction-returns-in_ok-handler-in-Aborted-clause-shows : goal.run_subaction-returns-in_ok-handler-in-Aborted-clause-shows
+run_subaction-returns-in_ok-handler-in-Aborted-clause-shows t c =
+    abort_handled c.args.child.now c.args.labels.now.items c.args.workspace.now c.run_block.new.workspace c.in_ok-body.body
+    c.in_ok-body.ensures.shows c.rewind.new.self c.mark-mark.result c.mark-mark.ensures c.in_ok-rewind-in-Aborted.ensures
+    c.run_handler.new.workspace c.in-Aborted.reason c.in_ok-handler-in-Aborted.handler c.in_ok-handler-in-Aborted.end _ c.in-Aborted.is
+    (rw c.in_ok-body.ensures.labels at c.in_ok-handler-in-Aborted.ensures.shows) refl refl refl
