@@ -138,10 +138,13 @@ def try_refusing(program, library):
                         (got[1], made <= most, None), (1, True, None))
 
 
+def try_plan(program, library, plan):
+    for shape, size, times in SHAPES:
+        try_shape(program, library, plan, shape, size, times)
+
+
 def try_all(program, library):
+    """All but the shapes, whose plans `try_plan` tries one by one, since they take long."""
     try_refusing(program, library)
     try_reading(program, library)
-    for plan in PLANS:
-        for shape, size, times in SHAPES:
-            try_shape(program, library, plan, shape, size, times)
     try_threads_of_nested(program, library)

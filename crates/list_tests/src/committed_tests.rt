@@ -339,36 +339,51 @@ fn slot(entry: &Entry) -> u64 {
     ((key as u64).wrapping_mul(0x9E3779B97F4A7C15) >> 32) & 4095
 }
 
-#[test]
-fn crowded_slots_are_searched(rt: HostRuntime) -> Result<(), Fail> {
-    let put = |key: u32, value: u32| -> Entry {
-        Entry {
-            object: 3,
-            call: Call::Directory(DirectoryCall::Put(Item(key), Item(value))),
-            reply: Reply::Directory(DirectoryReply::Ok),
-        }
-    };
-    let alloc = rt.alloc();
-    let mut committed = Committed::new(alloc);
-    let mut crowd = Vec::new(alloc);
+/// A put under a key of the directory whose slots are crowded.
+fn put_in_crowd(key: u32, value: u32) -> Entry {
+    Entry {
+        object: 3,
+        call: Call::Directory(DirectoryCall::Put(Item(key), Item(value))),
+        reply: Reply::Directory(DirectoryReply::Ok),
+    }
+}
+
+/// The keys of one slot.
+fn crowd(rt: &(impl Abort + AllocGlobal)) -> Vec<u32> {
+    let mut keys = Vec::new(rt.alloc());
     for key in 0..1500000u32 {
-        if slot(&put(key, 1)) == 5 {
-            crowd.push(key)?;
-            committed.append(&[put(key, 1)])?;
+        if slot(&put_in_crowd(key, 1)) == 5 {
+            keys.push(key).ok().expect(rt, "memory");
         }
     }
-    assert!(rt; crowd.len() > 300);
-    for (place, key) in crowd.iter().enumerate() {
-        valid_in(&rt, &committed, &[put(*key, 2)], place);
-        refuted_in(&rt, &committed, &[put(*key, 2)], crowd.len());
-        valid_in(
-            &rt,
-            &committed,
-            &[put(*key, 1), put(key.wrapping_add(1), 2)],
-            crowd.len(),
-        );
+    keys
+}
+
+/// A list of a put under each key.
+fn list_of_puts(rt: &(impl Abort + AllocGlobal), keys: &[u32]) -> Committed {
+    let mut committed = Committed::new(rt.alloc());
+    for key in keys {
+        committed
+            .append(&[put_in_crowd(*key, 1)])
+            .ok()
+            .expect(rt, "memory");
     }
-    Ok(())
+    committed
+}
+
+#[test]
+fn crowded_slots_are_searched(rt: HostRuntime) {
+    let keys = crowd(&rt);
+    assert!(rt; keys.len() > 300);
+    let committed = list_of_puts(&rt, &keys);
+    for (place, key) in keys.iter().enumerate() {
+        let other = put_in_crowd(*key, 2);
+        let same = put_in_crowd(*key, 1);
+        let next = put_in_crowd(key.wrapping_add(1), 2);
+        valid_in(&rt, &committed, &[other], place);
+        refuted_in(&rt, &committed, &[other], keys.len());
+        valid_in(&rt, &committed, &[same, next], keys.len());
+    }
 }
 
 /// Puts a run with these entries in.
@@ -507,54 +522,78 @@ fn many_operations_have_a_short_summary(rt: HostRuntime) -> Result<(), Fail> {
     Ok(())
 }
 
-#[test]
-fn a_third_that_two_cover_is_left_out(rt: HostRuntime) -> Result<(), Fail> {
-    let set = |call: SetCall, reply: SetReply| -> Entry {
-        Entry {
-            object: 1,
-            call: Call::Set(call),
-            reply: Reply::Set(reply),
-        }
-    };
-    let directory = |call: DirectoryCall, reply: DirectoryReply| -> Entry {
-        Entry {
-            object: 2,
-            call: Call::Directory(call),
-            reply: Reply::Directory(reply),
-        }
-    };
-    let enqueue = |item: u32| -> Entry {
-        Entry {
-            object: 3,
-            call: Call::Queue(QueueCall::Enq(Item(item))),
-            reply: Reply::Queue(QueueReply::Ok),
-        }
-    };
+/// Stops the test where the summary of some entries has another length.
+fn summary_has(rt: &(impl Abort + AllocGlobal), entries: &[Entry], expected: usize) {
     let alloc = rt.alloc();
-    let (mut of_set, mut of_key, mut of_queue) = (
-        Vec::new(alloc),
-        Vec::new(alloc),
-        Vec::new(alloc),
-    );
-    for number in 0..100u32 {
-        of_set.push(set(SetCall::Insert(Item(7)), SetReply::Added))?;
-        of_set.push(set(SetCall::Has(Item(7)), SetReply::Yes))?;
-        of_set.push(set(SetCall::Remove(Item(7)), SetReply::Removed))?;
-        of_set.push(set(SetCall::Has(Item(7)), SetReply::No))?;
-        of_key.push(directory(
-            DirectoryCall::Put(Item(7), Item(number)),
-            DirectoryReply::Ok,
-        ))?;
-        of_key.push(directory(
-            DirectoryCall::Lookup(Item(7)),
-            DirectoryReply::Found(Item(number)),
-        ))?;
-        of_queue.push(enqueue(number))?;
+    let summary = summary_of(alloc, entries, Vec::new(alloc))
+        .ok()
+        .expect(rt, "memory");
+    assert_eq!(rt; summary.len(), expected);
+}
+
+/// An operation on an item of a set.
+fn of_set(call: SetCall, reply: SetReply) -> Entry {
+    Entry {
+        object: 1,
+        call: Call::Set(call),
+        reply: Reply::Set(reply),
     }
-    assert_eq!(rt; summary_of(alloc, &of_set, Vec::new(alloc))?.len(), 2);
-    assert_eq!(rt; summary_of(alloc, &of_key, Vec::new(alloc))?.len(), 2);
-    assert_eq!(rt; summary_of(alloc, &of_queue, Vec::new(alloc))?.len(), 2);
-    of_key.push(directory(DirectoryCall::Put(Item(8), Item(1)), DirectoryReply::Ok))?;
-    assert_eq!(rt; summary_of(alloc, &of_key, Vec::new(alloc))?.len(), 3);
-    Ok(())
+}
+
+#[test]
+fn a_third_of_an_item_is_left_out(rt: HostRuntime) {
+    let item = Item(7);
+    let added = of_set(SetCall::Insert(item), SetReply::Added);
+    let present = of_set(SetCall::Has(item), SetReply::Yes);
+    let removed = of_set(SetCall::Remove(item), SetReply::Removed);
+    let absent = of_set(SetCall::Has(item), SetReply::No);
+    summary_has(
+        &rt,
+        &[added, present, removed, absent, added, present, removed],
+        2,
+    );
+}
+
+/// A put of a value under a key of a directory.
+fn put_of(key: u32, value: u32) -> Entry {
+    Entry {
+        object: 2,
+        call: Call::Directory(DirectoryCall::Put(Item(key), Item(value))),
+        reply: Reply::Directory(DirectoryReply::Ok),
+    }
+}
+
+/// A lookup that found a value under a key of a directory.
+fn found_of(key: u32, value: u32) -> Entry {
+    Entry {
+        object: 2,
+        call: Call::Directory(DirectoryCall::Lookup(Item(key))),
+        reply: Reply::Directory(DirectoryReply::Found(Item(value))),
+    }
+}
+
+#[test]
+fn a_third_of_a_key_is_left_out(rt: HostRuntime) {
+    let mut entries = Vec::new(rt.alloc());
+    for number in 0..100u32 {
+        entries.push(put_of(7, number)).ok().expect(&rt, "memory");
+        entries.push(found_of(7, number)).ok().expect(&rt, "memory");
+    }
+    summary_has(&rt, &entries, 2);
+    entries.push(put_of(8, 1)).ok().expect(&rt, "memory");
+    summary_has(&rt, &entries, 3);
+}
+
+#[test]
+fn a_third_of_a_queue_is_left_out(rt: HostRuntime) {
+    let mut entries = Vec::new(rt.alloc());
+    for number in 0..100u32 {
+        let enqueued = Entry {
+            object: 3,
+            call: Call::Queue(QueueCall::Enq(Item(number))),
+            reply: Reply::Queue(QueueReply::Ok),
+        };
+        entries.push(enqueued).ok().expect(&rt, "memory");
+    }
+    summary_has(&rt, &entries, 2);
 }

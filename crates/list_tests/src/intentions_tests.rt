@@ -1,5 +1,5 @@
 //! Tests of views.
-use intentions::{Call, Entry, Lists, NoMemory, Objects, Reply, Value, View, perform_each};
+use intentions::{Call, Entry, Lists, Objects, Reply, Value, View, perform_each};
 use objects::{
     AccountCall, AccountReply, Amount, CounterCall, CounterReply, Directory, DirectoryCall,
     DirectoryReply, Item, ItemSet, MaxCall, MaxReply, Queue, QueueCall, QueueReply, SetCall,
@@ -7,71 +7,61 @@ use objects::{
 };
 use std::alloc::Global;
 use std::process::Abort;
-use std::test::Fail;
+
+/// What is done with a view, and what must come of it.
+#[derive(Clone, Copy)]
+enum Step {
+    /// A level is opened.
+    Begins,
+    /// The innermost level, which is open, is committed.
+    Commits,
+    /// The innermost level, which is open, is taken back.
+    Aborts,
+    /// A call on an object, which fits and has room, has the reply.
+    Performs(u32, Call, Reply),
+    /// A child is absorbed that enqueued the item twice in an object and took the first back.
+    Absorbs(u32, Item),
+    /// So many levels are open; there are so many entries, and so many in the innermost net.
+    HasLengths(usize, usize, usize),
+}
 
 /// An account, a queue, a set, a directory, a counter and a maximum register, at their places.
-fn objects(alloc: Global) -> Result<Objects, NoMemory> {
+fn objects(rt: &impl Abort, alloc: Global) -> Objects {
     let mut objects = Objects::new(alloc);
-    objects.push(Value::Account(100))?;
-    objects.push(Value::Queue(Queue::new(alloc)))?;
-    objects.push(Value::Set(ItemSet::new(alloc)))?;
-    objects.push(Value::Directory(Directory::new(alloc)))?;
-    objects.push(Value::Counter(0))?;
-    objects.push(Value::Max(0))?;
-    Ok(objects)
+    push(rt, &mut objects, Value::Account(100));
+    push(rt, &mut objects, Value::Queue(Queue::new(alloc)));
+    push(rt, &mut objects, Value::Set(ItemSet::new(alloc)));
+    push(rt, &mut objects, Value::Directory(Directory::new(alloc)));
+    push(rt, &mut objects, Value::Counter(0));
+    push(rt, &mut objects, Value::Max(0));
+    objects
 }
 
-/// Performs a call that the view says fits and has room.
-fn perform(rt: &impl Abort, view: &mut View<'_>, object: u32, call: Call) -> Reply {
-    assert!(rt; view.fits(object, &call) && matches!(view.has_room(object, &call), Ok(true)));
-    let Ok(reply) = view.perform(object, &call) else {
-        panic!(rt; "no memory")
-    };
-    reply
+fn push(rt: &impl Abort, objects: &mut Objects, value: Value) {
+    objects.push(value).ok().expect(rt, "memory")
 }
 
-/// Performs such a call, and stops the test where the reply is another.
-fn performs(rt: &impl Abort, view: &mut View<'_>, object: u32, call: Call, expected: Reply) {
-    let reply = perform(rt, view, object, call);
-    assert_eq!(rt; reply, expected);
+fn open<'s>(rt: &impl Abort, alloc: Global, snapshot: &'s Objects) -> View<'s> {
+    View::open(alloc, snapshot).ok().expect(rt, "memory")
 }
 
-/// Stops the test where the number of open levels, of all entries, or of the entries in the net of
-/// the innermost level is another.
-fn has_lengths(rt: &impl Abort, view: &View<'_>, expected: (usize, usize, usize)) {
-    let lengths = (view.depth(), view.entries().len(), view.net().len());
-    assert_eq!(rt; lengths, expected);
+/// Performs a call, where the test ends if the view doesn't let it, and returns its reply.
+fn performed(rt: &impl Abort, view: &mut View<'_>, object: u32, call: &Call) -> Reply {
+    assert!(rt; view.fits(object, call) && matches!(view.has_room(object, call), Ok(true)));
+    view.perform(object, call).ok().expect(rt, "memory")
 }
 
-/// Opens a level.
-fn begin(rt: &impl Abort, view: &mut View<'_>) {
-    let Ok(()) = view.begin() else {
-        panic!(rt; "no memory")
-    };
+fn commit(rt: &impl Abort, view: &mut View<'_>) {
+    assert!(rt; view.depth() > 0);
+    view.commit().ok().expect(rt, "memory")
 }
 
-/// Takes back the innermost level, which is open.
 fn abort(rt: &impl Abort, view: &mut View<'_>) {
     assert!(rt; view.depth() > 0);
     view.abort();
 }
 
-/// Commits the innermost level, which is open.
-fn commit(rt: &impl Abort, view: &mut View<'_>) {
-    assert!(rt; view.depth() > 0);
-    let Ok(()) = view.commit() else {
-        panic!(rt; "no memory")
-    };
-}
-
-/// The lists of a view with no level but the base, which is then used again with spare lists.
-fn take_run(rt: &impl Abort, view: &mut View<'_>, spare: Lists) -> Result<Lists, NoMemory> {
-    assert!(rt; view.depth() == 0);
-    view.take_run(spare)
-}
-
-/// Absorbs a child that enqueued the item twice and took the first of them.
-fn absorb_enq(view: &mut View<'_>, object: u32, item: Item) -> Result<(), NoMemory> {
+fn absorb_enq(rt: &impl Abort, view: &mut View<'_>, object: u32, item: Item) {
     let call = Call::Queue(QueueCall::Enq(item));
     let entry = Entry {
         object,
@@ -79,9 +69,57 @@ fn absorb_enq(view: &mut View<'_>, object: u32, item: Item) -> Result<(), NoMemo
         reply: Reply::Queue(QueueReply::Ok),
     };
     if view.fits(object, &call) {
-        view.absorb(&[entry, entry], &[entry])?;
+        let Ok(()) = view.absorb(&[entry, entry], &[entry]) else {
+            panic!(rt; "no memory")
+        };
     }
-    Ok(())
+}
+
+fn lengths(view: &View<'_>) -> (usize, usize, usize) {
+    (view.depth(), view.entries().len(), view.net().len())
+}
+
+/// Does a step with a view, and stops the test where something else comes of it.
+fn follow_step(rt: &impl Abort, view: &mut View<'_>, step: Step) {
+    match step {
+        Step::Begins => view.begin().ok().expect(rt, "memory"),
+        Step::Commits => commit(rt, view),
+        Step::Aborts => abort(rt, view),
+        Step::Performs(object, call, reply) => {
+            assert_eq!(rt; performed(rt, view, object, &call), reply)
+        }
+        Step::Absorbs(object, item) => absorb_enq(rt, view, object, item),
+        Step::HasLengths(depth, all, net) => assert_eq!(rt; lengths(view), (depth, all, net)),
+    }
+}
+
+/// Does the steps with a view.
+fn follow(rt: &impl Abort, view: &mut View<'_>, steps: &[Step]) {
+    for step in steps {
+        follow_step(rt, view, *step);
+    }
+}
+
+/// Does the steps with a fresh view of the objects.
+fn follow_in(rt: &impl Abort, alloc: Global, snapshot: &Objects, steps: &[Step]) {
+    let mut view = open(rt, alloc, snapshot);
+    follow(rt, &mut view, steps);
+}
+
+/// The lists of a view with no level but the base, which is then used again with spare lists.
+/// Stops the test where they have other lengths.
+fn take_run(rt: &impl Abort, view: &mut View<'_>, spare: Lists, expected: (usize, usize)) -> Lists {
+    assert!(rt; view.depth() == 0);
+    let lists = view.take_run(spare).ok().expect(rt, "memory");
+    assert_eq!(rt; (lists.entries.len(), lists.net.len()), expected);
+    lists
+}
+
+/// Stops the test where the lists at the end of a view have other lengths.
+fn ends_with(rt: &impl Abort, view: View<'_>, expected: (usize, usize)) {
+    assert!(rt; view.depth() == 0);
+    let Lists { entries, net } = view.into_run();
+    assert_eq!(rt; (entries.len(), net.len()), expected);
 }
 
 fn amount(rt: &impl Abort, number: u64) -> Amount {
@@ -89,181 +127,180 @@ fn amount(rt: &impl Abort, number: u64) -> Amount {
 }
 
 #[test]
-fn levels(rt: HostRuntime) -> Result<(), Fail> {
-    let snapshot = objects(rt.alloc())?;
-    let mut view = View::open(rt.alloc(), &snapshot)?;
+fn levels(rt: HostRuntime) {
     let balance = Call::Account(AccountCall::Balance);
     let withdraw = Call::Account(AccountCall::Withdraw(amount(&rt, 60)));
     let enq = Call::Queue(QueueCall::Enq(Item(7)));
     let deq = Call::Queue(QueueCall::Deq);
+    let got = Reply::Queue(QueueReply::Got(Item(7)));
+    let steps = [
+        Step::Performs(0, withdraw, Reply::Account(AccountReply::Ok)),
+        Step::Begins,
+        Step::Performs(1, enq, Reply::Queue(QueueReply::Ok)),
+        Step::Begins,
+        Step::Performs(0, withdraw, Reply::Account(AccountReply::No)),
+        Step::Performs(1, deq, got),
+        Step::HasLengths(2, 4, 2),
+        Step::Aborts,
+        Step::HasLengths(1, 4, 1),
+        Step::Commits,
+        Step::Performs(0, balance, Reply::Account(AccountReply::Number(40))),
+        Step::Performs(1, deq, got),
+        Step::HasLengths(0, 6, 4),
+    ];
+    let snapshot = objects(&rt, rt.alloc());
+    let mut view = open(&rt, rt.alloc(), &snapshot);
     assert!(rt; !view.fits(0, &enq) && !view.fits(6, &enq));
-    performs(
-        &rt,
-        &mut view,
-        0,
-        withdraw,
-        Reply::Account(AccountReply::Ok),
-    );
-    begin(&rt, &mut view);
-    performs(&rt, &mut view, 1, enq, Reply::Queue(QueueReply::Ok));
-    begin(&rt, &mut view);
-    performs(
-        &rt,
-        &mut view,
-        0,
-        withdraw,
-        Reply::Account(AccountReply::No),
-    );
-    performs(
-        &rt,
-        &mut view,
-        1,
-        deq,
-        Reply::Queue(QueueReply::Got(Item(7))),
-    );
-    has_lengths(&rt, &view, (2, 4, 2));
-    abort(&rt, &mut view);
-    has_lengths(&rt, &view, (1, 4, 1));
-    commit(&rt, &mut view);
-    performs(
-        &rt,
-        &mut view,
-        0,
-        balance,
-        Reply::Account(AccountReply::Number(40)),
-    );
-    performs(
-        &rt,
-        &mut view,
-        1,
-        deq,
-        Reply::Queue(QueueReply::Got(Item(7))),
-    );
-    has_lengths(&rt, &view, (0, 6, 4));
-    assert!(rt; view.depth() == 0);
-    let Lists { entries, net } = view.into_run();
-    assert_eq!(rt; (entries.len(), net.len()), (6, 4));
-    Ok(())
+    follow(&rt, &mut view, &steps);
+    ends_with(&rt, view, (6, 4));
+}
+
+/// A call of each object that changes it, with its reply.
+fn changes(rt: &impl Abort) -> [Step; 6] {
+    let five = amount(rt, 5);
+    let put = DirectoryCall::Put(Item(3), Item(4));
+    [
+        Step::Performs(
+            0,
+            Call::Account(AccountCall::Deposit(five)),
+            Reply::Account(AccountReply::Ok),
+        ),
+        Step::Performs(
+            1,
+            Call::Queue(QueueCall::Enq(Item(1))),
+            Reply::Queue(QueueReply::Ok),
+        ),
+        Step::Performs(
+            2,
+            Call::Set(SetCall::Insert(Item(2))),
+            Reply::Set(SetReply::Added),
+        ),
+        Step::Performs(
+            3,
+            Call::Directory(put),
+            Reply::Directory(DirectoryReply::Ok),
+        ),
+        Step::Performs(
+            4,
+            Call::Counter(CounterCall::Sub(five)),
+            Reply::Counter(CounterReply::Ok),
+        ),
+        Step::Performs(5, Call::Max(MaxCall::Raise(five)), Reply::Max(MaxReply::Ok)),
+    ]
+}
+
+/// A call of each object that changes nothing, with its reply.
+fn looks(
+    account: u64,
+    length: u64,
+    size: u64,
+    bound: DirectoryReply,
+    counter: i64,
+    max: u64,
+) -> [Step; 6] {
+    let lookup = DirectoryCall::Lookup(Item(3));
+    [
+        Step::Performs(
+            0,
+            Call::Account(AccountCall::Balance),
+            Reply::Account(AccountReply::Number(account)),
+        ),
+        Step::Performs(
+            1,
+            Call::Queue(QueueCall::Length),
+            Reply::Queue(QueueReply::Number(length)),
+        ),
+        Step::Performs(
+            2,
+            Call::Set(SetCall::Size),
+            Reply::Set(SetReply::Number(size)),
+        ),
+        Step::Performs(3, Call::Directory(lookup), Reply::Directory(bound)),
+        Step::Performs(
+            4,
+            Call::Counter(CounterCall::Read),
+            Reply::Counter(CounterReply::Number(counter)),
+        ),
+        Step::Performs(
+            5,
+            Call::Max(MaxCall::Top),
+            Reply::Max(MaxReply::Number(max)),
+        ),
+    ]
 }
 
 #[test]
-fn every_kind_is_taken_back(rt: HostRuntime) -> Result<(), Fail> {
-    let snapshot = objects(rt.alloc())?;
-    let mut view = View::open(rt.alloc(), &snapshot)?;
-    let five = amount(&rt, 5);
-    let changes = [
-        (0, Call::Account(AccountCall::Deposit(five))),
-        (1, Call::Queue(QueueCall::Enq(Item(1)))),
-        (2, Call::Set(SetCall::Insert(Item(2)))),
-        (3, Call::Directory(DirectoryCall::Put(Item(3), Item(4)))),
-        (4, Call::Counter(CounterCall::Sub(five))),
-        (5, Call::Max(MaxCall::Raise(five))),
-    ];
-    let looks = [
-        (0, Call::Account(AccountCall::Balance)),
-        (1, Call::Queue(QueueCall::Length)),
-        (2, Call::Set(SetCall::Size)),
-        (3, Call::Directory(DirectoryCall::Lookup(Item(3)))),
-        (4, Call::Counter(CounterCall::Read)),
-        (5, Call::Max(MaxCall::Top)),
-    ];
-    let before = [
-        Reply::Account(AccountReply::Number(100)),
-        Reply::Queue(QueueReply::Number(0)),
-        Reply::Set(SetReply::Number(0)),
-        Reply::Directory(DirectoryReply::Missing),
-        Reply::Counter(CounterReply::Number(0)),
-        Reply::Max(MaxReply::Number(0)),
-    ];
-    let after = [
-        Reply::Account(AccountReply::Number(105)),
-        Reply::Queue(QueueReply::Number(1)),
-        Reply::Set(SetReply::Number(1)),
-        Reply::Directory(DirectoryReply::Found(Item(4))),
-        Reply::Counter(CounterReply::Number(-5)),
-        Reply::Max(MaxReply::Number(5)),
-    ];
-    begin(&rt, &mut view);
-    begin(&rt, &mut view);
-    for (object, call) in changes {
-        let _reply = perform(&rt, &mut view, object, call);
-    }
-    commit(&rt, &mut view);
-    for ((object, call), reply) in looks.into_iter().zip(after) {
-        performs(&rt, &mut view, object, call, reply);
-    }
-    abort(&rt, &mut view);
-    for ((object, call), reply) in looks.into_iter().zip(before) {
-        performs(&rt, &mut view, object, call, reply);
-    }
-    Ok(())
+fn every_kind_is_taken_back(rt: HostRuntime) {
+    let snapshot = objects(&rt, rt.alloc());
+    let mut view = open(&rt, rt.alloc(), &snapshot);
+    follow(&rt, &mut view, &[Step::Begins, Step::Begins]);
+    follow(&rt, &mut view, &changes(&rt));
+    follow(&rt, &mut view, &[Step::Commits]);
+    let bound = DirectoryReply::Found(Item(4));
+    follow(&rt, &mut view, &looks(105, 1, 1, bound, -5, 5));
+    follow(&rt, &mut view, &[Step::Aborts]);
+    let missing = DirectoryReply::Missing;
+    follow(&rt, &mut view, &looks(100, 0, 0, missing, 0, 0));
 }
 
 #[test]
-fn a_childs_lists_are_absorbed(rt: HostRuntime) -> Result<(), Fail> {
-    let snapshot = objects(rt.alloc())?;
-    let mut parent = View::open(rt.alloc(), &snapshot)?;
+fn a_childs_lists_are_absorbed(rt: HostRuntime) {
     let enq = Call::Queue(QueueCall::Enq(Item(7)));
     let deq = Call::Queue(QueueCall::Deq);
-    let got = [
-        Reply::Queue(QueueReply::Got(Item(7))),
-        Reply::Queue(QueueReply::Got(Item(8))),
-        Reply::Queue(QueueReply::Empty),
+    let first = [
+        Step::Performs(1, enq, Reply::Queue(QueueReply::Ok)),
+        Step::Absorbs(1, Item(8)),
+        Step::HasLengths(0, 3, 2),
     ];
-    let _reply = perform(&rt, &mut parent, 1, enq);
-    absorb_enq(&mut parent, 1, Item(8))?;
-    has_lengths(&rt, &parent, (0, 3, 2));
-    let state = parent.state()?;
+    let later = [
+        Step::Performs(1, deq, Reply::Queue(QueueReply::Got(Item(7)))),
+        Step::Performs(1, deq, Reply::Queue(QueueReply::Got(Item(8)))),
+        Step::Performs(1, deq, Reply::Queue(QueueReply::Empty)),
+    ];
+    let snapshot = objects(&rt, rt.alloc());
+    let mut parent = open(&rt, rt.alloc(), &snapshot);
+    follow(&rt, &mut parent, &first);
+    let state = parent.state().ok().expect(&rt, "memory");
     assert_eq!(rt; state.len(), 6);
-    let mut later = View::open(rt.alloc(), &state)?;
-    for reply in got {
-        performs(&rt, &mut later, 1, deq, reply);
-    }
-    Ok(())
+    follow_in(&rt, rt.alloc(), &state, &later);
 }
 
 #[test]
-fn a_view_is_used_again(rt: HostRuntime) -> Result<(), Fail> {
-    let snapshot = objects(rt.alloc())?;
-    let mut view = View::open(rt.alloc(), &snapshot)?;
+fn a_view_is_used_again(rt: HostRuntime) {
     let five = amount(&rt, 5);
     let raise = Call::Max(MaxCall::Raise(five));
     let sub = Call::Counter(CounterCall::Sub(five));
     let top = Call::Max(MaxCall::Top);
     let read = Call::Counter(CounterCall::Read);
-    let _reply = perform(&rt, &mut view, 5, raise);
-    let lists = take_run(&rt, &mut view, Lists::empty(rt.alloc()))?;
-    assert_eq!(rt; (lists.entries.len(), lists.net.len()), (1, 1));
+    let first = [Step::Performs(5, raise, Reply::Max(MaxReply::Ok))];
     // In this run another object's draft is where that of object 5 was.
-    let _reply = perform(&rt, &mut view, 4, sub);
-    performs(&rt, &mut view, 5, top, Reply::Max(MaxReply::Number(0)));
-    performs(
-        &rt,
-        &mut view,
-        4,
-        read,
-        Reply::Counter(CounterReply::Number(-5)),
-    );
-    has_lengths(&rt, &view, (0, 3, 3));
-    let lists = take_run(&rt, &mut view, lists)?;
-    assert_eq!(rt; lists.entries.len(), 3);
-    has_lengths(&rt, &view, (0, 0, 0));
-    Ok(())
+    let second = [
+        Step::Performs(4, sub, Reply::Counter(CounterReply::Ok)),
+        Step::Performs(5, top, Reply::Max(MaxReply::Number(0))),
+        Step::Performs(4, read, Reply::Counter(CounterReply::Number(-5))),
+        Step::HasLengths(0, 3, 3),
+    ];
+    let snapshot = objects(&rt, rt.alloc());
+    let mut view = open(&rt, rt.alloc(), &snapshot);
+    follow(&rt, &mut view, &first);
+    let spare = take_run(&rt, &mut view, Lists::empty(rt.alloc()), (1, 1));
+    follow(&rt, &mut view, &second);
+    let _lists = take_run(&rt, &mut view, spare, (3, 3));
+    follow(&rt, &mut view, &[Step::HasLengths(0, 0, 0)]);
 }
 
 #[test]
-fn entries_are_performed_in_place(rt: HostRuntime) -> Result<(), Fail> {
-    let mut state = objects(rt.alloc())?;
-    let mut twin = state.copy()?;
+fn entries_are_performed_in_place(rt: HostRuntime) {
     let call = Call::Account(AccountCall::Deposit(amount(&rt, 5)));
-    assert!(rt; state.fits(0, &call) && state.has_room(0, &call));
-    let reply = twin.perform(0, &call)?;
     let entry = Entry {
         object: 0,
         call,
-        reply,
+        reply: Reply::Account(AccountReply::Ok),
     };
-    perform_each(&mut state, &[entry])?;
+    let mut state = objects(&rt, rt.alloc());
+    assert!(rt; state.fits(0, &call) && state.has_room(0, &call));
+    perform_each(&mut state, &[entry])
+        .ok()
+        .expect(&rt, "memory");
     assert!(rt; matches!(state.value(0), Some(Value::Account(105))));
-    Ok(())
 }

@@ -6,148 +6,161 @@ use objects::{
 };
 use std::alloc::Global;
 use std::process::Abort;
-use std::test::Fail;
 
-/// Performs a call that the draft says fits, has room and may change the value. Stops the test
-/// where the reply is another.
-fn performs(rt: &impl Abort, draft: &mut Draft<'_>, call: Call, reply: Reply) {
-    assert!(rt; draft.fits(&call) && draft.has_room(&call) && draft.look(&call).is_none());
-    let Ok(given) = draft.perform(&call) else {
-        panic!(rt; "no memory")
-    };
-    assert_eq!(rt; given, reply);
+/// What is done with a draft, and what must come of it.
+#[derive(Clone, Copy)]
+enum Step {
+    /// A call that may change the value is performed, and has the reply.
+    Performs(Call, Reply),
+    /// The same for good.
+    Settles(Call, Reply),
+    /// A look at the draft has the reply.
+    Shows(Call, Reply),
+    /// A look at the draft has no reply, since the call may change the value.
+    Changes(Call),
+    /// A look at the whole value that is made of the draft has the reply.
+    WholeShows(Call, Reply),
+    /// The last change is taken back.
+    Undoes,
 }
 
-/// Performs such a call for good.
-fn settles(rt: &impl Abort, draft: &mut Draft<'_>, call: Call, reply: Reply) {
-    assert!(rt; draft.fits(&call) && draft.has_room(&call) && draft.look(&call).is_none());
-    let Ok(given) = draft.settle(&call) else {
-        panic!(rt; "no memory")
-    };
-    assert_eq!(rt; given, reply);
+/// Performs a call, where the test ends if the draft doesn't let it, and returns its reply.
+fn performed(rt: &impl Abort, draft: &mut Draft<'_>, call: &Call) -> Reply {
+    assert!(rt; draft.fits(call) && draft.has_room(call) && draft.look(call).is_none());
+    draft.perform(call).ok().expect(rt, "memory")
 }
 
-/// Stops the test where a look at the draft gives no reply, or another.
-fn shows(rt: &impl Abort, draft: &Draft<'_>, call: Call, reply: Reply) {
-    assert_eq!(rt; draft.look(&call), Some(reply));
+/// The same for good.
+fn settled(rt: &impl Abort, draft: &mut Draft<'_>, call: &Call) -> Reply {
+    assert!(rt; draft.fits(call) && draft.has_room(call) && draft.look(call).is_none());
+    draft.settle(call).ok().expect(rt, "memory")
 }
 
-/// The same of the value that the draft shows as a whole.
-fn whole_shows(rt: &impl Abort, alloc: Global, draft: &Draft<'_>, call: Call, reply: Reply) {
-    let Ok(whole) = draft.whole(alloc) else {
-        panic!(rt; "no memory")
-    };
-    shows(rt, &Draft::of(alloc, &whole), call, reply);
-    assert_eq!(rt; Shown::Lent(&whole).look(alloc, &call), Some(reply));
+/// Stops the test where a look at the value, and at a draft of it, has another reply.
+fn value_shows(rt: &impl Abort, alloc: Global, value: &Value, call: &Call, reply: Reply) {
+    assert_eq!(rt; Draft::of(alloc, value).look(call), Some(reply));
+    assert_eq!(rt; Shown::Lent(value).look(alloc, call), Some(reply));
+}
+
+/// Stops the test where a look at the whole value of the draft has another reply.
+fn whole_shows(rt: &impl Abort, alloc: Global, draft: &Draft<'_>, call: &Call, reply: Reply) {
+    let whole = draft.whole(alloc).ok().expect(rt, "memory");
+    value_shows(rt, alloc, &whole, call, reply);
+    let whole = Shown::Changed(draft).whole(alloc).ok().expect(rt, "memory");
+    value_shows(rt, alloc, &whole, call, reply);
+}
+
+/// Does a step with a draft, and stops the test where something else comes of it.
+fn follow_step(rt: &impl Abort, alloc: Global, draft: &mut Draft<'_>, step: &Step) {
+    match step {
+        Step::Performs(call, reply) => assert_eq!(rt; performed(rt, draft, call), *reply),
+        Step::Settles(call, reply) => assert_eq!(rt; settled(rt, draft, call), *reply),
+        Step::Shows(call, reply) => assert_eq!(rt; draft.look(call), Some(*reply)),
+        Step::Changes(call) => assert!(rt; draft.look(call).is_none()),
+        Step::WholeShows(call, reply) => whole_shows(rt, alloc, draft, call, *reply),
+        Step::Undoes => draft.undo(),
+    }
+}
+
+/// Does the steps with a fresh draft of the value.
+fn follow(rt: &impl Abort, alloc: Global, lent: &Value, steps: &[Step]) {
+    let mut draft = Draft::of(alloc, lent);
+    for step in steps {
+        follow_step(rt, alloc, &mut draft, step);
+    }
 }
 
 /// A set of the items 1 and 2.
-fn two_members(alloc: Global) -> Result<Value, Fail> {
+fn two_members(rt: &impl Abort, alloc: Global) -> Value {
     let mut set = ItemSet::new(alloc);
-    set.insert(Item(1))?;
-    set.insert(Item(2))?;
-    Ok(Value::Set(set))
+    let _ = set.insert(Item(1)).ok().expect(rt, "memory");
+    let _ = set.insert(Item(2)).ok().expect(rt, "memory");
+    Value::Set(set)
 }
 
 #[test]
-fn sets(rt: HostRuntime) -> Result<(), Fail> {
-    let lent = two_members(rt.alloc())?;
-    let mut draft = Draft::of(rt.alloc(), &lent);
+fn sets(rt: HostRuntime) {
     let remove = Call::Set(SetCall::Remove(Item(1)));
     let insert = Call::Set(SetCall::Insert(Item(3)));
     let has = Call::Set(SetCall::Has(Item(1)));
     let size = Call::Set(SetCall::Size);
-    performs(&rt, &mut draft, remove, Reply::Set(SetReply::Removed));
-    shows(&rt, &draft, remove, Reply::Set(SetReply::Absent));
-    performs(&rt, &mut draft, insert, Reply::Set(SetReply::Added));
-    shows(&rt, &draft, has, Reply::Set(SetReply::No));
-    shows(&rt, &draft, size, Reply::Set(SetReply::Number(2)));
-    whole_shows(&rt, rt.alloc(), &draft, has, Reply::Set(SetReply::No));
-    draft.undo();
-    assert!(rt; draft.look(&insert).is_none());
-    draft.undo();
-    shows(&rt, &draft, has, Reply::Set(SetReply::Yes));
-    shows(&rt, &draft, size, Reply::Set(SetReply::Number(2)));
-    Ok(())
+    let lent = two_members(&rt, rt.alloc());
+    let steps = [
+        Step::Changes(remove),
+        Step::Performs(remove, Reply::Set(SetReply::Removed)),
+        Step::Shows(remove, Reply::Set(SetReply::Absent)),
+        Step::Performs(insert, Reply::Set(SetReply::Added)),
+        Step::Shows(has, Reply::Set(SetReply::No)),
+        Step::Shows(size, Reply::Set(SetReply::Number(2))),
+        Step::WholeShows(has, Reply::Set(SetReply::No)),
+        Step::Undoes,
+        Step::Changes(insert),
+        Step::Undoes,
+        Step::Shows(has, Reply::Set(SetReply::Yes)),
+        Step::Shows(size, Reply::Set(SetReply::Number(2))),
+    ];
+    follow(&rt, rt.alloc(), &lent, &steps);
 }
 
 /// A directory in which the key 1 is bound to 7.
-fn one_binding(alloc: Global) -> Result<Value, Fail> {
+fn one_binding(rt: &impl Abort, alloc: Global) -> Value {
     let mut directory = Directory::new(alloc);
-    directory.put(Item(1), Item(7))?;
-    Ok(Value::Directory(directory))
+    let _ = directory.put(Item(1), Item(7)).ok().expect(rt, "memory");
+    Value::Directory(directory)
 }
 
 #[test]
-fn directories(rt: HostRuntime) -> Result<(), Fail> {
-    let lent = one_binding(rt.alloc())?;
-    let mut draft = Draft::of(rt.alloc(), &lent);
+fn directories(rt: HostRuntime) {
     let unbind = Call::Directory(DirectoryCall::Unbind(Item(1)));
     let put = Call::Directory(DirectoryCall::Put(Item(2), Item(8)));
     let first = Call::Directory(DirectoryCall::Lookup(Item(1)));
     let second = Call::Directory(DirectoryCall::Lookup(Item(2)));
     let missing = Reply::Directory(DirectoryReply::Missing);
-    performs(
-        &rt,
-        &mut draft,
-        unbind,
-        Reply::Directory(DirectoryReply::Gone),
-    );
-    performs(&rt, &mut draft, put, Reply::Directory(DirectoryReply::Ok));
-    shows(&rt, &draft, first, missing);
-    whole_shows(&rt, rt.alloc(), &draft, first, missing);
-    draft.undo();
-    draft.undo();
-    shows(
-        &rt,
-        &draft,
-        first,
-        Reply::Directory(DirectoryReply::Found(Item(7))),
-    );
-    shows(&rt, &draft, second, missing);
-    Ok(())
+    let lent = one_binding(&rt, rt.alloc());
+    let steps = [
+        Step::Changes(unbind),
+        Step::Performs(unbind, Reply::Directory(DirectoryReply::Gone)),
+        Step::Performs(put, Reply::Directory(DirectoryReply::Ok)),
+        Step::Shows(first, missing),
+        Step::WholeShows(first, missing),
+        Step::Undoes,
+        Step::Undoes,
+        Step::Shows(first, Reply::Directory(DirectoryReply::Found(Item(7)))),
+        Step::Shows(second, missing),
+    ];
+    follow(&rt, rt.alloc(), &lent, &steps);
 }
 
 /// A queue of the item 1.
-fn one_item(alloc: Global) -> Result<Value, Fail> {
+fn one_item(rt: &impl Abort, alloc: Global) -> Value {
     let mut queue = Queue::new(alloc);
-    queue.push_back(Item(1))?;
-    Ok(Value::Queue(queue))
+    queue.push_back(Item(1)).ok().expect(rt, "memory");
+    Value::Queue(queue)
 }
 
 #[test]
-fn queues(rt: HostRuntime) -> Result<(), Fail> {
-    let lent = one_item(rt.alloc())?;
-    let mut draft = Draft::of(rt.alloc(), &lent);
+fn queues(rt: HostRuntime) {
     let enq = Call::Queue(QueueCall::Enq(Item(2)));
     let deq = Call::Queue(QueueCall::Deq);
     let length = Call::Queue(QueueCall::Length);
     let first = Reply::Queue(QueueReply::Got(Item(1)));
     let one = Reply::Queue(QueueReply::Number(1));
-    performs(&rt, &mut draft, enq, Reply::Queue(QueueReply::Ok));
-    shows(&rt, &draft, length, Reply::Queue(QueueReply::Number(2)));
-    performs(&rt, &mut draft, deq, first);
-    whole_shows(&rt, rt.alloc(), &draft, length, one);
-    performs(&rt, &mut draft, deq, Reply::Queue(QueueReply::Got(Item(2))));
-    shows(&rt, &draft, deq, Reply::Queue(QueueReply::Empty));
-    draft.undo();
-    draft.undo();
-    draft.undo();
-    shows(&rt, &draft, length, one);
-    performs(&rt, &mut draft, deq, first);
-    Ok(())
-}
-
-#[test]
-fn what_is_shown_can_be_made_whole(rt: HostRuntime) -> Result<(), Fail> {
-    let lent = one_item(rt.alloc())?;
-    let mut draft = Draft::of(rt.alloc(), &lent);
-    let deq = Call::Queue(QueueCall::Deq);
-    performs(&rt, &mut draft, deq, Reply::Queue(QueueReply::Got(Item(1))));
-    let whole = Shown::Changed(&draft).whole(rt.alloc())?;
-    let shown = Shown::Lent(&whole).look(rt.alloc(), &deq);
-    assert_eq!(rt; shown, Some(Reply::Queue(QueueReply::Empty)));
-    Ok(())
+    let lent = one_item(&rt, rt.alloc());
+    let steps = [
+        Step::Performs(enq, Reply::Queue(QueueReply::Ok)),
+        Step::Shows(length, Reply::Queue(QueueReply::Number(2))),
+        Step::Performs(deq, first),
+        Step::WholeShows(length, one),
+        Step::Performs(deq, Reply::Queue(QueueReply::Got(Item(2)))),
+        Step::Shows(deq, Reply::Queue(QueueReply::Empty)),
+        Step::WholeShows(deq, Reply::Queue(QueueReply::Empty)),
+        Step::Undoes,
+        Step::Undoes,
+        Step::Undoes,
+        Step::Shows(length, one),
+        Step::Performs(deq, first),
+    ];
+    follow(&rt, rt.alloc(), &lent, &steps);
 }
 
 /// Subtracts 7 from a counter.
@@ -157,37 +170,55 @@ fn subtract_7(rt: &impl Abort) -> Call {
 
 #[test]
 fn numbers(rt: HostRuntime) {
-    let lent = Value::Counter(5);
-    let mut draft = Draft::of(rt.alloc(), &lent);
     let read = Call::Counter(CounterCall::Read);
+    let subtract = subtract_7(&rt);
     let ok = Reply::Counter(CounterReply::Ok);
-    performs(&rt, &mut draft, subtract_7(&rt), ok);
-    shows(&rt, &draft, read, Reply::Counter(CounterReply::Number(-2)));
-    draft.undo();
-    shows(&rt, &draft, read, Reply::Counter(CounterReply::Number(5)));
-    let shown = Shown::Lent(&lent);
-    assert!(rt; shown.fits(&read) && shown.has_room(&read));
+    let steps = [
+        Step::Performs(subtract, ok),
+        Step::Shows(read, Reply::Counter(CounterReply::Number(-2))),
+        Step::Undoes,
+        Step::Shows(read, Reply::Counter(CounterReply::Number(5))),
+    ];
+    follow(&rt, rt.alloc(), &Value::Counter(5), &steps);
 }
 
 #[test]
 fn a_settled_number_stays(rt: HostRuntime) {
-    let lent = Value::Counter(5);
-    let mut draft = Draft::of(rt.alloc(), &lent);
-    let read = Call::Counter(CounterCall::Read);
+    let subtract = subtract_7(&rt);
     let ok = Reply::Counter(CounterReply::Ok);
-    performs(&rt, &mut draft, subtract_7(&rt), ok);
-    settles(&rt, &mut draft, subtract_7(&rt), ok);
-    draft.undo();
-    shows(&rt, &draft, read, Reply::Counter(CounterReply::Number(-9)));
+    let steps = [
+        Step::Performs(subtract, ok),
+        Step::Settles(subtract, ok),
+        Step::Undoes,
+        Step::Shows(
+            Call::Counter(CounterCall::Read),
+            Reply::Counter(CounterReply::Number(-9)),
+        ),
+    ];
+    follow(&rt, rt.alloc(), &Value::Counter(5), &steps);
 }
 
 #[test]
 fn a_settled_item_stays(rt: HostRuntime) {
     let lent = Value::Queue(Queue::new(rt.alloc()));
-    let mut draft = Draft::of(rt.alloc(), &lent);
-    let enq = Call::Queue(QueueCall::Enq(Item(2)));
-    let length = Call::Queue(QueueCall::Length);
-    settles(&rt, &mut draft, enq, Reply::Queue(QueueReply::Ok));
-    draft.undo();
-    shows(&rt, &draft, length, Reply::Queue(QueueReply::Number(1)));
+    let steps = [
+        Step::Settles(
+            Call::Queue(QueueCall::Enq(Item(2))),
+            Reply::Queue(QueueReply::Ok),
+        ),
+        Step::Undoes,
+        Step::Shows(
+            Call::Queue(QueueCall::Length),
+            Reply::Queue(QueueReply::Number(1)),
+        ),
+    ];
+    follow(&rt, rt.alloc(), &lent, &steps);
+}
+
+#[test]
+fn what_is_shown_fits_and_has_room(rt: HostRuntime) {
+    let lent = Value::Counter(5);
+    let read = Call::Counter(CounterCall::Read);
+    let shown = Shown::Lent(&lent);
+    assert!(rt; shown.fits(&read) && shown.has_room(&read));
 }

@@ -30,7 +30,7 @@ enq_room (v ∷ values) zero x h = cc
 enq_room (v ∷ values) (suc object) x h = enq_room values object x h
 
 pub absorb-requires-clause-legal : goal.absorb-requires-clause-legal
-absorb-requires-clause-legal c = (enq (shown_values c.args.view.now) c.args.object c.args.item (c.fits.ensures.0 c.if-fits.true), tt)
+absorb-requires-clause-legal _ c = (enq (shown_values c.args.view.now) c.args.object c.args.item (c.fits.ensures.0 c.if-fits.true), tt)
 
 pub absorb-requires-clause-room : goal.absorb-requires-clause-room
-absorb-requires-clause-room c = (enq_room (shown_values c.args.view.now) c.args.object c.args.item (c.fits.ensures.0 c.if-fits.true), tt)
+absorb-requires-clause-room _ c = (enq_room (shown_values c.args.view.now) c.args.object c.args.item (c.fits.ensures.0 c.if-fits.true), tt)
