@@ -1,6 +1,6 @@
 -- What takes an abort is what the handlers say.
 use Rattle.std.proofs.Common.{◌≡◌, ℕ, Bool, true, false, cond, List, [], ◌∷◌, map, refl, sym, ap, subst, ◌∙◌, arith}
-use Rattle.std.proofs.Common.{Option, Some}
+use Rattle.std.proofs.Common.{Option, Some, None}
 use Rattle.std.specs.Prelude.{option_map}
 use Rattle.std.specs.Option.{option_or}
 use Rattle.std.specs.List.{find}
@@ -15,6 +15,7 @@ use Rattle.batch.specs.Views.{block_view, handler_view, subaction_view, otherwis
 use Rattle.batch.specs.Running.{CanRunHere, CanHandleHere}
 use Rattle.batch.specs.Taking.{first_of, taker, untaken, taken_by}
 use Rattle.batch.specs.declared.tree.Handler.{Handler}
+use Rattle.batch.specs.declared.tree.Otherwise as otherwise
 use Rattle.batch.specs.declared.tree.Subaction.{Subaction, out-Subaction}
 use Rattle.batch.proofs.ViewLemmas.{handler_view-is, subaction_view-handlers}
 
@@ -91,6 +92,15 @@ taker-is child reason found is =
     let last : Handlers = otherwise_view (out-Subaction child).otherwise in
     ap (λ h. taker h reason) (subaction_view-handlers child) ∙ taker-by_reason (out-Subaction child).handlers.items last reason
     ∙ ap (λ f. found_or f (taker last reason)) (sym is)
+
+-- what runs otherwise takes an abort that no handler does
+pub taker-otherwise : (child : Subaction) (reason : Option ℕ)
+    → None ≡ find (λ (h : Handler). is_for h.reason reason) (out-Subaction child).handlers.items
+    → (here : otherwise.Otherwise) → (out-Subaction child).otherwise ≡ here
+    → (last : Handlers) → otherwise_view here ≡ last
+    → taker last reason ≡ taker (subaction_view child).handlers reason
+taker-otherwise child reason none here is last view =
+    sym (taker-is child reason None none ∙ ap (λ o. taker (otherwise_view o) reason) is ∙ ap (λ h. taker h reason) view)
 
 untaken-last : (by_reason : List (ℕ × meant.Block)) (last : Handlers) (reason : Option ℕ)
     → untaken (for_reasons by_reason last) reason ≡ untaken last reason

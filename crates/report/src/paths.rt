@@ -1,11 +1,12 @@
 //! The paths of the parts of a step, by which a report names them.
-ghost use Rattle.std.specs.Prelude.{◌≡◌, ◌<◌, IfNone, IfOk, IfSome, string_bytes};
+ghost use Rattle.std.specs.Prelude.{◌≡◌, ◌<◌, IfNone, IfOk, IfSome, option_map, string_bytes};
 ghost use Rattle.std.specs.Option.{ForSome};
 ghost use Rattle.meaning.specs.Texts.{branch_path, handler_block, part, reason_of};
 ghost use Rattle.meaning.specs.Trees.{NoStep};
 ghost use Rattle.batch.specs.declared.tree.Block.{size-Block};
 ghost use Rattle.batch.specs.declared.tree.Subaction.{size-Subaction};
 ghost use Rattle.batch.specs.Names.{names_of};
+ghost use Rattle.batch.specs.Taking.{taker};
 ghost use Rattle.batch.specs.Views.{block_view, subaction_view};
 ghost use Rattle.report.specs.Paths.{handler_place};
 
@@ -43,6 +44,7 @@ pub fn handler_place<'b>(
 ) -> Result<Option<(String, &'b Block)>, NoMemory>
     ensures place { IfOk result (λ found. IfSome found (λ p.
         (string_bytes p.0, block_view p.1.now) ≡ handler_place (names_of names.now) path.now reason (subaction_view child.now).handlers)) }
+    ensures taken { IfOk result (λ found. option_map (λ p. block_view p.1.now) found ≡ taker (subaction_view child.now).handlers reason) }
     ensures none { IfOk result (λ found. IfNone found (handler_block (subaction_view child.now).handlers reason ≡ NoStep)) }
     ensures inside { IfOk result (λ found. ForSome found (λ p. size-Block p.1.now < size-Subaction child.now)) }
 {

@@ -1,8 +1,9 @@
-use Rattle.std.proofs.Common.{◌∙◌, sym, ap, Some, None}
-use Rattle.batch.specs.Views.{otherwise_view}
-use Rattle.batch.specs.Taking.{taker}
+use Rattle.std.proofs.Common.{sym, Some}
+use Rattle.meaning.specs.Trees.{Otherwise, GoOn, Pass}
+use Rattle.batch.specs.Views.{block_view}
+use Rattle.batch.specs.declared.tree.Otherwise as otherwise
 use Rattle.batch.proofs.ViewLemmas.{otherwise_view-Run, otherwise_view-GoOn, otherwise_view-Pass}
-use Rattle.batch.proofs.Handling.{taker-is}
+use Rattle.batch.proofs.Handling.{taker-is, taker-otherwise}
 use Rattle.batch.proofs.handlers.taker.Goals as goal
 
 pub returns-in-Some-clause-takes : goal.returns-in-Some-clause-takes
@@ -10,18 +11,14 @@ returns-in-Some-clause-takes c = sym (taker-is c.args.child.now c.args.reason (S
 
 pub returns-in-Run-clause-takes : goal.returns-in-Run-clause-takes
 returns-in-Run-clause-takes c =
-    let reason = c.args.reason in
-    let last = ap (λ o. taker (otherwise_view o) reason) c.in-Run.is ∙ ap (λ h. taker h reason) (otherwise_view-Run c.in-Run.block) in
-    sym (taker-is c.args.child.now reason None c.in-None.ensures.first ∙ last)
+    let block = c.in-Run.block in
+    let view = otherwise_view-Run block in
+    taker-otherwise c.args.child.now c.args.reason c.in-None.ensures.first (otherwise.Run block) c.in-Run.is (Otherwise (block_view block)) view
 
 pub returns-in-GoOn-clause-takes : goal.returns-in-GoOn-clause-takes
 returns-in-GoOn-clause-takes c =
-    let reason = c.args.reason in
-    let last = ap (λ o. taker (otherwise_view o) reason) c.in-GoOn.is ∙ ap (λ h. taker h reason) otherwise_view-GoOn in
-    sym (taker-is c.args.child.now reason None c.in-None.ensures.first ∙ last)
+    taker-otherwise c.args.child.now c.args.reason c.in-None.ensures.first otherwise.GoOn c.in-GoOn.is GoOn otherwise_view-GoOn
 
 pub returns-in-Pass-clause-takes : goal.returns-in-Pass-clause-takes
 returns-in-Pass-clause-takes c =
-    let reason = c.args.reason in
-    let last = ap (λ o. taker (otherwise_view o) reason) c.in-Pass.is ∙ ap (λ h. taker h reason) otherwise_view-Pass in
-    sym (taker-is c.args.child.now reason None c.in-None.ensures.first ∙ last)
+    taker-otherwise c.args.child.now c.args.reason c.in-None.ensures.first otherwise.Pass c.in-Pass.is Pass otherwise_view-Pass

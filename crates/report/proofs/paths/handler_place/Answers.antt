@@ -1,7 +1,11 @@
 use Rattle.std.proofs.Common.{◌≡◌, ◌++◌, sym, ap, ◌∙◌, append_assoc, Some, None}
 use Rattle.std.specs.Prelude.{codes, string_bytes}
 use Rattle.batch.specs.Names.{names_of}
+use Rattle.meaning.specs.Trees.{Otherwise, GoOn, Pass}
 use Rattle.batch.specs.Views.{block_view}
+use Rattle.batch.specs.declared.tree.Otherwise as otherwise
+use Rattle.batch.proofs.Handling.{taker-is, taker-otherwise}
+use Rattle.batch.proofs.ViewLemmas.{otherwise_view-Run, otherwise_view-GoOn, otherwise_view-Pass}
 use Rattle.report.proofs.HandlerPlaces.{handler_place-is, otherwise_place-Run, otherwise_block-GoOn, otherwise_block-Pass}
 use Rattle.report.proofs.paths.handler_place.Goals as goal
 
@@ -24,6 +28,24 @@ returns-in_ok-format-in-Run-clause-place c =
     ap (λ text. (text, block_view block)) c.in_ok-format-in-Run.ensures.ok
     ∙ sym (handler_place-is names here c.args.reason c.args.child.now None c.in-None.ensures.first
     ∙ otherwise_place-Run names here c.args.reason c.args.child.now block c.in-Run.is)
+
+pub returns-in_ok-format-in-Some-clause-taken : goal.returns-in_ok-format-in-Some-clause-taken
+returns-in_ok-format-in-Some-clause-taken c =
+    sym (taker-is c.args.child.now c.args.reason (Some c.in-Some.handler.now) c.in-Some.ensures.first)
+
+pub returns-in_ok-format-in-Run-clause-taken : goal.returns-in_ok-format-in-Run-clause-taken
+returns-in_ok-format-in-Run-clause-taken c =
+    let block = c.in-Run.block in
+    let view = otherwise_view-Run block in
+    taker-otherwise c.args.child.now c.args.reason c.in-None.ensures.first (otherwise.Run block) c.in-Run.is (Otherwise (block_view block)) view
+
+pub returns-in-GoOn-clause-taken : goal.returns-in-GoOn-clause-taken
+returns-in-GoOn-clause-taken c =
+    taker-otherwise c.args.child.now c.args.reason c.in-None.ensures.first otherwise.GoOn c.in-GoOn.is GoOn otherwise_view-GoOn
+
+pub returns-in-Pass-clause-taken : goal.returns-in-Pass-clause-taken
+returns-in-Pass-clause-taken c =
+    taker-otherwise c.args.child.now c.args.reason c.in-None.ensures.first otherwise.Pass c.in-Pass.is Pass otherwise_view-Pass
 
 pub returns-in-GoOn-clause-none : goal.returns-in-GoOn-clause-none
 returns-in-GoOn-clause-none c =
