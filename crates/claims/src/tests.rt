@@ -60,7 +60,7 @@ fn claims(rt: &impl Abort, board: &Board, seat: &mut Seat, expected: Claim)
 }
 
 // Stops the test where the bound is another.
-fn bounded(rt: &impl Abort, board: &Board, seat: &mut Seat, expected: u32)
+fn bounds(rt: &impl Abort, board: &Board, seat: &mut Seat, expected: u32)
     requires { IsSeatOf board.now seat.old }
     ensures board { IsSeatOf board.now seat.new }
     ensures going { is_over seat.new.view ≡ is_over seat.old.view }
@@ -117,9 +117,9 @@ fn a_raise_stops_the_other_seat(rt: HostRuntime) {
 fn the_bound_is_the_least_that_any_seat_lowered_to(rt: HostRuntime) {
     let (board, mut a, mut b) = pair(&rt, rt.alloc(), 3);
     board.lower(&mut a, 1);
-    bounded(&rt, &board, &mut b, 1);
+    bounds(&rt, &board, &mut b, 1);
     board.lower(&mut b, 2);
-    bounded(&rt, &board, &mut a, 1);
+    bounds(&rt, &board, &mut a, 1);
     let tally = Tally {
         drawn: 0,
         stopped: false,
@@ -132,7 +132,7 @@ fn the_bound_is_the_least_that_any_seat_lowered_to(rt: HostRuntime) {
 fn a_board_of_no_pieces_is_done_at_once(rt: HostRuntime) {
     let (board, mut a, mut b) = pair(&rt, rt.alloc(), 0);
     claims(&rt, &board, &mut a, Claim::Done);
-    bounded(&rt, &board, &mut b, 0);
+    bounds(&rt, &board, &mut b, 0);
     claims(&rt, &board, &mut b, Claim::Done);
     let tally = Tally {
         drawn: 0,

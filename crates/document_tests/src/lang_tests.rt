@@ -52,7 +52,7 @@ pub(crate) fn document(
 }
 
 /// The same document, with its members in another order.
-fn turned(
+fn document_in_other_order(
     rt: &(impl Abort + AllocGlobal),
     version: u32,
     objects: &str,
@@ -243,7 +243,7 @@ fn reads_alike(rt: &(impl Abort + AllocGlobal), text: &str, other: &str) {
 /// Stops the test where transactions are not read alike in a turned document, which a tree reads.
 fn reads_alike_turned(rt: &(impl Abort + AllocGlobal), transactions: &str) {
     let text = document(rt, 4, SIX, transactions);
-    let by_tree = turned(rt, 4, SIX, transactions);
+    let by_tree = document_in_other_order(rt, 4, SIX, transactions);
     reads_alike(rt, text.as_str(), by_tree.as_str());
 }
 
@@ -257,7 +257,7 @@ fn reads_alike_replaced(rt: &(impl Abort + AllocGlobal), from: &str, to: &str) {
     let Ok(replaced) = text.replace(rt.alloc(), from, to) else {
         panic!(rt; "no memory")
     };
-    let by_tree = turned(rt, 4, SIX, transactions.as_str());
+    let by_tree = document_in_other_order(rt, 4, SIX, transactions.as_str());
     reads_alike(rt, replaced.as_str(), by_tree.as_str());
 }
 
@@ -460,7 +460,11 @@ fn the_first_fault_is_told_in_each_order_of_members(rt: HostRuntime) {
     ];
     for (objects, transactions, answer) in rows {
         document_answers(&rt, 1, objects, transactions, answer);
-        answers(&rt, turned(&rt, 1, objects, transactions).as_str(), answer);
+        answers(
+            &rt,
+            document_in_other_order(&rt, 1, objects, transactions).as_str(),
+            answer,
+        );
     }
 }
 

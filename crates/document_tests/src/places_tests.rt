@@ -30,66 +30,66 @@ fn place(rt: &(impl Abort + AllocGlobal), text: &str) -> String {
 }
 
 /// Stops the test where a document's first fault, or its place, is another.
-fn placed(rt: &(impl Abort + AllocGlobal), text: &str, answer: &str) {
+fn has_place(rt: &(impl Abort + AllocGlobal), text: &str, answer: &str) {
     assert_eq!(rt; place(rt, text).as_str(), answer);
 }
 
 /// The same of a document of version 4 with these objects and transactions.
-fn placed_in(rt: &(impl Abort + AllocGlobal), objects: &str, transactions: &str, answer: &str) {
-    placed(rt, document(rt, 4, objects, transactions).as_str(), answer);
+fn has_place_in(rt: &(impl Abort + AllocGlobal), objects: &str, transactions: &str, answer: &str) {
+    has_place(rt, document(rt, 4, objects, transactions).as_str(), answer);
 }
 
 #[test]
 fn faults_of_the_whole_have_no_pointer(rt: HostRuntime) {
-    placed(&rt, "7", "fault 2 transaction 0");
-    placed(&rt, "{\"ordtx\":1,\"objects\":[]}", "fault 2 transaction 0");
-    placed_in(&rt, ACCOUNT, "[]", "");
+    has_place(&rt, "7", "fault 2 transaction 0");
+    has_place(&rt, "{\"ordtx\":1,\"objects\":[]}", "fault 2 transaction 0");
+    has_place_in(&rt, ACCOUNT, "[]", "");
 }
 
 #[test]
 fn what_is_no_json_has_a_line_and_a_column(rt: HostRuntime) {
-    placed(
+    has_place(
         &rt,
         "{\n  \"ordtx\":1,\n  }",
         "fault 1 transaction 0 at line 3 column 3",
     );
-    placed(&rt, "[1,]", "fault 1 transaction 0 at line 1 column 4");
+    has_place(&rt, "[1,]", "fault 1 transaction 0 at line 1 column 4");
 }
 
 #[test]
 fn faults_of_objects_are_placed(rt: HostRuntime) {
     let twice = listed(&rt, &[ACCOUNT, ACCOUNT]);
-    placed_in(
+    has_place_in(
         &rt,
         twice.as_str(),
         "",
         "fault 4 transaction 0 at /objects/1",
     );
-    placed_in(
+    has_place_in(
         &rt,
         "{\"name\":\"a\",\"kind\":\"account\",\"start\":-1}",
         "",
         "fault 13 transaction 0 at /objects/0/start",
     );
-    placed_in(
+    has_place_in(
         &rt,
         "{\"name\":\"s\",\"kind\":\"set\",\"start\":7}",
         "",
         "fault 13 transaction 0 at /objects/0/start",
     );
-    placed_in(
+    has_place_in(
         &rt,
         "{\"name\":\"s\",\"kind\":\"set\",\"start\":[\"x\",\"y\",\"x\"]}",
         "",
         "fault 13 transaction 0 at /objects/0/start/2",
     );
-    placed_in(
+    has_place_in(
         &rt,
         "{\"name\":\"q\",\"kind\":\"queue\",\"start\":[\"x\",\"\"]}",
         "",
         "fault 3 transaction 0 at /objects/0/start/1",
     );
-    placed_in(
+    has_place_in(
         &rt,
         "{\"name\":\"d\",\"kind\":\"directory\",\"start\":[[\"k\"]]}",
         "",
@@ -99,19 +99,19 @@ fn faults_of_objects_are_placed(rt: HostRuntime) {
 
 #[test]
 fn faults_of_steps_are_placed(rt: HostRuntime) {
-    placed_in(
+    has_place_in(
         &rt,
         ACCOUNT,
         "[],[{\"op\":[\"a\",\"balance\"]},{\"op\":[\"b\",\"balance\"]}]",
         "fault 5 transaction 2 at /transactions/1/1",
     );
-    placed_in(
+    has_place_in(
         &rt,
         ACCOUNT,
         "[],7",
         "fault 2 transaction 2 at /transactions/1",
     );
-    placed_in(
+    has_place_in(
         &rt,
         ACCOUNT,
         "[{\"abort\":true},{\"abort\":\"\"}]",
@@ -131,14 +131,14 @@ fn the_fault_of_what_nests_too_deep_is_placed(rt: HostRuntime) {
     for _ in 0..24 {
         append(&rt, &mut answer, "/0/sub");
     }
-    placed_in(&rt, ACCOUNT, deep.as_str(), answer.as_str());
+    has_place_in(&rt, ACCOUNT, deep.as_str(), answer.as_str());
 }
 
 #[test]
 fn faults_of_branches_are_placed(rt: HostRuntime) {
     let branches =
         "[{\"op\":[\"a\",\"balance\"],\"as\":\"l\"},{\"if\":\"l\",\"atleast\":1,\"then\":[{\"abort\":true}],\"else\":[{\"abort\":true},{\"abort\":false}]}]";
-    placed_in(
+    has_place_in(
         &rt,
         ACCOUNT,
         branches,
@@ -146,13 +146,13 @@ fn faults_of_branches_are_placed(rt: HostRuntime) {
     );
     let first =
         "[{\"op\":[\"a\",\"balance\"],\"as\":\"l\"},{\"if\":\"l\",\"atleast\":1,\"then\":[{\"abort\":false}],\"else\":[{\"abort\":false}]}]";
-    placed_in(
+    has_place_in(
         &rt,
         ACCOUNT,
         first,
         "fault 2 transaction 1 at /transactions/0/1/then/0",
     );
-    placed_in(
+    has_place_in(
         &rt,
         ACCOUNT,
         "[{\"if\":\"l\",\"atleast\":1,\"then\":7}]",
@@ -164,25 +164,25 @@ fn faults_of_branches_are_placed(rt: HostRuntime) {
 fn faults_of_children_and_handlers_are_placed(rt: HostRuntime) {
     let handlers =
         "[{\"sub\":[{\"abort\":\"late\"}],\"handlers\":{\"late\":[{\"parallel\":[{\"sub\":[],\"as\":\"x\"},{\"sub\":[{\"if\":\"x\",\"is\":\"committed\",\"then\":[]}]}]}]},\"handler\":[{\"abort\":7}]}]";
-    placed_in(
+    has_place_in(
         &rt,
         ACCOUNT,
         handlers,
         "fault 8 transaction 1 at /transactions/0/0/handlers/late/0/parallel/1/sub/0",
     );
-    placed_in(
+    has_place_in(
         &rt,
         ACCOUNT,
         "[{\"sub\":[],\"handlers\":{\"a/~b\":[]}}]",
         "fault 3 transaction 1 at /transactions/0/0/handlers",
     );
-    placed_in(
+    has_place_in(
         &rt,
         ACCOUNT,
         "[{\"sub\":[],\"handler\":[{\"abort\":7}]}]",
         "fault 2 transaction 1 at /transactions/0/0/handler/0",
     );
-    placed_in(
+    has_place_in(
         &rt,
         ACCOUNT,
         "[{\"parallel\":[{\"sub\":[],\"as\":\"x\"},{\"sub\":[],\"as\":\"x\"}]}]",

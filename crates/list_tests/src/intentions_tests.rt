@@ -46,7 +46,7 @@ fn open<'s>(rt: &impl Abort, alloc: Global, snapshot: &'s Objects) -> View<'s> {
 }
 
 /// Performs a call, where the test ends if the view doesn't let it, and returns its reply.
-fn performed(rt: &impl Abort, view: &mut View<'_>, object: u32, call: &Call) -> Reply {
+fn reply_of(rt: &impl Abort, view: &mut View<'_>, object: u32, call: &Call) -> Reply {
     assert!(rt; view.fits(object, call) && matches!(view.has_room(object, call), Ok(true)));
     view.perform(object, call).ok().expect(rt, "memory")
 }
@@ -86,7 +86,7 @@ fn follow_step(rt: &impl Abort, view: &mut View<'_>, step: Step) {
         Step::Commits => commit(rt, view),
         Step::Aborts => abort(rt, view),
         Step::Performs(object, call, reply) => {
-            assert_eq!(rt; performed(rt, view, object, &call), reply)
+            assert_eq!(rt; reply_of(rt, view, object, &call), reply)
         }
         Step::Absorbs(object, item) => absorb_enq(rt, view, object, item),
         Step::HasLengths(depth, all, net) => assert_eq!(rt; lengths(view), (depth, all, net)),

@@ -25,13 +25,13 @@ enum Step {
 }
 
 /// Performs a call, where the test ends if the draft doesn't let it, and returns its reply.
-fn performed(rt: &impl Abort, draft: &mut Draft<'_>, call: &Call) -> Reply {
+fn reply_of(rt: &impl Abort, draft: &mut Draft<'_>, call: &Call) -> Reply {
     assert!(rt; draft.fits(call) && draft.has_room(call) && draft.look(call).is_none());
     draft.perform(call).ok().expect(rt, "memory")
 }
 
 /// The same for good.
-fn settled(rt: &impl Abort, draft: &mut Draft<'_>, call: &Call) -> Reply {
+fn reply_for_good(rt: &impl Abort, draft: &mut Draft<'_>, call: &Call) -> Reply {
     assert!(rt; draft.fits(call) && draft.has_room(call) && draft.look(call).is_none());
     draft.settle(call).ok().expect(rt, "memory")
 }
@@ -53,8 +53,8 @@ fn whole_shows(rt: &impl Abort, alloc: Global, draft: &Draft<'_>, call: &Call, r
 /// Does a step with a draft, and stops the test where something else comes of it.
 fn follow_step(rt: &impl Abort, alloc: Global, draft: &mut Draft<'_>, step: &Step) {
     match step {
-        Step::Performs(call, reply) => assert_eq!(rt; performed(rt, draft, call), *reply),
-        Step::Settles(call, reply) => assert_eq!(rt; settled(rt, draft, call), *reply),
+        Step::Performs(call, reply) => assert_eq!(rt; reply_of(rt, draft, call), *reply),
+        Step::Settles(call, reply) => assert_eq!(rt; reply_for_good(rt, draft, call), *reply),
         Step::Shows(call, reply) => assert_eq!(rt; draft.look(call), Some(*reply)),
         Step::Changes(call) => assert!(rt; draft.look(call).is_none()),
         Step::WholeShows(call, reply) => whole_shows(rt, alloc, draft, call, *reply),
