@@ -23,6 +23,3 @@ pub use board::Board;
 pub use claim::{Claim, Tally};
 pub use seat::Seat;
 pub use serial::NoMemory;
-
-#[cfg(test)]
-mod tests;

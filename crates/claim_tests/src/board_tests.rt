@@ -1,9 +1,10 @@
+//! Tests of the claim board.
 ghost use Rattle.std.specs.Prelude.{◌≡◌, ◌≤◌, ◌∷◌, [], false, length, IfOk};
 ghost use Rattle.std.specs.List.{All};
 ghost use Rattle.claims.specs.Views.{most_pieces, most_seats, fresh, is_over};
 ghost use Rattle.claims.specs.Seated.{IsSeatOf};
 
-use crate::{Board, Claim, NoMemory, Seat, Tally};
+use claims::{Board, Claim, NoMemory, Seat, Tally};
 use std::alloc::{AllocError, Global};
 use std::process::Abort;
 use std::test::Fail;
@@ -50,7 +51,7 @@ fn draws(rt: &impl Abort, board: &Board, seat: &mut Seat, k: u32)
 }
 
 // Claims, and stops the test where the claim returns something else.
-fn claims(rt: &impl Abort, board: &Board, seat: &mut Seat, expected: Claim)
+fn claim_returns(rt: &impl Abort, board: &Board, seat: &mut Seat, expected: Claim)
     requires board { IsSeatOf board.now seat.old }
     requires going { is_over seat.old.view ≡ false }
     ensures { IsSeatOf board.now seat.new }
@@ -89,7 +90,7 @@ fn two_seats_draw_each_piece_once(rt: HostRuntime) {
     draws(&rt, &board, &mut a, 0);
     draws(&rt, &board, &mut b, 1);
     draws(&rt, &board, &mut b, 2);
-    claims(&rt, &board, &mut a, Claim::Done);
+    claim_returns(&rt, &board, &mut a, Claim::Done);
     assert!(rt; a.is_over() && !b.is_over());
     let tally = Tally {
         drawn: 3,
@@ -104,7 +105,7 @@ fn a_raise_stops_the_other_seat(rt: HostRuntime) {
     let (board, mut a, mut b) = pair(&rt, rt.alloc(), 3);
     draws(&rt, &board, &mut a, 0);
     board.raise(&mut b);
-    claims(&rt, &board, &mut a, Claim::Stopped);
+    claim_returns(&rt, &board, &mut a, Claim::Stopped);
     let tally = Tally {
         drawn: 1,
         stopped: true,
@@ -131,9 +132,9 @@ fn the_bound_is_the_least_that_any_seat_lowered_to(rt: HostRuntime) {
 #[test]
 fn a_board_of_no_pieces_is_done_at_once(rt: HostRuntime) {
     let (board, mut a, mut b) = pair(&rt, rt.alloc(), 0);
-    claims(&rt, &board, &mut a, Claim::Done);
+    claim_returns(&rt, &board, &mut a, Claim::Done);
     bounds(&rt, &board, &mut b, 0);
-    claims(&rt, &board, &mut b, Claim::Done);
+    claim_returns(&rt, &board, &mut b, Claim::Done);
     let tally = Tally {
         drawn: 0,
         stopped: false,
