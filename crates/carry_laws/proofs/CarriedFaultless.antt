@@ -20,7 +20,7 @@ use Rattle.meaning.specs.Words.{Names, members}
 use Rattle.words.specs.Words.{kind_text}
 use Rattle.batch.specs.Limits.{entries_in}
 use Rattle.batch.specs.Names.{is_name}
-use Rattle.lang.specs.declared.fault.Wrong.TheVariants.{DuplicateObject, Name, Shape, Start}
+use Rattle.faults.specs.declared.fault.Wrong.TheVariants.{DuplicateObject, Name, Shape, Start}
 use Rattle.lang.specs.Asked.{array_start_asked, asked, document_shape_asked, element_asked, elements_asked, entries_asked, entry_asked}
 use Rattle.lang.specs.Asked.{kind_in, object_asked, object_kind, object_name_asked, object_shape_asked, objects_asked, pair_asked}
 use Rattle.lang.specs.Asked.{pairs_asked, start_asked, number_start, signed_start}

@@ -1,10 +1,10 @@
 -- The law of carrying over.
 use Rattle.std.proofs.Common.{cond, Err, ap, ◌∙◌}
 use Rattle.std.proofs.lemmas.Bool.{le-ltb}
-use Rattle.lang.specs.Faults.{wrong_outside}
+use Rattle.faults.specs.Faults.{wrong_outside}
 use Rattle.lang.specs.Reading.{reading, spelled_by, unless_fault, value_of}
 use Rattle.lang.specs.Spelled.{document_in}
-use Rattle.lang.specs.declared.fault.Wrong.TheVariants.{TooMany}
+use Rattle.faults.specs.declared.fault.Wrong.TheVariants.{TooMany}
 use Rattle.carry.specs.Carried.{carried_text}
 use Rattle.carry_laws.proofs.CarriedData.{carried_data}
 use Rattle.carry_laws.specs.Carrying.{object_names}

@@ -2,7 +2,7 @@
 use Rattle.std.proofs.Common.{◌≡◌, List, [], ◌++◌, Ok, Err, ◌∙◌}
 use Rattle.serde_json.specs.Data.{Data}
 use Rattle.lang.specs.declared.counts.Counts.{Counts}
-use Rattle.lang.specs.declared.fault.Fault.{Fault}
+use Rattle.faults.specs.declared.fault.Fault.{Fault}
 use Rattle.lang.specs.Asked.{asked, document_shape_asked, objects_asked, objects_in, setting_in, transactions_asked, transactions_in}
 use Rattle.lang.specs.Asked.{version_in}
 use Rattle.lang.specs.Demand.{Demand, check}

@@ -3,7 +3,7 @@ use Rattle.std.proofs.Common.{◌≡◌, ℕ, zero, suc, None, Some, Err, refl, 
 use Rattle.serde_json.specs.Data.{Data, Items}
 use Rattle.serde_json.specs.Find.{as_array}
 use Rattle.batch.specs.Views.{steps_of}
-use Rattle.lang.specs.declared.fault.Wrong.TheVariants.{Depth, Shape}
+use Rattle.faults.specs.declared.fault.Wrong.TheVariants.{Depth, Shape}
 use Rattle.lang.specs.declared.counts.Counts.{Counts}
 use Rattle.lang.specs.Demand.{check, fault_at}
 use Rattle.lang.specs.Scope.{Numbers, Scope, Setting}

@@ -1,7 +1,7 @@
 -- A list of demands in parts.
 use Rattle.std.specs.Result.{IfErr, IsErrAnd}
 use Rattle.std.proofs.Common.{subst, sym, ◌≡◌, List, [], ◌∷◌, ◌++◌, Result, Ok, Err, refl, ap, ◌∙◌}
-use Rattle.lang.specs.declared.fault.Fault.{Fault}
+use Rattle.faults.specs.declared.fault.Fault.{Fault}
 use Rattle.lang.specs.declared.counts.Counts.{Counts}
 use Rattle.lang.specs.Demand.{Demand, check, check_one, and_then}
 

@@ -3,14 +3,14 @@ use Rattle.std.proofs.Common.{◌≡◌, ◌≢◌, Bool, true, false, List, [],
 use Rattle.std.specs.Prelude.{IfErr, IfSome, nat_lt}
 use Rattle.serde_json.specs.Data.{Data}
 use Rattle.meaning.specs.declared.limits.TheConstants.{MAX_ENTRIES, MAX_NODES}
-use Rattle.lang.specs.declared.fault.Code.{Code}
-use Rattle.lang.specs.declared.fault.Code.TheVariants as code
-use Rattle.lang.specs.declared.fault.Fault.{Fault}
+use Rattle.faults.specs.declared.fault.Code.{Code}
+use Rattle.faults.specs.declared.fault.Code.TheVariants as code
+use Rattle.faults.specs.declared.fault.Fault.{Fault}
 use Rattle.lang.specs.declared.counts.Counts.{Counts}
 use Rattle.lang.specs.Asked.{asked}
 use Rattle.lang.specs.Demand.{Demand, holds, one_more_start, one_more_operation, one_more_node, in_transaction, and_then, check, check_one}
 use Rattle.lang.specs.Demand.{fault_of, first_fault, most_operations, no_counts}
-use Rattle.lang.specs.Faults.{is_of_reading, memory_fault}
+use Rattle.faults.specs.Faults.{is_of_reading, memory_fault}
 
 IsOfReading : Fault → Type 0
 IsOfReading fault = is_of_reading fault.code ≡ true

@@ -5,7 +5,7 @@ use Rattle.objects.specs.Entries.{State}
 use Rattle.meaning.specs.Trees as tree
 use Rattle.lang.specs.Asked.{declared_by, names_of, objects_in, setting_in, transactions_in, version_in}
 use Rattle.lang.specs.declared.counts.Counts.{Counts}
-use Rattle.lang.specs.declared.fault.Fault.{Fault}
+use Rattle.faults.specs.declared.fault.Fault.{Fault}
 use Rattle.lang.specs.Demand.{Demand, check, fault_of, first_fault, no_counts}
 use Rattle.lang.specs.Scope.{Numbers, Setting, Table, no_numbers}
 use Rattle.lang.specs.Spelled.{Document, blocks_of, document_in, parts_in, spelled, starts_of}

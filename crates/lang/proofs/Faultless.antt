@@ -22,7 +22,7 @@ use Rattle.words.specs.declared.verb.Verb.TheVariants.{OfAmount, OfItem, OfPair,
 use Rattle.lang.specs.declared.subject.Subject.{Subject}
 use Rattle.lang.specs.declared.subject.Subject.TheVariants.{Reply, Outcome}
 use Rattle.lang.specs.Demand.{Demand, holds, one_more_operation, one_more_node}
-use Rattle.lang.specs.declared.fault.Wrong.TheVariants.{Depth}
+use Rattle.faults.specs.declared.fault.Wrong.TheVariants.{Depth}
 use Rattle.lang.specs.Look.{has, text_member}
 use Rattle.lang.specs.Scope.{Numbers, Scope, Setting, is_named, named, with_label, with_labels, with_reason}
 use Rattle.lang.specs.Subjects.{fits_word}

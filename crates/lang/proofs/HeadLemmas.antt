@@ -6,7 +6,7 @@ use Rattle.serde_json.specs.Find.{get}
 use Rattle.meaning.specs.Trees as tree
 use Rattle.meaning.specs.declared.test.Test.{Test}
 use Rattle.lang.specs.declared.counts.Counts.{Counts}
-use Rattle.lang.specs.declared.fault.Fault.{Fault}
+use Rattle.faults.specs.declared.fault.Fault.{Fault}
 use Rattle.lang.specs.Asked.{Asks, block_asked_if, children_asked, children_in, handlers_asked, handlers_in, if_asked, if_label}
 use Rattle.lang.specs.Asked.{if_shape_asked, label_asked, label_in, parallel_asked, part, seen_asked, sub_asked, sub_shape_asked}
 use Rattle.lang.specs.Asked.{subject_of, test_asked}

@@ -4,7 +4,7 @@ use Rattle.std.proofs.Common.{◌≡◌, ℕ, List, [], ◌∷◌, ◌++◌, Non
 use Rattle.serde_json.specs.Data.{Data}
 use Rattle.serde_json.specs.Find.{get}
 use Rattle.lang.specs.declared.counts.Counts.{Counts}
-use Rattle.lang.specs.declared.fault.Fault.{Fault}
+use Rattle.faults.specs.declared.fault.Fault.{Fault}
 use Rattle.lang.specs.declared.places.Unmet.{Unmet}
 use Rattle.lang.specs.Found.{found_of}
 use Rattle.lang.specs.Asked.{children_in, handlers_in, if_label, if_shape_asked, label_asked, label_in, parallel_shape_asked, part}

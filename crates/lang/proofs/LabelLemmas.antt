@@ -14,7 +14,7 @@ use Rattle.lang.specs.Asked.{children_in, label_asked, label_in, labels_of, scop
 use Rattle.lang.specs.Demand.{check, holds}
 use Rattle.batch.specs.Names.{is_name}
 use Rattle.lang.specs.declared.counts.Counts.{Counts}
-use Rattle.lang.specs.declared.fault.Wrong.TheVariants.{DuplicateLabel, Name}
+use Rattle.faults.specs.declared.fault.Wrong.TheVariants.{DuplicateLabel, Name}
 use Rattle.lang.specs.declared.subject.Subject.TheVariants.{Outcome}
 use Rattle.lang.specs.Scope.{AreUnseen, Extends, Scope, Setting, is_named, named, label_number, scope_of, with_label, with_labels, fit}
 use Rattle.std.specs.List.{position_or_len}

@@ -2,8 +2,8 @@
 use Rattle.std.proofs.Common.{◌≡◌, ℕ, ◌+◌, ◌≤◌, Bool, true, false, cond, List, [], ◌∷◌, ◌++◌, None, Result, Ok, Err, refl, ap, arith}
 use Rattle.std.specs.Prelude.{nat_le, nat_lt, ⊤}
 use Rattle.std.proofs.lemmas.Bool.{ltb-true}
-use Rattle.lang.specs.declared.fault.Wrong.{Wrong}
-use Rattle.lang.specs.declared.fault.Fault.{Fault}
+use Rattle.faults.specs.declared.fault.Wrong.{Wrong}
+use Rattle.faults.specs.declared.fault.Fault.{Fault}
 use Rattle.lang.specs.declared.counts.Counts.{Counts}
 use Rattle.lang.specs.Demand.{Demand, holds, one_more_start, one_more_operation, one_more_node, in_transaction, most_operations, check}
 use Rattle.lang.specs.Demand.{check_one, and_then, fault_of, first_fault, limited, no_counts}

@@ -24,7 +24,7 @@ use Rattle.lang.specs.declared.subject.Subject.{Subject}
 use Rattle.lang.specs.declared.subject.Subject.TheVariants.{Outcome}
 use Rattle.words.specs.declared.verb.Verb.{Verb}
 use Rattle.words.specs.declared.verb.Verb.TheVariants.{OfAmount, OfItem, OfPair, Alone}
-use Rattle.lang.specs.declared.fault.Wrong.TheVariants.{Argument, Name}
+use Rattle.faults.specs.declared.fault.Wrong.TheVariants.{Argument, Name}
 use Rattle.lang.specs.Amounts.{amount_of}
 use Rattle.lang.specs.Demand.{Demand, holds, in_transaction, one_more_node, one_more_operation}
 use Rattle.lang.specs.Look.{has, or_empty, text_member}

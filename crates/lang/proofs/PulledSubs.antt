@@ -15,7 +15,7 @@ use Rattle.lang.specs.Asked.{Asks, block_asked_if, handlers_asked, handlers_in, 
 use Rattle.lang.specs.Asked.{sort_of, step_asked, sub_asked, sub_shape_asked, children_asked, labels_of, parallel_asked}
 use Rattle.lang.specs.Asked.{parallel_shape_asked}
 use Rattle.lang.specs.Demand.{check, holds, one_more_node}
-use Rattle.lang.specs.declared.fault.Wrong.TheVariants.{DuplicateLabel, Name}
+use Rattle.faults.specs.declared.fault.Wrong.TheVariants.{DuplicateLabel, Name}
 use Rattle.batch.specs.Names.{is_name}
 use Rattle.lang.specs.Pulled.{ReadsMembers, ReadsValue, SubTail, are_allowed, sub_members}
 use Rattle.lang.specs.Scope.{Numbers, Scope, Setting, is_named, with_label, with_labels}

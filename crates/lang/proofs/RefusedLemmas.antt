@@ -6,12 +6,12 @@ use Rattle.json.specs.Lex.{tokens}
 use Rattle.serde_json.specs.Data.{Data}
 use Rattle.serde_json.specs.Find.{as_object}
 use Rattle.serde_json.specs.Read.{read as read_text}
-use Rattle.lang.specs.declared.fault.Wrong.TheVariants.{Shape}
-use Rattle.lang.specs.declared.fault.Fault.{Fault}
+use Rattle.faults.specs.declared.fault.Wrong.TheVariants.{Shape}
+use Rattle.faults.specs.declared.fault.Fault.{Fault}
 use Rattle.lang.specs.Asked.{asked, document_shape_asked, objects_asked, objects_in, setting_in, transactions_asked, transactions_in}
 use Rattle.lang.specs.Asked.{version_in}
 use Rattle.lang.specs.Demand.{check, first_fault, no_counts}
-use Rattle.lang.specs.Faults.{wrong_outside}
+use Rattle.faults.specs.Faults.{wrong_outside}
 use Rattle.lang.specs.Reading.{spelled_by, unless_fault, value_of}
 use Rattle.lang.proofs.Checks.{check_failed}
 use Rattle.lang.proofs.DocumentLemmas.{failed_first}

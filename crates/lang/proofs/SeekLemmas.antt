@@ -7,15 +7,15 @@ use Rattle.std.proofs.lemmas.Bool.{le-ltb}
 use Rattle.serde_json.specs.Data.{Data, Items}
 use Rattle.serde_json.specs.Find.{as_array}
 use Rattle.lang.specs.declared.counts.Counts.{Counts}
-use Rattle.lang.specs.declared.fault.Wrong.TheVariants.{Depth, Shape, TooMany}
-use Rattle.lang.specs.declared.fault.Fault.{Fault}
+use Rattle.faults.specs.declared.fault.Wrong.TheVariants.{Depth, Shape, TooMany}
+use Rattle.faults.specs.declared.fault.Fault.{Fault}
 use Rattle.lang.specs.declared.places.Place.{Place}
 use Rattle.lang.specs.declared.places.Place.TheVariants.{Whole, Pointer, LineColumn}
 use Rattle.lang.specs.declared.places.Unmet.{Unmet}
 use Rattle.lang.specs.Asked.{asked, block_asked, declared_by, document_shape_asked, objects_asked, objects_in}
 use Rattle.lang.specs.Asked.{setting_in, transactions_in, version_in}
 use Rattle.lang.specs.Demand.{check, fault_at, fault_of, no_counts}
-use Rattle.lang.specs.Faults.{wrong_outside}
+use Rattle.faults.specs.Faults.{wrong_outside}
 use Rattle.lang.specs.Found.{IsPlaceOf, Shows, found_of, pointer_text}
 use Rattle.lang.specs.Places.{Found, Placed, block_placed, found_here, inside, member_named}
 use Rattle.lang.specs.Places.{nothing, objects_placed, placed, seek, steps_placed, transactions_placed}

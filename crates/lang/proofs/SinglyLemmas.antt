@@ -3,7 +3,7 @@ use Rattle.std.proofs.Common.{◌≡◌, ◌≤◌, ℕ, [], ◌++◌, Result, O
 use Rattle.std.specs.Prelude.{MatchResult}
 use Rattle.serde_json.specs.Data.{Items}
 use Rattle.lang.specs.declared.counts.Counts.{Counts}
-use Rattle.lang.specs.declared.fault.Fault.{Fault}
+use Rattle.faults.specs.declared.fault.Fault.{Fault}
 use Rattle.lang.specs.Answer.{IsMet}
 use Rattle.lang.specs.Asked.{asked, declared_by, document_shape_asked, objects_asked, setting_in, transactions_asked, version_in}
 use Rattle.lang.specs.Demand.{check}

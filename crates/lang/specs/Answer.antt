@@ -1,9 +1,9 @@
 -- What a result says of what is asked.
 use Rattle.std.specs.Prelude.{◌≡◌, ◌≢◌, List, Ok, Err}
-use Rattle.lang.specs.declared.fault.Fault.{Fault}
+use Rattle.faults.specs.declared.fault.Fault.{Fault}
 use Rattle.lang.specs.declared.counts.Counts.{Counts}
 use Rattle.lang.specs.Demand.{Demand, check}
-use Rattle.lang.specs.Faults.{memory_fault}
+use Rattle.faults.specs.Faults.{memory_fault}
 
 -- all of it is met, and the counts are then these
 abbrev pub IsMet : Counts → List Demand → Counts → Type 0

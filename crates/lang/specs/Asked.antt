@@ -8,8 +8,8 @@ use Rattle.serde_json.specs.Events.{items_len}
 use Rattle.objects.specs.declared.kind.Kind.{Kind}
 use Rattle.objects.specs.declared.kind.Kind.TheVariants as kind
 use Rattle.words.specs.declared.word.Word.{Word}
-use Rattle.lang.specs.declared.fault.Wrong.TheVariants.{Shape, Name, DuplicateObject, UnknownObject, UnknownOperation, Argument}
-use Rattle.lang.specs.declared.fault.Wrong.TheVariants.{UnknownLabel, DuplicateLabel, Condition, Depth, TooMany, Start}
+use Rattle.faults.specs.declared.fault.Wrong.TheVariants.{Shape, Name, DuplicateObject, UnknownObject, UnknownOperation, Argument}
+use Rattle.faults.specs.declared.fault.Wrong.TheVariants.{UnknownLabel, DuplicateLabel, Condition, Depth, TooMany, Start}
 use Rattle.words.specs.declared.verb.LoneVerb.TheVariants.{Balance}
 use Rattle.words.specs.declared.verb.Verb.{Verb}
 use Rattle.words.specs.declared.verb.Verb.TheVariants.{OfAmount, OfItem, OfPair, Alone}

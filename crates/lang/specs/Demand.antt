@@ -1,9 +1,9 @@
 -- What is asked of a document, as one flat list in reading order, and the first fault of such a list.
 use Rattle.std.specs.Prelude.{ℕ, ◌+◌, Bool, List, [], ◌∷◌, Option, None, Some, Result, Ok, Err, nat_le, nat_lt, if◌then◌else◌}
-use Rattle.lang.specs.declared.fault.Wrong.{Wrong}
-use Rattle.lang.specs.declared.fault.Wrong.TheVariants.{TooMany}
-use Rattle.lang.specs.declared.fault.Code.TheVariants as code
-use Rattle.lang.specs.declared.fault.Fault.{Fault}
+use Rattle.faults.specs.declared.fault.Wrong.{Wrong}
+use Rattle.faults.specs.declared.fault.Wrong.TheVariants.{TooMany}
+use Rattle.faults.specs.declared.fault.Code.TheVariants as code
+use Rattle.faults.specs.declared.fault.Fault.{Fault}
 use Rattle.lang.specs.declared.counts.Counts.{Counts}
 use Rattle.meaning.specs.declared.limits.TheConstants.{MAX_ENTRIES, MAX_NODES, MAX_OPERATIONS}
 use Rattle.lang.specs.declared.counts.TheConstants.{MAX_OPERATIONS_BEFORE_4}

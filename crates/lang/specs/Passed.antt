@@ -7,7 +7,7 @@ use Rattle.lang.specs.Scope.{fit}
 use Rattle.lang.specs.declared.pass.Seen.{Seen}
 use Rattle.lang.specs.declared.pass.Seen.TheVariants as seen
 use Rattle.lang.specs.declared.notes.Notes.{Notes}
-use Rattle.lang.specs.declared.fault.Wrong.TheVariants.{Shape, TooMany}
+use Rattle.faults.specs.declared.fault.Wrong.TheVariants.{Shape, TooMany}
 use Rattle.lang.specs.Demand.{Demand, holds}
 use Rattle.lang.specs.Look.{members_among, within}
 use Rattle.meaning.specs.declared.limits.TheConstants.{MAX_TRANSACTIONS}

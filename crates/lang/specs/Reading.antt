@@ -8,9 +8,9 @@ use Rattle.batch.specs.Names.{texts_of}
 use Rattle.batch.specs.Views.{block_view}
 use Rattle.lang.specs.declared.document.Parts.{Parts}
 use Rattle.lang.specs.declared.state.Numbering.{Numbering}
-use Rattle.lang.specs.declared.fault.Wrong.TheVariants.{NotJson, TooMany}
-use Rattle.lang.specs.declared.fault.Fault.{Fault}
-use Rattle.lang.specs.Faults.{wrong_outside}
+use Rattle.faults.specs.declared.fault.Wrong.TheVariants.{NotJson, TooMany}
+use Rattle.faults.specs.declared.fault.Fault.{Fault}
+use Rattle.faults.specs.Faults.{wrong_outside}
 use Rattle.lang.specs.Demand.{first_fault}
 use Rattle.lang.specs.Asked.{asked}
 pub use Rattle.lang.specs.Spelled.{Document}

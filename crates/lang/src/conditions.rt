@@ -8,12 +8,12 @@ ghost use Rattle.lang.specs.Scope.{numbers_of};
 ghost use Rattle.lang.specs.Spelled.{item_of, test_of};
 
 use crate::counts::Counts;
-use crate::fault::{Fault, Wrong};
 use crate::look::{has, has_only, text_member, whole_member};
 use crate::operations::item_of;
 use crate::state::Numbering;
 use crate::subject::{Subject, fits_item, fits_number, fits_word};
 use batch::{Test, Word, is_name};
+use faults::{Fault, Wrong};
 use serde_json::Value;
 use std::alloc::Global;
 

@@ -3,7 +3,7 @@ ghost use Rattle.std.specs.Prelude.{◌≡◌, [], ◌∷◌, MatchResult, true,
 ghost use Rattle.lang.specs.Answer.{IsFirst, IsMet};
 ghost use Rattle.lang.specs.Demand.{fault_at, most_operations, one_more_node, one_more_operation, one_more_start};
 
-use crate::fault::{Code, Fault, Wrong};
+use faults::{Code, Fault, Wrong};
 use meaning::limits::{MAX_ENTRIES, MAX_NODES, MAX_OPERATIONS};
 
 /// How many operations a document before version 4 has at most.

@@ -4,12 +4,12 @@ ghost use Rattle.json.specs.Json.{members, value};
 ghost use Rattle.serde_json.specs.Data.{Data, Members, no_members, put};
 ghost use Rattle.serde_json.specs.Read.{converted, of_json, of_members};
 ghost use Rattle.lang.specs.Demand.{check, no_counts};
-ghost use Rattle.lang.specs.Faults.{is_of_reading};
+ghost use Rattle.faults.specs.Faults.{is_of_reading};
 ghost use Rattle.lang.specs.Passed.{AreNoted, IsNoted, is_version, noted_asked, noted_count, seen_as};
 ghost use Rattle.lang.specs.Pulled.{ReadsMembers, ReadsValue};
 
-use crate::fault::{Fault, Wrong};
 use crate::pass::{Seen, pass_from, pass_value};
+use faults::{Fault, Wrong};
 use json::{Invalid, Reader, Token};
 use meaning::limits::{MAX_OBJECTS, MAX_TRANSACTIONS};
 

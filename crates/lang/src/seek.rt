@@ -10,7 +10,6 @@ ghost use Rattle.lang.specs.Scope.{Extends, scope_of, setting_of, with_label, wi
 ghost use Rattle.meaning.specs.declared.limits.TheConstants.{MAX_TRANSACTIONS};
 
 use crate::declared::Declared;
-use crate::fault::{Fault, Wrong};
 use crate::hashing::Labels;
 use crate::heads::{if_head, no_labels, parallel_head, sub_head, take_labels};
 use crate::labels::add_label;
@@ -21,6 +20,7 @@ use crate::state::State;
 use crate::steps::{Sort, read_abort, sort_of};
 use crate::subject::Subject;
 use batch::is_name;
+use faults::{Fault, Wrong};
 use meaning::limits::MAX_DEPTH;
 use serde_json::{Map, Value};
 use std::alloc::Global;

@@ -9,12 +9,12 @@ ghost use Rattle.lang.specs.Found.{IsFound};
 ghost use Rattle.lang.specs.Places.{elements_placed, entries_placed, object_placed, objects_placed, pairs_placed, seek, start_placed};
 
 use crate::counts::Counts;
-use crate::fault::Wrong;
 use crate::hashing::Texts;
 use crate::places::Unmet;
 use crate::starts::{add_name, read_element, read_entry, read_pair, read_start, shape_of};
 use crate::state::Numbering;
 use batch::Kind;
+use faults::Wrong;
 use indexmap::IndexSet;
 use serde_json::Value;
 use std::alloc::Global;

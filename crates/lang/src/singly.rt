@@ -16,13 +16,13 @@ ghost use Rattle.meaning.specs.declared.limits.TheConstants.{MAX_DEPTH, MAX_TRAN
 
 use crate::declared::Declared;
 use crate::document::Parts;
-use crate::fault::Fault;
 use crate::pass::pass_items;
 use crate::pull::{PART_DEPTH, pull_end_object, pull_head, pull_value};
 use crate::starts::read_objects;
 use crate::state::State;
 use crate::steps::read_transaction;
 use batch::Block;
+use faults::Fault;
 use json::Reader;
 use meaning::limits::MAX_TRANSACTIONS;
 use std::alloc::Global;

@@ -14,9 +14,9 @@ use Rattle.carry.specs.Carried.{carried_text, first_unfit}
 use Rattle.carry.specs.declared.document.Unfit.{Unfit}
 use Rattle.why.specs.Why.{IsWhyText}
 use Rattle.why.proofs.Determined.{determined}
-use Rattle.lang.specs.Faults.{wrong_outside}
+use Rattle.faults.specs.Faults.{wrong_outside}
 use Rattle.lang.specs.Reading.{Document, reading}
-use Rattle.lang.specs.declared.fault.Fault.{Fault}
+use Rattle.faults.specs.declared.fault.Fault.{Fault}
 use Rattle.ordtx.specs.Answers.{IsReportOf, IsAuditOf, IsPlainReportOf, IsCheckOf, IsFaultOf, IsCarriedOf, IsUnfitOf, IsCarryFaultOf}
 use Rattle.ordtx.specs.Answers.{end_of, unfit_wrong, IsShownOf, IsWhyOf, IsExplainedOf}
 use Rattle.ordtx.specs.Laws.{OneTextLaw, OneFaultLaw, FaultlessLaw}

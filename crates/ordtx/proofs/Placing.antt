@@ -1,8 +1,8 @@
 -- The line of a fault and its place, as it is put together.
 use Rattle.std.proofs.Common.{◌≡◌, ℕ, List, ◌++◌, codes, sym, ap, ◌∙◌, append_assoc}
 use Rattle.std.specs.Fmt.{decimal}
-use Rattle.lang.specs.Faults.{code_number}
-use Rattle.lang.specs.declared.fault.Fault.{Fault}
+use Rattle.faults.specs.Faults.{code_number}
+use Rattle.faults.specs.declared.fault.Fault.{Fault}
 use Rattle.lang.specs.declared.places.Place.{Place}
 use Rattle.ordtx.specs.Answers.{place_line, place_text}
 

@@ -12,12 +12,12 @@ use Rattle.lang.specs.Reading.{Document, reading}
 use Rattle.carry.specs.Carried.{carried_text, first_unfit}
 use Rattle.carry.specs.declared.document.Unfit.{Unfit}
 use Rattle.carry.specs.declared.document.Unfit.TheVariants as unfit
-use Rattle.lang.specs.Faults.{code_number, wrong_outside}
+use Rattle.faults.specs.Faults.{code_number, wrong_outside}
 use Rattle.why.specs.Why.{IsWhyText}
 use Rattle.lang.specs.Found.{IsPlaceOf}
-use Rattle.lang.specs.declared.fault.Wrong.{Wrong}
-use Rattle.lang.specs.declared.fault.Wrong.TheVariants as wrong
-use Rattle.lang.specs.declared.fault.Fault.{Fault}
+use Rattle.faults.specs.declared.fault.Wrong.{Wrong}
+use Rattle.faults.specs.declared.fault.Wrong.TheVariants as wrong
+use Rattle.faults.specs.declared.fault.Fault.{Fault}
 use Rattle.lang.specs.declared.places.Place.{Place}
 use Rattle.lang.specs.declared.places.Place.TheVariants.{Whole, Pointer, LineColumn}
 

@@ -1,6 +1,6 @@
 -- The laws of what is written, as statements.
 use Rattle.std.specs.Prelude.{◌≡◌, ℕ, List}
-use Rattle.lang.specs.declared.fault.Fault.{Fault}
+use Rattle.faults.specs.declared.fault.Fault.{Fault}
 
 -- Two texts of the same bytes are equal.
 abbrev pub OneTextLaw : (List ℕ → List ℕ → Type 0) → Type 0

@@ -1,6 +1,6 @@
 //! Where a document's first fault stands, as a line.
 ghost use Rattle.std.specs.Prelude.{◌≡◌, IfErr, IfOk, string_bytes};
-ghost use Rattle.lang.specs.Faults.{memory_fault};
+ghost use Rattle.faults.specs.Faults.{memory_fault};
 ghost use Rattle.ordtx.specs.Answers.{IsLocationOf, place_line, place_text};
 
 use lang::{Code, Fault, Place, locate, read};

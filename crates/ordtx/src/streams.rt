@@ -1,20 +1,20 @@
 //! Whole calls, from a source to a sink.
 ghost use Rattle.std.specs.Prelude.{◌≡◌, ◌≢◌, ◌↔◌, ◌⊎◌, true, false, Err, OnOk, IfErr};
-ghost use Rattle.lang.specs.Faults.{input_fault, memory_fault, output_fault};
+ghost use Rattle.faults.specs.Faults.{input_fault, memory_fault, output_fault};
 ghost use Rattle.ordtx.specs.Answers.{IsAuditOf, IsCarriedOf, IsCarryFaultOf, IsCheckOf, IsExplainedOf, IsFaultOf, IsLocationOf, IsPlainReportOf, IsReportOf};
 ghost use Rattle.ordtx.specs.Streams.{IsRead, WritesAnswer, WritesBeginning, ReadsFault};
 
-use crate::input::read_input;
 use crate::location::location_of;
-use crate::output::write_text;
-use crate::sink::Sink;
-use crate::source::Source;
 use crate::texts::{audit_of, carried_of, check_of, explained_of, plain_report_of, report_of};
-use lang::Fault;
+use devices::{Sink, Source, read_input, write_text};
+use lang::{Fault, MAX_BYTES};
 use rounds::Plan;
 use speculate::Gate;
 use std::alloc::Global;
 use std::thread::Threads;
+
+// One byte more than a document may have, so that a longer input is seen to be longer.
+const MOST_READ: usize = MAX_BYTES + 1;
 
 /// Reads a document from the source, runs its transactions, and writes the report to the sink.
 ///
@@ -55,7 +55,7 @@ pub fn run_stream<T: Threads + Sync, R: Source, W: Sink, G: Gate>(
     ensures beginning { result ≡ Err output_fault
         → WritesBeginning IsReportOf (R.remaining source.old) (W.taken sink.old) (W.taken sink.new) }
 {
-    let document = read_input(alloc, source)?;
+    let document = read_input(alloc, source, MOST_READ)?;
     let text = report_of(threads, alloc, document, plan, gate)?;
     write_text(sink, text.as_bytes())
 }
@@ -90,7 +90,7 @@ pub fn audit_stream<T: Threads + Sync, R: Source, W: Sink, G: Gate>(
     ensures beginning { result ≡ Err output_fault
         → WritesBeginning IsAuditOf (R.remaining source.old) (W.taken sink.old) (W.taken sink.new) }
 {
-    let document = read_input(alloc, source)?;
+    let document = read_input(alloc, source, MOST_READ)?;
     let text = audit_of(threads, alloc, document, plan, gate)?;
     write_text(sink, text.as_bytes())
 }
@@ -127,7 +127,7 @@ pub fn explain_stream<T: Threads + Sync, R: Source, W: Sink, G: Gate>(
     ensures beginning { result ≡ Err output_fault
         → WritesBeginning (IsExplainedOf audit) (R.remaining source.old) (W.taken sink.old) (W.taken sink.new) }
 {
-    let document = read_input(alloc, source)?;
+    let document = read_input(alloc, source, MOST_READ)?;
     let text = explained_of(threads, alloc, document, plan, audit, gate)?;
     write_text(sink, text.as_bytes())
 }
@@ -160,7 +160,7 @@ pub fn serial_stream<R: Source, W: Sink>(
     ensures beginning { result ≡ Err output_fault
         → WritesBeginning IsPlainReportOf (R.remaining source.old) (W.taken sink.old) (W.taken sink.new) }
 {
-    let document = read_input(alloc, source)?;
+    let document = read_input(alloc, source, MOST_READ)?;
     let text = plain_report_of(alloc, document)?;
     write_text(sink, text.as_bytes())
 }
@@ -195,7 +195,7 @@ pub fn carry_stream<R: Source, W: Sink>(
     ensures beginning { result ≡ Err output_fault
         → WritesBeginning IsCarriedOf (R.remaining source.old) (W.taken sink.old) (W.taken sink.new) }
 {
-    let document = read_input(alloc, source)?;
+    let document = read_input(alloc, source, MOST_READ)?;
     let text = carried_of(alloc, document)?;
     write_text(sink, text.as_bytes())
 }
@@ -228,7 +228,7 @@ pub fn check_stream<R: Source, W: Sink>(
     ensures beginning { result ≡ Err output_fault
         → WritesBeginning IsCheckOf (R.remaining source.old) (W.taken sink.old) (W.taken sink.new) }
 {
-    let document = read_input(alloc, source)?;
+    let document = read_input(alloc, source, MOST_READ)?;
     let text = check_of(alloc, document.as_slice())?;
     write_text(sink, text.as_bytes())
 }
@@ -265,7 +265,7 @@ pub fn locate_stream<R: Source, W: Sink>(
     ensures beginning { result ≡ Err output_fault
         → WritesBeginning IsLocationOf (R.remaining source.old) (W.taken sink.old) (W.taken sink.new) }
 {
-    let document = read_input(alloc, source)?;
+    let document = read_input(alloc, source, MOST_READ)?;
     let text = location_of(alloc, document.as_slice())?;
     write_text(sink, text.as_bytes())
 }

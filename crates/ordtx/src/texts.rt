@@ -1,6 +1,6 @@
 //! The texts that a document gives.
 ghost use Rattle.std.specs.Prelude.{◌≡◌, ◌≢◌, true, ℕ, List, IfErr, IfOk, Ok, string_bytes};
-ghost use Rattle.lang.specs.Faults.{is_of_reading, memory_fault};
+ghost use Rattle.faults.specs.Faults.{is_of_reading, memory_fault};
 ghost use Rattle.lang.specs.Reading.{document_of, reading};
 ghost use Rattle.ordtx.specs.Answers.{IsAuditOf, IsCarriedOf, IsCarryFaultOf, IsCheckOf, IsExplainedOf, IsFaultOf, IsPlainReportOf, IsReportOf, IsShownOf, unfit_wrong};
 

@@ -3,7 +3,7 @@ use Rattle.json.specs.Lex.{tokens}
 use Rattle.serde_json.specs.Data.{object}
 use Rattle.lang.specs.Asked.{document_shape_asked}
 use Rattle.lang.specs.Demand.{check, no_counts}
-use Rattle.lang.specs.Faults.{memory_fault}
+use Rattle.faults.specs.Faults.{memory_fault}
 use Rattle.lang.specs.Passed.{AreNoted}
 use Rattle.lang.specs.Pulled.{ReadsValue}
 use Rattle.lang.specs.Reading.{spelled_by, value_of}

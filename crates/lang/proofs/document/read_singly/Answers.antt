@@ -5,7 +5,7 @@ use Rattle.batch.specs.Views.{block_view}
 use Rattle.lang.specs.Answer.{IsMet}
 use Rattle.lang.specs.Asked.{asked, document_shape_asked}
 use Rattle.lang.specs.Demand.{first_fault}
-use Rattle.lang.specs.Faults.{memory_fault}
+use Rattle.faults.specs.Faults.{memory_fault}
 use Rattle.lang.specs.Reading.{document_of, document_with, spelled_by, unless_fault}
 use Rattle.lang.specs.Scope.{numbers_of}
 use Rattle.lang.specs.Spelled.{Document}

@@ -33,7 +33,7 @@ use Rattle.lang.proofs.PulledSubs.{parallel_spelled, parallel_step}
 use Rattle.lang.specs.declared.subject.Subject.TheVariants.{Outcome}
 use Rattle.std.proofs.lemmas.Option.{IfSome_then}
 use Rattle.batch.specs.Names.{is_name, texts_of}
-use Rattle.lang.specs.declared.fault.Wrong.TheVariants.{Name}
+use Rattle.faults.specs.declared.fault.Wrong.TheVariants.{Name}
 use Rattle.lang.proofs.PulledHandlers.{after_both, put_after}
 use Rattle.lang.proofs.PulledTests.{if_met, if_scope, if_spelled}
 use Rattle.lang.proofs.pull_blocks.+blocks.Goals as goal

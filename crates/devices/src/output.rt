@@ -1,11 +1,11 @@
 //! Writing a text to a sink.
 ghost use Rattle.std.specs.Prelude.{◌≡◌, ◌↔◌, ℕ, true, false, Err, OnOk, OnErr, IfErr, take};
 ghost use Rattle.std.specs.Io.KnownBytes.{Appends};
-ghost use Rattle.lang.specs.Faults.{output_fault};
+ghost use Rattle.faults.specs.Faults.{output_fault};
 
 use crate::sink::Sink;
 use crate::source::Failed;
-use lang::{Code, Fault};
+use faults::{Code, Fault};
 
 /// Writes the whole text, in whatever pieces the sink takes. The fault is one of the output, where
 /// a put failed. A beginning of the text was written then.

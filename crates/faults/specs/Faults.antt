@@ -1,11 +1,11 @@
 -- The numbers of codes, the faults that are in no transaction, and the faults of reading.
 use Rattle.std.specs.Prelude.{ℕ, Bool, true, false}
-use Rattle.lang.specs.declared.fault.Wrong.{Wrong}
-use Rattle.lang.specs.declared.fault.Wrong.TheVariants.{NotJson, Shape, Name, DuplicateObject, UnknownObject, UnknownOperation, Argument}
-use Rattle.lang.specs.declared.fault.Wrong.TheVariants.{UnknownLabel, DuplicateLabel, Condition, Depth, TooMany, Start}
-use Rattle.lang.specs.declared.fault.Code.{Code}
-use Rattle.lang.specs.declared.fault.Code.TheVariants as code
-use Rattle.lang.specs.declared.fault.Fault.{Fault}
+use Rattle.faults.specs.declared.fault.Wrong.{Wrong}
+use Rattle.faults.specs.declared.fault.Wrong.TheVariants.{NotJson, Shape, Name, DuplicateObject, UnknownObject, UnknownOperation, Argument}
+use Rattle.faults.specs.declared.fault.Wrong.TheVariants.{UnknownLabel, DuplicateLabel, Condition, Depth, TooMany, Start}
+use Rattle.faults.specs.declared.fault.Code.{Code}
+use Rattle.faults.specs.declared.fault.Code.TheVariants as code
+use Rattle.faults.specs.declared.fault.Fault.{Fault}
 
 abbrev pub code_number : Code → ℕ
 code_number (code.Wrong NotJson) = 1

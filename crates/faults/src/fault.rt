@@ -1,8 +1,8 @@
 //! Why a document has no report, and in which transaction.
 ghost use Rattle.std.specs.Prelude.{◌≡◌};
-ghost use Rattle.lang.specs.Faults.{fault_outside, code_number, wrong_outside};
+ghost use Rattle.faults.specs.Faults.{fault_outside, code_number, wrong_outside};
 
-use batch::NoMemory;
+use serial::NoMemory;
 use std::alloc::{AllocError, AllocFailed};
 use thiserror::Error;
 
@@ -101,7 +101,7 @@ impl Fault {
 }
 
 impl From<AllocError> for Fault {
-    ghost use Rattle.lang.specs.Faults.{memory_fault};
+    ghost use Rattle.faults.specs.Faults.{memory_fault};
 
     ghost from_gives = { λ _ fault. fault ≡ memory_fault };
 
@@ -111,7 +111,7 @@ impl From<AllocError> for Fault {
 }
 
 impl<T: Drop> From<AllocFailed<T>> for Fault {
-    ghost use Rattle.lang.specs.Faults.{memory_fault};
+    ghost use Rattle.faults.specs.Faults.{memory_fault};
 
     ghost from_gives = { λ _ fault. fault ≡ memory_fault };
 
@@ -121,7 +121,7 @@ impl<T: Drop> From<AllocFailed<T>> for Fault {
 }
 
 impl From<NoMemory> for Fault {
-    ghost use Rattle.lang.specs.Faults.{memory_fault};
+    ghost use Rattle.faults.specs.Faults.{memory_fault};
 
     ghost from_gives = { λ _ fault. fault ≡ memory_fault };
 

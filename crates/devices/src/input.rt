@@ -1,31 +1,28 @@
 //! Reading the bytes of a source.
 ghost use Rattle.std.specs.Prelude.{◌≡◌, ◌+◌, ◌<◌, ◌≤◌, ◌⊎◌, ◌↔◌, true, false, Err, IfOk, OnOk, IfErr, is_err, take, drop, vec_len};
 ghost use Rattle.std.specs.Io.KnownBytes.{Consumes, IsAtEnd};
-ghost use Rattle.lang.specs.Faults.{input_fault, memory_fault};
-ghost use Rattle.ordtx.specs.Streams.{ReadsInput};
+ghost use Rattle.faults.specs.Faults.{input_fault, memory_fault};
+ghost use Rattle.devices.specs.Devices.{ReadsUpTo};
 
 use crate::source::{Failed, Source};
-use lang::{Code, Fault, MAX_BYTES};
+use faults::{Code, Fault};
 use std::alloc::{AllocError, Global};
-
-// One byte more than a document may have, so that a longer input is seen to be longer.
-const MOST_READ: usize = MAX_BYTES + 1;
 
 const FIRST_ROOM: usize = 65_536;
 
-/// Reads all bytes to the end of the source, but at most `MOST_READ`. The fault is one of memory,
-/// or of the input where a fetch failed.
-pub fn read_input<R: Source>(alloc: Global, source: &mut R) -> Result<Vec<u8>, Fault>
+/// Reads all bytes to the end of the source, but at most `most`. The fault is one of memory, or of
+/// the input where a fetch failed.
+pub fn read_input<R: Source>(alloc: Global, source: &mut R, most: usize) -> Result<Vec<u8>, Fault>
     requires unended { R.has_ended source.old ≡ false }
     requires unread { R.has_failed source.old ≡ false }
-    ensures bytes { IfOk result (λ bytes. ReadsInput (R.remaining source.old) (R.remaining source.new) bytes.items) }
+    ensures bytes { IfOk result (λ bytes. ReadsUpTo most (R.remaining source.old) (R.remaining source.new) bytes.items) }
     ensures faults { IfErr result (λ fault. (fault ≡ memory_fault) ⊎ (fault ≡ input_fault)) }
     ensures mark { R.has_failed source.new ≡ true ↔ result ≡ Err input_fault }
 {
     let mut bytes = Vec::new(alloc);
     let mut filled = 0;
-    while filled < MOST_READ {
-        make_room(&mut bytes, filled)?;
+    while filled < most {
+        make_room(&mut bytes, filled, most)?;
         match fetch_at(source, &mut bytes, filled) {
             Ok(0) => break,
             Ok(count) => filled += count,
@@ -37,18 +34,18 @@ pub fn read_input<R: Source>(alloc: Global, source: &mut R) -> Result<Vec<u8>, F
 }
 
 // Makes room for a fetch after the filled bytes, twice as much each time.
-fn make_room(bytes: &mut Vec<u8>, filled: usize) -> Result<(), AllocError>
-    requires room { filled < MOST_READ }
+fn make_room(bytes: &mut Vec<u8>, filled: usize, most: usize) -> Result<(), AllocError>
+    requires room { filled < most }
     requires within { filled ≤ vec_len bytes.old }
-    requires most { vec_len bytes.old ≤ MOST_READ }
-    ensures most { vec_len bytes.new ≤ MOST_READ }
+    requires most { vec_len bytes.old ≤ most }
+    ensures most { vec_len bytes.new ≤ most }
     ensures front { take filled bytes.new.items ≡ take filled bytes.old.items }
     ensures room { OnOk result (filled < vec_len bytes.new) }
 {
     if filled < bytes.len() {
         return Ok(());
     }
-    let wanted = (filled * 2).max(FIRST_ROOM).min(MOST_READ);
+    let wanted = filled.saturating_mul(2).max(FIRST_ROOM).min(most);
     bytes.resize(wanted, 0)
 }
 

@@ -1,7 +1,7 @@
 //! Sources: where a document comes from.
 ghost use Rattle.std.specs.Prelude.{◌≡◌, ◌≤◌, ℕ, Bool, List, Option, false, IfOk, is_err, length};
 ghost use Rattle.std.specs.Io.KnownBytes.{ReadConsumes};
-ghost use Rattle.ordtx.specs.Streams.{meets_end};
+ghost use Rattle.devices.specs.Devices.{meets_end};
 
 /// A call on a device failed, and moved no byte.
 #[derive(Clone, Copy, Debug, Drop, PartialEq, Eq)]

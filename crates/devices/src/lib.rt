@@ -1,0 +1,14 @@
+//! Devices: where bytes come from and where they go; all bytes read, and a text written whole.
+#![tactic(auto)]
+
+mod input;
+mod marked;
+mod output;
+mod sink;
+mod source;
+
+pub use input::read_input;
+pub use marked::Marked;
+pub use output::write_text;
+pub use sink::Sink;
+pub use source::{Failed, Source};
