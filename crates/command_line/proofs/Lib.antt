@@ -1,3 +1,4 @@
+mod Globals
 mod Walked
 mod Matches
 mod Matched

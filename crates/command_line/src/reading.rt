@@ -1,8 +1,8 @@
 //! Reading the command line.
-ghost use Rattle.std.specs.Prelude.{◌≡◌, ◌↔◌, [], Some, codes, map, option_map, IfErr, IfOk, IsTrue, OnOk, OnSome, false, string_bytes};
-ghost use Rattle.clap.specs.Words.{IsAmong, app_of, first_of, found_of, kind_of, one_of, rows_of, rule_of, with_subcommand};
+ghost use Rattle.std.specs.Prelude.{◌≡◌, ◌↔◌, [], Some, codes, map, option_map, pos, IfErr, IfOk, IsTrue, OnOk, OnSome, false, string_bytes};
+ghost use Rattle.clap.specs.Words.{IsAmong, app_of, first_of, found_of, kind_of, new_app, one_of, rows_of, rule_of, with_rule, with_subcommand};
 ghost use Rattle.clap.specs.declared.builder.command.Command.TheViews.{out-Command};
-ghost use Rattle.command_line.specs.CommandLine.{CanBeMatched, HoldsFrom1, HoldsLine, HoldsNumber, IsAboutHelp, IsLineOf, IsRefusalBy, IsRefusalOf, IsTaken, NamesCommand, command_name, faults_of, file_app, flag_rule, number_rule, ordtx_app, run_app};
+ghost use Rattle.command_line.specs.CommandLine.{CanBeMatched, HoldsFrom1, HoldsLine, HoldsNumber, IsAboutHelp, IsLineOf, IsRefusalBy, IsRefusalOf, IsTaken, NamesCommand, command_name, faults_of, file_app, flag_rule, number_rule, ordtx_app, run_app, titled};
 ghost use Rattle.plan.specs.declared.plan.TheConstants.{MAX_CUT, MAX_WORKERS};
 
 use crate::asked::{Command, Line, Refused};
@@ -211,25 +211,7 @@ fn refusal_of(alloc: Global, error: &clap::Error) -> Refused
 fn ordtx_command<'a>(alloc: Global) -> Result<clap::Command<'a>, AllocError>
     ensures { IfOk result (λ command. app_of command ≡ ordtx_app) }
 {
-    let run = clap::Command::new(alloc, "ordtx")
-        .about(ABOUT)
-        .after_help(HELP)
-        .version("0.1.0")
-        .propagate_version(true)
-        .subcommand_required(true)
-        .subcommand(run_command(alloc)?)?;
-    let serial = add_file_command(
-        alloc,
-        run,
-        "serial",
-        "Runs the transactions by number on one thread, and prints the report without the rounds",
-    )?;
-    let carry = add_file_command(
-        alloc,
-        serial,
-        "carry",
-        "Runs the transactions by number on one thread, and prints a document of the objects as they end",
-    )?;
+    let carry = command_to_carry(alloc)?;
     let check = add_file_command(
         alloc,
         carry,
@@ -244,8 +226,64 @@ fn ordtx_command<'a>(alloc: Global) -> Result<clap::Command<'a>, AllocError>
     )
 }
 
+// The program's command with those that run a document.
+fn command_to_carry<'a>(alloc: Global) -> Result<clap::Command<'a>, AllocError>
+    ensures { IfOk result (λ command. app_of command
+        ≡ with_subcommand (with_subcommand (with_subcommand (titled (new_app (codes "ordtx"))) run_app.top) (file_app (codes "serial")).top)
+        (file_app (codes "carry")).top) }
+{
+    let run = command_to_run(alloc)?;
+    let serial = add_file_command(
+        alloc,
+        run,
+        "serial",
+        "Runs the transactions by number on one thread, and prints the report without the rounds",
+    )?;
+    add_file_command(
+        alloc,
+        serial,
+        "carry",
+        "Runs the transactions by number on one thread, and prints a document of the objects as they end",
+    )
+}
+
+// The program's command with `run` alone.
+fn command_to_run<'a>(alloc: Global) -> Result<clap::Command<'a>, AllocError>
+    ensures { IfOk result (λ command. app_of command ≡ with_subcommand (titled (new_app (codes "ordtx"))) run_app.top) }
+{
+    let run = run_command(alloc)?;
+    clap::Command::new(alloc, "ordtx")
+        .about(ABOUT)
+        .after_help(HELP)
+        .version("0.1.0")
+        .propagate_version(true)
+        .subcommand_required(true)
+        .subcommand(run)
+}
+
 fn run_command<'a>(alloc: Global) -> Result<clap::Command<'a>, AllocError>
     ensures app { IfOk result (λ command. app_of command ≡ run_app) }
+    ensures local { IfOk result (λ command. (out-Command command).has_globals ≡ false) }
+{
+    planned_command(alloc)?
+        .arg(flag_argument(
+            alloc,
+            "audit",
+            "Print also how often each transaction was run",
+        ))?
+        .arg(flag_argument(alloc, "why", "Print also which operations ended each round"))?
+        .arg(flag_argument(
+            alloc,
+            "progress",
+            "Show on standard error how far the run is",
+        ))
+}
+
+// The command `run` with the options of its plan.
+fn planned_command<'a>(alloc: Global) -> Result<clap::Command<'a>, AllocError>
+    ensures app { IfOk result (λ command. app_of command
+        ≡ with_rule (with_rule (file_app (codes "run")) (number_rule (codes "workers") (pos MAX_WORKERS)))
+        (number_rule (codes "cut") (pos MAX_CUT))) }
     ensures local { IfOk result (λ command. (out-Command command).has_globals ≡ false) }
 {
     file_command(
@@ -266,17 +304,6 @@ fn run_command<'a>(alloc: Global) -> Result<clap::Command<'a>, AllocError>
         "K",
         MOST_CUT,
         "How many transactions a worker takes at a time at most, 1 to 1000 [default: 16]",
-    ))?
-    .arg(flag_argument(
-        alloc,
-        "audit",
-        "Print also how often each transaction was run",
-    ))?
-    .arg(flag_argument(alloc, "why", "Print also which operations ended each round"))?
-    .arg(flag_argument(
-        alloc,
-        "progress",
-        "Show on standard error how far the run is",
     ))
 }
 
