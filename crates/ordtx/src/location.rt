@@ -1,7 +1,7 @@
 //! Where a document's first fault stands, as a line.
 ghost use Rattle.std.specs.Prelude.{◌≡◌, IfErr, IfOk, string_bytes};
 ghost use Rattle.faults.specs.Faults.{memory_fault};
-ghost use Rattle.ordtx.specs.Answers.{IsLocationOf, place_line, place_text};
+ghost use Rattle.ordtx.specs.Answers.{IsFaultOf, IsLocationOf, IsPlacedFaultOf, place_line, place_text};
 
 use lang::{Code, Fault, Place, locate, read};
 use report::render_check;
@@ -19,6 +19,15 @@ pub(crate) fn location_of(alloc: Global, document: &[u8]) -> Result<String, Faul
     if fault.code == Code::Memory {
         return Err(Code::Memory.outside());
     }
+    fault_line(alloc, document, fault)
+}
+
+// The line of a document's first fault and its place.
+fn fault_line(alloc: Global, document: &[u8], fault: Fault) -> Result<String, Fault>
+    requires { IsFaultOf document.now fault }
+    ensures text { IfOk result (λ text. IsPlacedFaultOf document.now (string_bytes text)) }
+    ensures fault { IfErr result (λ refused. refused ≡ memory_fault) }
+{
     let place = locate(alloc, document, fault)?;
     let text = place_line(alloc, fault, &place)?;
     Ok(text)

@@ -2,7 +2,7 @@
 ghost use Rattle.std.specs.Prelude.{◌≡◌, ◌≢◌, true, ℕ, List, IfErr, IfOk, Ok, string_bytes};
 ghost use Rattle.faults.specs.Faults.{is_of_reading, memory_fault};
 ghost use Rattle.lang.specs.Reading.{document_of, reading};
-ghost use Rattle.ordtx.specs.Answers.{IsAuditOf, IsCarriedOf, IsCarryFaultOf, IsCheckOf, IsExplainedOf, IsFaultOf, IsPlainReportOf, IsReportOf, IsShownOf, unfit_wrong};
+ghost use Rattle.ordtx.specs.Answers.{IsAuditOf, IsCarriedOf, IsCarryFaultOf, IsCheckOf, IsExplainedOf, IsFaultOf, IsPlainReportOf, IsReportOf, IsShownOf, IsUnfitOf, unfit_wrong};
 
 use batch::Batch;
 use carry::{Unfit, carried, first_unfit};
@@ -23,42 +23,6 @@ fn batch_of(alloc: Global, document: Vec<u8>) -> Result<Batch, Fault>
     read(alloc, document.as_slice())
 }
 
-// The report of a document.
-pub(crate) fn report_of<T: Threads + Sync, G: Gate>(
-    threads: &T,
-    alloc: Global,
-    document: Vec<u8>,
-    plan: Plan,
-    gate: &G,
-) -> Result<String, Fault>
-    ensures text { IfOk result (λ text. IsReportOf document.items (string_bytes text)) }
-    ensures fault { IfErr result (λ fault. fault ≢ memory_fault → IsFaultOf document.items fault) }
-    ensures code { IfErr result (λ fault. is_of_reading fault.code ≡ true) }
-{
-    let batch = batch_of(alloc, document)?;
-    let outcome = execute(threads, alloc, &batch, plan, gate)?;
-    let text = render(alloc, &batch, &outcome)?;
-    Ok(text)
-}
-
-// The report, and how often each transaction was run.
-pub(crate) fn audit_of<T: Threads + Sync, G: Gate>(
-    threads: &T,
-    alloc: Global,
-    document: Vec<u8>,
-    plan: Plan,
-    gate: &G,
-) -> Result<String, Fault>
-    ensures text { IfOk result (λ text. IsAuditOf document.items (string_bytes text)) }
-    ensures fault { IfErr result (λ fault. fault ≢ memory_fault → IsFaultOf document.items fault) }
-    ensures code { IfErr result (λ fault. is_of_reading fault.code ≡ true) }
-{
-    let batch = batch_of(alloc, document)?;
-    let outcome = execute(threads, alloc, &batch, plan, gate)?;
-    let text = render_audit(alloc, &batch, &outcome)?;
-    Ok(text)
-}
-
 // The report, or the report with the run counts, of a batch that was read.
 fn shown_of<T: Threads + Sync, G: Gate>(
     threads: &T,
@@ -77,6 +41,40 @@ fn shown_of<T: Threads + Sync, G: Gate>(
     render(alloc, batch, &outcome)
 }
 
+// The report of a document.
+pub(crate) fn report_of<T: Threads + Sync, G: Gate>(
+    threads: &T,
+    alloc: Global,
+    document: Vec<u8>,
+    plan: Plan,
+    gate: &G,
+) -> Result<String, Fault>
+    ensures text { IfOk result (λ text. IsReportOf document.items (string_bytes text)) }
+    ensures fault { IfErr result (λ fault. fault ≢ memory_fault → IsFaultOf document.items fault) }
+    ensures code { IfErr result (λ fault. is_of_reading fault.code ≡ true) }
+{
+    let batch = batch_of(alloc, document)?;
+    let text = shown_of(threads, alloc, &batch, plan, false, gate)?;
+    Ok(text)
+}
+
+// The report, and how often each transaction was run.
+pub(crate) fn audit_of<T: Threads + Sync, G: Gate>(
+    threads: &T,
+    alloc: Global,
+    document: Vec<u8>,
+    plan: Plan,
+    gate: &G,
+) -> Result<String, Fault>
+    ensures text { IfOk result (λ text. IsAuditOf document.items (string_bytes text)) }
+    ensures fault { IfErr result (λ fault. fault ≢ memory_fault → IsFaultOf document.items fault) }
+    ensures code { IfErr result (λ fault. is_of_reading fault.code ≡ true) }
+{
+    let batch = batch_of(alloc, document)?;
+    let text = shown_of(threads, alloc, &batch, plan, true, gate)?;
+    Ok(text)
+}
+
 // The report, with the run counts where an audit is asked for, and which operations ended the
 // rounds.
 pub(crate) fn explained_of<T: Threads + Sync, G: Gate>(
@@ -92,8 +90,23 @@ pub(crate) fn explained_of<T: Threads + Sync, G: Gate>(
     ensures code { IfErr result (λ fault. is_of_reading fault.code ≡ true) }
 {
     let batch = batch_of(alloc, document)?;
-    let mut text = shown_of(threads, alloc, &batch, plan, audit, gate)?;
-    let why = render_why(threads, alloc, &batch)?;
+    let text = explanation_of(threads, alloc, &batch, plan, audit, gate)?;
+    Ok(text)
+}
+
+// The same of a batch that was read.
+fn explanation_of<T: Threads + Sync, G: Gate>(
+    threads: &T,
+    alloc: Global,
+    batch: &Batch,
+    plan: Plan,
+    audit: bool,
+    gate: &G,
+) -> Result<String, NoMemory>
+    ensures { IfOk result (λ text. (bytes : List ℕ) → reading bytes ≡ Ok (document_of batch.now) → IsExplainedOf audit bytes (string_bytes text)) }
+{
+    let mut text = shown_of(threads, alloc, batch, plan, audit, gate)?;
+    let why = render_why(threads, alloc, batch)?;
     text.push_str(why.as_str())?;
     Ok(text)
 }
@@ -105,9 +118,16 @@ pub(crate) fn plain_report_of(alloc: Global, document: Vec<u8>) -> Result<String
     ensures code { IfErr result (λ fault. is_of_reading fault.code ≡ true) }
 {
     let batch = batch_of(alloc, document)?;
-    let answer = plain(alloc, &batch)?;
-    let text = render_plain(alloc, &batch, &answer)?;
+    let text = plain_text_of(alloc, &batch)?;
     Ok(text)
+}
+
+// The same of a batch that was read.
+fn plain_text_of(alloc: Global, batch: &Batch) -> Result<String, NoMemory>
+    ensures { IfOk result (λ text. (bytes : List ℕ) → reading bytes ≡ Ok (document_of batch.now) → IsPlainReportOf bytes (string_bytes text)) }
+{
+    let answer = plain(alloc, batch)?;
+    render_plain(alloc, batch, &answer)
 }
 
 // The document of the objects at the end.
@@ -117,7 +137,16 @@ pub(crate) fn carried_of(alloc: Global, document: Vec<u8>) -> Result<String, Fau
     ensures code { IfErr result (λ fault. is_of_reading fault.code ≡ true) }
 {
     let batch = batch_of(alloc, document)?;
-    let objects = plain(alloc, &batch)?.objects;
+    carried_text_of(alloc, &batch)
+}
+
+// The same of a batch that was read.
+fn carried_text_of(alloc: Global, batch: &Batch) -> Result<String, Fault>
+    ensures text { IfOk result (λ text. (bytes : List ℕ) → reading bytes ≡ Ok (document_of batch.now) → IsCarriedOf bytes (string_bytes text)) }
+    ensures fault { IfErr result (λ fault. fault ≢ memory_fault → (bytes : List ℕ) → reading bytes ≡ Ok (document_of batch.now) → IsUnfitOf bytes fault) }
+    ensures code { IfErr result (λ fault. is_of_reading fault.code ≡ true) }
+{
+    let objects = plain(alloc, batch)?.objects;
     if let Some(unfit) = first_unfit(&objects) {
         return Err(wrong_of(unfit).outside());
     }
