@@ -1,0 +1,13 @@
+use Rattle.std.proofs.Common.{◌∙◌, rules, ap}
+use Rattle.batch.specs.Names.{names_of}
+use Rattle.carry.specs.Carried.{carried_text}
+use Rattle.lang.specs.Reading.{document_of}
+use Rattle.ordtx.proofs.texts.carried_text_of.Goals as goal
+
+pub returns-clause-text : goal.returns-clause-text
+returns-clause-text c = λ bytes reads. record {
+  document = document_of c.args.batch.now;
+  reads = reads;
+  fits = search rules;
+  is = c.in_ok-text.ensures ∙ ap (carried_text (names_of c.args.batch.now.names)) c.in_ok-objects.ensures.objects;
+}
