@@ -1,0 +1,64 @@
+-- What is asked of the shape of a document and of its steps, test by test.
+use Rattle.std.proofs.Common.{◌≡◌, true, false, [], ◌∷◌, Ok, Err, refl}
+use Rattle.std.specs.Prelude.{codes, is_some, nat_le}
+use Rattle.serde_json.specs.Data.{Data}
+use Rattle.serde_json.specs.Events.{items_len}
+use Rattle.lang.specs.declared.counts.Counts.{Counts}
+use Rattle.lang.specs.declared.fault.Wrong.TheVariants.{Shape, TooMany}
+use Rattle.lang.specs.Asked.{document_shape_asked, objects_in, transactions_in, version_of}
+use Rattle.lang.specs.Demand.{check, fault_at}
+use Rattle.lang.specs.Look.{has_only, list_member}
+use Rattle.meaning.specs.declared.limits.TheConstants.{MAX_OBJECTS, MAX_TRANSACTIONS}
+
+-- ---- a document
+
+module _ (c : Counts) (d : Data) where
+  abbrev pub only_parts : Type 0
+  only_parts = has_only (codes "ordtx" ∷ codes "objects" ∷ codes "transactions" ∷ []) d ≡ true
+
+  abbrev pub versioned : Type 0
+  versioned = is_some (version_of d) ≡ true
+
+  -- it has another member
+  pub other_part : has_only (codes "ordtx" ∷ codes "objects" ∷ codes "transactions" ∷ []) d ≡ false
+      → check c (document_shape_asked d) ≡ Err (fault_at Shape c)
+  unfolding document_shape_asked
+  other_part only = rw only refl
+
+  -- it has no version
+  pub no_version : only_parts → is_some (version_of d) ≡ false → check c (document_shape_asked d) ≡ Err (fault_at Shape c)
+  unfolding document_shape_asked
+  no_version only version = rw (only, version) refl
+
+  -- it has no objects
+  pub no_objects : only_parts → versioned → is_some (list_member (codes "objects") d) ≡ false
+      → check c (document_shape_asked d) ≡ Err (fault_at Shape c)
+  unfolding document_shape_asked
+  no_objects only version objects = rw (only, version, objects) refl
+
+  -- it has no transactions
+  pub no_transactions : only_parts → versioned → is_some (list_member (codes "objects") d) ≡ true
+      → is_some (list_member (codes "transactions") d) ≡ false → check c (document_shape_asked d) ≡ Err (fault_at Shape c)
+  unfolding document_shape_asked
+  no_transactions only version objects transactions = rw (only, version, objects, transactions) refl
+
+  -- it has too many objects
+  pub many_objects : only_parts → versioned → is_some (list_member (codes "objects") d) ≡ true
+      → is_some (list_member (codes "transactions") d) ≡ true → nat_le (items_len (objects_in d)) MAX_OBJECTS ≡ false
+      → check c (document_shape_asked d) ≡ Err (fault_at TooMany c)
+  unfolding document_shape_asked
+  many_objects only version objects transactions few = rw (only, version, objects, transactions, few) refl
+
+  -- it has too many transactions
+  pub many_transactions : only_parts → versioned → is_some (list_member (codes "objects") d) ≡ true
+      → is_some (list_member (codes "transactions") d) ≡ true → nat_le (items_len (objects_in d)) MAX_OBJECTS ≡ true
+      → nat_le (items_len (transactions_in d)) MAX_TRANSACTIONS ≡ false → check c (document_shape_asked d) ≡ Err (fault_at TooMany c)
+  unfolding document_shape_asked
+  many_transactions only version objects transactions few lesser = rw (only, version, objects, transactions, few, lesser) refl
+
+  -- it has the right shape
+  pub shape_met : only_parts → versioned → is_some (list_member (codes "objects") d) ≡ true
+      → is_some (list_member (codes "transactions") d) ≡ true → nat_le (items_len (objects_in d)) MAX_OBJECTS ≡ true
+      → nat_le (items_len (transactions_in d)) MAX_TRANSACTIONS ≡ true → check c (document_shape_asked d) ≡ Ok c
+  unfolding document_shape_asked
+  shape_met only version objects transactions few lesser = rw (only, version, objects, transactions, few, lesser) refl

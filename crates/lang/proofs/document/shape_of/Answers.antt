@@ -1,0 +1,91 @@
+use Rattle.std.proofs.Common.{◌≡◌, ◌∙◌, ℕ, List, Some, Err, length, sym, ap}
+use Rattle.std.specs.Prelude.{codes, is_some, nat_le, unwrap_or}
+use Rattle.serde_json.specs.Data.{Data}
+use Rattle.serde_json.specs.Events.{items_len}
+use Rattle.serde_json.specs.View.{items_view, view}
+use Rattle.serde_json.specs.declared.value.Value.{Value}
+use Rattle.serde_json.proofs.Views.{items_len-items_view}
+use Rattle.lang.specs.Answer.{IsFirst}
+use Rattle.lang.specs.Asked.{document_shape_asked, objects_in, or_no_items, transactions_in}
+use Rattle.lang.specs.Look.{list_member}
+use Rattle.meaning.specs.declared.limits.TheConstants.{MAX_OBJECTS, MAX_TRANSACTIONS}
+use Rattle.lang.proofs.Checks.{passed_on}
+use Rattle.lang.proofs.ShapeLemmas.{many_objects, many_transactions, no_objects, no_transactions, no_version, other_part, shape_met}
+use Rattle.lang.proofs.document.shape_of.Goals as goal
+
+pub returns-in_err-demand-clause-first : goal.returns-in_err-demand-clause-first
+returns-in_err-demand-clause-first c =
+    let start = c.args.counts.now in
+    let d = view c.args.value.now in
+    let failed = c.in_err-demand.ensures in
+    passed_on c.from_residual.result (IsFirst start (document_shape_asked d)) c.in_err-demand.field-0.0 c.from_residual.ensures.1
+    (λ other. other_part start d (sym c.has_only.ensures ∙ failed.0) ∙ ap Err (sym failed.1))
+
+pub returns-in_default-clause-first : goal.returns-in_default-clause-first
+returns-in_default-clause-first c other =
+    no_version c.args.counts.now (view c.args.value.now) (sym c.has_only.ensures ∙ c.in_ok-demand.ensures)
+    (ap is_some (sym c.in_default.ensures)) ∙ ap Err (sym c.fault.ensures)
+
+pub returns-in_default-list_member-clause-first : goal.returns-in_default-list_member-clause-first
+returns-in_default-list_member-clause-first c other =
+    no_objects c.args.counts.now (view c.args.value.now) (sym c.has_only.ensures ∙ c.in_ok-demand.ensures)
+    (ap is_some (sym c.in-Some.ensures)) (ap is_some (sym c.in_default-list_member.ensures))
+    ∙ ap Err (sym c.fault-in_default-list_member.ensures)
+
+pub returns-in_default-list_member-2-clause-first : goal.returns-in_default-list_member-2-clause-first
+returns-in_default-list_member-2-clause-first c other =
+    no_transactions c.args.counts.now (view c.args.value.now) (sym c.has_only.ensures ∙ c.in_ok-demand.ensures)
+    (ap is_some (sym c.in-Some.ensures)) (ap is_some (sym c.in-Some-list_member.ensures))
+    (ap is_some (sym c.in_default-list_member-2.ensures)) ∙ ap Err (sym c.fault-in_default-list_member-2.ensures)
+
+-- how many objects there are
+abbrev objects_counted : (n : ℕ) (d : Data) (list : List Value) → Some (items_view list) ≡ list_member (codes "objects") d
+    → n ≡ length list → nat_le (items_len (objects_in d)) MAX_OBJECTS ≡ nat_le n MAX_OBJECTS
+objects_counted n d list is count =
+    ap (λ m. nat_le m MAX_OBJECTS) (ap (λ o. items_len (or_no_items o)) (sym is) ∙ items_len-items_view list ∙ sym count)
+
+-- how many transactions there are
+abbrev transactions_counted : (n : ℕ) (d : Data) (list : List Value) → Some (items_view list) ≡ list_member (codes "transactions") d
+    → n ≡ length list → nat_le (items_len (transactions_in d)) MAX_TRANSACTIONS ≡ nat_le n MAX_TRANSACTIONS
+transactions_counted n d list is count =
+    ap (λ m. nat_le m MAX_TRANSACTIONS) (ap (λ o. items_len (or_no_items o)) (sym is) ∙ items_len-items_view list ∙ sym count)
+
+pub returns-in_err-demand-2-clause-first : goal.returns-in_err-demand-2-clause-first
+returns-in_err-demand-2-clause-first c =
+    let start = c.args.counts.now in
+    let d = view c.args.value.now in
+    let failed = c.in_err-demand-2.ensures in
+    passed_on c.from_residual-in_err-demand-2.result (IsFirst start (document_shape_asked d)) c.in_err-demand-2.field-0.0
+    c.from_residual-in_err-demand-2.ensures.1
+    (λ other. many_objects start d (sym c.has_only.ensures ∙ c.in_ok-demand.ensures) (ap is_some (sym c.in-Some.ensures))
+    (ap is_some (sym c.in-Some-list_member.ensures)) (ap is_some (sym c.in-Some-list_member-2.ensures))
+    (objects_counted _ d _ c.in-Some-list_member.ensures (c.len.ensures ∙ c.in-Some-list_member.objects.now.ok.0) ∙ failed.0) ∙ ap Err (sym failed.1))
+
+pub returns-in_err-demand-3-clause-first : goal.returns-in_err-demand-3-clause-first
+returns-in_err-demand-3-clause-first c =
+    let start = c.args.counts.now in
+    let d = view c.args.value.now in
+    let failed = c.in_err-demand-3.ensures in
+    passed_on c.from_residual-in_err-demand-3.result (IsFirst start (document_shape_asked d)) c.in_err-demand-3.field-0.0
+    c.from_residual-in_err-demand-3.ensures.1
+    (λ other. many_transactions start d (sym c.has_only.ensures ∙ c.in_ok-demand.ensures) (ap is_some (sym c.in-Some.ensures))
+    (ap is_some (sym c.in-Some-list_member.ensures)) (ap is_some (sym c.in-Some-list_member-2.ensures))
+    (objects_counted _ d _ c.in-Some-list_member.ensures (c.len.ensures ∙ c.in-Some-list_member.objects.now.ok.0) ∙ c.in_ok-demand-2.ensures)
+    (transactions_counted _ d _ c.in-Some-list_member-2.ensures (c.len-2.ensures ∙ c.in-Some-list_member-2.transactions.now.ok.0) ∙ failed.0) ∙ ap Err (sym failed.1))
+
+pub returns-clause-met : goal.returns-clause-met
+returns-clause-met c =
+    let d = view c.args.value.now in
+    shape_met c.args.counts.now d (sym c.has_only.ensures ∙ c.in_ok-demand.ensures) (ap is_some (sym c.in-Some.ensures))
+    (ap is_some (sym c.in-Some-list_member.ensures)) (ap is_some (sym c.in-Some-list_member-2.ensures))
+    (objects_counted _ d _ c.in-Some-list_member.ensures (c.len.ensures ∙ c.in-Some-list_member.objects.now.ok.0) ∙ c.in_ok-demand-2.ensures)
+    (transactions_counted _ d _ c.in-Some-list_member-2.ensures (c.len-2.ensures ∙ c.in-Some-list_member-2.transactions.now.ok.0) ∙ c.in_ok-demand-3.ensures)
+
+pub returns-clause-version : goal.returns-clause-version
+returns-clause-version c = ap (λ version. unwrap_or version 1) c.in-Some.ensures
+
+pub returns-clause-objects : goal.returns-clause-objects
+returns-clause-objects c = ap or_no_items c.in-Some-list_member.ensures
+
+pub returns-clause-transactions : goal.returns-clause-transactions
+returns-clause-transactions c = ap or_no_items c.in-Some-list_member-2.ensures
