@@ -80,16 +80,6 @@ scope_of-same m k a name is there es same =
     ap scope_of same
     ∙ ap (λ b. cond b (scope_of m.entries) (scope_of m.entries ++ (name, a) ∷ [])) (sym (is_named-get m k name is ∙ there))
 
--- cut back to its first entries, a map shows what it showed
-pub cut_back : (old new : List (String Global × Subject)) (more : Scope) → scope_of new ≡ scope_of old ++ more
-    → scope_of (take (length old) new) ≡ scope_of old
-cut_back [] new more e = refl
-cut_back (o ∷ old) [] more e = cc
-cut_back (o ∷ old) (n ∷ new) more e =
-    let head : (string_bytes n.0, n.1) ≡ (string_bytes o.0, o.1) = cc in
-    let tail : scope_of new ≡ scope_of old ++ more = cc in
-    ap₂ (λ x xs. x ∷ xs) head (cut_back old new more tail)
-
 -- the labels from a place on, by the one at the place
 pub labels_from : (es : List (String Global × Subject)) (i : ℕ) (e : String Global × Subject) → Some e ≡ slice_get es i
     → drop i es ≡ e ∷ drop (i + 1) es

@@ -24,17 +24,17 @@ ghost use Rattle.meaning.specs.declared.limits.TheConstants.{MAX_DEPTH};
 use crate::declared::Declared;
 use crate::hashing::Labels;
 use crate::heads::{if_step, no_labels, subaction_of};
-use crate::labels::add_new_label;
+use crate::labels::{add_new_label, leave_block};
 use crate::operations::item_of;
 use crate::pull::{
     pull_begin_array, pull_begin_object, pull_end_object, pull_key, pull_members, pull_name,
     pull_object, pull_operation, pull_text, pull_whole,
 };
 use crate::pull_heads::{begin_parallel, end_parallel, new_sub_step, pull_if_head};
-use crate::state::{Numbering, State, number_of};
-use crate::steps::{Sort, read_members, read_reason, read_step};
+use crate::state::{Numbering, State};
+use crate::steps::{Sort, read_members, read_reason, read_step, reason_number};
 use crate::subject::{Subject, fits_item, fits_number, fits_word};
-use batch::{Block, Handler, Step, Subaction, Test, is_name};
+use batch::{Block, Handler, Step, Subaction, Test};
 use json::{Reader, Token};
 use serde_json::Map;
 use std::alloc::Global;
@@ -71,10 +71,7 @@ fn pull_handler(
         (numbers_of state.old.numbering) reason.now d)
         × (scope_of state.new.labels.entries ≡ scope_of state.old.labels.entries)) }
 {
-    if !is_name(reason) {
-        return None;
-    }
-    let number = number_of(alloc, &mut state.numbering.reasons, reason).ok()?;
+    let number = reason_number(alloc, reason, &state.counts, &mut state.numbering.reasons).ok()?;
     let block = pull_block(alloc, reader, levels, declared, state)?;
     Some(Handler {
         reason: number,
@@ -599,6 +596,6 @@ pub(crate) fn pull_block(
     pull_begin_array(reader)?;
     let seen = state.labels.len();
     let steps = pull_steps(alloc, reader, levels - 1, declared, state)?;
-    state.labels.truncate(seen);
+    leave_block(&mut state.labels, seen);
     Some(Block { steps })
 }

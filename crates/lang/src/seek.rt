@@ -12,7 +12,7 @@ ghost use Rattle.meaning.specs.declared.limits.TheConstants.{MAX_TRANSACTIONS};
 use crate::declared::Declared;
 use crate::hashing::Labels;
 use crate::heads::{if_head, no_labels, parallel_head, sub_head, take_labels};
-use crate::labels::add_label;
+use crate::labels::{add_label, leave_block};
 use crate::look::text_member;
 use crate::operations::read_operation;
 use crate::places::Unmet;
@@ -313,7 +313,7 @@ fn seek_block(
     }
     let seen = state.labels.len();
     seek_steps(alloc, list, levels - 1, declared, state)?;
-    state.labels.truncate(seen);
+    leave_block(&mut state.labels, seen);
     Ok(())
 }
 

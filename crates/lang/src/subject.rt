@@ -5,7 +5,7 @@ ghost use Rattle.lang.specs.Subjects.{fits_item, fits_number, fits_word};
 use words::{Verb, Word};
 
 /// What a label is of: the reply to a call, or the outcome of a subaction.
-#[derive(Clone, Copy, Debug, Drop, PartialEq, Eq)]
+#[derive(Clone, Copy, Drop)]
 pub(crate) enum Subject {
     Reply(Verb),
     Outcome,

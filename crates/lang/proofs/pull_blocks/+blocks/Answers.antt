@@ -1,6 +1,6 @@
 use Rattle.std.proofs.Common.{◌≡◌, ℕ, true, List, [], ◌∷◌, ◌++◌, Some, None, map, length, refl, sym, subst, ap, ap₂, ◌∙◌, ◌+◌, ◌*◌}
 use Rattle.std.proofs.Common.{append-nil, arith, rules, ◌-◌, suc, option_map, le-leb, Vec, Global}
-use Rattle.std.proofs.lemmas.List.{map-append}
+use Rattle.std.proofs.lemmas.List.{length-map, map-append}
 use Rattle.json.specs.Json.{after_end_array, read_key}
 use Rattle.serde_json.specs.Data.{Items, no_items, item, array, no_members, object, member, put, string}
 use Rattle.meaning.specs.Trees as tree
@@ -15,7 +15,7 @@ use Rattle.lang.specs.Spelled.{block_of_if, or_no_step}
 use Rattle.lang.specs.Pulled.{IsAfter, ReadsValue, SubTail, sub_members, ReadsMembers, if_step, test_key, with_else}
 use Rattle.lang.proofs.Checks.{check_met}
 use Rattle.lang.proofs.ListLemmas.{in_front, in_front_none, in_front_push}
-use Rattle.lang.proofs.LabelLemmas.{child_label_met, extends_twice, scope_after_extends, cut_back}
+use Rattle.lang.proofs.LabelLemmas.{child_label_met, extends_twice, scope_after_extends}
 use Rattle.lang.proofs.PulledLemmas.{reads_item, reads_no_items, reads_shorter, reads_array, reads_deeper, reads_member, reads_no_members}
 use Rattle.lang.proofs.PulledLemmas.{reads_object}
 use Rattle.json.specs.Token.{Token}
@@ -124,8 +124,7 @@ pull_block-returns t c =
       ap (check c.args.state.now.counts) (block_asks setting scope d (levels - 1) levels ds (omega arith) refl) ∙ done.2,
       ap (λ (b : tree.Block). (b, numbers_of c.pull_steps.new.state.numbering)) shown ∙ ap (spelled_map steps_of) done.3
           ∙ sym (block_spells setting scope d (levels - 1) levels (numbers_of c.args.state.now.numbering) ds (omega arith) refl),
-      ap scope_of c.truncate.ensures.entries
-          ∙ rw c.len-seen.ensures.len (cut_back c.args.state.now.labels.entries c.pull_steps.new.state.labels.entries done.4.0 done.4.1),
+      c.leave_block.ensures scope done.4 (length-map c.args.state.now.labels.entries _ ∙ sym c.len-seen.ensures.len),
     )
 
 pub pull_handler-returns : goal.pull_handler-returns
@@ -139,9 +138,9 @@ pull_handler-returns t c =
     let done = c.in_ok-block.ensures in
     let d = done.0 in
     let b = c.in_ok-block.block in
-    let named : is_name reason ≡ true = grind (arith, rules) in
-    let numbered : c.in_ok-number.number ≡ number_of reason numbers.reasons = grind (arith, rules) in
-    let joined : texts_of c.number_of.new.table.keys ≡ with_text reason numbers.reasons = grind (arith, rules) in
+    let named = c.in_ok-number.ensures.met in
+    let numbered = c.in_ok-number.ensures.number in
+    let joined = c.in_ok-number.ensures.table in
     let after = numbers_of c.pull_block.new.state.numbering in
     let n = c.in_ok-number.number in
     let shown : handler_view (roll-Handler (record { reason = n; block = b })) ≡ (n, block_view b) = search (rules, handler_lemmas) in (

@@ -1,5 +1,6 @@
 use Rattle.std.specs.Prelude.{codes}
 use Rattle.std.proofs.Common.{◌≡◌, ◌+◌, ◌-◌, None, [], Err, drop, subst, sym, ap, ◌∙◌, arith, rules}
+use Rattle.std.proofs.lemmas.List.{length-map}
 use Rattle.serde_json.specs.Find.{as_array, get}
 use Rattle.serde_json.specs.View.{items_view, view}
 use Rattle.lang.specs.Asked.{children_in, handlers_in, part, scope_after}
@@ -8,7 +9,7 @@ use Rattle.lang.specs.Heads.{if_head_asked, parallel_head_asked, sub_head_asked}
 use Rattle.lang.specs.Places.{block_placed, block_placed_if, children_placed, handlers_placed, if_placed, inside, item_at, member_named}
 use Rattle.lang.specs.Places.{nothing, parallel_placed, seek, step_placed, steps_placed, sub_placed}
 use Rattle.lang.specs.Scope.{Extends, Scope, scope_of, setting_of}
-use Rattle.lang.proofs.LabelLemmas.{cut_back, extends_twice, scope_after_extends}
+use Rattle.lang.proofs.LabelLemmas.{extends_twice, scope_after_extends}
 use Rattle.lang.proofs.ListLemmas.{items_from}
 use Rattle.lang.proofs.HeadPlaces.{found_in_front, if_placed-is, parallel_placed-is, sub_placed-is}
 use Rattle.lang.proofs.PlaceLemmas.{own_first, part_met, part_unmet}
@@ -50,9 +51,8 @@ seek_block-returns-clause-met t c =
 
 pub seek_block-returns-clause-labels : goal.seek_block-returns-clause-labels
 seek_block-returns-clause-labels t c =
-    let longer = c.in_ok-seek_steps.ensures.labels in
-    ap scope_of c.truncate.ensures.entries
-    ∙ rw c.len-seen.ensures.len (cut_back c.args.state.now.labels.entries c.seek_steps.new.state.labels.entries longer.0 longer.1)
+    let before = c.args.state.now.labels.entries in
+    c.leave_block.ensures (scope_of before) c.in_ok-seek_steps.ensures.labels (length-map before _ ∙ sym c.len-seen.ensures.len)
 
 pub seek_if-returns-in-Err-clause-unmet : goal.seek_if-returns-in-Err-clause-unmet
 seek_if-returns-in-Err-clause-unmet t c other =

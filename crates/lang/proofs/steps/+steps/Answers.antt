@@ -1,7 +1,7 @@
-use Rattle.std.proofs.Common.{◌≡◌, ℕ, ◌+◌, ◌-◌, List, [], ◌∷◌, None, Err, drop, map, string_bytes, subst, sym, ap, ap₂, ◌∙◌, arith, rules}
+use Rattle.std.proofs.Common.{◌≡◌, ℕ, ◌+◌, ◌-◌, List, [], ◌∷◌, None, Err, drop, map, string_bytes, refl, subst, sym, ap, ap₂, ◌∙◌, arith, rules}
 use Rattle.std.proofs.Common.{Vec, Global, option_map}
 use Rattle.std.specs.Prelude.{is_some}
-use Rattle.std.proofs.lemmas.List.{map-append}
+use Rattle.std.proofs.lemmas.List.{length-map, map-append}
 use Rattle.serde_json.specs.Find.{as_array}
 use Rattle.serde_json.specs.View.{items_view, members_view, view}
 use Rattle.meaning.specs.Trees as tree
@@ -9,20 +9,22 @@ use Rattle.batch.specs.Views.{Tried, block_view, handler_view, step_view, steps_
 use Rattle.lang.specs.Answer.{IsFirst}
 use Rattle.lang.specs.Asked.{block_asked, children_asked, label_in, labels_of, member_asked, members_asked, scope_after, step_asked}
 use Rattle.lang.specs.Asked.{if_asked, steps_asked, sub_asked}
-use Rattle.lang.specs.Demand.{check}
-use Rattle.lang.specs.Scope.{Extends, Numbers, Scope, numbers_of, scope_of, setting_of, with_label}
+use Rattle.batch.specs.Names.{is_name}
+use Rattle.lang.specs.Demand.{check, holds}
+use Rattle.faults.specs.declared.fault.Wrong.TheVariants.{Name}
+use Rattle.lang.specs.Scope.{Extends, Numbers, Scope, Table, numbers_of, scope_of, setting_of, with_label}
 use Rattle.lang.specs.Spelled.{block_of, children_spelled, spelled_map, steps_spelled}
 use Rattle.lang.specs.declared.subject.Subject.TheVariants.{Outcome}
 use Rattle.lang.proofs.Checks.{check_failed, check_met, passed_on}
 use Rattle.lang.proofs.ListLemmas.{in_front, in_front_push, items_from}
 use Rattle.batch.specs.declared.tree.Block.{roll-Block}
-use Rattle.batch.specs.declared.tree.Handler.{Handler}
+use Rattle.batch.specs.declared.tree.Handler.{Handler, roll-Handler, the_lemmas as handler_lemmas}
 use Rattle.batch.proofs.ViewLemmas.{block_view-is}
 use Rattle.lang.specs.Spelled.{parallel_of, members_of, tried}
 use Rattle.lang.proofs.BlockLemmas.{block_asks, block_spells, no_array, too_deep}
 use Rattle.lang.proofs.HeadLemmas.{if_else_failed, if_head_failed, if_parts_met, if_read, if_then_failed, sub_body_failed}
 use Rattle.lang.proofs.HeadLemmas.{sub_handler_failed, sub_handlers_failed, sub_head_failed, sub_parts_met, sub_read}
-use Rattle.lang.proofs.LabelLemmas.{cut_back, extends_twice, scope_after_extends}
+use Rattle.lang.proofs.LabelLemmas.{extends_twice, scope_after_extends}
 use Rattle.lang.proofs.steps.+steps.Goals as goal
 
 pub read_block-returns-in_default-clause-first : goal.read_block-returns-in_default-clause-first
@@ -66,9 +68,8 @@ read_block-returns-clause-value t c =
 
 pub read_block-returns-clause-labels : goal.read_block-returns-clause-labels
 read_block-returns-clause-labels t c =
-    let longer = c.in_ok-steps.ensures.labels in
-    ap scope_of c.truncate.ensures.entries
-    ∙ rw c.len-seen.ensures.len (cut_back c.args.state.now.labels.entries c.read_steps.new.state.labels.entries longer.0 longer.1)
+    let before = c.args.state.now.labels.entries in
+    c.leave_block.ensures (scope_of before) c.in_ok-steps.ensures.labels (length-map before _ ∙ sym c.len-seen.ensures.len)
 
 pub read_steps-returns-in_err-read_step-clause-first : goal.read_steps-returns-in_err-read_step-clause-first
 read_steps-returns-in_err-read_step-clause-first t c =
@@ -189,6 +190,55 @@ read_children-loop-child-preserved t c =
       added = l.invariant.added ∙ ap (labels_of here) split ∙ ap (λ (s : Scope). labels_of s rest) (sym added);
       labels = done.labels ∙ l.invariant.labels;
     }
+
+pub read_handler-returns-in_err-number-clause-first : goal.read_handler-returns-in_err-number-clause-first
+read_handler-returns-in_err-number-clause-first t c =
+    let asks = block_asked (setting_of c.args.declared.now) c.args.levels in
+    let scope = scope_of c.args.state.now.labels.entries in
+    let reason = c.args.reason.now in
+    let d = view c.args.value.now in
+    let start = c.args.state.now.counts in
+    let e = c.in_err-number.field-0.0 in
+    passed_on c.from_residual.result (IsFirst start (member_asked asks scope reason d)) e c.from_residual.ensures.1
+    (λ other. let failed = c.in_err-number.ensures.first other in
+    check_failed start e (holds (is_name reason) Name ∷ []) (asks scope d) (rw failed.0 (ap Err (sym failed.1))))
+
+pub read_handler-returns-in_err-block-clause-first : goal.read_handler-returns-in_err-block-clause-first
+read_handler-returns-in_err-block-clause-first t c =
+    let asks = block_asked (setting_of c.args.declared.now) c.args.levels in
+    let scope = scope_of c.args.state.now.labels.entries in
+    let reason = c.args.reason.now in
+    let d = view c.args.value.now in
+    let start = c.args.state.now.counts in
+    let e = c.in_err-block.field-0.0 in
+    passed_on c.from_residual-in_err-block.result (IsFirst start (member_asked asks scope reason d)) e
+    c.from_residual-in_err-block.ensures.1
+    (λ other. check_met start start (holds (is_name reason) Name ∷ []) (asks scope d) (rw c.in_ok-number.ensures.met refl)
+    ∙ c.in_err-block.ensures.first other)
+
+pub read_handler-returns-clause-met : goal.read_handler-returns-clause-met
+read_handler-returns-clause-met t c =
+    let asks = block_asked (setting_of c.args.declared.now) c.args.levels in
+    let start = c.args.state.now.counts in
+    check_met start start (holds (is_name c.args.reason.now) Name ∷ [])
+    (asks (scope_of c.args.state.now.labels.entries) (view c.args.value.now)) (rw c.in_ok-number.ensures.met refl)
+    ∙ c.in_ok-block.ensures.met
+
+pub read_handler-returns-clause-value : goal.read_handler-returns-clause-value
+read_handler-returns-clause-value t c =
+    let block = block_of (setting_of c.args.declared.now) c.args.levels in
+    let scope = scope_of c.args.state.now.labels.entries in
+    let numbers = numbers_of c.args.state.now.numbering in
+    let after = numbers_of c.read_block.new.state.numbering in
+    let n = c.in_ok-number.number in
+    let b = c.in_ok-block.block in
+    let shown : handler_view (roll-Handler (record { reason = n; block = b })) ≡ (n, block_view b) = search (rules, handler_lemmas) in
+    ap (λ (v : ℕ × tree.Block). (v, after)) shown
+    ∙ ap (spelled_map (λ (x : tree.Block). (n, x))) c.in_ok-block.ensures.value
+    ∙ ap₂ (λ m (ts : Table). spelled_map (λ (x : tree.Block). (m, x)) (block scope (record {
+      items = numbers.items;
+      reasons = ts;
+    }) (view c.args.value.now))) c.in_ok-number.ensures.number c.in_ok-number.ensures.table
 
 pub read_members-returns-in_err-read_handler-clause-first : goal.read_members-returns-in_err-read_handler-clause-first
 read_members-returns-in_err-read_handler-clause-first t c =
