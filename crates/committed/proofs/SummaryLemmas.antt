@@ -1,6 +1,10 @@
 -- Entries that stand for many: what commutes forward with them.
 use Rattle.std.proofs.Common.{◌≡◌, ℕ, suc, zero, ◌<◌, ◌≤◌, ◌↔◌, arith, List, [], ◌∷◌, ◌++◌, length, set, get_or, sym, ap, ◌∙◌, subst}
 use Rattle.std.proofs.lemmas.List.{get_or-map, get_or-set_other, length-map, length-set, map-append, map-set}
+use Rattle.std.specs.Prelude.{Result, Ok, Err, IfOk}
+use Rattle.std.specs.declared.vec.Vec.{Vec}
+use Rattle.std.specs.declared.alloc.Global.{Global}
+use Rattle.serial.specs.declared.NoMemory.{NoMemory}
 use Rattle.objects.specs.declared.entry.Entry.{Entry}
 use Rattle.committed.specs.declared.marks.MarkedEntry.{MarkedEntry}
 use Rattle.objects.specs.Entries.{CommutesWith, AllCommute, CommuteForward}
@@ -177,3 +181,15 @@ summary_pushed marked next e entries own summary =
     subst (λ xs. IsSummary xs (entries ++ e ∷ [])) (sym (map-append (λ (k : MarkedEntry). k.entry) marked (next ∷ [])
     ∙ ap (λ x. entries_of marked ++ x ∷ []) own))
     (summary-append (entries_of marked) entries (e ∷ []) (e ∷ []) summary (summary-refl (e ∷ [])))
+
+-- ---- a summary that leaves nothing out
+
+-- entries sum themselves up
+pub summary_itself : (entries : List Entry) → IsSummary entries entries
+summary_itself entries = record { same = λ other. (λ all. all, λ all. all) }
+
+-- marked entries sum up the entries that were marked
+pub summary_made : (made : Result (Vec MarkedEntry Global) NoMemory) (entries : List Entry)
+    → IfOk made (λ marked. entries_of marked.items ≡ entries) → IfOk made (λ summary. IsSummary (entries_of summary.items) entries)
+summary_made (Ok marked) entries is = subst (IsSummary (entries_of marked.items)) is (summary_itself (entries_of marked.items))
+summary_made (Err refused) entries is = tt

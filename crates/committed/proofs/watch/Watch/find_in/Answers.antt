@@ -1,5 +1,5 @@
 use Rattle.std.proofs.Common.{◌-◌, ◌<◌, arith, length, inl, inr}
-use Rattle.committed.proofs.WatchLemmas.{read_at, found_more}
+use Rattle.committed.proofs.WatchLemmas.{read_at, found_more, all_found}
 use Rattle.committed.proofs.watch.Watch.find_in.Goals as goal
 
 pub loop-at-preserved-in_ok-insert : goal.loop-at-preserved-in_ok-insert
@@ -29,3 +29,14 @@ loop-at-preserved c =
     c.args.self.now.count c.args.found.now c.loop-at.found c.loop-at.found
     c.args.self.now.chains c.loop-at.invariant c.loop-at-test.true c.index-link.ensures (λ run has. has)
     (λ late. absurd (omega (arith, late, c.if-run-from.false))) (λ run has. inl has)
+
+pub returns-clause-more : goal.returns-clause-more
+returns-clause-more c = c.loop-at.invariant.more
+
+pub returns-clause-only : goal.returns-clause-only
+returns-clause-only c = c.loop-at.invariant.only
+
+pub returns-clause-all : goal.returns-clause-all
+returns-clause-all c =
+    all_found c.args.self.now.links.items c.args.slot c.args.from c.loop-at.at c.args.self.now.count c.args.found.now c.loop-at.found
+    c.loop-at.invariant (omega (arith, c.loop-at-test.false))

@@ -1,0 +1,26 @@
+use Rattle.std.proofs.Common.{◌≡◌, ◌+◌, ◌++◌, ◌∷◌, [], arith, length, take, sym, ap, ◌∙◌, subst}
+use Rattle.std.proofs.lemmas.List.{take_more, take_all}
+use Rattle.committed.specs.Summaries.{entries_of, IsSummary}
+use Rattle.committed.proofs.SummaryLemmas.{summary_itself, summary_made}
+use Rattle.committed.proofs.summary.summary_of.Goals as goal
+
+pub returns-then-entries-le-FEW : goal.returns-then-entries-le-FEW
+returns-then-entries-le-FEW c = summary_made _ _ c.mark_in.ensures
+
+pub loop-entry-init : goal.loop-entry-init
+loop-entry-init c = subst (λ items. IsSummary (entries_of items) []) (sym c.in_ok-table.ensures) (summary_itself [])
+
+pub loop-entry-preserved : goal.loop-entry-preserved
+loop-entry-preserved c =
+    let entries = c.args.entries.now in
+    let at = c.loop-entry.entry-index in
+    let entry = c.entry-item.result in
+    subst (IsSummary (entries_of c.add.new.self.summary.items))
+    (ap (λ e. take at entries ++ e ∷ []) c.entry-item.is ∙ sym (take_more entries at entry c.loop-entry-test.true))
+    (c.in_ok-add.ensures (take at entries) c.loop-entry.invariant)
+
+pub returns : goal.returns
+returns c =
+    let entries = c.args.entries.now in
+    subst (IsSummary (entries_of c.loop-entry.table.summary.items)) (take_all c.loop-entry.entry-index entries (omega arith))
+    c.loop-entry.invariant

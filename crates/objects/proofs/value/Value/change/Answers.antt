@@ -1,0 +1,5 @@
+use Rattle.std.proofs.Common.{rules}
+use Rattle.objects.proofs.value.Value.change.Goals as goal
+
+pub returns-in-Max-Max : goal.returns-in-Max-Max
+returns-in-Max-Max c = search rules
