@@ -2,6 +2,7 @@ pub mod ViewLemmas
 pub mod SizeLemmas
 pub mod CountLemmas
 pub mod CanRun
+pub mod Blocks
 pub mod Stepping
 pub mod TakenLemmas
 pub mod Handling

@@ -9,7 +9,9 @@ use Rattle.batch.proofs.CanRun.{op-can, if-bound}
 use Rattle.batch.proofs.StepShows.{op-shows, if-shows_then, if-shows_else, sub-shows, abort-shows, parallel-shows}
 use Rattle.batch.proofs.PartTried.{part_tried-start, part_tried-more, part_tried-aborted, part_tried-ended}
 use Rattle.one_thread.proofs.Bodies.{body_ended, abort_handled}
+use Rattle.batch.proofs.Blocks.{block_shows, labels_left}
 use Rattle.one_thread.proofs.InPlace.{ground, call_took}
+use Rattle.one_thread.specs.Running.{in_place}
 use Rattle.one_thread.proofs.executor.+run.Goals as goal
 use Rattle.one_thread.proofs.executor.+run.Goals.{run_step-then-holds, run_step-else-holds}
 
@@ -144,3 +146,15 @@ run_subaction-returns-in_ok-handler-in-Aborted-clause-shows t c =
     c.in_ok-body.ensures.shows c.rewind.new.self c.mark-mark.result c.mark-mark.ensures c.in_ok-rewind-in-Aborted.ensures
     c.run_handler.new.workspace c.in-Aborted.reason c.in_ok-handler-in-Aborted.handler c.in_ok-handler-in-Aborted.end _ c.in-Aborted.is
     (rw c.in_ok-body.ensures.labels at c.in_ok-handler-in-Aborted.ensures.shows) refl refl refl
+
+-- ---- a block
+
+pub run_block-returns-clause-shows : goal.run_block-returns-clause-shows
+run_block-returns-clause-shows t c =
+    block_shows in_place c.args.block.now c.deref.result.now c.args.labels.now.items c.args.workspace.now.state c.in_ok-record.record
+    c.args.workspace.now c.run_steps.new.workspace c.deref.ensures.value c.in_ok-record.ensures.shows
+
+pub run_block-returns-clause-labels : goal.run_block-returns-clause-labels
+run_block-returns-clause-labels t c =
+    labels_left c.args.labels.now.items c.run_steps.new.labels.items c.truncate.new.self.items c.len-seen.result
+    c.in_ok-record.ensures.labels (omega (arith, c.args.labels.now.ok.0, c.len-seen.ensures)) c.truncate.ensures.items
