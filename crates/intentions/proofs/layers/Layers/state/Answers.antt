@@ -1,4 +1,4 @@
-use Rattle.std.proofs.Common.{Some, [], ◌∷◌, ◌++◌, take, arith, sym, ap, ◌∙◌}
+use Rattle.std.proofs.Common.{Some, [], ◌∷◌, ◌++◌, take, arith, sym, ap, ◌∙◌, rules}
 use Rattle.std.proofs.lemmas.List.{take_more}
 use Rattle.intentions.proofs.EntriesLemmas.{get-past, get_or-found}
 use Rattle.intentions.proofs.layers.Layers.state.Goals as goal
@@ -15,3 +15,6 @@ loop-object-preserved c =
     c.in_ok-push-in-Some.ensures.ok ∙ ap (λ ws. ws ++ value ∷ []) c.loop-object.invariant
     ∙ ap (λ v. take c.loop-object.object shown ++ v ∷ []) (sym found)
     ∙ sym (take_more shown c.loop-object.object value (omega arith))
+
+pub loop-object-init : goal.loop-object-init
+loop-object-init c = search rules
