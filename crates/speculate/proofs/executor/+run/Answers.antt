@@ -6,12 +6,14 @@ use Rattle.batch.proofs.ViewLemmas.{subaction_view-labelled}
 use Rattle.batch.specs.Views.{block_view, subaction_view}
 use Rattle.intentions.specs.Levels.{shown_values as state_of_view}
 use Rattle.batch.proofs.PartRuns.{part_run-start, part_run-more, part_run-aborted, part_run-ended}
+use Rattle.batch.proofs.Blocks.{block_shows, labels_left}
 use Rattle.batch.proofs.CanRun.{op-can, if-bound}
 use Rattle.batch.proofs.StepShows.{op-shows, sub-shows, abort-shows, parallel-shows}
 use Rattle.batch.proofs.PartTried.{part_tried-start, part_tried-more, part_tried-aborted, part_tried-ended}
 use Rattle.speculate.proofs.Siblings.{net_is_legal, net_has_room, kept_shows, kept_listed, added_listed, each_can_try, one_more, one_longer}
 use Rattle.speculate.proofs.Siblings.{joined_halves, to_middle, left-start, left-more}
 use Rattle.speculate.proofs.Choices.{branch_can_run, branch_is_smaller, branch_shows}
+use Rattle.speculate.specs.Running.{in_view}
 use Rattle.speculate.proofs.InView.{ground}
 use Rattle.speculate.proofs.executor.+run.Goals as goal
 
@@ -243,3 +245,15 @@ run_children-loop-place-preserved g t c =
 pub run_children-returns-clause-shows : goal.run_children-returns-clause-shows
 run_children-returns-clause-shows g t c = rw (← c.loop-place.invariant.same)
     (part_tried-ended ground _ _ _ _ _ _ _ c.loop-place.invariant.part c.loop-place-test.false)
+
+-- ---- a block
+
+pub run_block-returns-clause-shows : goal.run_block-returns-clause-shows
+run_block-returns-clause-shows g t c =
+    block_shows in_view c.args.block.now c.deref.result.now c.args.labels.now.items (state_of_view c.args.view.now) c.in_ok-record.record
+    c.args.view.now c.run_steps.new.view c.deref.ensures.value c.in_ok-record.ensures.shows
+
+pub run_block-returns-clause-labels : goal.run_block-returns-clause-labels
+run_block-returns-clause-labels g t c =
+    labels_left c.args.labels.now.items c.run_steps.new.labels.items c.truncate.new.self.items c.len-seen.result
+    c.in_ok-record.ensures.labels (omega (arith, c.args.labels.now.ok.0, c.len-seen.ensures)) c.truncate.ensures.items
