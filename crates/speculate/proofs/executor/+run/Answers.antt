@@ -1,13 +1,16 @@
-use Rattle.std.proofs.Common.{true, false, ◌+◌, ◌≡◌, ◌++◌, ◌∷◌, [], ◌∙◌, length, take, refl, sym, ap, rules, arith}
+use Rattle.std.proofs.Common.{true, false, ◌+◌, ◌≡◌, ◌++◌, ◌∷◌, [], ◌∙◌, List, length, take, refl, sym, ap, rules, arith}
+use Rattle.std.proofs.lemmas.List.{append-nil}
 use Rattle.speculate.proofs.Bodies.{body_ended, handler_can_run, taken_over, passed_on}
 use Rattle.meaning.specs.OneThread.{label_if}
+use Rattle.meaning.specs.declared.held.Held.{Held}
+use Rattle.batch.specs.Running.{StillSeen}
 use Rattle.meaning.specs.declared.held.Held.TheVariants.{Outcome}
 use Rattle.batch.proofs.ViewLemmas.{subaction_view-labelled}
 use Rattle.batch.specs.Views.{block_view, subaction_view}
 use Rattle.intentions.specs.Levels.{shown_values as state_of_view}
 use Rattle.batch.proofs.PartRuns.{part_run-start, part_run-more, part_run-aborted, part_run-ended}
 use Rattle.batch.proofs.Blocks.{block_shows, labels_left}
-use Rattle.batch.proofs.CanRun.{op-can, if-bound}
+use Rattle.batch.proofs.CanRun.{op-can, if-bound, still_same, still_then}
 use Rattle.batch.proofs.StepShows.{op-shows, sub-shows, abort-shows, parallel-shows}
 use Rattle.batch.proofs.PartTried.{part_tried-start, part_tried-more, part_tried-aborted, part_tried-ended}
 use Rattle.speculate.proofs.Siblings.{net_is_legal, net_has_room, kept_shows, kept_listed, added_listed, each_can_try, one_more, one_longer}
@@ -257,3 +260,61 @@ pub run_block-returns-clause-labels : goal.run_block-returns-clause-labels
 run_block-returns-clause-labels g t c =
     labels_left c.args.labels.now.items c.run_steps.new.labels.items c.truncate.new.self.items c.len-seen.result
     c.in_ok-record.ensures.labels (omega (arith, c.args.labels.now.ok.0, c.len-seen.ensures)) c.truncate.ensures.items
+
+-- ---- labels
+
+-- labels to which others are added are still seen
+still_seen_and_more : {held before seen : List Held} (more : List Held) → seen ≡ before ++ more → before ≡ held → StillSeen held seen
+still_seen_and_more more added same = (more, added ∙ ap (λ ls. ls ++ more) same)
+
+pub run_steps-returns-in-Aborted-clause-labels : goal.run_steps-returns-in-Aborted-clause-labels
+run_steps-returns-in-Aborted-clause-labels g t c = still_then _ _ _ c.loop-place.invariant.part.still c.in_ok-done.ensures.labels
+
+pub run_steps-returns-clause-labels : goal.run_steps-returns-clause-labels
+run_steps-returns-clause-labels g t c = c.loop-place.invariant.part.still
+
+pub run_step-returns-in_ok-reply-in-Op-clause-labels : goal.run_step-returns-in_ok-reply-in-Op-clause-labels
+run_step-returns-in_ok-reply-in-Op-clause-labels g t c = (_, c.in_ok-reply-in-Op.ensures.labels)
+
+pub run_step-returns-in_ok-boxed-in-If-clause-labels : goal.run_step-returns-in_ok-boxed-in-If-clause-labels
+run_step-returns-in_ok-boxed-in-If-clause-labels g t c =
+    ([], c.in_ok-record-in-If.ensures.labels ∙ sym (append-nil c.args.labels.now.items))
+
+pub run_step-returns-in_ok-done-in-Sub-clause-labels : goal.run_step-returns-in_ok-done-in-Sub-clause-labels
+run_step-returns-in_ok-done-in-Sub-clause-labels g t c =
+    still_seen_and_more _ c.in_ok-done-in-Sub.ensures.labels c.in_ok-tried-in-Sub.ensures.labels
+
+pub run_step-returns-in-Abort-clause-labels : goal.run_step-returns-in-Abort-clause-labels
+run_step-returns-in-Abort-clause-labels g t c = still_same c.args.labels.now.items
+
+pub run_step-returns-in_ok-into_taken-in-Parallel-clause-labels : goal.run_step-returns-in_ok-into_taken-in-Parallel-clause-labels
+run_step-returns-in_ok-into_taken-in-Parallel-clause-labels g t c =
+    still_seen_and_more _ c.in_ok-into_taken-in-Parallel.ensures.labels c.in_ok-reached-in-Parallel.ensures.labels
+
+pub run_subaction-returns-in_ok-commit-in-Ended-clause-labels : goal.run_subaction-returns-in_ok-commit-in-Ended-clause-labels
+run_subaction-returns-in_ok-commit-in-Ended-clause-labels g t c = c.in_ok-body.ensures.labels
+
+pub run_subaction-returns-in_ok-done-in-Ok-clause-labels : goal.run_subaction-returns-in_ok-done-in-Ok-clause-labels
+run_subaction-returns-in_ok-done-in-Ok-clause-labels g t c = c.in_ok-done-in-Ok.ensures.labels ∙ c.in_ok-body.ensures.labels
+
+pub run_subaction-returns-in-Err-clause-labels : goal.run_subaction-returns-in-Err-clause-labels
+run_subaction-returns-in-Err-clause-labels g t c = c.in_ok-body.ensures.labels
+
+pub run_child-returns-in-Some-2-clause-labels : goal.run_child-returns-in-Some-2-clause-labels
+run_child-returns-in-Some-2-clause-labels g t c = refl
+
+pub run_child-returns-clause-labels : goal.run_child-returns-clause-labels
+run_child-returns-clause-labels g t c = c.in_ok-tried-2.ensures.labels
+
+pub run_children-returns-in-Aborted-clause-labels : goal.run_children-returns-in-Aborted-clause-labels
+run_children-returns-in-Aborted-clause-labels g t c = c.in_ok-tried.ensures.labels ∙ c.loop-place.invariant.same
+
+pub run_children-returns-clause-labels : goal.run_children-returns-clause-labels
+run_children-returns-clause-labels g t c = c.loop-place.invariant.same
+
+-- ---- a child that is run again
+
+pub run_child-returns-clause-shows : goal.run_child-returns-clause-shows
+run_child-returns-clause-shows g t c =
+    let view : c.keep.new.view ≡ c.args.view.now = search rules in
+    rw view at c.in_ok-tried-2.ensures.shows
