@@ -17,3 +17,6 @@ returns-clause-each g t c =
     given_more (λ s k x. g.F.Fn.post c.args.work.now (s, (k, tt)) x) c.join-given.result.0.0.items c.push_reserved-2.new.self.items
     c.claim-first.new.seat c.claim-first.result c.join-given.result.1
     c.push_reserved-2.ensures.items c.join-given.ensures.first.2 c.join-given.ensures.second
+
+pub returns-then-not-has_piece-clause-count : goal.returns-then-not-has_piece-clause-count
+returns-then-not-has_piece-clause-count g t c = search rules

@@ -1,4 +1,4 @@
-use Rattle.std.proofs.Common.{◌<◌, length, subst}
+use Rattle.std.proofs.Common.{◌<◌, length, subst, rules}
 use Rattle.workers.specs.Working.{Gives, AreGivenOnce}
 use Rattle.workers.proofs.Boards.{some_dealt}
 use Rattle.workers.proofs.Gives.{seats_own, given_once}
@@ -19,3 +19,6 @@ returns g c =
     (given_once IsOf c.in_ok-board.board c.in_ok-all.unused.items c.in_ok-all.all.items c.in_ok-seats.seats.items c.in_ok-seats.items.items
     c.gather-tally.result.drawn c.gather-tally.result.stopped c.in_ok-seats.ensures.seats c.in_ok-seats.ensures.items
     c.in_ok-all.ensures.unused c.in_ok-all.ensures.worked some c.if-tally.false told.raised told.once told.done told.stopped)
+
+pub returns-then-tally : goal.returns-then-tally
+returns-then-tally g c = search rules
