@@ -138,9 +138,9 @@ pull_handler-returns t c =
     let done = c.in_ok-block.ensures in
     let d = done.0 in
     let b = c.in_ok-block.block in
-    let named = c.in_ok-number.ensures.met in
-    let numbered = c.in_ok-number.ensures.number in
-    let joined = c.in_ok-number.ensures.table in
+    let named : is_name reason ≡ true = grind (arith, rules) in
+    let numbered : c.in_ok-number.number ≡ number_of reason numbers.reasons = grind (arith, rules) in
+    let joined : texts_of c.reason_number.new.reasons.keys ≡ with_text reason numbers.reasons = grind (arith, rules) in
     let after = numbers_of c.pull_block.new.state.numbering in
     let n = c.in_ok-number.number in
     let shown : handler_view (roll-Handler (record { reason = n; block = b })) ≡ (n, block_view b) = search (rules, handler_lemmas) in (

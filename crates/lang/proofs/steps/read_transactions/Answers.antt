@@ -1,4 +1,4 @@
-use Rattle.std.proofs.Common.{◌+◌, List, [], ◌∷◌, drop, map, sym, ap, ◌∙◌, arith}
+use Rattle.std.proofs.Common.{◌+◌, List, [], ◌∷◌, drop, map, refl, sym, ap, ◌∙◌, arith}
 use Rattle.std.proofs.lemmas.List.{map-append}
 use Rattle.serde_json.specs.View.{items_view, view}
 use Rattle.meaning.specs.Trees as tree
@@ -9,7 +9,7 @@ use Rattle.lang.specs.Demand.{check}
 use Rattle.lang.specs.Scope.{Numbers, numbers_of, setting_of}
 use Rattle.lang.specs.Spelled.{blocks_of}
 use Rattle.lang.proofs.Checks.{check_failed, check_met, passed_on}
-use Rattle.lang.proofs.ListLemmas.{in_front, in_front_push, items_from}
+use Rattle.lang.proofs.ListLemmas.{all_read, in_front, in_front_push, items_from}
 use Rattle.lang.proofs.steps.read_transactions.Goals as goal
 
 pub returns-in_err-block-clause-first : goal.returns-in_err-block-clause-first
@@ -54,3 +54,14 @@ loop-transaction-preserved c =
       labels = done.labels;
       numbered = omega arith;
     }
+
+pub returns-clause-value : goal.returns-clause-value
+returns-clause-value c =
+    let l = c.loop-transaction in
+    let setting = setting_of c.args.declared.now in
+    let start = numbers_of c.args.state.now.numbering in
+    let now = numbers_of l.state.numbering in
+    let xs = c.deref-transaction-items.result.now in
+    all_read (blocks_of setting now) (map block_view l.blocks.items) now (blocks_of setting start (items_view xs)) xs l.transaction-index
+    c.loop-transaction-test.false refl l.invariant.spelled
+    ∙ ap (λ vs. blocks_of setting start (items_view vs)) c.deref-transaction-items.ensures.value
