@@ -1,5 +1,5 @@
-use Rattle.std.proofs.Common.{◌≤◌, length, arith}
-use Rattle.rounds.proofs.Firsts.{block_clear, block_seen}
+use Rattle.std.proofs.Common.{◌≡◌, ◌≤◌, length, arith}
+use Rattle.rounds.proofs.Firsts.{block_clear, block_seen, turn_seen}
 use Rattle.rounds.proofs.check.seek_in_blocks.Goals as goal
 
 pub returns-then-first-end : goal.returns-then-first-end
@@ -18,3 +18,11 @@ looking-preserved g c =
       clear = λ k lt. block_clear c.args.runs.now c.min-end.result c.looking.from c.in_ok-first.first c.looking.invariant.clear
           c.in_ok-first.ensures k lt (omega (arith, c.if-first-end.false, lt));
     }
+
+pub returns : goal.returns
+returns g c =
+    let runs = c.args.runs.now in
+    let was = c.looking.invariant in
+    let end : c.looking.from ≡ length runs = omega (arith, was.within, c.looking-test.false) in
+    turn_seen runs c.looking.from c.len-upto.result c.looking.nets was.within c.len-upto.ensures was.nets was.clear
+    (λ lt. absurd (omega (arith, end, lt)))

@@ -1,5 +1,5 @@
 use Rattle.std.proofs.Common.{◌≡◌, ◌+◌, ◌<◌, length, get_or, set, set-set, take, refl, sym, ap, ◌∙◌, subst, arith}
-use Rattle.std.proofs.lemmas.List.{get_or_read}
+use Rattle.std.proofs.lemmas.List.{get_or_read, take_all}
 use Rattle.intentions.specs.Levels.{Intentions as View}
 use Rattle.rounds.specs.Views.{meaning}
 use Rattle.rounds.specs.PendingRuns.{AreRenewed, IsPendingOf}
@@ -51,3 +51,10 @@ loop-number-preserved g c =
       as_opened = c.in_ok-run.ensures.again ∙ so_far.as_opened;
       unlabelled = c.in_ok-run.ensures.unlabelled;
     }
+
+pub returns : goal.returns
+returns g c = record {
+  renewed = subst (λ stale. AreRenewed c.args.batch.now c.args.objects.now stale c.args.runs.now.items c.loop-number.runs.items
+      c.args.counts.now.items c.loop-number.counts.items)
+      (take_all c.loop-number.number-index c.args.stale.now (omega arith)) c.loop-number.invariant.renewed;
+}
