@@ -1,5 +1,4 @@
-use Rattle.std.proofs.Common.{◌≡◌, ◌∙◌, arith, sym, rules}
-use Rattle.std.proofs.lemmas.Grind.{common_steps}
+use Rattle.std.proofs.Common.{◌≡◌, ◌∙◌, arith, sym}
 use Rattle.batch.specs.declared.tree.Step.{size-Step}
 use Rattle.batch.specs.declared.tree.Handler.{size-Handler}
 use Rattle.batch.specs.declared.tree.Subaction.{size-Subaction}
