@@ -14,3 +14,9 @@ fetch_add-found-requires c =
     let new : c.load-stopped.new.seat.me.0.done ≡ 0 = none_done c.load-stopped.new.seat.me.0 (ap (λ m. is_over m.0) same
     ∙ ap (λ s. is_over s.view) c.seat.view_is ∙ c.requires.going) in
     (search rules, omega arith, draws _ _ _ _ _ (omega arith) new)
+
+pub invariant_of-seat-then-found-from : goal.invariant_of-seat-then-found-from
+invariant_of-seat-then-found-from c = search rules
+
+pub returns-then-found-from-clause-answer : goal.returns-then-found-from-clause-answer
+returns-then-found-from-clause-answer c = search rules
