@@ -13,7 +13,8 @@ pub returns-in-Run-clause-takes : goal.returns-in-Run-clause-takes
 returns-in-Run-clause-takes c =
     let block = c.in-Run.block in
     let view = otherwise_view-Run block in
-    taker-otherwise c.args.child.now c.args.reason c.in-None.ensures.first (otherwise.Run block) c.in-Run.is (Otherwise (block_view block)) view
+    let last = Otherwise (block_view block) in
+    taker-otherwise c.args.child.now c.args.reason c.in-None.ensures.first (otherwise.Run block) c.in-Run.is last view
 
 pub returns-in-GoOn-clause-takes : goal.returns-in-GoOn-clause-takes
 returns-in-GoOn-clause-takes c =

@@ -59,7 +59,8 @@ returns-in_err-demand-2-clause-first c =
     c.from_residual-in_err-demand-2.ensures.1
     (λ other. many_objects start d (sym c.has_only.ensures ∙ c.in_ok-demand.ensures) (ap is_some (sym c.in-Some.ensures))
     (ap is_some (sym c.in-Some-list_member.ensures)) (ap is_some (sym c.in-Some-list_member-2.ensures))
-    (objects_counted _ d _ c.in-Some-list_member.ensures (c.len.ensures ∙ c.in-Some-list_member.objects.now.ok.0) ∙ failed.0) ∙ ap Err (sym failed.1))
+    (objects_counted _ d _ c.in-Some-list_member.ensures (c.len.ensures ∙ c.in-Some-list_member.objects.now.ok.0)
+    ∙ failed.0) ∙ ap Err (sym failed.1))
 
 pub returns-in_err-demand-3-clause-first : goal.returns-in_err-demand-3-clause-first
 returns-in_err-demand-3-clause-first c =
@@ -70,16 +71,20 @@ returns-in_err-demand-3-clause-first c =
     c.from_residual-in_err-demand-3.ensures.1
     (λ other. many_transactions start d (sym c.has_only.ensures ∙ c.in_ok-demand.ensures) (ap is_some (sym c.in-Some.ensures))
     (ap is_some (sym c.in-Some-list_member.ensures)) (ap is_some (sym c.in-Some-list_member-2.ensures))
-    (objects_counted _ d _ c.in-Some-list_member.ensures (c.len.ensures ∙ c.in-Some-list_member.objects.now.ok.0) ∙ c.in_ok-demand-2.ensures)
-    (transactions_counted _ d _ c.in-Some-list_member-2.ensures (c.len-2.ensures ∙ c.in-Some-list_member-2.transactions.now.ok.0) ∙ failed.0) ∙ ap Err (sym failed.1))
+    (objects_counted _ d _ c.in-Some-list_member.ensures (c.len.ensures ∙ c.in-Some-list_member.objects.now.ok.0)
+    ∙ c.in_ok-demand-2.ensures)
+    (transactions_counted _ d _ c.in-Some-list_member-2.ensures (c.len-2.ensures ∙ c.in-Some-list_member-2.transactions.now.ok.0)
+    ∙ failed.0) ∙ ap Err (sym failed.1))
 
 pub returns-clause-met : goal.returns-clause-met
 returns-clause-met c =
     let d = view c.args.value.now in
     shape_met c.args.counts.now d (sym c.has_only.ensures ∙ c.in_ok-demand.ensures) (ap is_some (sym c.in-Some.ensures))
     (ap is_some (sym c.in-Some-list_member.ensures)) (ap is_some (sym c.in-Some-list_member-2.ensures))
-    (objects_counted _ d _ c.in-Some-list_member.ensures (c.len.ensures ∙ c.in-Some-list_member.objects.now.ok.0) ∙ c.in_ok-demand-2.ensures)
-    (transactions_counted _ d _ c.in-Some-list_member-2.ensures (c.len-2.ensures ∙ c.in-Some-list_member-2.transactions.now.ok.0) ∙ c.in_ok-demand-3.ensures)
+    (objects_counted _ d _ c.in-Some-list_member.ensures (c.len.ensures ∙ c.in-Some-list_member.objects.now.ok.0)
+    ∙ c.in_ok-demand-2.ensures)
+    (transactions_counted _ d _ c.in-Some-list_member-2.ensures (c.len-2.ensures ∙ c.in-Some-list_member-2.transactions.now.ok.0)
+    ∙ c.in_ok-demand-3.ensures)
 
 pub returns-clause-version : goal.returns-clause-version
 returns-clause-version c = ap (λ version. unwrap_or version 1) c.in-Some.ensures

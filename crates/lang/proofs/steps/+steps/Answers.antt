@@ -1,4 +1,5 @@
-use Rattle.std.proofs.Common.{◌≡◌, ℕ, ◌+◌, ◌-◌, List, [], ◌∷◌, None, Err, drop, map, string_bytes, refl, subst, sym, ap, ap₂, ◌∙◌, arith, rules}
+use Rattle.std.proofs.Common.{◌≡◌, ℕ, ◌+◌, ◌-◌, List, [], ◌∷◌, None, Err, drop, map, string_bytes}
+use Rattle.std.proofs.Common.{refl, subst, sym, ap, ap₂, ◌∙◌, arith, rules}
 use Rattle.std.proofs.Common.{Vec, Global, option_map}
 use Rattle.std.specs.Prelude.{is_some}
 use Rattle.std.proofs.lemmas.List.{length-map, map-append}

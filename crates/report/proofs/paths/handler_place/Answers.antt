@@ -37,7 +37,8 @@ pub returns-in_ok-format-in-Run-clause-taken : goal.returns-in_ok-format-in-Run-
 returns-in_ok-format-in-Run-clause-taken c =
     let block = c.in-Run.block in
     let view = otherwise_view-Run block in
-    taker-otherwise c.args.child.now c.args.reason c.in-None.ensures.first (otherwise.Run block) c.in-Run.is (Otherwise (block_view block)) view
+    let last = Otherwise (block_view block) in
+    taker-otherwise c.args.child.now c.args.reason c.in-None.ensures.first (otherwise.Run block) c.in-Run.is last view
 
 pub returns-in-GoOn-clause-taken : goal.returns-in-GoOn-clause-taken
 returns-in-GoOn-clause-taken c =
