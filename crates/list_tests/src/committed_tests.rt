@@ -549,7 +549,10 @@ fn a_third_of_an_item_is_left_out(rt: HostRuntime) {
     let absent = of_set(SetCall::Has(item), SetReply::No);
     summary_has(
         &rt,
-        &[added, present, removed, absent, added, present, removed],
+        &[
+            added, present, removed, absent, added, present, removed, absent, added, present,
+            removed, absent,
+        ],
         2,
     );
 }
