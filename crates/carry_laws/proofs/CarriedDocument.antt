@@ -5,10 +5,10 @@ use Rattle.objects.specs.Entries.{State}
 use Rattle.meaning.specs.Words.{Names}
 use Rattle.batch.specs.Limits.{all_entries_in, entries_in}
 use Rattle.batch.specs.Names.{Texts, names_of}
-use Rattle.lang.specs.Asked as asked
-use Rattle.lang.specs.Asked.{kind_in}
-use Rattle.lang.specs.Scope.{Numbers, no_numbers}
-use Rattle.lang.specs.Spelled.{document_in, parts_in, start_of, starts_of}
+use Rattle.spelling.specs.Asked as asked
+use Rattle.spelling.specs.Asked.{kind_in}
+use Rattle.spelling.specs.Scope.{Numbers, no_numbers}
+use Rattle.spelling.specs.Spelled.{document_in, parts_in, start_of, starts_of}
 use Rattle.carry.specs.Carried.{first_unfit}
 use Rattle.carry_laws.proofs.CarriedData.{carried_data, object_data, objects_data, start_data}
 use Rattle.carry_laws.specs.Carrying.{object_names}

@@ -9,14 +9,14 @@ use Rattle.meaning.specs.Batch.{final_state}
 use Rattle.meaning.specs.Trees.{Block}
 use Rattle.meaning.proofs.Keeping.{batch_keeps}
 use Rattle.batch.specs.Names.{names_of}
-use Rattle.lang.specs.Asked.{asked}
-use Rattle.lang.specs.Demand.{first_fault}
+use Rattle.spelling.specs.Asked.{asked}
+use Rattle.spelling.specs.Demand.{first_fault}
 use Rattle.faults.specs.Faults.{wrong_outside}
 use Rattle.lang.specs.Reading.{Document, reading, spelled_by, unless_fault, value_of}
-use Rattle.lang.specs.Spelled.{document_in}
+use Rattle.spelling.specs.Spelled.{document_in}
 use Rattle.faults.specs.declared.fault.Wrong.TheVariants.{TooMany}
 use Rattle.faults.specs.declared.fault.Fault.{Fault}
-use Rattle.lang.proofs.DistinctTexts.{items_differ, objects_differ}
+use Rattle.spelling.proofs.DistinctTexts.{items_differ, objects_differ}
 use Rattle.lang.proofs.FaultlessBatch.{faultless_is_batch}
 use Rattle.carry.specs.Carried.{first_unfit}
 use Rattle.carry_laws.specs.Carrying.{CanBeCarried}

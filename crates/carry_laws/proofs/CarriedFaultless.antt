@@ -21,13 +21,13 @@ use Rattle.words.specs.Words.{kind_text}
 use Rattle.batch.specs.Limits.{entries_in}
 use Rattle.batch.specs.Names.{is_name}
 use Rattle.faults.specs.declared.fault.Wrong.TheVariants.{DuplicateObject, Name, Shape, Start}
-use Rattle.lang.specs.Asked.{array_start_asked, asked, document_shape_asked, element_asked, elements_asked, entries_asked, entry_asked}
-use Rattle.lang.specs.Asked.{kind_in, object_asked, object_kind, object_name_asked, object_shape_asked, objects_asked, pair_asked}
-use Rattle.lang.specs.Asked.{pairs_asked, start_asked, number_start, signed_start}
-use Rattle.lang.specs.Demand.{check, fault_of, first_fault, no_counts}
-use Rattle.lang.specs.Scope.{Table, is_listed}
+use Rattle.spelling.specs.Asked.{array_start_asked, asked, document_shape_asked, element_asked, elements_asked, entries_asked, entry_asked}
+use Rattle.spelling.specs.Asked.{kind_in, object_asked, object_kind, object_name_asked, object_shape_asked, objects_asked, pair_asked}
+use Rattle.spelling.specs.Asked.{pairs_asked, start_asked, number_start, signed_start}
+use Rattle.spelling.specs.Demand.{check, fault_of, first_fault, no_counts}
+use Rattle.spelling.specs.Scope.{Table, is_listed}
 use Rattle.words.specs.Words.{kind_of_text}
-use Rattle.lang.proofs.Checks.{check_met}
+use Rattle.spelling.proofs.Checks.{check_met}
 use Rattle.meaning.specs.WellFormed.{size_of}
 use Rattle.carry.specs.Carried.{first_unfit}
 use Rattle.carry_laws.proofs.CarriedData.{carried_data, items_data, object_data, objects_data, pairs_data, start_data}

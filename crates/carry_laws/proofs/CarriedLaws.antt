@@ -3,7 +3,7 @@ use Rattle.std.proofs.Common.{cond, Err, ap, ◌∙◌}
 use Rattle.std.proofs.lemmas.Bool.{le-ltb}
 use Rattle.faults.specs.Faults.{wrong_outside}
 use Rattle.lang.specs.Reading.{reading, spelled_by, unless_fault, value_of}
-use Rattle.lang.specs.Spelled.{document_in}
+use Rattle.spelling.specs.Spelled.{document_in}
 use Rattle.faults.specs.declared.fault.Wrong.TheVariants.{TooMany}
 use Rattle.carry.specs.Carried.{carried_text}
 use Rattle.carry_laws.proofs.CarriedData.{carried_data}

@@ -7,8 +7,8 @@ use Rattle.std.specs.Str.{bytes_eq}
 use Rattle.std.proofs.lemmas.Bool.{false_from_ne_true, lt-ltb, or_parts}
 use Rattle.std.proofs.lemmas.Slice.Eq.{bytes_eq-Decides}
 use Rattle.faults.specs.declared.fault.Wrong.{Wrong}
-use Rattle.lang.specs.Demand.{Demand, and_then, check, fault_at, holds, limited, no_counts, one_more_start}
-use Rattle.lang.specs.Scope.{Table, is_listed, with_text}
+use Rattle.spelling.specs.Demand.{Demand, and_then, check, fault_at, holds, limited, no_counts, one_more_start}
+use Rattle.spelling.specs.Scope.{Table, is_listed, with_text}
 
 abbrev type_of : {A : Type 0} → A → Type 0
 type_of {A} a = A

@@ -12,8 +12,8 @@ use Rattle.objects.specs.declared.value.Value.TheVariants as value
 use Rattle.meaning.specs.Words.{Names, members}
 use Rattle.batch.specs.Limits.{entries_in}
 use Rattle.batch.specs.Names.{Texts, names_of}
-use Rattle.lang.specs.Scope.{Numbers, with_item}
-use Rattle.lang.specs.Spelled.{bind_all, entries_of, or_zero, pairs_of, put_all, start_of}
+use Rattle.spelling.specs.Scope.{Numbers, with_item}
+use Rattle.spelling.specs.Spelled.{bind_all, entries_of, or_zero, pairs_of, put_all, start_of}
 use Rattle.meaning.specs.WellFormed.{size_of}
 use Rattle.carry_laws.proofs.CarriedData.{items_data, pairs_data, start_data}
 use Rattle.carry_laws.specs.Same.{IsSame}

@@ -1,12 +1,12 @@
 -- What is asked of a document, in its three parts.
 use Rattle.std.proofs.Common.{◌≡◌, List, [], ◌++◌, Ok, Err, ◌∙◌}
 use Rattle.serde_json.specs.Data.{Data}
-use Rattle.lang.specs.declared.counts.Counts.{Counts}
+use Rattle.spelling.specs.declared.counts.Counts.{Counts}
 use Rattle.faults.specs.declared.fault.Fault.{Fault}
-use Rattle.lang.specs.Asked.{asked, document_shape_asked, objects_asked, objects_in, setting_in, transactions_asked, transactions_in}
-use Rattle.lang.specs.Asked.{version_in}
-use Rattle.lang.specs.Demand.{Demand, check}
-use Rattle.lang.proofs.Checks.{check_failed, check_met}
+use Rattle.spelling.specs.Asked.{asked, document_shape_asked, objects_asked, objects_in, setting_in, transactions_asked, transactions_in}
+use Rattle.spelling.specs.Asked.{version_in}
+use Rattle.spelling.specs.Demand.{Demand, check}
+use Rattle.spelling.proofs.Checks.{check_failed, check_met}
 
 module _ (d : Data) (start : Counts) where
   abbrev shape : List Demand

@@ -6,10 +6,11 @@ use Rattle.meaning.specs.declared.limits.TheConstants.{MAX_ENTRIES, MAX_NODES}
 use Rattle.faults.specs.declared.fault.Code.{Code}
 use Rattle.faults.specs.declared.fault.Code.TheVariants as code
 use Rattle.faults.specs.declared.fault.Fault.{Fault}
-use Rattle.lang.specs.declared.counts.Counts.{Counts}
-use Rattle.lang.specs.Asked.{asked}
-use Rattle.lang.specs.Demand.{Demand, holds, one_more_start, one_more_operation, one_more_node, in_transaction, and_then, check, check_one}
-use Rattle.lang.specs.Demand.{fault_of, first_fault, most_operations, no_counts}
+use Rattle.spelling.specs.declared.counts.Counts.{Counts}
+use Rattle.spelling.specs.Asked.{asked}
+use Rattle.spelling.specs.Demand.{Demand, holds, one_more_start, one_more_operation, one_more_node, in_transaction, and_then}
+use Rattle.spelling.specs.Demand.{check, check_one}
+use Rattle.spelling.specs.Demand.{fault_of, first_fault, most_operations, no_counts}
 use Rattle.faults.specs.Faults.{is_of_reading, memory_fault}
 
 IsOfReading : Fault → Type 0

@@ -19,32 +19,32 @@ use Rattle.batch.specs.Limits as limits
 use Rattle.batch.specs.Views.{Tried, steps_of, children_of}
 use Rattle.words.specs.declared.verb.Verb.{Verb}
 use Rattle.words.specs.declared.verb.Verb.TheVariants.{OfAmount, OfItem, OfPair, Alone}
-use Rattle.lang.specs.declared.subject.Subject.{Subject}
-use Rattle.lang.specs.declared.subject.Subject.TheVariants.{Reply, Outcome}
-use Rattle.lang.specs.Demand.{Demand, holds, one_more_operation, one_more_node}
+use Rattle.spelling.specs.declared.subject.Subject.{Subject}
+use Rattle.spelling.specs.declared.subject.Subject.TheVariants.{Reply, Outcome}
+use Rattle.spelling.specs.Demand.{Demand, holds, one_more_operation, one_more_node}
 use Rattle.faults.specs.declared.fault.Wrong.TheVariants.{Depth}
-use Rattle.lang.specs.Look.{has, text_member}
-use Rattle.lang.specs.Scope.{Numbers, Scope, Setting, is_named, named, with_label, with_labels, with_reason}
-use Rattle.lang.specs.Subjects.{fits_word}
+use Rattle.spelling.specs.Look.{has, text_member}
+use Rattle.spelling.specs.Scope.{Numbers, Scope, Setting, is_named, named, with_label, with_labels, with_reason}
+use Rattle.spelling.specs.Subjects.{fits_word}
 use Rattle.words.specs.Words.{word_of_text}
-use Rattle.lang.specs.Asked
-use Rattle.lang.specs.Asked.{part, label_in, object_of, call_named, verb_in, target_asked, operation_asked, operation_shape_asked}
-use Rattle.lang.specs.Asked.{arguments_asked, amount_asked, item_asked, label_asked}
-use Rattle.lang.specs.Spelled.{call_of, operation_of}
-use Rattle.lang.proofs.MetLemmas.{AllMet, What, count, count-append, first_met, rest_met}
+use Rattle.spelling.specs.Asked
+use Rattle.spelling.specs.Asked.{part, label_in, object_of, call_named, verb_in, target_asked, operation_asked, operation_shape_asked}
+use Rattle.spelling.specs.Asked.{arguments_asked, amount_asked, item_asked, label_asked}
+use Rattle.spelling.specs.Spelled.{call_of, operation_of}
+use Rattle.spelling.proofs.MetLemmas.{AllMet, What, count, count-append, first_met, rest_met}
 use Rattle.std.proofs.lemmas.List.{append-nil, map-append, length-append}
 use Rattle.std.proofs.Common.{append_assoc}
 use Rattle.meaning.specs.Trees.{NoStep, Steps}
-use Rattle.lang.specs.declared.steps.Sort.{Sort}
-use Rattle.lang.specs.declared.steps.Sort.TheVariants.{Operation as an_operation, If as an_if, Sub as a_sub, Abort as an_abort}
-use Rattle.lang.specs.declared.steps.Sort.TheVariants.{Parallel as a_parallel}
-use Rattle.lang.specs.Asked.{abort_asked, abort_shape_asked, array_asked, block_asked, block_asked_if, children_asked, children_in}
-use Rattle.lang.specs.Asked.{handlers_asked, handlers_in, holds_item, holds_number, holds_word, if_asked, if_label, if_shape_asked}
-use Rattle.lang.specs.Asked.{labels_of, member_asked, members_asked, or_no_items, parallel_asked, parallel_shape_asked, reason_asked}
-use Rattle.lang.specs.Asked.{scope_after, scope_after_by, seen_asked, sort_of, step_asked, step_asked_by, steps_asked, sub_asked}
-use Rattle.lang.specs.Asked.{sub_shape_asked, subject_of, test_asked, tested_word}
-use Rattle.lang.specs.Spelled.{abort_of, block_of, block_of_if, children_spelled, handlers_spelled, if_of, member_of, members_of}
-use Rattle.lang.specs.Spelled.{or_no_step, parallel_of, step_of, step_of_by, steps_spelled, sub_of, test_of}
+use Rattle.spelling.specs.declared.steps.Sort.{Sort}
+use Rattle.spelling.specs.declared.steps.Sort.TheVariants.{Operation as an_operation, If as an_if, Sub as a_sub, Abort as an_abort}
+use Rattle.spelling.specs.declared.steps.Sort.TheVariants.{Parallel as a_parallel}
+use Rattle.spelling.specs.Asked.{abort_asked, abort_shape_asked, array_asked, block_asked, block_asked_if, children_asked, children_in}
+use Rattle.spelling.specs.Asked.{handlers_asked, handlers_in, holds_item, holds_number, holds_word, if_asked, if_label, if_shape_asked}
+use Rattle.spelling.specs.Asked.{labels_of, member_asked, members_asked, or_no_items, parallel_asked, parallel_shape_asked, reason_asked}
+use Rattle.spelling.specs.Asked.{scope_after, scope_after_by, seen_asked, sort_of, step_asked, step_asked_by, steps_asked, sub_asked}
+use Rattle.spelling.specs.Asked.{sub_shape_asked, subject_of, test_asked, tested_word}
+use Rattle.spelling.specs.Spelled.{abort_of, block_of, block_of_if, children_spelled, handlers_spelled, if_of, member_of, members_of}
+use Rattle.spelling.specs.Spelled.{or_no_step, parallel_of, step_of, step_of_by, steps_spelled, sub_of, test_of}
 use Rattle.lang.proofs.Bound.{AreSeen, bound, call_fits, fits, some_of, subject_of_label, subjects, verb_is}
 
 -- ---- what is known of a part: over objects of these kinds, with these labels, within so many levels, and what it counts
@@ -126,10 +126,10 @@ sub_shape_counts : (x : What) (version : ℕ) (d : Data) → count x (sub_shape_
 unfolding sub_shape_asked
 sub_shape_counts x version d = refl
 
-label_counts : (x : What) (scope elder : Scope) (o : Option (List ℕ)) → count x (label_asked scope elder o) ≡ 0
+label_counts : (x : What) (scope earlier : Scope) (o : Option (List ℕ)) → count x (label_asked scope earlier o) ≡ 0
 unfolding label_asked
-label_counts x scope elder None = refl
-label_counts x scope elder (Some name) = refl
+label_counts x scope earlier None = refl
+label_counts x scope earlier (Some name) = refl
 
 operation_shape_counts : (x : What) (d : Data) → count x (operation_shape_asked d) ≡ 0
 unfolding operation_shape_asked
@@ -158,11 +158,11 @@ reason_counts x (Some reason) = refl
 -- ---- labels after a step
 
 -- a checked label is seen neither here nor among the earlier siblings'
-label_is_new : (scope elder : Scope) (name : List ℕ) → AllMet (label_asked scope elder (Some name)) → (is_named name scope ≡ false)
-    × (is_named name elder ≡ false)
+label_is_new : (scope earlier : Scope) (name : List ℕ) → AllMet (label_asked scope earlier (Some name)) → (is_named name scope ≡ false)
+    × (is_named name earlier ≡ false)
 unfolding label_asked
-label_is_new scope elder name met = or_parts (is_named name scope) (is_named name elder)
-    (not-true (is_named name scope || is_named name elder) met.1.0)
+label_is_new scope earlier name met = or_parts (is_named name scope) (is_named name earlier)
+    (not-true (is_named name scope || is_named name earlier) met.1.0)
 
 with_new : (name : List ℕ) (subject : Subject) (scope : Scope) → is_named name scope ≡ false → with_label (Some name) subject scope ≡ scope
     ++ (name, subject) ∷ []
@@ -175,12 +175,12 @@ seen_more scope labels name subject label is seen =
     ∙ ap (λ s. map subject_of_label labels ++ s ∷ []) (sym is)
     ∙ sym (map-append subject_of_label labels (label ∷ []))
 
-label_seen : (scope elder : Scope) (labels : List Label) (o : Option (List ℕ)) (subject : Subject) (label : Label)
-    → subject_of_label label ≡ subject → AllMet (label_asked scope elder o) → AreSeen scope labels
+label_seen : (scope earlier : Scope) (labels : List Label) (o : Option (List ℕ)) (subject : Subject) (label : Label)
+    → subject_of_label label ≡ subject → AllMet (label_asked scope earlier o) → AreSeen scope labels
     → AreSeen (with_label o subject scope) (labels ++ added_if (is_some o) label)
-label_seen scope elder labels None subject label is met seen = seen ∙ ap (map subject_of_label) (sym (append-nil labels))
-label_seen scope elder labels (Some name) subject label is met seen =
-    ap subjects (with_new name subject scope (label_is_new scope elder name met).0) ∙ seen_more scope labels name subject label is seen
+label_seen scope earlier labels None subject label is met seen = seen ∙ ap (map subject_of_label) (sym (append-nil labels))
+label_seen scope earlier labels (Some name) subject label is met seen =
+    ap subjects (with_new name subject scope (label_is_new scope earlier name met).0) ∙ seen_more scope labels name subject label is seen
 
 grows_by : (o : Option (List ℕ)) (subject : Subject) (scope : Scope) → length (with_label o subject scope) ≤ length scope + 1
 grows_by None subject scope = omega arith
@@ -205,28 +205,28 @@ with_labels-append (x ∷ xs) ys scope = with_labels-append xs ys (with_label (S
 
 -- the earlier siblings' labels, none of which is seen, come after the others
 abbrev AreNew : Scope → Scope → Type 0
-AreNew scope elder = with_labels elder scope ≡ scope ++ elder
+AreNew scope earlier = with_labels earlier scope ≡ scope ++ earlier
 
 -- a child's label joins its earlier siblings'
-new_label : (scope elder : Scope) (o : Option (List ℕ)) → AllMet (label_asked scope elder o) → AreNew scope elder
-    → AreNew scope (with_label o Outcome elder)
-new_label scope elder None met new = new
-new_label scope elder (Some name) met new =
-    let fresh = label_is_new scope elder name met in
-    let here = is_named-append name scope elder ∙ or_from (is_named name scope) (is_named name elder) fresh.0 fresh.1 in
-    ap (λ xs. with_labels xs scope) (with_new name Outcome elder fresh.1) ∙ with_labels-append elder ((name, Outcome) ∷ []) scope
+new_label : (scope earlier : Scope) (o : Option (List ℕ)) → AllMet (label_asked scope earlier o) → AreNew scope earlier
+    → AreNew scope (with_label o Outcome earlier)
+new_label scope earlier None met new = new
+new_label scope earlier (Some name) met new =
+    let fresh = label_is_new scope earlier name met in
+    let here = is_named-append name scope earlier ∙ or_from (is_named name scope) (is_named name earlier) fresh.0 fresh.1 in
+    ap (λ xs. with_labels xs scope) (with_new name Outcome earlier fresh.1) ∙ with_labels-append earlier ((name, Outcome) ∷ []) scope
     ∙ ap (with_label (Some name) Outcome) new
-    ∙ with_new name Outcome (scope ++ elder) here ∙ append_assoc scope elder ((name, Outcome) ∷ [])
-    ∙ ap (λ xs. scope ++ xs) (sym (with_new name Outcome elder fresh.1))
+    ∙ with_new name Outcome (scope ++ earlier) here ∙ append_assoc scope earlier ((name, Outcome) ∷ [])
+    ∙ ap (λ xs. scope ++ xs) (sym (with_new name Outcome earlier fresh.1))
 
-elder_subjects : (scope elder : Scope) (o : Option (List ℕ)) (labels : List Label) → AllMet (label_asked scope elder o)
-    → subjects elder ≡ map subject_of_label labels → subjects (with_label o Outcome elder) ≡ map subject_of_label
+earlier_subjects : (scope earlier : Scope) (o : Option (List ℕ)) (labels : List Label) → AllMet (label_asked scope earlier o)
+    → subjects earlier ≡ map subject_of_label labels → subjects (with_label o Outcome earlier) ≡ map subject_of_label
     (labels ++ added_if (is_some o) OfSubaction)
 unfolding subject_of_label
-elder_subjects scope elder None labels met seen = seen ∙ ap (map subject_of_label) (sym (append-nil labels))
-elder_subjects scope elder (Some name) labels met seen =
-    ap subjects (with_new name Outcome elder (label_is_new scope elder name met).1)
-    ∙ seen_more elder labels name Outcome OfSubaction refl seen
+earlier_subjects scope earlier None labels met seen = seen ∙ ap (map subject_of_label) (sym (append-nil labels))
+earlier_subjects scope earlier (Some name) labels met seen =
+    ap subjects (with_new name Outcome earlier (label_is_new scope earlier name met).1)
+    ∙ seen_more earlier labels name Outcome OfSubaction refl seen
 
 depth_is_positive : (block : tree.Block) → 1 ≤ limits.depth block
 depth_is_positive NoStep = omega arith
@@ -426,27 +426,27 @@ module _ (setting : Setting) (paired : length setting.names ≡ length setting.k
         (members_good scope numbers ds (handlers_of (Some []) h) labels operations nodes seen few met
         (pass_good h labels operations nodes good))
 
-    sub_good : (scope elder : Scope) (numbers : Numbers) (d : Data) (labels : List Label) → AreSeen scope labels
-        → length scope + counted (sub_asked setting.version asks scope elder d) < most_labels
-        → AllMet (sub_asked setting.version asks scope elder d)
+    sub_good : (scope earlier : Scope) (numbers : Numbers) (d : Data) (labels : List Label) → AreSeen scope labels
+        → length scope + counted (sub_asked setting.version asks scope earlier d) < most_labels
+        → AllMet (sub_asked setting.version asks scope earlier d)
         → GoodTried setting.kinds (sub_of block scope numbers d).0 labels n
-        (count What.operations (sub_asked setting.version asks scope elder d))
-        (count What.nodes (sub_asked setting.version asks scope elder d))
+        (count What.operations (sub_asked setting.version asks scope earlier d))
+        (count What.nodes (sub_asked setting.version asks scope earlier d))
     unfolding sub_asked sub_of
-    sub_good scope elder numbers d labels seen few met =
+    sub_good scope earlier numbers d labels seen few met =
         let body = part (codes "sub") d in
         let by_reasons = handlers_in d in
         let last = get (codes "handler") d in
         let A = sub_shape_asked setting.version d in
         let B = one_more_node ∷ [] in
-        let C = label_asked scope elder (label_in d) in
+        let C = label_asked scope earlier (label_in d) in
         let D = asks scope body in
         let E = handlers_asked asks scope by_reasons in
         let F = block_asked_if asks scope last in
         let ops = count_six What.operations A B C D E F in
         let nds = count_six What.nodes A B C D E F in
         let a1 = sub_shape_counts What.operations setting.version d in let a2 = sub_shape_counts What.nodes setting.version d in
-        let c1 = label_counts What.operations scope elder (label_in d) in let c2 = label_counts What.nodes scope elder (label_in d) in
+        let c1 = label_counts What.operations scope earlier (label_in d) in let c2 = label_counts What.nodes scope earlier (label_in d) in
         let metF = rest_met (A ++ B ++ C ++ D ++ E) F met in
         let metE = rest_met (A ++ B ++ C ++ D) E (first_met (A ++ B ++ C ++ D ++ E) F met) in
         let metD = rest_met (A ++ B ++ C) D (first_met (A ++ B ++ C ++ D) E (first_met (A ++ B ++ C ++ D ++ E) F met)) in
@@ -466,24 +466,24 @@ module _ (setting : Setting) (paired : length setting.names ≡ length setting.k
         }
 
     -- the label of a subaction was checked, and it counts for one node at least
-    sub_label : (scope elder : Scope) (d : Data) → AllMet (sub_asked setting.version asks scope elder d)
-        → AllMet (label_asked scope elder (label_in d))
+    sub_label : (scope earlier : Scope) (d : Data) → AllMet (sub_asked setting.version asks scope earlier d)
+        → AllMet (label_asked scope earlier (label_in d))
     unfolding sub_asked
-    sub_label scope elder d met =
+    sub_label scope earlier d met =
         let A = sub_shape_asked setting.version d in
         let B = one_more_node ∷ [] in
-        let C = label_asked scope elder (label_in d) in
+        let C = label_asked scope earlier (label_in d) in
         let D = asks scope (part (codes "sub") d) in
         let E = handlers_asked asks scope (handlers_in d) in
         let F = block_asked_if asks scope (get (codes "handler") d) in
         rest_met (A ++ B) C (first_met (A ++ B ++ C) D (first_met (A ++ B ++ C ++ D) E (first_met (A ++ B ++ C ++ D ++ E) F met)))
 
-    sub_is_node : (scope elder : Scope) (d : Data) → 1 ≤ count What.nodes (sub_asked setting.version asks scope elder d)
+    sub_is_node : (scope earlier : Scope) (d : Data) → 1 ≤ count What.nodes (sub_asked setting.version asks scope earlier d)
     unfolding sub_asked
-    sub_is_node scope elder d =
+    sub_is_node scope earlier d =
         omega (
           arith,
-          count_six What.nodes (sub_shape_asked setting.version d) (one_more_node ∷ []) (label_asked scope elder (label_in d))
+          count_six What.nodes (sub_shape_asked setting.version d) (one_more_node ∷ []) (label_asked scope earlier (label_in d))
               (asks scope (part (codes "sub") d)) (handlers_asked asks scope (handlers_in d))
               (block_asked_if asks scope (get (codes "handler") d)),
         )
@@ -492,26 +492,26 @@ module _ (setting : Setting) (paired : length setting.names ≡ length setting.k
     unfolding sub_of
     sub_labelled scope numbers d = refl
 
-    children_good : (scope elder : Scope) (numbers : Numbers) (ds : Items) (labels : List Label) → AreSeen scope labels
-        → length scope + counted (children_asked setting.version asks scope elder ds) < most_labels
-        → AllMet (children_asked setting.version asks scope elder ds)
+    children_good : (scope earlier : Scope) (numbers : Numbers) (ds : Items) (labels : List Label) → AreSeen scope labels
+        → length scope + counted (children_asked setting.version asks scope earlier ds) < most_labels
+        → AllMet (children_asked setting.version asks scope earlier ds)
         → GoodChildren setting.kinds (children_of (children_spelled block scope numbers ds).0) labels n
-        (count What.operations (children_asked setting.version asks scope elder ds))
-        (count What.nodes (children_asked setting.version asks scope elder ds))
-    children_good scope elder numbers no_items labels seen few met = record {
+        (count What.operations (children_asked setting.version asks scope earlier ds))
+        (count What.nodes (children_asked setting.version asks scope earlier ds))
+    children_good scope earlier numbers no_items labels seen few met = record {
       fits = tt;
       operations_are = refl;
       nodes_are = refl;
       shallow =
           omega arith;
     }
-    children_good scope elder numbers (item d ds) labels seen few met =
-        let A = sub_asked setting.version asks scope elder d in
-        let next = with_label (label_in d) Outcome elder in
+    children_good scope earlier numbers (item d ds) labels seen few met =
+        let A = sub_asked setting.version asks scope earlier d in
+        let next = with_label (label_in d) Outcome earlier in
         let B = children_asked setting.version asks scope next ds in
         let ops = count-append What.operations A B in
         let nds = count-append What.nodes A B in
-        let here = sub_good scope elder numbers d labels seen (omega (arith, few, ops, nds)) (first_met A B met) in
+        let here = sub_good scope earlier numbers d labels seen (omega (arith, few, ops, nds)) (first_met A B met) in
         let rest = children_good scope next (sub_of block scope numbers d).1 ds labels seen (omega (arith, few, ops, nds))
         (rest_met A B met) in
         record {
@@ -522,30 +522,31 @@ module _ (setting : Setting) (paired : length setting.names ≡ length setting.k
         }
 
     -- the children's labels: new, those of the spelled children, and not more than the children
-    children_labels : (scope elder : Scope) (numbers : Numbers) (ds : Items) (labels : List Label)
-        → AllMet (children_asked setting.version asks scope elder ds) → AreNew scope elder → subjects elder ≡ map subject_of_label labels
-        → AreNew scope (labels_of elder ds)
-        × (subjects (labels_of elder ds) ≡ map subject_of_label
+    children_labels : (scope earlier : Scope) (numbers : Numbers) (ds : Items) (labels : List Label)
+        → AllMet (children_asked setting.version asks scope earlier ds) → AreNew scope earlier
+            → subjects earlier ≡ map subject_of_label labels
+        → AreNew scope (labels_of earlier ds)
+        × (subjects (labels_of earlier ds) ≡ map subject_of_label
         (labels ++ added_by_children (children_of (children_spelled block scope numbers ds).0)))
-        × (length (labels_of elder ds) ≤ length elder + count What.nodes (children_asked setting.version asks scope elder ds))
-    children_labels scope elder numbers no_items labels met new seen = (
+        × (length (labels_of earlier ds) ≤ length earlier + count What.nodes (children_asked setting.version asks scope earlier ds))
+    children_labels scope earlier numbers no_items labels met new seen = (
       new,
       seen ∙ ap (map subject_of_label) (sym (append-nil labels)),
       omega arith,
     )
-    children_labels scope elder numbers (item d ds) labels met new seen =
-        let A = sub_asked setting.version asks scope elder d in
-        let next = with_label (label_in d) Outcome elder in
+    children_labels scope earlier numbers (item d ds) labels met new seen =
+        let A = sub_asked setting.version asks scope earlier d in
+        let next = with_label (label_in d) Outcome earlier in
         let B = children_asked setting.version asks scope next ds in
-        let checked = sub_label scope elder d (first_met A B met) in
+        let checked = sub_label scope earlier d (first_met A B met) in
         let one = added_if (is_some (label_in d)) OfSubaction in
         let rest = children_labels scope next (sub_of block scope numbers d).1 ds (labels ++ one) (rest_met A B met)
-        (new_label scope elder (label_in d) checked new) (elder_subjects scope elder (label_in d) labels checked seen) in
+        (new_label scope earlier (label_in d) checked new) (earlier_subjects scope earlier (label_in d) labels checked seen) in
         let later = added_by_children (children_of (children_spelled block scope (sub_of block scope numbers d).1 ds).0) in (
           rest.0,
           rest.1 ∙ ap (map subject_of_label) (append_assoc labels one later ∙ ap (λ b. labels ++ (added_if b OfSubaction ++ later))
               (sym (sub_labelled scope numbers d))),
-          omega (arith, rest.2, grows_by (label_in d) Outcome elder, count-append What.nodes A B, sub_is_node scope elder d),
+          omega (arith, rest.2, grows_by (label_in d) Outcome earlier, count-append What.nodes A B, sub_is_node scope earlier d),
         )
 
     -- ---- any step
@@ -630,13 +631,13 @@ module _ (setting : Setting) (paired : length setting.names ≡ length setting.k
         let A = parallel_shape_asked d in
         let B = one_more_node ∷ [] in
         let C = children_asked setting.version asks scope [] (children_in d) in
-        let elder = labels_of [] (children_in d) in
+        let earlier = labels_of [] (children_in d) in
         let added = added_by_children (children_of (children_spelled block scope numbers (children_in d)).0) in
         let here = children_labels scope [] numbers (children_in d) [] (rest_met (A ++ B) C met) (sym (append-nil scope)) refl in
-        let is : with_labels elder scope ≡ scope ++ elder = here.0 in (
-          ap subjects is ∙ map-append (λ (l : List ℕ × Subject). l.1) scope elder ∙ ap (λ xs. xs ++ subjects elder) seen
+        let is : with_labels earlier scope ≡ scope ++ earlier = here.0 in (
+          ap subjects is ∙ map-append (λ (l : List ℕ × Subject). l.1) scope earlier ∙ ap (λ xs. xs ++ subjects earlier) seen
               ∙ ap (λ xs. map subject_of_label labels ++ xs) here.1 ∙ sym (map-append subject_of_label labels added),
-          omega (arith, ap length is, length-append scope elder, here.2, count_three What.nodes A B C),
+          omega (arith, ap length is, length-append scope earlier, here.2, count_three What.nodes A B C),
         )
 
     operation_labels : (scope : Scope) (numbers : Numbers) (d : Data) (labels : List Label) → AreSeen scope labels

@@ -18,21 +18,22 @@ use Rattle.meaning.specs.Trees as tree
 use Rattle.meaning.specs.WellFormed.{largest, size_of}
 use Rattle.meaning.specs.Running.{all_operations}
 use Rattle.batch.specs.Limits.{AllWellFormed, AllShallow, IsBatch, all_nodes, all_entries_in, entries_in}
-use Rattle.lang.specs.Demand.{first_fault, no_counts}
-use Rattle.lang.specs.Look
-use Rattle.lang.specs.Look.{whole}
-use Rattle.lang.specs.Scope.{Numbers, Setting, Table, no_numbers}
-use Rattle.lang.specs.Asked.{array_start_asked, asked, block_asked, document_shape_asked, element_asked, elements_asked, entries_asked}
-use Rattle.lang.specs.Asked.{entry_asked, kind_in, kinds_of, names_of, object_asked, object_name, object_name_asked, object_shape_asked}
-use Rattle.lang.specs.Asked.{objects_asked, objects_in, or_no_items, pair_asked, pairs_asked, part, setting_in, signed_within, start_asked}
-use Rattle.lang.specs.Asked.{text_of, key_of, transactions_asked, transactions_in, version_in}
-use Rattle.lang.specs.Scope.{with_item, with_text}
-use Rattle.lang.specs.Spelled.{bind_all, block_of, blocks_of, document_in, entries_of, or_zero, pair_of, pairs_of, parts_in, put_all}
-use Rattle.lang.specs.Spelled.{start_of, starts_of}
+use Rattle.spelling.specs.Demand.{first_fault, no_counts}
+use Rattle.spelling.specs.Look
+use Rattle.spelling.specs.Look.{whole}
+use Rattle.spelling.specs.Scope.{Numbers, Setting, Table, no_numbers}
+use Rattle.spelling.specs.Asked.{array_start_asked, asked, block_asked, document_shape_asked, element_asked, elements_asked, entries_asked}
+use Rattle.spelling.specs.Asked.{entry_asked, kind_in, kinds_of, names_of, object_asked, object_name, object_name_asked, object_shape_asked}
+use Rattle.spelling.specs.Asked.{objects_asked, objects_in, or_no_items, pair_asked, pairs_asked, part, setting_in}
+use Rattle.spelling.specs.Asked.{signed_within, start_asked}
+use Rattle.spelling.specs.Asked.{text_of, key_of, transactions_asked, transactions_in, version_in}
+use Rattle.spelling.specs.Scope.{with_item, with_text}
+use Rattle.spelling.specs.Spelled.{bind_all, block_of, blocks_of, document_in, entries_of, or_zero, pair_of, pairs_of, parts_in, put_all}
+use Rattle.spelling.specs.Spelled.{start_of, starts_of}
 use Rattle.lang.proofs.Faultless.{block_good, counted, most_labels}
 use Rattle.lang.proofs.Later.{blocks_later, values_later}
-use Rattle.lang.proofs.ListLemmas.{kinds_of_starts}
-use Rattle.lang.proofs.MetLemmas.{AllMet, What, count, count-append, faultless, first_met, passed, rest_met}
+use Rattle.spelling.proofs.ListLemmas.{kinds_of_starts}
+use Rattle.spelling.proofs.MetLemmas.{AllMet, What, count, count-append, faultless, first_met, passed, rest_met}
 use Rattle.lang.proofs.Numbered.{blocks_numbered}
 use Rattle.lang.proofs.NumberedStarts.{objects_named, starts_numbered}
 use Rattle.lang.proofs.Tables.{grows_behind, grows_on, texts_in}

@@ -3,18 +3,18 @@ use Rattle.std.specs.Prelude.{codes}
 use Rattle.std.proofs.Common.{◌≡◌, ℕ, List, [], ◌∷◌, ◌++◌, None, Result, Ok, Err, refl, sym, ap, ◌∙◌}
 use Rattle.serde_json.specs.Data.{Data}
 use Rattle.serde_json.specs.Find.{get}
-use Rattle.lang.specs.declared.counts.Counts.{Counts}
+use Rattle.spelling.specs.declared.counts.Counts.{Counts}
 use Rattle.faults.specs.declared.fault.Fault.{Fault}
 use Rattle.lang.specs.declared.places.Unmet.{Unmet}
 use Rattle.lang.specs.Found.{found_of}
-use Rattle.lang.specs.Asked.{children_in, handlers_in, if_label, if_shape_asked, label_asked, label_in, parallel_shape_asked, part}
-use Rattle.lang.specs.Asked.{seen_asked, sub_shape_asked, subject_of, test_asked}
-use Rattle.lang.specs.Demand.{Demand, check, one_more_node}
-use Rattle.lang.specs.Heads.{if_head_asked, parallel_head_asked, sub_head_asked}
+use Rattle.spelling.specs.Asked.{children_in, handlers_in, if_label, if_shape_asked, label_asked, label_in, parallel_shape_asked, part}
+use Rattle.spelling.specs.Asked.{seen_asked, sub_shape_asked, subject_of, test_asked}
+use Rattle.spelling.specs.Demand.{Demand, check, one_more_node}
+use Rattle.spelling.specs.Heads.{if_head_asked, parallel_head_asked, sub_head_asked}
 use Rattle.lang.specs.Places.{Placed, Places, block_placed_if, children_placed, go_on, handlers_placed, here, if_placed, inside, itself}
 use Rattle.lang.specs.Places.{member_named, nothing, parallel_placed, seek, sub_placed}
-use Rattle.lang.specs.Scope.{Scope}
-use Rattle.lang.proofs.Checks.{and_check, check-after, check-append, failed-before}
+use Rattle.spelling.specs.Scope.{Scope}
+use Rattle.spelling.proofs.Checks.{and_check, check-after, check-append, failed-before}
 use Rattle.lang.proofs.PlaceLemmas.{own_unmet}
 use Rattle.lang.proofs.SeekLemmas.{found_plain}
 
@@ -42,19 +42,19 @@ if_placed-is places scope d c =
     ∙ own_both c (shape ++ node) named (itself tested branches)
     ∙ own_both c (shape ++ node ++ named) tested branches
 
-pub sub_placed-is : (version : ℕ) (places : Places) (scope elder : Scope) (d : Data) (c : Counts)
-    → seek c (sub_placed version places scope elder d)
-    ≡ seek c (itself (sub_head_asked version scope elder d) (inside (member_named (codes "sub")) (places scope (part (codes "sub") d))
+pub sub_placed-is : (version : ℕ) (places : Places) (scope earlier : Scope) (d : Data) (c : Counts)
+    → seek c (sub_placed version places scope earlier d)
+    ≡ seek c (itself (sub_head_asked version scope earlier d) (inside (member_named (codes "sub")) (places scope (part (codes "sub") d))
     (inside (member_named (codes "handlers")) (handlers_placed places scope (handlers_in d))
     (inside (member_named (codes "handler")) (block_placed_if places scope (get (codes "handler") d)) nothing))))
 unfolding sub_placed sub_head_asked
-sub_placed-is version places scope elder d c =
+sub_placed-is version places scope earlier d c =
     let blocks = inside (member_named (codes "sub")) (places scope (part (codes "sub") d))
     (inside (member_named (codes "handlers")) (handlers_placed places scope (handlers_in d))
     (inside (member_named (codes "handler")) (block_placed_if places scope (get (codes "handler") d)) nothing)) in
     let shape = sub_shape_asked version d in
     let node = one_more_node ∷ [] in
-    let named = label_asked scope elder (label_in d) in
+    let named = label_asked scope earlier (label_in d) in
     own_both c shape node (itself named blocks) ∙ own_both c (shape ++ node) named blocks
 
 pub parallel_placed-is : (version : ℕ) (places : Places) (scope : Scope) (d : Data) (c : Counts)

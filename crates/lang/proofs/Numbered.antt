@@ -13,34 +13,36 @@ use Rattle.batch.specs.Names.{Texts, is_name}
 use Rattle.batch.specs.Named.{AllNamed, AreNamed, AreNamedHandlers, HasReason, HasText, IsNamed, IsNamedCall}
 use Rattle.batch.specs.Named.{IsNamedStep, IsNamedTest}
 use Rattle.batch.specs.Views.{Tried, children_of, steps_of}
-use Rattle.lang.specs.declared.steps.Sort.{Sort}
-use Rattle.lang.specs.declared.steps.Sort.TheVariants.{Operation as an_operation, If as an_if, Sub as a_sub, Abort as an_abort}
-use Rattle.lang.specs.declared.steps.Sort.TheVariants.{Parallel as a_parallel}
+use Rattle.spelling.specs.declared.steps.Sort.{Sort}
+use Rattle.spelling.specs.declared.steps.Sort.TheVariants.{Operation as an_operation, If as an_if, Sub as a_sub, Abort as an_abort}
+use Rattle.spelling.specs.declared.steps.Sort.TheVariants.{Parallel as a_parallel}
 use Rattle.words.specs.declared.verb.ItemVerb.{ItemVerb}
 use Rattle.words.specs.declared.verb.AmountVerb.{AmountVerb}
 use Rattle.words.specs.declared.verb.LoneVerb.{LoneVerb}
 use Rattle.words.specs.declared.verb.PairVerb.{PairVerb}
-use Rattle.lang.specs.declared.subject.Subject.{Subject}
-use Rattle.lang.specs.declared.subject.Subject.TheVariants.{Outcome}
+use Rattle.spelling.specs.declared.subject.Subject.{Subject}
+use Rattle.spelling.specs.declared.subject.Subject.TheVariants.{Outcome}
 use Rattle.words.specs.declared.verb.Verb.{Verb}
 use Rattle.words.specs.declared.verb.Verb.TheVariants.{OfAmount, OfItem, OfPair, Alone}
 use Rattle.faults.specs.declared.fault.Wrong.TheVariants.{Argument, Name}
-use Rattle.lang.specs.Amounts.{amount_of}
-use Rattle.lang.specs.Demand.{Demand, holds, in_transaction, one_more_node, one_more_operation}
-use Rattle.lang.specs.Look.{has, or_empty, text_member}
-use Rattle.lang.specs.Scope.{Numbers, Scope, Setting, number_of, with_item, with_label, with_reason}
+use Rattle.spelling.specs.Amounts.{amount_of}
+use Rattle.spelling.specs.Demand.{Demand, holds, in_transaction, one_more_node, one_more_operation}
+use Rattle.spelling.specs.Look.{has, or_empty, text_member}
+use Rattle.spelling.specs.Scope.{Numbers, Scope, Setting, number_of, with_item, with_label, with_reason}
 use Rattle.words.specs.Verbs.{ItemsAre, amount_call, item_call, lone_call, pair_call}
 use Rattle.words.proofs.Verbs.{amount_phrase, item_phrase, lone_phrase, pair_phrase}
-use Rattle.lang.specs.Asked.{abort_asked, abort_shape_asked, amount_item, arguments_asked, array_asked, block_asked, block_asked_if}
-use Rattle.lang.specs.Asked.{call_named, children_asked, children_in, handlers_asked, handlers_in, has_count, holds_item, holds_number}
-use Rattle.lang.specs.Asked.{holds_word, if_asked, if_label, if_shape_asked, item_asked, label_asked, label_in, member_asked, members_asked}
-use Rattle.lang.specs.Asked.{name_item, object_of, operation_asked, operation_shape_asked, or_no_items, parallel_asked}
-use Rattle.lang.specs.Asked.{parallel_shape_asked, part, reason_asked, scope_after, seen_asked, sort_of, step_asked, step_asked_by}
-use Rattle.lang.specs.Asked.{steps_asked, sub_asked, sub_shape_asked, subject_of, target_asked, test_asked, transaction_asked}
-use Rattle.lang.specs.Asked.{transactions_asked, verb_in}
-use Rattle.lang.specs.Spelled.{abort_of, block_of, block_of_if, blocks_of, call_of, children_spelled, handlers_spelled, if_of, item_of}
-use Rattle.lang.specs.Spelled.{members_of, operation_of, or_no_step, or_zero, parallel_of, reason_of, step_of, step_of_by, steps_spelled}
-use Rattle.lang.specs.Spelled.{sub_of, test_of}
+use Rattle.spelling.specs.Asked.{abort_asked, abort_shape_asked, amount_item, arguments_asked, array_asked, block_asked, block_asked_if}
+use Rattle.spelling.specs.Asked.{call_named, children_asked, children_in, handlers_asked, handlers_in, has_count, holds_item, holds_number}
+use Rattle.spelling.specs.Asked.{holds_word, if_asked, if_label, if_shape_asked, item_asked, label_asked, label_in}
+use Rattle.spelling.specs.Asked.{member_asked, members_asked}
+use Rattle.spelling.specs.Asked.{name_item, object_of, operation_asked, operation_shape_asked, or_no_items, parallel_asked}
+use Rattle.spelling.specs.Asked.{parallel_shape_asked, part, reason_asked, scope_after, seen_asked, sort_of, step_asked, step_asked_by}
+use Rattle.spelling.specs.Asked.{steps_asked, sub_asked, sub_shape_asked, subject_of, target_asked, test_asked, transaction_asked}
+use Rattle.spelling.specs.Asked.{transactions_asked, verb_in}
+use Rattle.spelling.specs.Spelled.{abort_of, block_of, block_of_if, blocks_of, call_of, children_spelled, handlers_spelled, if_of, item_of}
+use Rattle.spelling.specs.Spelled.{members_of, operation_of, or_no_step, or_zero, parallel_of, reason_of, step_of}
+use Rattle.spelling.specs.Spelled.{step_of_by, steps_spelled}
+use Rattle.spelling.specs.Spelled.{sub_of, test_of}
 use Rattle.lang.proofs.Later.{block_later, handlers_later, step_later, test_later}
 use Rattle.lang.proofs.Tables.{Grows, Numbered, grows_before, grows_behind, grows_item, grows_none, grows_on, grows_reason, number_below}
 use Rattle.lang.proofs.Tables.{texts_in}
@@ -253,10 +255,10 @@ module _ (setting : Setting) (asks : Scope → Data → List Demand) (block : Sc
   NamedTried : Texts → Tried → Type 0
   NamedTried texts child = IsNamed texts child.body × AreNamedHandlers texts child.handlers
 
-  sub_numbered : (scope elder : Scope) (numbers : Numbers) (d : Data) → Numbered NamedTried numbers (sub_of block scope numbers d)
-      (sub_asked setting.version asks scope elder d)
+  sub_numbered : (scope earlier : Scope) (numbers : Numbers) (d : Data) → Numbered NamedTried numbers (sub_of block scope numbers d)
+      (sub_asked setting.version asks scope earlier d)
   unfolding sub_of sub_asked NamedTried
-  sub_numbered scope elder numbers d =
+  sub_numbered scope earlier numbers d =
       let body = block scope numbers (part (codes "sub") d) in
       let by_reasons = handlers_spelled block scope body.1 (handlers_in d) in
       let otherwise = block_of_if block scope by_reasons.1 (get (codes "handler") d) in
@@ -265,7 +267,7 @@ module _ (setting : Setting) (asks : Scope → Data → List Demand) (block : Sc
       let third = block_if_numbered scope by_reasons.1 (get (codes "handler") d) in
       let A = sub_shape_asked setting.version d in
       let B = one_more_node ∷ [] in
-      let C = label_asked scope elder (label_in d) in
+      let C = label_asked scope earlier (label_in d) in
       let D = asks scope (part (codes "sub") d) in
       let E = handlers_asked asks scope (handlers_in d) in
       let F = block_asked_if asks scope (get (codes "handler") d) in
@@ -281,16 +283,16 @@ module _ (setting : Setting) (asks : Scope → Data → List Demand) (block : Sc
             second.grows) third.grows;
       }
 
-  children_numbered : (scope elder : Scope) (numbers : Numbers) (ds : Items)
+  children_numbered : (scope earlier : Scope) (numbers : Numbers) (ds : Items)
       → Numbered (λ texts children. AreNamed texts (children_of children)) numbers (children_spelled block scope numbers ds)
-      (children_asked setting.version asks scope elder ds)
+      (children_asked setting.version asks scope earlier ds)
   unfolding NamedTried
-  children_numbered scope elder numbers no_items = record { named = tt; grows = grows_none numbers _ }
-  children_numbered scope elder numbers (item d ds) =
-      let next = with_label (label_in d) Outcome elder in
+  children_numbered scope earlier numbers no_items = record { named = tt; grows = grows_none numbers _ }
+  children_numbered scope earlier numbers (item d ds) =
+      let next = with_label (label_in d) Outcome earlier in
       let here = sub_of block scope numbers d in
       let last = (children_spelled block scope here.1 ds).1 in
-      let first = sub_numbered scope elder numbers d in
+      let first = sub_numbered scope earlier numbers d in
       let rest = children_numbered scope next here.1 ds in
       record {
         named = (
@@ -298,7 +300,7 @@ module _ (setting : Setting) (asks : Scope → Data → List Demand) (block : Sc
           handlers_later (texts_in here.1) (texts_in last) rest.grows.items rest.grows.reasons here.0.handlers first.named.1,
           rest.named,
         );
-        grows = grows_on numbers here.1 last (sub_asked setting.version asks scope elder d)
+        grows = grows_on numbers here.1 last (sub_asked setting.version asks scope earlier d)
             (children_asked setting.version asks scope next ds) first.grows rest.grows;
       }
 

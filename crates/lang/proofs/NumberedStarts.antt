@@ -14,13 +14,13 @@ use Rattle.objects.specs.declared.kind.Kind.{Kind}
 use Rattle.objects.specs.declared.kind.Kind.TheVariants as kind
 use Rattle.batch.specs.Names.{AreNames, Texts, is_name}
 use Rattle.batch.specs.Named.{AllNamedValues, HasText, IsNamedValue}
-use Rattle.lang.specs.Scope.{Numbers, Table, with_item, with_text}
-use Rattle.lang.specs.Asked.{array_start_asked, element_asked, elements_asked, entries_asked, entry_asked, key_of, kind_in, names_of}
-use Rattle.lang.specs.Asked.{object_asked, object_name, object_name_asked, object_shape_asked, objects_asked, or_no_items, pair_asked}
-use Rattle.lang.specs.Asked.{pairs_asked, part, start_asked, text_of, value_of}
-use Rattle.lang.specs.Spelled.{bind_all, entries_of, item_of, pairs_of, put_all, start_of, starts_of}
+use Rattle.spelling.specs.Scope.{Numbers, Table, with_item, with_text}
+use Rattle.spelling.specs.Asked.{array_start_asked, element_asked, elements_asked, entries_asked, entry_asked, key_of, kind_in, names_of}
+use Rattle.spelling.specs.Asked.{object_asked, object_name, object_name_asked, object_shape_asked, objects_asked, or_no_items, pair_asked}
+use Rattle.spelling.specs.Asked.{pairs_asked, part, start_asked, text_of, value_of}
+use Rattle.spelling.specs.Spelled.{bind_all, entries_of, item_of, pairs_of, put_all, start_of, starts_of}
 use Rattle.lang.proofs.Later.{value_later}
-use Rattle.lang.proofs.MetLemmas.{AllMet, first_met, rest_met}
+use Rattle.spelling.proofs.MetLemmas.{AllMet, first_met, rest_met}
 use Rattle.lang.proofs.Tables.{Numbered, grows_behind, grows_both, grows_item, grows_none, grows_on, number_below, texts_in}
 
 AllHave : Texts → List Item → Type 0

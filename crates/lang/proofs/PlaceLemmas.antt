@@ -6,26 +6,27 @@ use Rattle.serde_json.specs.Data.{Data, Items, no_items, item, Members, no_membe
 use Rattle.serde_json.specs.Find.{as_array}
 use Rattle.objects.specs.declared.kind.Kind.{Kind}
 use Rattle.objects.specs.declared.kind.Kind.TheVariants as kind
-use Rattle.lang.specs.declared.steps.Sort.{Sort}
-use Rattle.lang.specs.declared.steps.Sort.TheVariants.{Operation as an_operation, If as an_if, Sub as a_sub, Abort as an_abort}
-use Rattle.lang.specs.declared.steps.Sort.TheVariants.{Parallel as a_parallel}
-use Rattle.lang.specs.declared.subject.Subject.TheVariants.{Outcome}
+use Rattle.spelling.specs.declared.steps.Sort.{Sort}
+use Rattle.spelling.specs.declared.steps.Sort.TheVariants.{Operation as an_operation, If as an_if, Sub as a_sub, Abort as an_abort}
+use Rattle.spelling.specs.declared.steps.Sort.TheVariants.{Parallel as a_parallel}
+use Rattle.spelling.specs.declared.subject.Subject.TheVariants.{Outcome}
 use Rattle.faults.specs.declared.fault.Fault.{Fault}
-use Rattle.lang.specs.declared.counts.Counts.{Counts}
-use Rattle.lang.specs.Demand.{Demand, check, one_more_node}
-use Rattle.lang.specs.Scope.{Scope, Setting, Table, with_label, with_text}
-use Rattle.lang.specs.Asked.{Asks, array_asked, array_start_asked, asked, block_asked, block_asked_if, children_asked, document_shape_asked}
-use Rattle.lang.specs.Asked.{elements_asked, entries_asked, handlers_asked, if_asked, if_label, if_shape_asked, key_of, label_asked}
-use Rattle.lang.specs.Asked.{label_in, members_asked, object_asked, object_name, object_name_asked, object_shape_asked}
-use Rattle.lang.specs.Asked.{objects_asked, or_no_items, pairs_asked, parallel_asked, parallel_shape_asked, scope_after, seen_asked}
-use Rattle.lang.specs.Asked.{sort_of, start_asked, step_asked, step_asked_by, steps_asked, sub_asked, sub_shape_asked, subject_of}
-use Rattle.lang.specs.Asked.{test_asked, text_of, transactions_asked}
+use Rattle.spelling.specs.declared.counts.Counts.{Counts}
+use Rattle.spelling.specs.Demand.{Demand, check, one_more_node}
+use Rattle.spelling.specs.Scope.{Scope, Setting, Table, with_label, with_text}
+use Rattle.spelling.specs.Asked.{Asks, array_asked, array_start_asked, asked, block_asked, block_asked_if}
+use Rattle.spelling.specs.Asked.{children_asked, document_shape_asked}
+use Rattle.spelling.specs.Asked.{elements_asked, entries_asked, handlers_asked, if_asked, if_label, if_shape_asked, key_of, label_asked}
+use Rattle.spelling.specs.Asked.{label_in, members_asked, object_asked, object_name, object_name_asked, object_shape_asked}
+use Rattle.spelling.specs.Asked.{objects_asked, or_no_items, pairs_asked, parallel_asked, parallel_shape_asked, scope_after, seen_asked}
+use Rattle.spelling.specs.Asked.{sort_of, start_asked, step_asked, step_asked_by, steps_asked, sub_asked, sub_shape_asked, subject_of}
+use Rattle.spelling.specs.Asked.{test_asked, text_of, transactions_asked}
 use Rattle.lang.specs.Places.{Found, Placed, Places, Token, below, block_placed, block_placed_if, children_placed, demands_of}
 use Rattle.lang.specs.Places.{elements_placed, entries_placed, found_here, found_inside, go_on, handlers_placed, here, if_placed, inside}
 use Rattle.lang.specs.Places.{itself, list_placed, members_placed, nothing, object_placed, objects_placed, pairs_placed}
 use Rattle.lang.specs.Places.{parallel_placed, placed, seek, start_placed, step_placed, step_placed_by, steps_placed, sub_placed}
 use Rattle.lang.specs.Places.{transactions_placed}
-use Rattle.lang.proofs.Checks.{and_check, check-after, check-append, failed-before}
+use Rattle.spelling.proofs.Checks.{and_check, check-after, check-append, failed-before}
 
 -- ---- the fault that is found is the first
 
@@ -98,18 +99,19 @@ module _ (places : Places) (asks : Asks) (same : Agrees places asks) where
   handlers_same scope None = refl
   handlers_same scope (Some ds) = members_same scope ds
 
-  sub_same : (version : ℕ) (scope elder : Scope) (d : Data) → demands_of (sub_placed version places scope elder d)
-      ≡ sub_asked version asks scope elder d
+  sub_same : (version : ℕ) (scope earlier : Scope) (d : Data) → demands_of (sub_placed version places scope earlier d)
+      ≡ sub_asked version asks scope earlier d
   unfolding sub_placed sub_asked
-  sub_same version scope elder d = rw (same, handlers_same, block_if_same, append-nil)
-      (six (sub_shape_asked version d) (one_more_node ∷ []) (label_asked scope elder (label_in d)) _ _ _)
+  sub_same version scope earlier d = rw (same, handlers_same, block_if_same, append-nil)
+      (six (sub_shape_asked version d) (one_more_node ∷ []) (label_asked scope earlier (label_in d)) _ _ _)
 
-  children_same : (version : ℕ) (scope elder : Scope) (i : ℕ) (ds : Items) → demands_of (children_placed version places scope elder i ds)
-      ≡ children_asked version asks scope elder ds
-  children_same version scope elder i no_items = refl
-  children_same version scope elder i (item d ds) = rw (
+  children_same : (version : ℕ) (scope earlier : Scope) (i : ℕ) (ds : Items)
+      → demands_of (children_placed version places scope earlier i ds)
+      ≡ children_asked version asks scope earlier ds
+  children_same version scope earlier i no_items = refl
+  children_same version scope earlier i (item d ds) = rw (
     sub_same,
-    children_same version scope (with_label (label_in d) Outcome elder)
+    children_same version scope (with_label (label_in d) Outcome earlier)
         (i + 1) ds,
   ) refl
 

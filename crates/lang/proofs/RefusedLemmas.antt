@@ -8,15 +8,15 @@ use Rattle.serde_json.specs.Find.{as_object}
 use Rattle.serde_json.specs.Read.{read as read_text}
 use Rattle.faults.specs.declared.fault.Wrong.TheVariants.{Shape}
 use Rattle.faults.specs.declared.fault.Fault.{Fault}
-use Rattle.lang.specs.Asked.{asked, document_shape_asked, objects_asked, objects_in, setting_in, transactions_asked, transactions_in}
-use Rattle.lang.specs.Asked.{version_in}
-use Rattle.lang.specs.Demand.{check, first_fault, no_counts}
+use Rattle.spelling.specs.Asked.{asked, document_shape_asked, objects_asked, objects_in, setting_in, transactions_asked, transactions_in}
+use Rattle.spelling.specs.Asked.{version_in}
+use Rattle.spelling.specs.Demand.{check, first_fault, no_counts}
 use Rattle.faults.specs.Faults.{wrong_outside}
 use Rattle.lang.specs.Reading.{spelled_by, unless_fault, value_of}
-use Rattle.lang.proofs.Checks.{check_failed}
-use Rattle.lang.proofs.DocumentLemmas.{failed_first}
-use Rattle.lang.specs.Pulled.{ReadsValue}
-use Rattle.lang.proofs.PulledLemmas.{reads_text}
+use Rattle.spelling.proofs.Checks.{check_failed}
+use Rattle.pull.proofs.DocumentLemmas.{failed_first}
+use Rattle.pull.specs.Pulled.{ReadsValue}
+use Rattle.pull.proofs.PulledLemmas.{reads_text}
 
 no_text : (bytes : List ℕ) (b : Bool) (value : Option Data) → is_utf8 bytes ≡ b → (IsUtf8 bytes → ⊥) → cond b value None ≡ None
 no_text bytes true value is never = absurd (never (IsUtf8-from_is_utf8 bytes is))

@@ -6,22 +6,22 @@ use Rattle.std.proofs.Common.{length, inr, refl, subst, sym, ap, ap₂, ◌∙�
 use Rattle.std.proofs.lemmas.Bool.{le-ltb}
 use Rattle.serde_json.specs.Data.{Data, Items}
 use Rattle.serde_json.specs.Find.{as_array}
-use Rattle.lang.specs.declared.counts.Counts.{Counts}
+use Rattle.spelling.specs.declared.counts.Counts.{Counts}
 use Rattle.faults.specs.declared.fault.Wrong.TheVariants.{Depth, Shape, TooMany}
 use Rattle.faults.specs.declared.fault.Fault.{Fault}
 use Rattle.lang.specs.declared.places.Place.{Place}
 use Rattle.lang.specs.declared.places.Place.TheVariants.{Whole, Pointer, LineColumn}
 use Rattle.lang.specs.declared.places.Unmet.{Unmet}
-use Rattle.lang.specs.Asked.{asked, block_asked, declared_by, document_shape_asked, objects_asked, objects_in}
-use Rattle.lang.specs.Asked.{setting_in, transactions_in, version_in}
-use Rattle.lang.specs.Demand.{check, fault_at, fault_of, no_counts}
+use Rattle.spelling.specs.Asked.{asked, block_asked, declared_by, document_shape_asked, objects_asked, objects_in}
+use Rattle.spelling.specs.Asked.{setting_in, transactions_in, version_in}
+use Rattle.spelling.specs.Demand.{check, fault_at, fault_of, no_counts}
 use Rattle.faults.specs.Faults.{wrong_outside}
 use Rattle.lang.specs.Found.{IsPlaceOf, Shows, found_of, pointer_text}
 use Rattle.lang.specs.Places.{Found, Placed, block_placed, found_here, inside, member_named}
 use Rattle.lang.specs.Places.{nothing, objects_placed, placed, seek, steps_placed, transactions_placed}
 use Rattle.lang.specs.Reading.{Document, reading, spelled_by, unless_fault, value_of}
-use Rattle.lang.specs.Scope.{Scope, Setting}
-use Rattle.lang.proofs.BlockLemmas.{no_array, too_deep}
+use Rattle.spelling.specs.Scope.{Scope, Setting}
+use Rattle.spelling.proofs.BlockLemmas.{no_array, too_deep}
 use Rattle.lang.proofs.PlaceLemmas.{objects_same, own_first, own_unmet, placed_same, told, told_first}
 
 -- what holds of the fault that a `?` passes on

@@ -3,11 +3,11 @@ use Rattle.std.proofs.Common.{◌≡◌, true, false, [], ◌∷◌, Ok, Err, re
 use Rattle.std.specs.Prelude.{codes, is_some, nat_le}
 use Rattle.serde_json.specs.Data.{Data}
 use Rattle.serde_json.specs.Events.{items_len}
-use Rattle.lang.specs.declared.counts.Counts.{Counts}
+use Rattle.spelling.specs.declared.counts.Counts.{Counts}
 use Rattle.faults.specs.declared.fault.Wrong.TheVariants.{Shape, TooMany}
-use Rattle.lang.specs.Asked.{document_shape_asked, objects_in, transactions_in, version_of}
-use Rattle.lang.specs.Demand.{check, fault_at}
-use Rattle.lang.specs.Look.{has_only, list_member}
+use Rattle.spelling.specs.Asked.{document_shape_asked, objects_in, transactions_in, version_of}
+use Rattle.spelling.specs.Demand.{check, fault_at}
+use Rattle.spelling.specs.Look.{has_only, list_member}
 use Rattle.meaning.specs.declared.limits.TheConstants.{MAX_OBJECTS, MAX_TRANSACTIONS}
 
 -- ---- a document

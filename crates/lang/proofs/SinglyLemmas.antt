@@ -2,14 +2,14 @@
 use Rattle.std.proofs.Common.{◌≡◌, ◌≤◌, ℕ, [], ◌++◌, Result, Ok, Err, subst, ◌∙◌}
 use Rattle.std.specs.Prelude.{MatchResult}
 use Rattle.serde_json.specs.Data.{Items}
-use Rattle.lang.specs.declared.counts.Counts.{Counts}
+use Rattle.spelling.specs.declared.counts.Counts.{Counts}
 use Rattle.faults.specs.declared.fault.Fault.{Fault}
-use Rattle.lang.specs.Answer.{IsMet}
-use Rattle.lang.specs.Asked.{asked, declared_by, document_shape_asked, objects_asked, setting_in, transactions_asked, version_in}
-use Rattle.lang.specs.Demand.{check}
-use Rattle.lang.specs.Pulled.{in_order}
-use Rattle.lang.proofs.Checks.{check_failed, check_met}
-use Rattle.lang.proofs.PulledDocument.{version_read}
+use Rattle.spelling.specs.Answer.{IsMet}
+use Rattle.spelling.specs.Asked.{asked, declared_by, document_shape_asked, objects_asked, setting_in, transactions_asked, version_in}
+use Rattle.spelling.specs.Demand.{check}
+use Rattle.pull.specs.Pulled.{in_order}
+use Rattle.spelling.proofs.Checks.{check_failed, check_met}
+use Rattle.pull.proofs.PulledDocument.{version_read}
 
 -- what is said of a result that is known
 pub matched_ok : {T E : Type 0} (r : Result T E) (x : T) (P : T → Type 0) (Q : E → Type 0) → r ≡ Ok x → MatchResult r P Q → P x

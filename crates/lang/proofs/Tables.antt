@@ -7,9 +7,9 @@ use Rattle.std.proofs.lemmas.Bool.{ltb-false}
 use Rattle.std.proofs.lemmas.List.{length-append}
 use Rattle.std.proofs.lemmas.List.Folds.{list_all-append}
 use Rattle.batch.specs.Names.{AreNames, Texts, is_name}
-use Rattle.lang.specs.Demand.{Demand}
-use Rattle.lang.specs.Scope.{Numbers, Table, fit, is_listed, number_of, with_item, with_reason, with_text}
-use Rattle.lang.proofs.MetLemmas.{AllMet, first_met, rest_met}
+use Rattle.spelling.specs.Demand.{Demand}
+use Rattle.spelling.specs.Scope.{Numbers, Table, fit, is_listed, number_of, with_item, with_reason, with_text}
+use Rattle.spelling.proofs.MetLemmas.{AllMet, first_met, rest_met}
 
 first_below : (text : List ℕ) (table : Table) → is_listed text table ≡ true → position_or_len (bytes_eq text) table < length table
 first_below text [] h = cc

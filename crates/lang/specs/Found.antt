@@ -3,14 +3,14 @@ use Rattle.std.specs.Prelude.{◌≡◌, ◌≢◌, ◌<◌, ◌≤◌, ◌⊎�
 use Rattle.std.specs.Prelude.{unwrap_or, String}
 use Rattle.std.specs.declared.alloc.Global.{Global}
 use Rattle.serde_json.specs.Data.{Data}
-use Rattle.lang.specs.declared.counts.Counts.{Counts}
+use Rattle.spelling.specs.declared.counts.Counts.{Counts}
 use Rattle.faults.specs.declared.fault.Fault.{Fault}
 use Rattle.lang.specs.declared.places.Place.{Place}
 use Rattle.lang.specs.declared.places.Place.TheVariants.{Whole, Pointer, LineColumn}
 use Rattle.lang.specs.declared.places.Unmet.{Unmet}
-use Rattle.lang.specs.Demand.{no_counts}
+use Rattle.spelling.specs.Demand.{no_counts}
 use Rattle.faults.specs.Faults.{memory_fault}
-use Rattle.lang.specs.Asked.{asked}
+use Rattle.spelling.specs.Asked.{asked}
 use Rattle.lang.specs.Places.{Found, Placed, demands_of, placed, seek}
 use Rattle.lang.specs.Reading.{value_of}
 use Rattle.lang.specs.declared.document.TheConstants.{MAX_BYTES}

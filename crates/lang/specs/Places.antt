@@ -5,19 +5,19 @@ use Rattle.serde_json.specs.Data.{Data, Items, no_items, item, Members, no_membe
 use Rattle.serde_json.specs.Find.{as_array, get}
 use Rattle.objects.specs.declared.kind.Kind.{Kind}
 use Rattle.objects.specs.declared.kind.Kind.TheVariants as kind
-use Rattle.lang.specs.declared.steps.Sort.{Sort}
-use Rattle.lang.specs.declared.steps.Sort.TheVariants.{Operation as an_operation, If as an_if, Sub as a_sub, Abort as an_abort}
-use Rattle.lang.specs.declared.steps.Sort.TheVariants.{Parallel as a_parallel}
-use Rattle.lang.specs.declared.subject.Subject.TheVariants.{Outcome}
+use Rattle.spelling.specs.declared.steps.Sort.{Sort}
+use Rattle.spelling.specs.declared.steps.Sort.TheVariants.{Operation as an_operation, If as an_if, Sub as a_sub, Abort as an_abort}
+use Rattle.spelling.specs.declared.steps.Sort.TheVariants.{Parallel as a_parallel}
+use Rattle.spelling.specs.declared.subject.Subject.TheVariants.{Outcome}
 use Rattle.faults.specs.declared.fault.Fault.{Fault}
-use Rattle.lang.specs.declared.counts.Counts.{Counts}
-use Rattle.lang.specs.Demand.{Demand, one_more_node, in_transaction, check}
-use Rattle.lang.specs.Scope.{Scope, Setting, Table, with_label, with_text}
-use Rattle.lang.specs.Asked.{abort_asked, array_asked, array_start_asked, block_asked, children_in, document_shape_asked, element_asked}
-use Rattle.lang.specs.Asked.{entry_asked, handlers_in, if_label, if_shape_asked, key_of, kind_in, label_asked, label_in, member_asked}
-use Rattle.lang.specs.Asked.{object_name, object_name_asked, object_shape_asked, objects_in, operation_asked, or_no_items, pair_asked}
-use Rattle.lang.specs.Asked.{parallel_shape_asked, part, scope_after, seen_asked, setting_in, sort_of, start_asked, step_asked_by}
-use Rattle.lang.specs.Asked.{sub_shape_asked, subject_of, test_asked, text_of, transactions_in, version_in}
+use Rattle.spelling.specs.declared.counts.Counts.{Counts}
+use Rattle.spelling.specs.Demand.{Demand, one_more_node, in_transaction, check}
+use Rattle.spelling.specs.Scope.{Scope, Setting, Table, with_label, with_text}
+use Rattle.spelling.specs.Asked.{abort_asked, array_asked, array_start_asked, block_asked, children_in, document_shape_asked, element_asked}
+use Rattle.spelling.specs.Asked.{entry_asked, handlers_in, if_label, if_shape_asked, key_of, kind_in, label_asked, label_in, member_asked}
+use Rattle.spelling.specs.Asked.{object_name, object_name_asked, object_shape_asked, objects_in, operation_asked, or_no_items, pair_asked}
+use Rattle.spelling.specs.Asked.{parallel_shape_asked, part, scope_after, seen_asked, setting_in, sort_of, start_asked, step_asked_by}
+use Rattle.spelling.specs.Asked.{sub_shape_asked, subject_of, test_asked, text_of, transactions_in, version_in}
 
 -- a member by its name, or an item by its index
 pub data Token : Type 0 where
@@ -107,10 +107,10 @@ handlers_placed places scope None = nothing
 handlers_placed places scope (Some ds) = members_placed places scope ds
 
 unfoldable pub sub_placed : ℕ → Places → Scope → Scope → Data → Placed
-sub_placed version places scope elder d =
+sub_placed version places scope earlier d =
     itself (sub_shape_asked version d)
     (itself (one_more_node ∷ [])
-    (itself (label_asked scope elder (label_in d))
+    (itself (label_asked scope earlier (label_in d))
     (inside (member_named (codes "sub")) (places scope (part (codes "sub") d))
     (inside (member_named (codes "handlers")) (handlers_placed places scope (handlers_in d))
     (inside (member_named (codes "handler")) (block_placed_if places scope (get (codes "handler") d))
@@ -118,9 +118,9 @@ sub_placed version places scope elder d =
 
 -- the children from an index on
 abbrev pub children_placed : ℕ → Places → Scope → Scope → ℕ → Items → Placed
-children_placed version places scope elder i no_items = nothing
-children_placed version places scope elder i (item d ds) = inside (item_at i) (sub_placed version places scope elder d)
-    (children_placed version places scope (with_label (label_in d) Outcome elder) (i + 1) ds)
+children_placed version places scope earlier i no_items = nothing
+children_placed version places scope earlier i (item d ds) = inside (item_at i) (sub_placed version places scope earlier d)
+    (children_placed version places scope (with_label (label_in d) Outcome earlier) (i + 1) ds)
 
 unfoldable pub parallel_placed : ℕ → Places → Scope → Data → Placed
 parallel_placed version places scope d =

@@ -6,15 +6,15 @@ use Rattle.serde_json.specs.Read.{read as read_text}
 use Rattle.batch.specs.declared.batch.Batch.{Batch}
 use Rattle.batch.specs.Names.{texts_of}
 use Rattle.batch.specs.Views.{block_view}
-use Rattle.lang.specs.declared.document.Parts.{Parts}
-use Rattle.lang.specs.declared.state.Numbering.{Numbering}
+use Rattle.spelling.specs.declared.declared.Parts.{Parts}
+use Rattle.spelling.specs.declared.state.Numbering.{Numbering}
 use Rattle.faults.specs.declared.fault.Wrong.TheVariants.{NotJson, TooMany}
 use Rattle.faults.specs.declared.fault.Fault.{Fault}
 use Rattle.faults.specs.Faults.{wrong_outside}
-use Rattle.lang.specs.Demand.{first_fault}
-use Rattle.lang.specs.Asked.{asked}
-pub use Rattle.lang.specs.Spelled.{Document}
-use Rattle.lang.specs.Spelled.{document_in}
+use Rattle.spelling.specs.Demand.{first_fault}
+use Rattle.spelling.specs.Asked.{asked}
+pub use Rattle.spelling.specs.Spelled.{Document}
+use Rattle.spelling.specs.Spelled.{document_in}
 use Rattle.lang.specs.declared.document.TheConstants.{MAX_BYTES}
 
 -- the value that the bytes write, or none

@@ -1,22 +1,22 @@
 //! Where a document's first fault stands.
 ghost use Rattle.std.specs.Prelude.{◌≡◌, ◌≢◌, ◌++◌, [], codes, string_bytes, Ok, Err, IfErr, IfOk, OnOk};
 ghost use Rattle.serde_json.specs.View.{view};
-ghost use Rattle.lang.specs.declared.counts.Counts.{Counts};
-ghost use Rattle.lang.specs.Demand.{no_counts};
+ghost use Rattle.spelling.specs.declared.counts.Counts.{Counts};
+ghost use Rattle.spelling.specs.Demand.{no_counts};
 ghost use Rattle.faults.specs.Faults.{memory_fault};
 ghost use Rattle.lang.specs.Found.{IsFound, IsPlaceOf, Shows, found_of, pointer_text};
 ghost use Rattle.lang.specs.Places.{found_inside, item_at, member_named, placed, seek};
 ghost use Rattle.lang.specs.Reading.{reading};
-ghost use Rattle.lang.specs.Scope.{scope_of};
+ghost use Rattle.spelling.specs.Scope.{scope_of};
 
 use crate::document::{MAX_BYTES, shape_of};
-use crate::hashing::NameHashing;
 use crate::seek::seek_transactions;
 use crate::seek_starts::seek_objects;
-use crate::starts::read_objects;
-use crate::state::State;
 use faults::{Code, Fault};
 use serde_json::Value;
+use spelling::hashing::NameHashing;
+use spelling::starts::read_objects;
+use spelling::state::State;
 use std::alloc::{AllocError, Global};
 
 /// Where a document's first fault stands.

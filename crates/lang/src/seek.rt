@@ -3,26 +3,26 @@
 //! A function `seek_..` goes where the function `read_..` of `steps` goes, and makes no batch.
 ghost use Rattle.std.specs.Prelude.{◌≡◌, ◌≤◌, [], length, codes, option_map, Ok, unwrap_or, IfErr, OnOk};
 ghost use Rattle.serde_json.specs.View.{items_view, members_view, view};
-ghost use Rattle.lang.specs.Asked.{children_in, label_in, labels_of, scope_after};
+ghost use Rattle.spelling.specs.Asked.{children_in, label_in, labels_of, scope_after};
 ghost use Rattle.lang.specs.Found.{IsFound};
 ghost use Rattle.lang.specs.Places.{block_placed, block_placed_if, children_placed, handlers_placed, if_placed, members_placed, parallel_placed, seek, step_placed, steps_placed, sub_placed, transaction_placed, transactions_placed};
-ghost use Rattle.lang.specs.Scope.{Extends, scope_of, setting_of, with_label, with_labels};
+ghost use Rattle.spelling.specs.Scope.{Extends, scope_of, setting_of, with_label, with_labels};
 ghost use Rattle.meaning.specs.declared.limits.TheConstants.{MAX_TRANSACTIONS};
 
-use crate::declared::Declared;
-use crate::hashing::Labels;
-use crate::heads::{if_head, no_labels, parallel_head, sub_head, take_labels};
-use crate::labels::{add_label, leave_block};
-use crate::look::text_member;
-use crate::operations::read_operation;
 use crate::places::Unmet;
-use crate::state::State;
-use crate::steps::{Sort, read_abort, sort_of};
-use crate::subject::Subject;
 use batch::is_name;
 use faults::{Fault, Wrong};
 use meaning::limits::MAX_DEPTH;
 use serde_json::{Map, Value};
+use spelling::declared::Declared;
+use spelling::hashing::Labels;
+use spelling::heads::{if_head, no_labels, parallel_head, sub_head, take_labels};
+use spelling::labels::{add_label, leave_block};
+use spelling::look::text_member;
+use spelling::operations::read_operation;
+use spelling::state::State;
+use spelling::steps::{Sort, read_abort, sort_of};
+use spelling::subject::Subject;
 use std::alloc::Global;
 
 // ---- the steps that hold blocks
@@ -107,20 +107,20 @@ fn seek_sub(
     step: &Value,
     levels: usize,
     declared: &Declared,
-    elder: Option<&Labels>,
+    earlier: Option<&Labels>,
     state: &mut State,
 ) -> Result<(), Unmet>
     ensures met { OnOk result (seek state.old.counts (sub_placed declared.now.version (block_placed (setting_of declared.now) levels)
-        (scope_of state.old.labels.entries) (unwrap_or (option_map (λ labels. scope_of labels.now.entries) elder.entry) []) (view step.now)) ≡ Ok state.new.counts) }
+        (scope_of state.old.labels.entries) (unwrap_or (option_map (λ labels. scope_of labels.now.entries) earlier.entry) []) (view step.now)) ≡ Ok state.new.counts) }
     ensures unmet { IfErr result (IsFound state.old.counts (sub_placed declared.now.version (block_placed (setting_of declared.now) levels)
-        (scope_of state.old.labels.entries) (unwrap_or (option_map (λ labels. scope_of labels.now.entries) elder.entry) []) (view step.now))) }
+        (scope_of state.old.labels.entries) (unwrap_or (option_map (λ labels. scope_of labels.now.entries) earlier.entry) []) (view step.now))) }
     ensures labels { OnOk result (scope_of state.new.labels.entries ≡ scope_of state.old.labels.entries) }
 {
     let head = sub_head(
         step,
         declared.version,
         &state.labels,
-        elder,
+        earlier,
         &mut state.counts,
     )?;
     if let Err(unmet) = seek_block(alloc, head.body, levels, declared, state) {
@@ -167,21 +167,21 @@ fn seek_children(
     list: &Vec<Value>,
     levels: usize,
     declared: &Declared,
-    elder: &mut Labels,
+    earlier: &mut Labels,
     state: &mut State,
 ) -> Result<(), Unmet>
     ensures met { OnOk result (seek state.old.counts (children_placed declared.now.version (block_placed (setting_of declared.now) levels)
-        (scope_of state.old.labels.entries) (scope_of elder.old.entries) 0 (items_view list.now.items)) ≡ Ok state.new.counts) }
+        (scope_of state.old.labels.entries) (scope_of earlier.old.entries) 0 (items_view list.now.items)) ≡ Ok state.new.counts) }
     ensures unmet { IfErr result (IsFound state.old.counts (children_placed declared.now.version (block_placed (setting_of declared.now) levels)
-        (scope_of state.old.labels.entries) (scope_of elder.old.entries) 0 (items_view list.now.items))) }
-    ensures elder { OnOk result (scope_of elder.new.entries ≡ labels_of (scope_of elder.old.entries) (items_view list.now.items)) }
+        (scope_of state.old.labels.entries) (scope_of earlier.old.entries) 0 (items_view list.now.items))) }
+    ensures earlier { OnOk result (scope_of earlier.new.entries ≡ labels_of (scope_of earlier.old.entries) (items_view list.now.items)) }
     ensures labels { OnOk result (scope_of state.new.labels.entries ≡ scope_of state.old.labels.entries) }
 {
     for (index, child) in list.iter().enumerate() {
-        if let Err(unmet) = seek_sub(alloc, child, levels, declared, Some(elder), state) {
+        if let Err(unmet) = seek_sub(alloc, child, levels, declared, Some(earlier), state) {
             return Err(unmet.in_item(alloc, index));
         }
-        add_label(alloc, text_member(child, "as"), Subject::Outcome, elder)?;
+        add_label(alloc, text_member(child, "as"), Subject::Outcome, earlier)?;
     }
     Ok(())
 }
@@ -203,11 +203,11 @@ fn seek_parallel(
         ≡ with_labels (labels_of [] (children_in (view step.now))) (scope_of state.old.labels.entries)) }
 {
     let list = parallel_head(step, &mut state.counts)?;
-    let mut elder = no_labels(alloc, &state.labels);
-    if let Err(unmet) = seek_children(alloc, list, levels, declared, &mut elder, state) {
+    let mut earlier = no_labels(alloc, &state.labels);
+    if let Err(unmet) = seek_children(alloc, list, levels, declared, &mut earlier, state) {
         return Err(unmet.in_member(alloc, "parallel"));
     }
-    take_labels(alloc, elder, &mut state.labels)?;
+    take_labels(alloc, earlier, &mut state.labels)?;
     Ok(())
 }
 
@@ -236,7 +236,7 @@ fn seek_block_if(
 }
 
 #[cycle(seek)]
-#[tactic(auto, unfolding(crate::specs::Places::step_placed, crate::specs::Asked::scope_after))]
+#[tactic(auto, unfolding(crate::specs::Places::step_placed, spelling::specs::Asked::scope_after))]
 fn seek_step(
     alloc: Global,
     step: &Value,

@@ -4,19 +4,19 @@
 ghost use Rattle.std.specs.Prelude.{◌≡◌, ◌++◌, ◌∷◌, [], Ok, IfErr, OnOk};
 ghost use Rattle.serde_json.specs.View.{items_view, view};
 ghost use Rattle.batch.specs.Names.{texts_of};
-ghost use Rattle.lang.specs.Asked.{object_name};
+ghost use Rattle.spelling.specs.Asked.{object_name};
 ghost use Rattle.lang.specs.Found.{IsFound};
 ghost use Rattle.lang.specs.Places.{elements_placed, entries_placed, object_placed, objects_placed, pairs_placed, seek, start_placed};
 
-use crate::counts::Counts;
-use crate::hashing::Texts;
 use crate::places::Unmet;
-use crate::starts::{add_name, read_element, read_entry, read_pair, read_start, shape_of};
-use crate::state::Numbering;
 use batch::Kind;
 use faults::Wrong;
 use indexmap::IndexSet;
 use serde_json::Value;
+use spelling::counts::Counts;
+use spelling::hashing::Texts;
+use spelling::starts::{add_name, read_element, read_entry, read_pair, read_start, shape_of};
+use spelling::state::Numbering;
 use std::alloc::Global;
 
 // ---- starts
@@ -75,7 +75,7 @@ fn seek_directory(
 }
 
 /// The start of an object of that kind.
-#[tactic(auto, unfolding(crate::specs::Places::start_placed, crate::specs::Places::list_placed, crate::specs::Asked::array_start_asked))]
+#[tactic(auto, unfolding(crate::specs::Places::start_placed, crate::specs::Places::list_placed, spelling::specs::Asked::array_start_asked))]
 fn seek_start(
     alloc: Global,
     kind: Kind,

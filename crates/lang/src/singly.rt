@@ -7,24 +7,23 @@ ghost use Rattle.serde_json.specs.Data.{Data, Items};
 ghost use Rattle.serde_json.specs.Events.{items_len};
 ghost use Rattle.batch.specs.Names.{texts_of};
 ghost use Rattle.batch.specs.Views.{block_view};
-ghost use Rattle.lang.specs.Answer.{IsFirst, IsMet};
-ghost use Rattle.lang.specs.Asked.{asked, document_shape_asked, names_of, objects_in, transaction_asked, transactions_asked};
-ghost use Rattle.lang.specs.Pulled.{ReadsItems, ReadsValue};
-ghost use Rattle.lang.specs.Scope.{numbers_of, scope_of, setting_of};
-ghost use Rattle.lang.specs.Spelled.{block_of, blocks_of, parts_in, spelled};
+ghost use Rattle.spelling.specs.Answer.{IsFirst, IsMet};
+ghost use Rattle.spelling.specs.Asked.{asked, document_shape_asked, names_of, objects_in, transaction_asked, transactions_asked};
+ghost use Rattle.pull.specs.Pulled.{ReadsItems, ReadsValue};
+ghost use Rattle.spelling.specs.Scope.{numbers_of, scope_of, setting_of};
+ghost use Rattle.spelling.specs.Spelled.{block_of, blocks_of, parts_in, spelled};
 ghost use Rattle.meaning.specs.declared.limits.TheConstants.{MAX_DEPTH, MAX_TRANSACTIONS};
 
-use crate::declared::Declared;
-use crate::document::Parts;
-use crate::pass::pass_items;
-use crate::pull::{PART_DEPTH, pull_end_object, pull_head, pull_value};
-use crate::starts::read_objects;
-use crate::state::State;
-use crate::steps::read_transaction;
 use batch::Block;
 use faults::Fault;
 use json::Reader;
 use meaning::limits::MAX_TRANSACTIONS;
+use pull::pass::pass_items;
+use pull::pull::{PART_DEPTH, pull_end_object, pull_head, pull_value};
+use spelling::declared::{Declared, Parts};
+use spelling::starts::read_objects;
+use spelling::state::State;
+use spelling::steps::read_transaction;
 use std::alloc::Global;
 
 /// The next transaction, by a tree of it alone, or its first fault.

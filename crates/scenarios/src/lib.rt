@@ -1,5 +1,5 @@
-//! Tests on whole batches that go through several crates, and those that start threads. Gates hold
-//! one call until another comes, and count.
+//! Tests of documents, of whole batches and of whole calls from a source to a sink, and those that start
+//! threads. Gates hold one call until another comes, and count.
 #![tactic(auto)]
 
 mod child_counting;
@@ -15,13 +15,27 @@ pub use meeting::Meeting;
 pub use tally::Tally;
 
 #[cfg(test)]
+mod carry_tests;
+#[cfg(test)]
+mod devices_tests;
+#[cfg(test)]
 mod documents;
+#[cfg(test)]
+mod lang_tests;
+#[cfg(test)]
+mod lines_tests;
+#[cfg(test)]
+mod memory;
+#[cfg(test)]
+mod places_tests;
 #[cfg(test)]
 mod plain_tests;
 #[cfg(test)]
 mod rounds_tests;
 #[cfg(test)]
 mod sibling_tests;
+#[cfg(test)]
+mod streams_tests;
 #[cfg(test)]
 mod why_tests;
 #[cfg(test)]

@@ -117,7 +117,7 @@ fn dequeues_in_order(rt: &(impl Threads + Sync + Abort + AllocGlobal), width: u3
 }
 
 #[test]
-fn a_child_is_run_again_after_its_elder(rt: HostRuntime) {
+fn a_child_is_run_again_after_a_sibling(rt: HostRuntime) {
     for width in WIDTHS {
         dequeues_in_order(&rt, width);
     }

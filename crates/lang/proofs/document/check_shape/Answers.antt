@@ -1,15 +1,15 @@
 use Rattle.std.proofs.Common.{◌≡◌, ◌≢◌, [], Err, sym, subst, ap, ◌∙◌, arith, rules}
 use Rattle.json.specs.Lex.{tokens}
 use Rattle.serde_json.specs.Data.{object}
-use Rattle.lang.specs.Asked.{document_shape_asked}
-use Rattle.lang.specs.Demand.{check, no_counts}
+use Rattle.spelling.specs.Asked.{document_shape_asked}
+use Rattle.spelling.specs.Demand.{check, no_counts}
 use Rattle.faults.specs.Faults.{memory_fault}
-use Rattle.lang.specs.Passed.{AreNoted}
-use Rattle.lang.specs.Pulled.{ReadsValue}
+use Rattle.pull.specs.Passed.{AreNoted}
+use Rattle.pull.specs.Pulled.{ReadsValue}
 use Rattle.lang.specs.Reading.{spelled_by, value_of}
-use Rattle.lang.proofs.Checks.{passed_on}
-use Rattle.lang.proofs.NoteLemmas.{noted_shape}
-use Rattle.lang.proofs.PulledLemmas.{pick}
+use Rattle.spelling.proofs.Checks.{passed_on}
+use Rattle.pull.proofs.NoteLemmas.{noted_shape}
+use Rattle.pull.proofs.PulledLemmas.{pick}
 use Rattle.lang.proofs.RefusedLemmas.{no_object_shape, no_value, refused_for, shape_first, value_known}
 use Rattle.lang.proofs.document.check_shape.Goals as goal
 

@@ -1,6 +1,6 @@
 use Rattle.std.proofs.Common.{◌≡◌, [], subst, arith}
 use Rattle.json.specs.Lex.{tokens}
-use Rattle.lang.specs.Pulled.{ReadsValue}
+use Rattle.pull.specs.Pulled.{ReadsValue}
 use Rattle.lang.proofs.RefusedLemmas.{value_known}
 use Rattle.lang.proofs.document.pull_bytes.Goals as goal
 

@@ -2,11 +2,11 @@ use Rattle.std.proofs.Common.{◌≡◌, map, subst, sym, ◌∙◌, arith, rule
 use Rattle.batch.specs.Limits.{IsBatch}
 use Rattle.batch.specs.Names.{texts_of}
 use Rattle.batch.specs.Views.{block_view}
-use Rattle.lang.specs.Asked.{asked}
+use Rattle.spelling.specs.Asked.{asked}
 use Rattle.lang.specs.Reading.{document_of, document_with}
-use Rattle.lang.specs.Scope.{numbers_of}
-use Rattle.lang.specs.Spelled.{Document}
-use Rattle.lang.proofs.DocumentLemmas.{met_first, same_document}
+use Rattle.spelling.specs.Scope.{numbers_of}
+use Rattle.spelling.specs.Spelled.{Document}
+use Rattle.pull.proofs.DocumentLemmas.{met_first, same_document}
 use Rattle.lang.proofs.FaultlessBatch.{faultless_is_batch}
 use Rattle.lang.proofs.document.pull_once.Goals as goal
 

@@ -1,12 +1,12 @@
 use Rattle.std.proofs.Common.{map}
 use Rattle.serde_json.specs.View.{items_view, view}
 use Rattle.batch.specs.Views.{block_view}
-use Rattle.lang.specs.Scope.{numbers_of, setting_of}
-use Rattle.lang.specs.Answer.{IsFirst}
-use Rattle.lang.specs.Asked.{asked}
+use Rattle.spelling.specs.Scope.{numbers_of, setting_of}
+use Rattle.spelling.specs.Answer.{IsFirst}
+use Rattle.spelling.specs.Asked.{asked}
 use Rattle.lang.proofs.AskedLemmas.{all_met, objects_failed, shape_failed, transactions_failed}
-use Rattle.lang.proofs.Checks.{passed_on}
-use Rattle.lang.proofs.DocumentLemmas.{same_parts}
+use Rattle.spelling.proofs.Checks.{passed_on}
+use Rattle.pull.proofs.DocumentLemmas.{same_parts}
 use Rattle.lang.proofs.document.read_parts.Goals as goal
 
 pub returns-in_err-shape-clause-first : goal.returns-in_err-shape-clause-first

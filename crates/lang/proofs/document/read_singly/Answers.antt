@@ -2,15 +2,15 @@ use Rattle.std.proofs.Common.{◌≡◌, ◌≢◌, Ok, Some, map, subst, sym, a
 use Rattle.batch.specs.Limits.{IsBatch}
 use Rattle.batch.specs.Names.{texts_of}
 use Rattle.batch.specs.Views.{block_view}
-use Rattle.lang.specs.Answer.{IsMet}
-use Rattle.lang.specs.Asked.{asked, document_shape_asked}
-use Rattle.lang.specs.Demand.{first_fault}
+use Rattle.spelling.specs.Answer.{IsMet}
+use Rattle.spelling.specs.Asked.{asked, document_shape_asked}
+use Rattle.spelling.specs.Demand.{first_fault}
 use Rattle.faults.specs.Faults.{memory_fault}
 use Rattle.lang.specs.Reading.{document_of, document_with, spelled_by, unless_fault}
-use Rattle.lang.specs.Scope.{numbers_of}
-use Rattle.lang.specs.Spelled.{Document}
+use Rattle.spelling.specs.Scope.{numbers_of}
+use Rattle.spelling.specs.Spelled.{Document}
 use Rattle.lang.proofs.CodeLemmas.{first_fault_code, memory_or}
-use Rattle.lang.proofs.DocumentLemmas.{failed_first, met_first, same_document}
+use Rattle.pull.proofs.DocumentLemmas.{failed_first, met_first, same_document}
 use Rattle.lang.proofs.FaultlessBatch.{faultless_is_batch}
 use Rattle.lang.proofs.RefusedLemmas.{refused_for}
 use Rattle.lang.proofs.SinglyLemmas.{matched_err, matched_ok}

@@ -5,11 +5,11 @@ use Rattle.serde_json.specs.Events.{items_len}
 use Rattle.serde_json.specs.View.{items_view, view}
 use Rattle.serde_json.specs.declared.value.Value.{Value}
 use Rattle.serde_json.proofs.Views.{items_len-items_view}
-use Rattle.lang.specs.Answer.{IsFirst}
-use Rattle.lang.specs.Asked.{document_shape_asked, objects_in, or_no_items, transactions_in}
-use Rattle.lang.specs.Look.{list_member}
+use Rattle.spelling.specs.Answer.{IsFirst}
+use Rattle.spelling.specs.Asked.{document_shape_asked, objects_in, or_no_items, transactions_in}
+use Rattle.spelling.specs.Look.{list_member}
 use Rattle.meaning.specs.declared.limits.TheConstants.{MAX_OBJECTS, MAX_TRANSACTIONS}
-use Rattle.lang.proofs.Checks.{passed_on}
+use Rattle.spelling.proofs.Checks.{passed_on}
 use Rattle.lang.proofs.ShapeLemmas.{many_objects, many_transactions, no_objects, no_transactions, no_version, other_part, shape_met}
 use Rattle.lang.proofs.document.shape_of.Goals as goal
 

@@ -5,7 +5,7 @@ use Rattle.std.proofs.lemmas.Str.{IsUtf8-from_is_utf8, is_utf8-from_IsUtf8}
 use Rattle.serde_json.specs.Read.{read as read_text}
 use Rattle.serde_json.specs.Errors.{IsMemory}
 use Rattle.serde_json.specs.View.{view}
-use Rattle.lang.specs.Demand.{no_counts}
+use Rattle.spelling.specs.Demand.{no_counts}
 use Rattle.lang.specs.Found.{pointer_text}
 use Rattle.lang.specs.Reading.{value_of}
 use Rattle.lang.proofs.SeekLemmas.{not_all_met, place_shown}

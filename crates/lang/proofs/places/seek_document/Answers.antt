@@ -3,7 +3,7 @@ use Rattle.std.proofs.Common.{◌≡◌, None, Err, [], sym, ap, ◌∙◌}
 use Rattle.serde_json.specs.View.{items_view, view}
 use Rattle.lang.specs.Found.{IsFound, found_of}
 use Rattle.lang.specs.Places.{inside, member_named, nothing, objects_placed, placed, seek, transactions_placed}
-use Rattle.lang.specs.Scope.{setting_of}
+use Rattle.spelling.specs.Scope.{setting_of}
 use Rattle.lang.proofs.PlaceLemmas.{part_met, part_unmet}
 use Rattle.lang.proofs.SeekLemmas.{document_parts, made_unmet, read_alike, read_well}
 use Rattle.lang.proofs.places.seek_document.Goals as goal

@@ -3,14 +3,14 @@ use Rattle.std.proofs.Common.{◌≡◌, ◌+◌, ◌-◌, None, [], Err, drop, 
 use Rattle.std.proofs.lemmas.List.{length-map}
 use Rattle.serde_json.specs.Find.{as_array, get}
 use Rattle.serde_json.specs.View.{items_view, view}
-use Rattle.lang.specs.Asked.{children_in, handlers_in, part, scope_after}
+use Rattle.spelling.specs.Asked.{children_in, handlers_in, part, scope_after}
 use Rattle.lang.specs.Found.{IsFound, found_of}
-use Rattle.lang.specs.Heads.{if_head_asked, parallel_head_asked, sub_head_asked}
+use Rattle.spelling.specs.Heads.{if_head_asked, parallel_head_asked, sub_head_asked}
 use Rattle.lang.specs.Places.{block_placed, block_placed_if, children_placed, handlers_placed, if_placed, inside, item_at, member_named}
 use Rattle.lang.specs.Places.{nothing, parallel_placed, seek, step_placed, steps_placed, sub_placed}
-use Rattle.lang.specs.Scope.{Extends, Scope, scope_of, setting_of}
-use Rattle.lang.proofs.LabelLemmas.{extends_twice, scope_after_extends}
-use Rattle.lang.proofs.ListLemmas.{items_from}
+use Rattle.spelling.specs.Scope.{Extends, Scope, scope_of, setting_of}
+use Rattle.spelling.proofs.LabelLemmas.{extends_twice, scope_after_extends}
+use Rattle.spelling.proofs.ListLemmas.{items_from}
 use Rattle.lang.proofs.HeadPlaces.{found_in_front, if_placed-is, parallel_placed-is, sub_placed-is}
 use Rattle.lang.proofs.PlaceLemmas.{own_first, part_met, part_unmet}
 use Rattle.lang.proofs.SeekLemmas.{block_places, found_plain, made_unmet, no_array_found, passed_unmet, too_deep_found}
@@ -278,7 +278,7 @@ seek_parallel-returns-in-Err-clause-unmet t c other =
     let list = inside (member_named (codes "parallel")) children nothing in
     let next = c.parallel_head.new.counts in
     let told = c.in_member.ensures other in
-    let found = rw (c.no_labels-elder.ensures, c.in_ok-list.ensures.children) at (c.in-Err.ensures.unmet told.0) in
+    let found = rw (c.no_labels-earlier.ensures, c.in_ok-list.ensures.children) at (c.in-Err.ensures.unmet told.0) in
     parallel_placed-is version places scope d start ∙ own_first start next (parallel_head_asked d) list c.in_ok-list.ensures.met
     ∙ part_unmet next (found_of c.in-Err.unmet) (member_named (codes "parallel")) children nothing found
     ∙ ap (λ e. Err e) (sym told.1)
@@ -293,6 +293,6 @@ seek_parallel-returns-clause-met t c =
     let children = children_placed version places scope [] 0 (children_in d) in
     let list = inside (member_named (codes "parallel")) children nothing in
     let next = c.parallel_head.new.counts in
-    let met = rw (c.no_labels-elder.ensures, c.in_ok-list.ensures.children) at c.in_default.ensures.met in
+    let met = rw (c.no_labels-earlier.ensures, c.in_ok-list.ensures.children) at c.in_default.ensures.met in
     parallel_placed-is version places scope d start ∙ own_first start next (parallel_head_asked d) list c.in_ok-list.ensures.met
     ∙ part_met next c.seek_children.new.state.counts (member_named (codes "parallel")) children nothing met

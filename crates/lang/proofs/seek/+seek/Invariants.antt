@@ -1,8 +1,8 @@
 use Rattle.std.proofs.Common.{◌≡◌, ◌+◌, ◌*◌, drop}
 use Rattle.serde_json.specs.View.{items_view, members_view}
-use Rattle.lang.specs.Asked.{labels_of}
+use Rattle.spelling.specs.Asked.{labels_of}
 use Rattle.lang.specs.Places.{block_placed, children_placed, members_placed, seek, steps_placed}
-use Rattle.lang.specs.Scope.{Extends, scope_of, setting_of}
+use Rattle.spelling.specs.Scope.{Extends, scope_of, setting_of}
 use Rattle.lang.proofs.seek.+seek.Given as goal
 
 abbrev pub decreases-seek_steps : goal.decreases-seek_steps
@@ -50,10 +50,10 @@ invariant-seek_steps-loop-index l = record {
 abbrev pub invariant-seek_children-loop-index : goal.invariant-seek_children-loop-index
 invariant-seek_children-loop-index l = record {
   asked : seek l.initial.state.counts (children_placed l.declared.version (block_placed (setting_of l.declared) l.levels)
-      (scope_of l.initial.state.labels.entries) (scope_of l.initial.elder.entries) 0 (items_view l.child-items))
+      (scope_of l.initial.state.labels.entries) (scope_of l.initial.earlier.entries) 0 (items_view l.child-items))
       ≡ seek l.state.counts (children_placed l.declared.version (block_placed (setting_of l.declared) l.levels)
-      (scope_of l.initial.state.labels.entries) (scope_of l.elder.entries) l.index (items_view (drop l.index l.child-items)));
-  added : labels_of (scope_of l.initial.elder.entries) (items_view l.child-items) ≡ labels_of (scope_of l.elder.entries)
+      (scope_of l.initial.state.labels.entries) (scope_of l.earlier.entries) l.index (items_view (drop l.index l.child-items)));
+  added : labels_of (scope_of l.initial.earlier.entries) (items_view l.child-items) ≡ labels_of (scope_of l.earlier.entries)
       (items_view (drop l.index l.child-items));
   labels : scope_of l.state.labels.entries ≡ scope_of l.initial.state.labels.entries;
 }

@@ -1,8 +1,8 @@
 use Rattle.std.proofs.Common.{◌+◌, drop, ap, ◌∙◌, arith}
 use Rattle.serde_json.specs.View.{items_view, view}
 use Rattle.lang.specs.Places.{item_at, seek, transaction_placed, transactions_placed}
-use Rattle.lang.specs.Scope.{setting_of}
-use Rattle.lang.proofs.ListLemmas.{items_from}
+use Rattle.spelling.specs.Scope.{setting_of}
+use Rattle.spelling.proofs.ListLemmas.{items_from}
 use Rattle.lang.proofs.PlaceLemmas.{part_met}
 use Rattle.lang.proofs.seek.seek_transactions.Goals as goal
 

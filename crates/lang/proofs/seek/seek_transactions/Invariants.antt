@@ -1,7 +1,7 @@
 use Rattle.std.proofs.Common.{◌≡◌, [], drop}
 use Rattle.serde_json.specs.View.{items_view}
 use Rattle.lang.specs.Places.{seek, transactions_placed}
-use Rattle.lang.specs.Scope.{scope_of, setting_of}
+use Rattle.spelling.specs.Scope.{scope_of, setting_of}
 use Rattle.lang.proofs.seek.seek_transactions.Given as goal
 
 abbrev pub invariant-loop-index : goal.invariant-loop-index

@@ -1,9 +1,9 @@
 use Rattle.std.proofs.Common.{◌+◌, ◌++◌, ◌∷◌, [], drop, sym, ap, ◌∙◌, arith}
 use Rattle.serde_json.specs.View.{items_view, view}
 use Rattle.batch.specs.Names.{texts_of}
-use Rattle.lang.specs.Asked.{object_name}
+use Rattle.spelling.specs.Asked.{object_name}
 use Rattle.lang.specs.Places.{item_at, object_placed, objects_placed, seek}
-use Rattle.lang.proofs.ListLemmas.{items_from}
+use Rattle.spelling.proofs.ListLemmas.{items_from}
 use Rattle.lang.proofs.PlaceLemmas.{part_met}
 use Rattle.lang.proofs.seek_starts.seek_objects.Goals as goal
 

@@ -1,8 +1,8 @@
 use Rattle.std.proofs.Common.{◌+◌, drop, ap, ◌∙◌, arith}
 use Rattle.serde_json.specs.View.{items_view, view}
-use Rattle.lang.specs.Asked.{entry_asked}
+use Rattle.spelling.specs.Asked.{entry_asked}
 use Rattle.lang.specs.Places.{entries_placed, item_at, itself, nothing, seek}
-use Rattle.lang.proofs.ListLemmas.{items_from}
+use Rattle.spelling.proofs.ListLemmas.{items_from}
 use Rattle.lang.proofs.PlaceLemmas.{own_met, part_met}
 use Rattle.lang.proofs.seek_starts.seek_queue.Goals as goal
 

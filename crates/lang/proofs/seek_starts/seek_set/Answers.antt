@@ -1,10 +1,10 @@
 use Rattle.std.proofs.Common.{◌+◌, drop, sym, ap, ◌∙◌, arith}
 use Rattle.serde_json.specs.View.{items_view, view}
 use Rattle.batch.specs.Names.{texts_of}
-use Rattle.lang.specs.Asked.{element_asked, text_of}
+use Rattle.spelling.specs.Asked.{element_asked, text_of}
 use Rattle.lang.specs.Places.{elements_placed, item_at, itself, nothing, seek}
-use Rattle.lang.specs.Scope.{with_text}
-use Rattle.lang.proofs.ListLemmas.{items_from}
+use Rattle.spelling.specs.Scope.{with_text}
+use Rattle.spelling.proofs.ListLemmas.{items_from}
 use Rattle.lang.proofs.PlaceLemmas.{own_met, part_met}
 use Rattle.lang.proofs.seek_starts.seek_set.Goals as goal
 

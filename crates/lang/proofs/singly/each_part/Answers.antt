@@ -5,13 +5,13 @@ use Rattle.serde_json.specs.View.{items_view}
 use Rattle.serde_json.proofs.Views.{items_len-items_view}
 use Rattle.batch.specs.Names.{texts_of}
 use Rattle.batch.specs.Views.{block_view}
-use Rattle.lang.specs.Answer.{IsFirst, IsMet}
-use Rattle.lang.specs.Asked.{declared_by, names_of, objects_asked, transactions_asked}
-use Rattle.lang.specs.Scope.{numbers_of, setting_of}
-use Rattle.lang.specs.Spelled.{starts_of}
-use Rattle.lang.specs.Pulled.{ReadsItems, in_order}
-use Rattle.lang.proofs.DocumentLemmas.{same_parts}
-use Rattle.lang.proofs.PulledDocument.{in_order_met, version_is}
+use Rattle.spelling.specs.Answer.{IsFirst, IsMet}
+use Rattle.spelling.specs.Asked.{declared_by, names_of, objects_asked, transactions_asked}
+use Rattle.spelling.specs.Scope.{numbers_of, setting_of}
+use Rattle.spelling.specs.Spelled.{starts_of}
+use Rattle.pull.specs.Pulled.{ReadsItems, in_order}
+use Rattle.pull.proofs.DocumentLemmas.{same_parts}
+use Rattle.pull.proofs.PulledDocument.{in_order_met, version_is}
 use Rattle.lang.proofs.SinglyLemmas.{matched_err, matched_ok, objects_failed, transactions_failed}
 use Rattle.lang.proofs.singly.each_part.Goals as goal
 

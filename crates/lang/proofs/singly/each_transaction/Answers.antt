@@ -4,13 +4,13 @@ use Rattle.json.specs.Json.{after_end_array}
 use Rattle.serde_json.specs.Data.{no_items, item}
 use Rattle.meaning.specs.Trees as tree
 use Rattle.batch.specs.Views.{block_view}
-use Rattle.lang.specs.Asked.{transaction_asked, transactions_asked}
-use Rattle.lang.specs.Scope.{Numbers, numbers_of, setting_of}
-use Rattle.lang.specs.Spelled.{blocks_of}
-use Rattle.lang.specs.Pulled.{ReadsValue}
-use Rattle.lang.proofs.Checks.{check_failed, check_met}
-use Rattle.lang.proofs.ListLemmas.{in_front, in_front_none, in_front_push}
-use Rattle.lang.proofs.PulledLemmas.{reads_item, reads_no_items, reads_shorter}
+use Rattle.spelling.specs.Asked.{transaction_asked, transactions_asked}
+use Rattle.spelling.specs.Scope.{Numbers, numbers_of, setting_of}
+use Rattle.spelling.specs.Spelled.{blocks_of}
+use Rattle.pull.specs.Pulled.{ReadsValue}
+use Rattle.spelling.proofs.Checks.{check_failed, check_met}
+use Rattle.spelling.proofs.ListLemmas.{in_front, in_front_none, in_front_push}
+use Rattle.pull.proofs.PulledLemmas.{reads_item, reads_no_items, reads_shorter}
 use Rattle.lang.proofs.SinglyLemmas.{matched_err, matched_ok}
 use Rattle.lang.proofs.singly.each_transaction.Goals as goal
 

@@ -3,12 +3,12 @@ use Rattle.json.specs.Token.{Token}
 use Rattle.serde_json.specs.Data.{Items}
 use Rattle.serde_json.specs.Events.{items_len}
 use Rattle.batch.specs.Views.{block_view}
-use Rattle.lang.specs.Asked.{transactions_asked}
-use Rattle.lang.specs.Demand.{check}
-use Rattle.lang.specs.Pulled.{ReadsItems}
-use Rattle.lang.specs.Scope.{numbers_of, scope_of, setting_of}
-use Rattle.lang.specs.Spelled.{blocks_of}
-use Rattle.lang.proofs.ListLemmas.{in_front}
+use Rattle.spelling.specs.Asked.{transactions_asked}
+use Rattle.spelling.specs.Demand.{check}
+use Rattle.pull.specs.Pulled.{ReadsItems}
+use Rattle.spelling.specs.Scope.{numbers_of, scope_of, setting_of}
+use Rattle.spelling.specs.Spelled.{blocks_of}
+use Rattle.spelling.proofs.ListLemmas.{in_front}
 use Rattle.lang.proofs.singly.each_transaction.Given as goal
 
 -- what was read stands in front of any items that follow

@@ -1,6 +1,6 @@
 use Rattle.std.proofs.Common.{◌≡◌, ◌≢◌, true, refl}
 use Rattle.faults.specs.Faults.{is_of_reading, memory_fault}
-use Rattle.lang.proofs.Checks.{passed_on}
+use Rattle.spelling.proofs.Checks.{passed_on}
 use Rattle.ordtx.specs.Answers.{IsFaultOf}
 use Rattle.ordtx.proofs.texts.report_of.Goals as goal
 

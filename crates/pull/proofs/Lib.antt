@@ -1,0 +1,9 @@
+pub mod DocumentLemmas
+pub mod PulledLemmas
+pub mod PulledSteps
+pub mod PulledSubs
+pub mod PulledTests
+pub mod PulledDocument
+pub mod PulledHandlers
+pub mod PassLemmas
+pub mod NoteLemmas

@@ -1,0 +1,79 @@
+use Rattle.std.proofs.Common.{◌≡◌, List, [], ◌∷◌, ◌++◌, Some, None, map, length, refl, sym, subst, ap, ◌∙◌, ◌+◌, arith, rules}
+use Rattle.std.proofs.lemmas.List.{map-append}
+use Rattle.json.specs.Json.{after_end_array}
+use Rattle.serde_json.specs.Data.{no_items, item}
+use Rattle.meaning.specs.Trees as tree
+use Rattle.batch.specs.Views.{block_view}
+use Rattle.spelling.specs.Asked.{transaction_asked, transactions_asked}
+use Rattle.spelling.specs.Scope.{Numbers, numbers_of, setting_of}
+use Rattle.spelling.specs.Spelled.{blocks_of}
+use Rattle.pull.specs.Pulled.{ReadsValue}
+use Rattle.spelling.proofs.Checks.{check_met}
+use Rattle.spelling.proofs.ListLemmas.{in_front, in_front_none, in_front_push}
+use Rattle.pull.proofs.PulledLemmas.{reads_item, reads_no_items, reads_shorter}
+use Rattle.pull.proofs.pull.pull_transactions.Goals as goal
+
+pub loop-alloc-init : goal.loop-alloc-init
+loop-alloc-init c =
+    let none : c.new-blocks.result.items ≡ [] = c.new-blocks.ensures.items in (
+      λ ds. ds,
+      λ ds new reads. reads,
+      λ ds. refl,
+      λ ds. ap (λ (vs : List _). in_front (map block_view vs)
+          (blocks_of (setting_of c.args.declared.now) (numbers_of c.args.state.now.numbering) ds)) (sym none),
+      c.requires.labels,
+      λ ds. omega arith,
+      omega arith,
+    )
+
+pub pull_transaction-requires : goal.pull_transaction-requires
+pull_transaction-requires c = c.loop-alloc.invariant.4
+
+pub loop-alloc-smaller : goal.loop-alloc-smaller
+loop-alloc-smaller c =
+    let going : (after_end_array c.loop-alloc.reader ≡ None) × (c.take_end_array.new.self ≡ c.loop-alloc.reader) = grind arith in
+    let done = c.in_ok-pull_transaction.ensures in
+    let less = reads_shorter 120 _ done.0 _ done.1 in
+    omega (arith, less, ap length going.1)
+
+pub loop-alloc-preserved : goal.loop-alloc-preserved
+loop-alloc-preserved c =
+    let l = c.loop-alloc in
+    let setting = setting_of c.args.declared.now in
+    let going : (after_end_array l.reader ≡ None) × (c.take_end_array.new.self ≡ l.reader) = grind arith in
+    let done = c.in_ok-pull_transaction.ensures in
+    let d = done.0 in
+    let mid = c.pull_transaction.new.reader in
+    let counts = c.pull_transaction.new.state.counts in
+    let after = numbers_of c.pull_transaction.new.state.numbering in
+    let read = map block_view l.blocks.items in
+    let x = c.in_ok-pull_transaction.field-0 in (
+      λ ds. l.invariant.0 (item d ds),
+      λ ds new reads. l.invariant.1 (item d ds) new
+          (reads_item 120 l.reader mid new d ds going.0 (subst (λ ts. ReadsValue 120 ts d mid) going.1 done.1) reads),
+      λ ds. l.invariant.2 (item d ds)
+          ∙ check_met l.state.counts counts (transaction_asked (l.number + 1) setting d)
+          (transactions_asked (l.number + 1 + 1) setting ds) done.2,
+      λ ds. l.invariant.3 (item d ds)
+          ∙ ap (λ (p : tree.Block × Numbers). in_front read (p.0 ∷ (blocks_of setting p.1 ds).0, (blocks_of setting p.1 ds).1)) (sym done.3)
+          ∙ sym (in_front_push read (block_view x) (blocks_of setting after ds))
+          ∙ ap (λ ys. in_front ys (blocks_of setting after ds))
+          (sym (map-append block_view l.blocks.items (x ∷ [])) ∙ ap (map block_view) (sym (pushed c))),
+      done.4,
+      λ ds. l.invariant.5 (item d ds) ∙ omega arith,
+      omega arith,
+    )
+  where
+    pushed : (c : goal.In_ok-ok) → c.push.new.self.items ≡ c.loop-alloc.blocks.items ++ c.in_ok-pull_transaction.field-0 ∷ []
+    pushed c = grind (arith, rules)
+
+pub returns : goal.returns
+returns c =
+    let l = c.loop-alloc in
+    let closed : after_end_array l.reader ≡ Some c.take_end_array.new.self = grind arith in (
+      l.invariant.0 no_items,
+      l.invariant.1 no_items _ (reads_no_items 120 l.reader _ closed),
+      l.invariant.2 no_items,
+      sym (l.invariant.3 no_items ∙ in_front_none (map block_view l.blocks.items) (numbers_of l.state.numbering)),
+      omega (arith, l.invariant.5 no_items, l.invariant.6),
+    )

@@ -1,0 +1,489 @@
+//! Reads a document straight from its tokens into the batch, where it is in the common form.
+//!
+//! A function `pull_..` takes the next tokens of the reader, each once. `None` says that they are out
+//! of the common form, or that memory was refused; the document is then read otherwise (`document`),
+//! which finds faults.
+//!
+//! The common form: the members `ordtx`, `objects` and `transactions` in this order; a step's members
+//! as `pull_blocks` says; in steps, numbers without a point or an exponent. Of the objects a small tree is made
+//! and read as in any other document.
+ghost use Rattle.std.specs.Prelude.{◌≡◌, ℕ, List, [], ◌∷◌, codes, length, map, option_map, true, Some, None, IfSome, ◌<◌, ◌+◌, ◌*◌, ◌≤◌};
+ghost use Rattle.json.specs.Token as token;
+ghost use Rattle.fast_float.specs.Text.{with_sign};
+ghost use Rattle.serde_json.specs.Data.{Data, Items, Members, Num, member, negative, number, unsigned};
+ghost use Rattle.serde_json.specs.Find.{as_i64, of_integer};
+ghost use Rattle.serde_json.specs.Read.{number_of};
+ghost use Rattle.serde_json.specs.Events.{items_len};
+ghost use Rattle.serde_json.specs.View.{items_view, members_view, view};
+ghost use Rattle.batch.specs.Names.{texts_of};
+ghost use Rattle.batch.specs.Views.{block_view, step_view};
+ghost use Rattle.spelling.specs.Asked.{Asks, asked, names_of, objects_in, transaction_asked, transactions_asked, block_asked, arguments_asked, scope_after, steps_asked, step_asked};
+ghost use Rattle.spelling.specs.Answer.{IsMet};
+ghost use Rattle.pull.specs.Pulled.{ReadsItems, ReadsMembers, ReadsValue, in_order, labelled, op_array};
+ghost use Rattle.spelling.specs.Scope.{Extends, numbers_of, scope_of, setting_of};
+ghost use Rattle.spelling.specs.Spelled.{Spelling, parts_in, spelled, blocks_of, block_of, call_of, step_of, steps_spelled};
+ghost use Rattle.batch.specs.Names.{is_name};
+ghost use Rattle.meaning.specs.declared.limits.TheConstants.{MAX_DEPTH, MAX_OBJECTS, MAX_TRANSACTIONS};
+
+use crate::pull_blocks::pull_block;
+use batch::{Block, Call, Step, is_name};
+use fast_float::Numeral;
+use json::{Reader, Token};
+use meaning::limits::{MAX_DEPTH, MAX_OBJECTS, MAX_TRANSACTIONS};
+use objects::Amount;
+use serde_json::{Map, Value};
+use spelling::counts::Counts;
+use spelling::declared::{Declared, Parts};
+use spelling::labels::add_new_label;
+use spelling::numbers::number_of;
+use spelling::operations::{item_of, target_of};
+use spelling::starts::read_objects;
+use spelling::state::{Numbering, State};
+use spelling::subject::Subject;
+use std::alloc::Global;
+use words::Verb;
+
+/// How deep an object or a transaction may nest.
+pub const PART_DEPTH: usize = 125;
+
+/// The greatest whole number.
+const MOST_WHOLE: u64 = 9_223_372_036_854_775_807;
+
+// ---- tokens
+
+pub(crate) fn pull_text<'a>(reader: &mut Reader<'a>) -> Option<&'a str>
+    ensures { IfSome result (λ text. reader.old ≡ token.string text.now ∷ reader.new) }
+{
+    match reader.next() {
+        Some(Token::String(text)) => Some(text),
+        _ => None,
+    }
+}
+
+pub(crate) fn pull_name<'a>(reader: &mut Reader<'a>) -> Option<&'a str>
+    ensures { IfSome result (λ text. (reader.old ≡ token.string text.now ∷ reader.new)
+        × (is_name text.now ≡ true)) }
+{
+    let text = pull_text(reader)?;
+    if is_name(text) { Some(text) } else { None }
+}
+
+/// The number that a text writes, if it has no sign, point or exponent and fits.
+fn unsigned_of(text: &str) -> Option<u64>
+    ensures { IfSome result (λ n. number_of text.now ≡ Some (unsigned n)) }
+{
+    let bytes = text.as_bytes();
+    if bytes.is_empty() || bytes[0] == b'-' {
+        return None;
+    }
+    Numeral::scan(bytes).to_u64()
+}
+
+/// The size of the number below 0 that a text writes, if it has no point or exponent and fits.
+fn size_below_0(text: &str) -> Option<u64>
+    ensures { IfSome result (λ n. (0 < n) × (n ≤ 9223372036854775807) × (number_of text.now ≡ Some (negative (with_sign true n)))) }
+{
+    let bytes = text.as_bytes();
+    if bytes.is_empty() || bytes[0] != b'-' {
+        return None;
+    }
+    let size = Numeral::scan(&bytes[1..]).to_u64()?;
+    if 0 < size && size <= MOST_WHOLE {
+        Some(size)
+    } else {
+        None
+    }
+}
+
+/// The whole number that a text writes, if it has no point or exponent and fits.
+fn whole_of(text: &str) -> Option<i64>
+    ensures { IfSome result (λ n. (x : Num) × (number_of text.now ≡ Some x) × (as_i64 x ≡ Some n) × (of_integer n ≡ x)) }
+{
+    if let Some(number) = unsigned_of(text) {
+        return if number <= MOST_WHOLE {
+            Some(number as i64)
+        } else {
+            None
+        };
+    }
+    let size = size_below_0(text)?;
+    Some(-(size as i64))
+}
+
+pub(crate) fn pull_whole(reader: &mut Reader<'_>) -> Option<i64>
+    ensures { IfSome result (λ n. (s : List ℕ) × (x : Num) × (reader.old ≡ token.number s ∷ reader.new)
+        × (number_of s ≡ Some x) × (as_i64 x ≡ Some n)) }
+{
+    match reader.next() {
+        Some(Token::Number(text)) => whole_of(text),
+        _ => None,
+    }
+}
+
+fn pull_amount(reader: &mut Reader<'_>) -> Option<Amount>
+    ensures { IfSome result (λ amount. (s : List ℕ) × (reader.old ≡ token.number s ∷ reader.new)
+        × (number_of s ≡ Some (unsigned amount.value))) }
+{
+    match reader.next() {
+        Some(Token::Number(text)) => Amount::new(unsigned_of(text)?),
+        _ => None,
+    }
+}
+
+pub(crate) fn pull_begin_object(reader: &mut Reader<'_>) -> Option<()>
+    ensures { IfSome result (λ _. reader.old ≡ token.begin_object ∷ reader.new) }
+{
+    match reader.next() {
+        Some(Token::BeginObject) => Some(()),
+        _ => None,
+    }
+}
+
+pub(crate) fn pull_begin_array(reader: &mut Reader<'_>) -> Option<()>
+    ensures { IfSome result (λ _. reader.old ≡ token.begin_array ∷ reader.new) }
+{
+    match reader.next() {
+        Some(Token::BeginArray) => Some(()),
+        _ => None,
+    }
+}
+
+fn pull_end_array(reader: &mut Reader<'_>) -> Option<()>
+    ensures { IfSome result (λ _. reader.old ≡ token.end_array ∷ reader.new) }
+{
+    match reader.next() {
+        Some(Token::EndArray) => Some(()),
+        _ => None,
+    }
+}
+
+pub fn pull_end_object(reader: &mut Reader<'_>) -> Option<()>
+    ensures { IfSome result (λ _. reader.old ≡ token.end_object ∷ reader.new) }
+{
+    match reader.next() {
+        Some(Token::EndObject) => Some(()),
+        _ => None,
+    }
+}
+
+/// That no token is left.
+pub fn pull_end(reader: &mut Reader<'_>) -> Option<()>
+    ensures { IfSome result (λ _. reader.old ≡ []) }
+{
+    match reader.next() {
+        Some(_) => None,
+        None => Some(()),
+    }
+}
+
+pub(crate) fn pull_key(reader: &mut Reader<'_>, name: &str) -> Option<()>
+    ensures { IfSome result (λ _. reader.old ≡ token.key name.now ∷ reader.new) }
+{
+    match reader.next() {
+        Some(Token::Key(key)) if key == name => Some(()),
+        _ => None,
+    }
+}
+
+// ---- operations
+
+/// The arguments of a call, up to the end of the operation's array.
+fn pull_arguments(
+    alloc: Global,
+    verb: Verb,
+    reader: &mut Reader<'_>,
+    numbering: &mut Numbering,
+) -> Option<Call>
+    ensures { IfSome result (λ call. (rest : Items) × ReadsItems 0 reader.old rest reader.new
+        × ((o c : List ℕ) (counts : Counts) → IsMet counts (arguments_asked verb (op_array o c rest)) counts)
+        × ((o c : List ℕ) → (call, numbers_of numbering.new) ≡ call_of verb (numbers_of numbering.old) (op_array o c rest))) }
+{
+    match verb {
+        Verb::OfAmount(verb) => {
+            let amount = pull_amount(reader)?;
+            pull_end_array(reader)?;
+            Some(verb.call(amount))
+        }
+        Verb::OfItem(verb) => {
+            let name = pull_name(reader)?;
+            pull_end_array(reader)?;
+            let item = item_of(alloc, name, numbering).ok()?;
+            Some(verb.call(item))
+        }
+        Verb::OfPair(verb) => {
+            let key_name = pull_name(reader)?;
+            let name = pull_name(reader)?;
+            pull_end_array(reader)?;
+            let key = item_of(alloc, key_name, numbering).ok()?;
+            let item = item_of(alloc, name, numbering).ok()?;
+            Some(verb.call(key, item))
+        }
+        Verb::Alone(verb) => {
+            pull_end_array(reader)?;
+            Some(verb.call())
+        }
+    }
+}
+
+/// The label of a step whose other members have been read, if it has one, and the step's end.
+fn pull_label<'a>(reader: &mut Reader<'a>) -> Option<Option<&'a str>>
+    ensures { IfSome result (λ label. (found : Members)
+        → ReadsMembers 0 found reader.old (labelled (option_map (λ text. text.now) label) found) reader.new) }
+{
+    match reader.next() {
+        Some(Token::EndObject) => Some(None),
+        Some(Token::Key("as")) => {
+            let label = pull_text(reader)?;
+            pull_end_object(reader)?;
+            Some(Some(label))
+        }
+        _ => None,
+    }
+}
+
+/// An operation whose key `op` has been read.
+pub(crate) fn pull_operation(
+    alloc: Global,
+    reader: &mut Reader<'_>,
+    declared: &Declared,
+    state: &mut State,
+) -> Option<Step>
+    ensures { IfSome result (λ step. (d : Data) × ReadsValue 2 (token.begin_object ∷ token.key (codes "op") ∷ reader.old) d reader.new
+        × ((asks : Asks) → IsMet state.old.counts
+        (step_asked asks (setting_of declared.now) (scope_of state.old.labels.entries) d) state.new.counts)
+        × ((block : Spelling) → (step_view step, numbers_of state.new.numbering)
+        ≡ step_of block (setting_of declared.now) (scope_of state.old.labels.entries) (numbers_of state.old.numbering) d)
+        × (scope_of state.new.labels.entries ≡ scope_after (setting_of declared.now) (scope_of state.old.labels.entries) d)) }
+{
+    pull_begin_array(reader)?;
+    let object = pull_text(reader)?;
+    let call = pull_text(reader)?;
+    state.counts.one_more_operation(declared.version).ok()?;
+    let (object, verb) = target_of(object, call, declared, &state.counts).ok()?;
+    let call = pull_arguments(alloc, verb, reader, &mut state.numbering)?;
+    let label = pull_label(reader)?;
+    add_new_label(
+        alloc,
+        label,
+        Subject::Reply(verb),
+        &mut state.labels,
+        &state.counts,
+    )
+    .ok()?;
+    Some(Step::Op {
+        object,
+        call,
+        labelled: label.is_some(),
+    })
+}
+
+// ---- values
+
+/// The value of a number's text.
+fn number_value(text: &str) -> Option<Value>
+    ensures { IfSome result (λ v. (x : Num) × (number_of text.now ≡ Some x) × (view v ≡ number x)) }
+{
+    let number = number_of(text)?;
+    Some(Value::Number(number))
+}
+
+/// A value that nests no deeper.
+#[cycle(values)]
+pub fn pull_value(alloc: Global, reader: &mut Reader<'_>, depth: usize) -> Option<Value>
+    ensures { IfSome result (λ v. ReadsValue depth reader.old (view v) reader.new) }
+{
+    match reader.next()? {
+        Token::String(text) => Some(Value::String(String::from_str(alloc, text).ok()?)),
+        Token::Number(text) => number_value(text),
+        Token::Bool(holds) => Some(Value::Bool(holds)),
+        Token::Null => Some(Value::Null),
+        Token::BeginArray => {
+            if depth == 0 {
+                return None;
+            }
+            Some(Value::Array(pull_items(alloc, reader, depth - 1)?))
+        }
+        Token::BeginObject => {
+            if depth == 0 {
+                return None;
+            }
+            Some(Value::Object(pull_members(alloc, reader, depth - 1, Map::new(alloc))?))
+        }
+        _ => None,
+    }
+}
+
+/// The items of an array whose beginning has been read, with its end.
+#[cycle(values)]
+fn pull_items(alloc: Global, reader: &mut Reader<'_>, depth: usize) -> Option<Vec<Value>>
+    ensures { IfSome result (λ list. ReadsItems depth reader.old (items_view list.items) reader.new) }
+{
+    let mut found = Vec::new(alloc);
+    while !reader.take_end_array() {
+        found.push(pull_value(alloc, reader, depth)?).ok()?;
+    }
+    Some(found)
+}
+
+/// The members of an object up to its end, with those that were found before.
+#[cycle(values)]
+pub(crate) fn pull_members(
+    alloc: Global,
+    reader: &mut Reader<'_>,
+    depth: usize,
+    before: Map<String, Value>,
+) -> Option<Map<String, Value>>
+    ensures { IfSome result (λ map. ReadsMembers depth (members_view before.entries) reader.old (members_view map.entries) reader.new) }
+{
+    let mut found = before;
+    while let Some(name) = reader.next_key().ok()? {
+        let key = String::from_str(alloc, name).ok()?;
+        let member = pull_value(alloc, reader, depth)?;
+        drop(found.insert(key, member).ok()?);
+    }
+    Some(found)
+}
+
+/// The value of an object whose first key has been read.
+pub(crate) fn pull_object(
+    alloc: Global,
+    name: &str,
+    reader: &mut Reader<'_>,
+    depth: usize,
+) -> Option<Value>
+    ensures { IfSome result (λ v. ReadsValue (depth + 1) (token.begin_object ∷ token.key name.now ∷ reader.old) (view v) reader.new) }
+{
+    let key = String::from_str(alloc, name).ok()?;
+    let member = pull_value(alloc, reader, depth)?;
+    let mut found = Map::new(alloc);
+    drop(found.insert(key, member).ok()?);
+    Some(Value::Object(pull_members(alloc, reader, depth, found)?))
+}
+
+// ---- transactions
+
+fn pull_transaction(
+    alloc: Global,
+    reader: &mut Reader<'_>,
+    number: u32,
+    declared: &Declared,
+    state: &mut State,
+) -> Option<Block>
+    requires { scope_of state.old.labels.entries ≡ [] }
+    ensures { IfSome result (λ block. (d : Data) × ReadsValue 120 reader.old d reader.new
+        × IsMet state.old.counts (transaction_asked number (setting_of declared.now) d) state.new.counts
+        × ((block_view block, numbers_of state.new.numbering)
+        ≡ block_of (setting_of declared.now) MAX_DEPTH [] (numbers_of state.old.numbering) d)
+        × (scope_of state.new.labels.entries ≡ [])) }
+{
+    state.counts.transaction = number;
+    pull_block(alloc, reader, MAX_DEPTH, declared, state)
+}
+
+/// The transactions up to the end of their array.
+fn pull_transactions(
+    alloc: Global,
+    reader: &mut Reader<'_>,
+    declared: &Declared,
+    state: &mut State,
+) -> Option<Vec<Block>>
+    requires labels { scope_of state.old.labels.entries ≡ [] }
+    ensures { IfSome result (λ blocks. (ds : Items) × ReadsItems 120 reader.old ds reader.new
+        × IsMet state.old.counts (transactions_asked 1 (setting_of declared.now) ds) state.new.counts
+        × ((map block_view blocks.items, numbers_of state.new.numbering)
+        ≡ blocks_of (setting_of declared.now) (numbers_of state.old.numbering) ds)
+        × (items_len ds ≤ MAX_TRANSACTIONS)) }
+{
+    let mut blocks = Vec::new(alloc);
+    let mut number = 0;
+    while !reader.take_end_array() {
+        if number as usize >= MAX_TRANSACTIONS {
+            return None;
+        }
+        number += 1;
+        blocks
+            .push(pull_transaction(alloc, reader, number, declared, state)?)
+            .ok()?;
+    }
+    Some(blocks)
+}
+
+// ---- the document
+
+fn pull_version(reader: &mut Reader<'_>) -> Option<u8>
+    ensures { IfSome result (λ version. (s : List ℕ) × (reader.old ≡ token.number s ∷ reader.new)
+        × (number_of s ≡ Some (unsigned version))
+        × (1 ≤ version) × (version ≤ 4)) }
+{
+    match reader.next() {
+        Some(Token::Number(text)) => {
+            let number = unsigned_of(text)?;
+            if 1 <= number && number <= 4 {
+                Some(number as u8)
+            } else {
+                None
+            }
+        }
+        _ => None,
+    }
+}
+
+/// The objects up to the end of their array, if they are no more than a document may have.
+fn pull_objects(alloc: Global, reader: &mut Reader<'_>) -> Option<Vec<Value>>
+    ensures reads { IfSome result (λ list. ReadsItems 125 reader.old (items_view list.items) reader.new) }
+    ensures few { IfSome result (λ list. length list.items ≤ MAX_OBJECTS) }
+{
+    let mut found = Vec::new(alloc);
+    while !reader.take_end_array() {
+        if found.len() >= MAX_OBJECTS {
+            return None;
+        }
+        found.push(pull_value(alloc, reader, PART_DEPTH)?).ok()?;
+    }
+    Some(found)
+}
+
+/// A document up to where its transactions begin: its version, and of its objects a tree.
+pub fn pull_head(alloc: Global, reader: &mut Reader<'_>) -> Option<(u8, Vec<Value>)>
+    ensures version { IfSome result (λ head. (1 ≤ head.0) × (head.0 ≤ 4)) }
+    ensures objects { IfSome result (λ head. length head.1.items ≤ MAX_OBJECTS) }
+    ensures reads { IfSome result (λ head. (ts : Items) (rest : List token.Token)
+        → ReadsItems 125 reader.new ts (token.end_object ∷ rest)
+        → ReadsValue 127 reader.old (in_order head.0 (items_view head.1.items) ts) rest) }
+{
+    pull_begin_object(reader)?;
+    pull_key(reader, "ordtx")?;
+    let version = pull_version(reader)?;
+    pull_key(reader, "objects")?;
+    pull_begin_array(reader)?;
+    let objects = pull_objects(alloc, reader)?;
+    pull_key(reader, "transactions")?;
+    pull_begin_array(reader)?;
+    Some((version, objects))
+}
+
+/// The parts of a document: its version, its objects and its transactions, in this order.
+pub fn pull_parts(alloc: Global, reader: &mut Reader<'_>, state: &mut State) -> Option<Parts>
+    requires { scope_of state.old.labels.entries ≡ [] }
+    ensures { IfSome result (λ parts. (d : Data) × ReadsValue 127 reader.old d reader.new
+        × IsMet state.old.counts (asked d) state.new.counts
+        × (texts_of parts.declared.names.keys ≡ names_of (objects_in d))
+        × (spelled parts.declared.objects (map block_view parts.transactions.items) (numbers_of state.new.numbering)
+        ≡ parts_in (numbers_of state.old.numbering) d)) }
+{
+    let (version, objects) = pull_head(alloc, reader)?;
+    let declared = read_objects(
+        alloc,
+        &objects,
+        version,
+        &mut state.counts,
+        &mut state.numbering,
+    )
+    .ok()?;
+    let transactions = pull_transactions(alloc, reader, &declared, state)?;
+    pull_end_object(reader)?;
+    Some(Parts {
+        declared,
+        transactions,
+    })
+}

@@ -1,0 +1,601 @@
+//! Reads the steps of a block straight from their tokens, where they are in the common form.
+//!
+//! The common form, member by member: an operation's `op`, and its `as`; a subaction's or a child's
+//! `sub`, and then its `as` at any place, its `handlers` and, after them, its `handler`; `parallel`
+//! alone; `if`, one of `is`, `atleast` and `item`, then `then`, and `else`; `abort` alone. What may be
+//! left out may be left out, and no member comes twice.
+//!
+//! Of a step whose first member is another, a small tree is made and read as in any other document. So
+//! texts are numbered in the same order. Handlers by reason are read in the order of the reasons' bytes:
+//! straight, where they stand in this order, and where some don't, by a small tree of each step's.
+ghost use Rattle.std.specs.Prelude.{◌≡◌, ℕ, List, [], ◌∷◌, codes, map, Option, option_map, true, Some, None, IfSome, ◌<◌, ◌+◌, ◌*◌, ◌≤◌};
+ghost use Rattle.json.specs.Json.{read_key};
+ghost use Rattle.json.specs.Token as token;
+ghost use Rattle.serde_json.specs.Data.{Data, Items, Members, no_members, object, put};
+ghost use Rattle.batch.specs.Views.{block_view, handler_view, step_view, subaction_view};
+ghost use Rattle.spelling.specs.Asked.{Asks, block_asked, block_asked_if, children_asked, is_abort, label_asked, label_in, labels_of, member_asked, members_asked, part, scope_after, sort_of, step_asked, steps_asked, sub_asked, test_asked};
+ghost use Rattle.spelling.specs.Answer.{IsMet};
+ghost use Rattle.spelling.specs.declared.counts.Counts.{Counts};
+ghost use Rattle.pull.specs.Pulled.{IsAfter, ReadsItems, ReadsMembers, ReadsValue, SubTail, TestKey, abort_step, if_step, test_key, with_else};
+ghost use Rattle.spelling.specs.Scope.{AreUnseen, Extends, Scope, numbers_of, scope_of, setting_of};
+ghost use Rattle.spelling.specs.Spelled.{Spelling, block_of, block_of_if, children_spelled, member_of, members_of, or_no_step, spelled_map, step_of, steps_spelled, sub_of, test_of};
+ghost use Rattle.meaning.specs.declared.limits.TheConstants.{MAX_DEPTH};
+
+use crate::pull::{
+    pull_begin_array, pull_begin_object, pull_end_object, pull_key, pull_members, pull_name,
+    pull_object, pull_operation, pull_text, pull_whole,
+};
+use crate::pull_heads::{begin_parallel, end_parallel, new_sub_step, pull_if_head};
+use batch::{Block, Handler, Step, Subaction, Test};
+use json::{Reader, Token};
+use serde_json::Map;
+use spelling::declared::Declared;
+use spelling::hashing::Labels;
+use spelling::heads::{if_step, no_labels, subaction_of};
+use spelling::labels::{add_new_label, leave_block};
+use spelling::operations::item_of;
+use spelling::state::{Numbering, State};
+use spelling::steps::{Sort, read_members, read_reason, read_step, reason_number};
+use spelling::subject::{Subject, fits_item, fits_number, fits_word};
+use std::alloc::Global;
+use words::Word;
+
+// ---- subactions
+
+/// Whether a reason is greater than the one before it, by their bytes.
+fn is_after(reason: &str, before: Option<&str>) -> bool
+    ensures { result ≡ true → IsAfter reason.now (option_map (λ text. text.now) before.entry) }
+{
+    match before {
+        Some(before) => before < reason,
+        None => true,
+    }
+}
+
+/// A handler whose reason has been read.
+#[cycle(blocks)]
+fn pull_handler(
+    alloc: Global,
+    reason: &str,
+    reader: &mut Reader<'_>,
+    levels: usize,
+    declared: &Declared,
+    state: &mut State,
+) -> Option<Handler>
+    requires few { levels ≤ MAX_DEPTH }
+    ensures { IfSome result (λ handler. (d : Data) × ReadsValue (5 * levels) reader.old d reader.new
+        × IsMet state.old.counts (member_asked (block_asked (setting_of declared.now) levels)
+        (scope_of state.old.labels.entries) reason.now d) state.new.counts
+        × ((handler_view handler, numbers_of state.new.numbering)
+        ≡ member_of (block_of (setting_of declared.now) levels) (scope_of state.old.labels.entries)
+        (numbers_of state.old.numbering) reason.now d)
+        × (scope_of state.new.labels.entries ≡ scope_of state.old.labels.entries)) }
+{
+    let number = reason_number(alloc, reason, &state.counts, &mut state.numbering.reasons).ok()?;
+    let block = pull_block(alloc, reader, levels, declared, state)?;
+    Some(Handler {
+        reason: number,
+        block,
+    })
+}
+
+/// The handlers by reason up to their end, if their reasons ascend.
+#[cycle(blocks)]
+fn pull_ascending(
+    alloc: Global,
+    reader: &mut Reader<'_>,
+    levels: usize,
+    declared: &Declared,
+    state: &mut State,
+) -> Option<Vec<Handler>>
+    requires few { levels ≤ MAX_DEPTH }
+    ensures { IfSome result (λ handlers. (hs : Members) × ReadsMembers (5 * levels) no_members reader.old hs reader.new
+        × IsMet state.old.counts (members_asked (block_asked (setting_of declared.now) levels)
+        (scope_of state.old.labels.entries) hs) state.new.counts
+        × ((map handler_view handlers.items, numbers_of state.new.numbering)
+        ≡ members_of (block_of (setting_of declared.now) levels) (scope_of state.old.labels.entries)
+        (numbers_of state.old.numbering) hs)
+        × (scope_of state.new.labels.entries ≡ scope_of state.old.labels.entries)) }
+{
+    let mut handlers = Vec::new(alloc);
+    let mut before = None;
+    while let Some(reason) = reader.next_key().ok()? {
+        if !is_after(reason, before) {
+            state.any_order = true;
+            return None;
+        }
+        handlers
+            .push(pull_handler(alloc, reason, reader, levels, declared, state)?)
+            .ok()?;
+        before = Some(reason);
+    }
+    handlers.shrink_to_fit();
+    Some(handlers)
+}
+
+/// The handlers by reason up to their end, in the order of the reasons' bytes. A small tree is made of them.
+fn pull_sorted(
+    alloc: Global,
+    reader: &mut Reader<'_>,
+    levels: usize,
+    declared: &Declared,
+    state: &mut State,
+) -> Option<Vec<Handler>>
+    requires few { levels ≤ MAX_DEPTH }
+    ensures { IfSome result (λ handlers. (hs : Members) × ReadsMembers (5 * levels) no_members reader.old hs reader.new
+        × IsMet state.old.counts (members_asked (block_asked (setting_of declared.now) levels)
+        (scope_of state.old.labels.entries) hs) state.new.counts
+        × ((map handler_view handlers.items, numbers_of state.new.numbering)
+        ≡ members_of (block_of (setting_of declared.now) levels) (scope_of state.old.labels.entries)
+        (numbers_of state.old.numbering) hs)
+        × (scope_of state.new.labels.entries ≡ scope_of state.old.labels.entries)) }
+{
+    let members = pull_members(alloc, reader, 5 * levels, Map::new(alloc))?;
+    let handlers = read_members(alloc, &members, levels, declared, state).ok()?;
+    Some(handlers)
+}
+
+/// The handlers by reason.
+#[cycle(blocks)]
+fn pull_handlers(
+    alloc: Global,
+    reader: &mut Reader<'_>,
+    levels: usize,
+    declared: &Declared,
+    state: &mut State,
+) -> Option<Vec<Handler>>
+    requires few { levels ≤ MAX_DEPTH }
+    ensures { IfSome result (λ handlers. (hs : Members) × ReadsValue (5 * levels + 1) reader.old (object hs) reader.new
+        × (3 ≤ declared.now.version)
+        × IsMet state.old.counts (members_asked (block_asked (setting_of declared.now) levels)
+        (scope_of state.old.labels.entries) hs) state.new.counts
+        × ((map handler_view handlers.items, numbers_of state.new.numbering)
+        ≡ members_of (block_of (setting_of declared.now) levels) (scope_of state.old.labels.entries)
+        (numbers_of state.old.numbering) hs)
+        × (scope_of state.new.labels.entries ≡ scope_of state.old.labels.entries)) }
+{
+    if declared.version < 3 {
+        return None;
+    }
+    pull_begin_object(reader)?;
+    if state.any_order {
+        pull_sorted(alloc, reader, levels, declared, state)
+    } else {
+        pull_ascending(alloc, reader, levels, declared, state)
+    }
+}
+
+/// What comes after the body of a subaction.
+#[derive(Drop)]
+struct SubRest<'a> {
+    handlers: Option<Vec<Handler>>,
+    handler: Option<Block>,
+    label: Option<&'a str>,
+}
+
+/// What comes after the body of a subaction, up to its end.
+#[cycle(blocks)]
+fn pull_sub_rest<'a>(
+    alloc: Global,
+    reader: &mut Reader<'a>,
+    levels: usize,
+    declared: &Declared,
+    state: &mut State,
+) -> Option<SubRest<'a>>
+    requires few { levels ≤ MAX_DEPTH }
+    ensures { IfSome result (λ rest. (now : List token.Token)
+        × SubTail (5 * levels + 1) declared.now.version (block_asked (setting_of declared.now) levels)
+        (block_of (setting_of declared.now) levels) (scope_of state.old.labels.entries)
+        reader.old state.old.counts (numbers_of state.old.numbering)
+        (option_map (λ list. map handler_view list.items) rest.handlers) (option_map block_view rest.handler)
+        (option_map (λ text. text.now) rest.label)
+        now state.new.counts (numbers_of state.new.numbering)
+        × (read_key now ≡ Some (None, reader.new))
+        × (scope_of state.new.labels.entries ≡ scope_of state.old.labels.entries)) }
+{
+    let mut handlers = None;
+    let mut handler = None;
+    let mut label = None;
+    while let Some(name) = reader.next_key().ok()? {
+        if name == "as" && label.is_none() {
+            label = Some(pull_text(reader)?);
+        } else if name == "handler" && handler.is_none() {
+            handler = Some(pull_block(alloc, reader, levels, declared, state)?);
+        } else if name == "handlers" && handlers.is_none() && handler.is_none() {
+            handlers = Some(pull_handlers(alloc, reader, levels, declared, state)?);
+        } else {
+            return None;
+        }
+    }
+    Some(SubRest {
+        handlers,
+        handler,
+        label,
+    })
+}
+
+/// A subaction or a child whose key `sub` has been read, with its label, which is not yet looked at.
+#[cycle(blocks)]
+fn pull_sub<'a>(
+    alloc: Global,
+    reader: &mut Reader<'a>,
+    levels: usize,
+    declared: &Declared,
+    state: &mut State,
+) -> Option<(Subaction, Option<&'a str>)>
+    requires few { levels ≤ MAX_DEPTH }
+    ensures { IfSome result (λ read. (d : Data)
+        × ReadsValue (5 * levels + 2) (token.begin_object ∷ token.key (codes "sub") ∷ reader.old) d reader.new
+        × ((earlier : Scope) → IsMet state.new.counts
+        (label_asked (scope_of state.old.labels.entries) earlier (label_in d)) state.new.counts
+        → IsMet state.old.counts (sub_asked declared.now.version (block_asked (setting_of declared.now) levels)
+        (scope_of state.old.labels.entries) earlier d) state.new.counts)
+        × ((subaction_view read.0, numbers_of state.new.numbering)
+        ≡ sub_of (block_of (setting_of declared.now) levels) (scope_of state.old.labels.entries)
+        (numbers_of state.old.numbering) d)
+        × (option_map (λ text. text.now) read.1 ≡ label_in d)
+        × (sort_of d ≡ Some Sort.Sub)
+        × (scope_of state.new.labels.entries ≡ scope_of state.old.labels.entries)) }
+{
+    state.counts.one_more_node().ok()?;
+    let body = pull_block(alloc, reader, levels, declared, state)?;
+    let rest = pull_sub_rest(alloc, reader, levels, declared, state)?;
+    let label = rest.label;
+    let read = subaction_of(alloc, body, rest.handlers, rest.handler, label.is_some());
+    Some((read, label))
+}
+
+/// A subaction whose key `sub` has been read.
+#[cycle(blocks)]
+fn pull_sub_step(
+    alloc: Global,
+    reader: &mut Reader<'_>,
+    levels: usize,
+    declared: &Declared,
+    state: &mut State,
+) -> Option<Step>
+    requires few { levels ≤ MAX_DEPTH }
+    ensures { IfSome result (λ step. (d : Data)
+        × ReadsValue (5 * levels + 2) (token.begin_object ∷ token.key (codes "sub") ∷ reader.old) d reader.new
+        × IsMet state.old.counts (step_asked (block_asked (setting_of declared.now) levels)
+        (setting_of declared.now) (scope_of state.old.labels.entries) d) state.new.counts
+        × ((step_view step, numbers_of state.new.numbering)
+        ≡ step_of (block_of (setting_of declared.now) levels) (setting_of declared.now)
+        (scope_of state.old.labels.entries) (numbers_of state.old.numbering) d)
+        × (scope_of state.new.labels.entries ≡ scope_after (setting_of declared.now) (scope_of state.old.labels.entries) d)) }
+{
+    let (read, label) = pull_sub(alloc, reader, levels, declared, state)?;
+    let step = new_sub_step(alloc, read, label, &mut state.labels, &state.counts)?;
+    Some(step)
+}
+
+// ---- children
+
+/// The children up to the end of their array, with their labels, which none of them sees. That none of
+/// these labels is seen before the children is not yet looked at.
+#[cycle(blocks)]
+fn pull_children(
+    alloc: Global,
+    reader: &mut Reader<'_>,
+    levels: usize,
+    declared: &Declared,
+    earlier: &mut Labels,
+    state: &mut State,
+) -> Option<Vec<Subaction>>
+    requires few { levels ≤ MAX_DEPTH }
+    ensures { IfSome result (λ children. (ds : Items) × ReadsItems (5 * levels + 2) reader.old ds reader.new
+        × (AreUnseen (scope_of earlier.new.entries) (scope_of state.old.labels.entries)
+        → IsMet state.old.counts (children_asked declared.now.version (block_asked (setting_of declared.now) levels)
+        (scope_of state.old.labels.entries) (scope_of earlier.old.entries) ds) state.new.counts)
+        × ((map subaction_view children.items, numbers_of state.new.numbering)
+        ≡ children_spelled (block_of (setting_of declared.now) levels) (scope_of state.old.labels.entries)
+        (numbers_of state.old.numbering) ds)
+        × (scope_of earlier.new.entries ≡ labels_of (scope_of earlier.old.entries) ds)
+        × (scope_of state.new.labels.entries ≡ scope_of state.old.labels.entries)) }
+{
+    let mut children = Vec::new(alloc);
+    while !reader.take_end_array() {
+        pull_begin_object(reader)?;
+        pull_key(reader, "sub")?;
+        let (child, label) = pull_sub(alloc, reader, levels, declared, state)?;
+        add_new_label(alloc, label, Subject::Outcome, earlier, &state.counts).ok()?;
+        children.push(child).ok()?;
+    }
+    children.shrink_to_fit();
+    Some(children)
+}
+
+/// A parallel step whose key `parallel` has been read.
+#[cycle(blocks)]
+fn pull_parallel(
+    alloc: Global,
+    reader: &mut Reader<'_>,
+    levels: usize,
+    declared: &Declared,
+    state: &mut State,
+) -> Option<Step>
+    requires few { levels ≤ MAX_DEPTH }
+    ensures { IfSome result (λ step. (d : Data)
+        × ReadsValue (5 * levels + 4) (token.begin_object ∷ token.key (codes "parallel") ∷ reader.old) d reader.new
+        × IsMet state.old.counts (step_asked (block_asked (setting_of declared.now) levels)
+        (setting_of declared.now) (scope_of state.old.labels.entries) d) state.new.counts
+        × ((step_view step, numbers_of state.new.numbering)
+        ≡ step_of (block_of (setting_of declared.now) levels) (setting_of declared.now)
+        (scope_of state.old.labels.entries) (numbers_of state.old.numbering) d)
+        × (scope_of state.new.labels.entries ≡ scope_after (setting_of declared.now) (scope_of state.old.labels.entries) d)) }
+{
+    begin_parallel(reader, &mut state.counts)?;
+    let mut earlier = no_labels(alloc, &state.labels);
+    let children = pull_children(alloc, reader, levels, declared, &mut earlier, state)?;
+    let step = end_parallel(alloc, reader, children, earlier, &mut state.labels)?;
+    Some(step)
+}
+
+// ---- conditions and aborts
+
+/// The test of an `if` against what its label is of, where the test stands next.
+pub(crate) fn pull_test(
+    alloc: Global,
+    subject: Subject,
+    reader: &mut Reader<'_>,
+    numbering: &mut Numbering,
+) -> Option<Test>
+    ensures { IfSome result (λ test. (key : TestKey) × (v : Data)
+        × ((k : ℕ) (found ms : Members) (new : List token.Token) → ReadsMembers k (put (test_key key) v found) reader.new ms new
+        → ReadsMembers k found reader.old ms new)
+        × ((label : List ℕ) (first : Data) (second : Option Data) (counts : Counts)
+        → IsMet counts (test_asked subject (if_step label key v first second)) counts)
+        × ((label : List ℕ) (first : Data) (second : Option Data)
+        → (test, numbers_of numbering.new) ≡ test_of subject (numbers_of numbering.old) (if_step label key v first second))) }
+{
+    match reader.next() {
+        Some(Token::Key("is")) => {
+            let word = Word::of_text(pull_text(reader)?)?;
+            if fits_word(subject, word) {
+                Some(Test::Is(word))
+            } else {
+                None
+            }
+        }
+        Some(Token::Key("atleast")) => {
+            let least = pull_whole(reader)?;
+            if fits_number(subject) {
+                Some(Test::AtLeast(least))
+            } else {
+                None
+            }
+        }
+        Some(Token::Key("item")) => {
+            if !fits_item(subject) {
+                return None;
+            }
+            let name = pull_name(reader)?;
+            let item = item_of(alloc, name, numbering).ok()?;
+            Some(Test::IsItem(item))
+        }
+        _ => None,
+    }
+}
+
+/// The second branch of an `if`, which is empty where it is absent, and the step's end.
+#[cycle(blocks)]
+fn pull_else(
+    alloc: Global,
+    reader: &mut Reader<'_>,
+    levels: usize,
+    declared: &Declared,
+    state: &mut State,
+) -> Option<Block>
+    requires few { levels ≤ MAX_DEPTH }
+    ensures { IfSome result (λ block. (second : Option Data)
+        × ((found : Members) → ReadsMembers (5 * levels) found reader.old (with_else second found) reader.new)
+        × IsMet state.old.counts (block_asked_if (block_asked (setting_of declared.now) levels)
+        (scope_of state.old.labels.entries) second) state.new.counts
+        × ((block_view block, numbers_of state.new.numbering)
+        ≡ spelled_map or_no_step (block_of_if (block_of (setting_of declared.now) levels) (scope_of state.old.labels.entries)
+        (numbers_of state.old.numbering) second))
+        × (scope_of state.new.labels.entries ≡ scope_of state.old.labels.entries)) }
+{
+    match reader.next() {
+        Some(Token::EndObject) => Some(Block {
+            steps: Vec::new(alloc),
+        }),
+        Some(Token::Key("else")) => {
+            let otherwise = pull_block(alloc, reader, levels, declared, state)?;
+            pull_end_object(reader)?;
+            Some(otherwise)
+        }
+        _ => None,
+    }
+}
+
+/// An `if` whose key has been read.
+#[cycle(blocks)]
+fn pull_if(
+    alloc: Global,
+    reader: &mut Reader<'_>,
+    levels: usize,
+    declared: &Declared,
+    state: &mut State,
+) -> Option<Step>
+    requires few { levels ≤ MAX_DEPTH }
+    ensures { IfSome result (λ step. (d : Data)
+        × ReadsValue (5 * levels + 1) (token.begin_object ∷ token.key (codes "if") ∷ reader.old) d reader.new
+        × IsMet state.old.counts (step_asked (block_asked (setting_of declared.now) levels)
+        (setting_of declared.now) (scope_of state.old.labels.entries) d) state.new.counts
+        × ((step_view step, numbers_of state.new.numbering)
+        ≡ step_of (block_of (setting_of declared.now) levels) (setting_of declared.now)
+        (scope_of state.old.labels.entries) (numbers_of state.old.numbering) d)
+        × (scope_of state.new.labels.entries ≡ scope_after (setting_of declared.now) (scope_of state.old.labels.entries) d)) }
+{
+    let head = pull_if_head(alloc, reader, state)?;
+    let then = pull_block(alloc, reader, levels, declared, state)?;
+    let otherwise = pull_else(alloc, reader, levels, declared, state)?;
+    let step = if_step(alloc, head.label, head.test, then, Some(otherwise)).ok()?;
+    Some(step)
+}
+
+/// The reason of an abort, where it has one and the version has reasons, and the step's end.
+fn pull_reason<'a>(reader: &mut Reader<'a>, version: u8) -> Option<Option<&'a str>>
+    ensures { IfSome result (λ reason. ReadsValue 1 (token.begin_object ∷ token.key (codes "abort") ∷ reader.old)
+        (abort_step (option_map (λ text. text.now) reason)) reader.new
+        × (is_abort version (part (codes "abort") (abort_step (option_map (λ text. text.now) reason))) ≡ true)) }
+{
+    match reader.next() {
+        Some(Token::Bool(true)) => {
+            pull_end_object(reader)?;
+            Some(None)
+        }
+        Some(Token::String(reason)) => {
+            if version < 3 {
+                return None;
+            }
+            pull_end_object(reader)?;
+            Some(Some(reason))
+        }
+        _ => None,
+    }
+}
+
+/// An abort whose key has been read.
+fn pull_abort(
+    alloc: Global,
+    reader: &mut Reader<'_>,
+    declared: &Declared,
+    state: &mut State,
+) -> Option<Step>
+    ensures { IfSome result (λ step. (d : Data)
+        × ReadsValue 1 (token.begin_object ∷ token.key (codes "abort") ∷ reader.old) d reader.new
+        × ((asks : Asks) → IsMet state.old.counts
+        (step_asked asks (setting_of declared.now) (scope_of state.old.labels.entries) d) state.new.counts)
+        × ((block : Spelling) → (step_view step, numbers_of state.new.numbering)
+        ≡ step_of block (setting_of declared.now) (scope_of state.old.labels.entries) (numbers_of state.old.numbering) d)
+        × (scope_of state.new.labels.entries ≡ scope_after (setting_of declared.now) (scope_of state.old.labels.entries) d)) }
+{
+    let reason = pull_reason(reader, declared.version)?;
+    state.counts.one_more_node().ok()?;
+    let number = read_reason(alloc, reason, state).ok()?;
+    Some(Step::Abort(number))
+}
+
+// ---- steps
+
+/// The beginning of a step, with its first key.
+fn pull_first_key<'a>(reader: &mut Reader<'a>) -> Option<&'a str>
+    ensures { IfSome result (λ name. reader.old ≡ token.begin_object ∷ token.key name.now ∷ reader.new) }
+{
+    pull_begin_object(reader)?;
+    match reader.next() {
+        Some(Token::Key(name)) => Some(name),
+        _ => None,
+    }
+}
+
+/// A step of any other first key, which has been read, by a small tree.
+fn pull_other_step(
+    alloc: Global,
+    name: &str,
+    reader: &mut Reader<'_>,
+    levels: usize,
+    declared: &Declared,
+    state: &mut State,
+) -> Option<Step>
+    requires few { levels ≤ MAX_DEPTH }
+    ensures { IfSome result (λ step. (d : Data) × ReadsValue (5 * levels + 4) (token.begin_object ∷ token.key name.now ∷ reader.old) d reader.new
+        × IsMet state.old.counts (step_asked (block_asked (setting_of declared.now) levels)
+        (setting_of declared.now) (scope_of state.old.labels.entries) d) state.new.counts
+        × ((step_view step, numbers_of state.new.numbering)
+        ≡ step_of (block_of (setting_of declared.now) levels) (setting_of declared.now)
+        (scope_of state.old.labels.entries) (numbers_of state.old.numbering) d)
+        × (scope_of state.new.labels.entries ≡ scope_after (setting_of declared.now) (scope_of state.old.labels.entries) d)) }
+{
+    // From a block to the next below it are at most five levels: the array of its steps, a step, the
+    // array of its children, a child, and its handlers.
+    let step = pull_object(alloc, name, reader, 5 * levels + 3)?;
+    read_step(alloc, &step, levels, declared, state).ok()
+}
+
+/// A step, within so many more levels.
+#[cycle(blocks)]
+fn pull_step(
+    alloc: Global,
+    reader: &mut Reader<'_>,
+    levels: usize,
+    declared: &Declared,
+    state: &mut State,
+) -> Option<Step>
+    requires few { levels ≤ MAX_DEPTH }
+    ensures { IfSome result (λ step. (d : Data) × ReadsValue (5 * levels + 4) reader.old d reader.new
+        × IsMet state.old.counts (step_asked (block_asked (setting_of declared.now) levels)
+        (setting_of declared.now) (scope_of state.old.labels.entries) d) state.new.counts
+        × ((step_view step, numbers_of state.new.numbering)
+        ≡ step_of (block_of (setting_of declared.now) levels) (setting_of declared.now)
+        (scope_of state.old.labels.entries) (numbers_of state.old.numbering) d)
+        × (scope_of state.new.labels.entries ≡ scope_after (setting_of declared.now) (scope_of state.old.labels.entries) d)) }
+{
+    let name = pull_first_key(reader)?;
+    match name {
+        "op" => pull_operation(alloc, reader, declared, state),
+        "sub" => pull_sub_step(alloc, reader, levels, declared, state),
+        "parallel" => pull_parallel(alloc, reader, levels, declared, state),
+        "if" => pull_if(alloc, reader, levels, declared, state),
+        "abort" => pull_abort(alloc, reader, declared, state),
+        _ => pull_other_step(alloc, name, reader, levels, declared, state),
+    }
+}
+
+/// The steps of a block up to its end, each of which sees the labels of those before it.
+#[cycle(blocks)]
+fn pull_steps(
+    alloc: Global,
+    reader: &mut Reader<'_>,
+    levels: usize,
+    declared: &Declared,
+    state: &mut State,
+) -> Option<Vec<Step>>
+    requires few { levels ≤ MAX_DEPTH }
+    ensures { IfSome result (λ steps. (ds : Items) × ReadsItems (5 * levels + 4) reader.old ds reader.new
+        × IsMet state.old.counts (steps_asked (block_asked (setting_of declared.now) levels)
+        (setting_of declared.now) (scope_of state.old.labels.entries) ds) state.new.counts
+        × ((map step_view steps.items, numbers_of state.new.numbering)
+        ≡ steps_spelled (block_of (setting_of declared.now) levels) (setting_of declared.now)
+        (scope_of state.old.labels.entries) (numbers_of state.old.numbering) ds)
+        × Extends (scope_of state.old.labels.entries) (scope_of state.new.labels.entries)) }
+{
+    let mut steps = Vec::new(alloc);
+    while !reader.take_end_array() {
+        steps
+            .push(pull_step(alloc, reader, levels, declared, state)?)
+            .ok()?;
+    }
+    steps.shrink_to_fit();
+    Some(steps)
+}
+
+/// A block within so many more levels. Its labels are no longer seen after it.
+#[cycle(blocks)]
+pub(crate) fn pull_block(
+    alloc: Global,
+    reader: &mut Reader<'_>,
+    levels: usize,
+    declared: &Declared,
+    state: &mut State,
+) -> Option<Block>
+    requires few { levels ≤ MAX_DEPTH }
+    ensures { IfSome result (λ block. (d : Data) × ReadsValue (5 * levels) reader.old d reader.new
+        × IsMet state.old.counts
+        (block_asked (setting_of declared.now) levels (scope_of state.old.labels.entries) d) state.new.counts
+        × ((block_view block, numbers_of state.new.numbering)
+        ≡ block_of (setting_of declared.now) levels (scope_of state.old.labels.entries)
+        (numbers_of state.old.numbering) d)
+        × (scope_of state.new.labels.entries ≡ scope_of state.old.labels.entries)) }
+{
+    if levels == 0 {
+        return None;
+    }
+    pull_begin_array(reader)?;
+    let seen = state.labels.len();
+    let steps = pull_steps(alloc, reader, levels - 1, declared, state)?;
+    leave_block(&mut state.labels, seen);
+    Some(Block { steps })
+}

@@ -1,0 +1,109 @@
+//! What of a step is read from its tokens before its blocks, and the step once they are read.
+ghost use Rattle.std.specs.Prelude.{◌≡◌, ℕ, List, Option, [], ◌∷◌, codes, map, option_map, IfSome};
+ghost use Rattle.json.specs.Token as token;
+ghost use Rattle.serde_json.specs.Data.{Data, Members, no_members, member, put, string};
+ghost use Rattle.meaning.specs.Trees as tree;
+ghost use Rattle.batch.specs.Views.{children_of, step_view, subaction_view};
+ghost use Rattle.spelling.specs.Answer.{IsMet};
+ghost use Rattle.spelling.specs.Asked.{label_asked, seen_asked, subject_of, test_asked};
+ghost use Rattle.spelling.specs.Demand.{one_more_node};
+ghost use Rattle.pull.specs.Pulled.{ReadsMembers, TestKey, if_step, test_key};
+ghost use Rattle.spelling.specs.Scope.{AreUnseen, label_number, numbers_of, scope_of, with_label, with_labels};
+ghost use Rattle.spelling.specs.Spelled.{sub_step, test_of};
+
+use crate::pull::{pull_begin_array, pull_end_object, pull_key, pull_text};
+use crate::pull_blocks::pull_test;
+use batch::{Step, Subaction, Test};
+use json::Reader;
+use spelling::counts::Counts;
+use spelling::hashing::Labels;
+use spelling::heads::take_labels;
+use spelling::labels::{add_new_label, seen_label};
+use spelling::state::State;
+use spelling::subject::Subject;
+use std::alloc::Global;
+
+/// What an `if` has before its branches: the number of its label, and its test.
+#[derive(Clone, Copy, Drop)]
+pub(crate) struct PulledIf {
+    pub label: u32,
+    pub test: Test,
+}
+
+/// Reads an `if` whose key has been read, up to its first branch.
+pub(crate) fn pull_if_head(
+    alloc: Global,
+    reader: &mut Reader<'_>,
+    state: &mut State,
+) -> Option<PulledIf>
+    ensures { IfSome result (λ head. (name : List ℕ) × (key : TestKey) × (v : Data)
+        × ((k : ℕ) (ms : Members) (new : List token.Token)
+        → ReadsMembers k (put (test_key key) v (member (codes "if") (string name) no_members)) (token.key (codes "then") ∷ reader.new) ms new
+        → ReadsMembers k no_members (token.key (codes "if") ∷ reader.old) ms new)
+        × IsMet state.old.counts (one_more_node ∷ []) state.new.counts
+        × IsMet state.new.counts (seen_asked (scope_of state.old.labels.entries) name) state.new.counts
+        × ((first : Data) (second : Option Data) → IsMet state.new.counts
+        (test_asked (subject_of name (scope_of state.old.labels.entries)) (if_step name key v first second)) state.new.counts)
+        × ((first : Data) (second : Option Data) → (head.test, numbers_of state.new.numbering)
+        ≡ test_of (subject_of name (scope_of state.old.labels.entries)) (numbers_of state.old.numbering) (if_step name key v first second))
+        × (head.label ≡ label_number name (scope_of state.old.labels.entries))
+        × (scope_of state.new.labels.entries ≡ scope_of state.old.labels.entries)) }
+{
+    let name = pull_text(reader)?;
+    state.counts.one_more_node().ok()?;
+    let (label, subject) = seen_label(name, &state.labels, &state.counts).ok()?;
+    let test = pull_test(alloc, subject, reader, &mut state.numbering)?;
+    pull_key(reader, "then")?;
+    Some(PulledIf { label, test })
+}
+
+/// A subaction as a step, if its label is a new one. The label is then seen.
+pub(crate) fn new_sub_step(
+    alloc: Global,
+    child: Subaction,
+    label: Option<&str>,
+    labels: &mut Labels,
+    counts: &Counts,
+) -> Option<Step>
+    ensures met { IfSome result (λ _. IsMet counts.now (label_asked (scope_of labels.old.entries) []
+        (option_map (λ text. text.now) label.entry)) counts.now) }
+    ensures value { IfSome result (λ step. step_view step ≡ sub_step (subaction_view child)) }
+    ensures labels { IfSome result (λ _. scope_of labels.new.entries
+        ≡ with_label (option_map (λ text. text.now) label.entry) Subject.Outcome (scope_of labels.old.entries)) }
+{
+    add_new_label(alloc, label, Subject::Outcome, labels, counts).ok()?;
+    Some(Step::Sub(Box::new(alloc, child).ok()?))
+}
+
+/// Reads a parallel step whose key has been read, up to its first child.
+pub(crate) fn begin_parallel(reader: &mut Reader<'_>, counts: &mut Counts) -> Option<()>
+    ensures met { IfSome result (λ _. IsMet counts.old (one_more_node ∷ []) counts.new) }
+    ensures tokens { IfSome result (λ _. reader.old ≡ token.begin_array ∷ reader.new) }
+{
+    counts.one_more_node().ok()?;
+    pull_begin_array(reader)?;
+    Some(())
+}
+
+/// A parallel step of these children, up to its end, if none of their labels was seen. They are then
+/// seen.
+pub(crate) fn end_parallel(
+    alloc: Global,
+    reader: &mut Reader<'_>,
+    children: Vec<Subaction>,
+    earlier: Labels,
+    labels: &mut Labels,
+) -> Option<Step>
+    ensures tokens { IfSome result (λ _. reader.old ≡ token.end_object ∷ reader.new) }
+    ensures unseen { IfSome result (λ _. AreUnseen (scope_of earlier.entries) (scope_of labels.old.entries)) }
+    ensures value { IfSome result (λ step. step_view step ≡ tree.Parallel (children_of (map subaction_view children.items))) }
+    ensures labels { IfSome result (λ _. scope_of labels.new.entries
+        ≡ with_labels (scope_of earlier.entries) (scope_of labels.old.entries)) }
+{
+    let all_new = take_labels(alloc, earlier, labels).ok()?;
+    if !all_new {
+        return None;
+    }
+    pull_end_object(reader)?;
+    Some(Step::Parallel(children))
+}

@@ -1,0 +1,10 @@
+pub mod Members
+pub mod TableLemmas
+pub mod LabelLemmas
+pub mod Checks
+pub mod HeadLemmas
+pub mod AmountLemmas
+pub mod ListLemmas
+pub mod BlockLemmas
+pub mod MetLemmas
+pub mod DistinctTexts

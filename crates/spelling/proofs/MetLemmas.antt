@@ -1,0 +1,191 @@
+-- Demands that are all met, and what they count.
+use Rattle.std.proofs.Common.{◌≡◌, ℕ, ◌+◌, ◌≤◌, Bool, true, false, cond, List, [], ◌∷◌, ◌++◌, None, Result, Ok, Err, refl, ap, arith}
+use Rattle.std.specs.Prelude.{nat_le, nat_lt, ⊤}
+use Rattle.std.proofs.lemmas.Bool.{ltb-true}
+use Rattle.faults.specs.declared.fault.Wrong.{Wrong}
+use Rattle.faults.specs.declared.fault.Fault.{Fault}
+use Rattle.spelling.specs.declared.counts.Counts.{Counts}
+use Rattle.spelling.specs.Demand.{Demand, holds, one_more_start, one_more_operation, one_more_node, in_transaction, most_operations, check}
+use Rattle.spelling.specs.Demand.{check_one, and_then, fault_of, first_fault, limited, no_counts}
+
+-- each test holds
+abbrev pub AllMet : List Demand → Type 0
+AllMet [] = ⊤
+AllMet (holds b wrong ∷ ds) = (b ≡ true) × AllMet ds
+AllMet (one_more_start ∷ ds) = AllMet ds
+AllMet (one_more_operation version ∷ ds) = AllMet ds
+AllMet (one_more_node ∷ ds) = AllMet ds
+AllMet (in_transaction n ∷ ds) = AllMet ds
+
+pub first_met : (xs ys : List Demand) → AllMet (xs ++ ys) → AllMet xs
+first_met [] ys met = tt
+first_met (holds b wrong ∷ xs) ys met = (met.0, first_met xs ys met.1)
+first_met (one_more_start ∷ xs) ys met = first_met xs ys met
+first_met (one_more_operation version ∷ xs) ys met = first_met xs ys met
+first_met (one_more_node ∷ xs) ys met = first_met xs ys met
+first_met (in_transaction n ∷ xs) ys met = first_met xs ys met
+
+pub rest_met : (xs ys : List Demand) → AllMet (xs ++ ys) → AllMet ys
+rest_met [] ys met = met
+rest_met (holds b wrong ∷ xs) ys met = rest_met xs ys met.1
+rest_met (one_more_start ∷ xs) ys met = rest_met xs ys met
+rest_met (one_more_operation version ∷ xs) ys met = rest_met xs ys met
+rest_met (one_more_node ∷ xs) ys met = rest_met xs ys met
+rest_met (in_transaction n ∷ xs) ys met = rest_met xs ys met
+
+-- what is counted
+pub data What : Type 0 where
+  starts : What
+  operations : What
+  nodes : What
+
+abbrev pub weight : Demand → What → ℕ
+weight (holds b wrong) x = 0
+weight one_more_start starts = 1
+weight one_more_start operations = 0
+weight one_more_start nodes = 0
+weight (one_more_operation version) starts = 0
+weight (one_more_operation version) operations = 1
+weight (one_more_operation version) nodes = 0
+weight one_more_node starts = 0
+weight one_more_node operations = 0
+weight one_more_node nodes = 1
+weight (in_transaction n) x = 0
+
+abbrev pub count : What → List Demand → ℕ
+count x [] = 0
+count x (d ∷ ds) = weight d x + count x ds
+
+pub count-append : (x : What) (xs ys : List Demand) → count x (xs ++ ys) ≡ count x xs + count x ys
+count-append x [] ys = omega arith
+count-append x (d ∷ xs) ys = let rest = count-append x xs ys in omega arith
+
+-- what is known where all demands of a list are met from some counts on
+pub record Passed (c next : Counts) (ds : List Demand) : Type 0 where
+  pub met : AllMet ds
+  pub starts : next.starts ≡ c.starts + count What.starts ds
+  pub operations : next.operations ≡ c.operations + count What.operations ds
+  pub nodes : next.nodes ≡ c.nodes + count What.nodes ds
+  pub few_starts : c.starts ≤ 100000 → next.starts ≤ 100000
+  pub few_operations : c.operations ≤ 1000000 → next.operations ≤ 1000000
+  pub few_nodes : c.nodes ≤ 100000 → next.nodes ≤ 100000
+
+passed_none : (c next : Counts) → check c [] ≡ Ok next → Passed c next []
+passed_none c next e =
+    let same : c ≡ next = cc in
+    let a = ap (λ (n : Counts). n.starts) same in
+    let b = ap (λ (n : Counts). n.operations) same in
+    let d = ap (λ (n : Counts). n.nodes) same in
+    record {
+      met = tt;
+      starts = omega (arith, a);
+      operations = omega (arith, b);
+      nodes = omega (arith, d);
+      few_starts = λ h. omega (arith, a);
+      few_operations = λ h. omega (arith, b);
+      few_nodes = λ h. omega (arith, d);
+    }
+
+passed_test : (b : Bool) (wrong : Wrong) (ds : List Demand) (c next : Counts) → ((c' : Counts) → check c' ds ≡ Ok next → Passed c' next ds)
+    → and_then (check_one c (holds b wrong)) (λ n. check n ds) ≡ Ok next → Passed c next (holds b wrong ∷ ds)
+passed_test true wrong ds c next later e =
+    let p = later c e in
+    record {
+      met = (refl, p.met);
+      starts = omega (arith, p.starts);
+      operations = omega (arith, p.operations);
+      nodes = omega (arith, p.nodes);
+      few_starts = p.few_starts;
+      few_operations = p.few_operations;
+      few_nodes = p.few_nodes;
+    }
+passed_test false wrong ds c next later e = cc
+
+most : (version : ℕ) → most_operations version ≤ 1000000
+most version = by (nat_le 4 version)
+  where
+    by : (b : Bool) → cond b 1000000 100000 ≤ 1000000
+    by true = omega arith
+    by false = omega arith
+
+passed_start : (b : Bool) (ds : List Demand) (c next : Counts) → nat_lt c.starts 100000 ≡ b
+    → ((c' : Counts) → check c' ds ≡ Ok next → Passed c' next ds)
+    → and_then (limited b c (record c { starts = c.starts + 1 })) (λ n. check n ds) ≡ Ok next → Passed c next (one_more_start ∷ ds)
+passed_start true ds c next lt later e =
+    let p = later (record c { starts = c.starts + 1 }) e in
+    let below = ltb-true c.starts 100000 lt in
+    record {
+      met = p.met;
+      starts = omega (arith, p.starts);
+      operations = omega (arith, p.operations);
+      nodes = omega (arith, p.nodes);
+      few_starts = λ h. p.few_starts (omega (arith, below));
+      few_operations = p.few_operations;
+      few_nodes = p.few_nodes;
+    }
+passed_start false ds c next lt later e = cc
+
+passed_operation : (b : Bool) (version : ℕ) (ds : List Demand) (c next : Counts) → nat_lt c.operations (most_operations version) ≡ b
+    → ((c' : Counts) → check c' ds ≡ Ok next → Passed c' next ds)
+    → and_then (limited b c (record c { operations = c.operations + 1 })) (λ n. check n ds) ≡ Ok next
+    → Passed c next (one_more_operation version ∷ ds)
+passed_operation true version ds c next lt later e =
+    let p = later (record c { operations = c.operations + 1 }) e in
+    let below = ltb-true c.operations (most_operations version) lt in
+    let limit = most version in
+    record {
+      met = p.met;
+      starts = omega (arith, p.starts);
+      operations = omega (arith, p.operations);
+      nodes = omega (arith, p.nodes);
+      few_starts = p.few_starts;
+      few_operations = λ h. p.few_operations (omega (arith, below, limit));
+      few_nodes = p.few_nodes;
+    }
+passed_operation false version ds c next lt later e = cc
+
+passed_node : (b : Bool) (ds : List Demand) (c next : Counts) → nat_lt c.nodes 100000 ≡ b
+    → ((c' : Counts) → check c' ds ≡ Ok next → Passed c' next ds)
+    → and_then (limited b c (record c { nodes = c.nodes + 1 })) (λ n. check n ds) ≡ Ok next → Passed c next (one_more_node ∷ ds)
+passed_node true ds c next lt later e =
+    let p = later (record c { nodes = c.nodes + 1 }) e in
+    let below = ltb-true c.nodes 100000 lt in
+    record {
+      met = p.met;
+      starts = omega (arith, p.starts);
+      operations = omega (arith, p.operations);
+      nodes = omega (arith, p.nodes);
+      few_starts = p.few_starts;
+      few_operations = p.few_operations;
+      few_nodes = λ h. p.few_nodes (omega (arith, below));
+    }
+passed_node false ds c next lt later e = cc
+
+passed_on_to : (n : ℕ) (ds : List Demand) (c next : Counts) → Passed (record c { transaction = n }) next ds
+    → Passed c next (in_transaction n ∷ ds)
+passed_on_to n ds c next p = record {
+  met = p.met;
+  starts = omega (arith, p.starts);
+  operations = omega (arith, p.operations);
+  nodes = omega (arith, p.nodes);
+  few_starts = p.few_starts;
+  few_operations = p.few_operations;
+  few_nodes = p.few_nodes;
+}
+
+pub passed : (ds : List Demand) (c next : Counts) → check c ds ≡ Ok next → Passed c next ds
+passed [] c next e = passed_none c next e
+passed (holds b wrong ∷ ds) c next e = passed_test b wrong ds c next (λ c'. passed ds c' next) e
+passed (one_more_start ∷ ds) c next e = passed_start (nat_lt c.starts 100000) ds c next refl (λ c'. passed ds c' next) e
+passed (one_more_operation version ∷ ds) c next e = passed_operation (nat_lt c.operations (most_operations version)) version ds c next refl
+    (λ c'. passed ds c' next) e
+passed (one_more_node ∷ ds) c next e = passed_node (nat_lt c.nodes 100000) ds c next refl (λ c'. passed ds c' next) e
+passed (in_transaction n ∷ ds) c next e = passed_on_to n ds c next (passed ds (record c { transaction = n }) next e)
+
+ok_of : (r : Result Counts Fault) → fault_of r ≡ None → (next : Counts) × (r ≡ Ok next)
+ok_of (Ok next) h = (next, refl)
+ok_of (Err e) h = cc
+
+-- a document with no fault meets all its demands
+pub faultless : (ds : List Demand) → first_fault ds ≡ None → (next : Counts) × (check no_counts ds ≡ Ok next)
+faultless ds none = ok_of (check no_counts ds) none

@@ -1,0 +1,464 @@
+-- What is asked of a document, in reading order. Behind a demand that fails the list says nothing of use.
+use Rattle.std.specs.Prelude.{ℕ, ℤ, nat_abs, zero, suc, ◌+◌, ◌==◌, ◌&&◌, ◌||◌, Bool, true, false, not, List, [], ◌∷◌, ◌++◌, codes, Option}
+use Rattle.std.specs.Prelude.{Some, None, is_some, unwrap_or, option_and_then, nat_le, if◌then◌else◌}
+use Rattle.std.specs.Option.{option_map_or}
+use Rattle.serde_json.specs.Data.{Data, null, Items, no_items, item, Members, no_members, member}
+use Rattle.serde_json.specs.Find.{get, as_array, as_bool, as_object, as_str}
+use Rattle.serde_json.specs.Events.{items_len}
+use Rattle.objects.specs.declared.kind.Kind.{Kind}
+use Rattle.objects.specs.declared.kind.Kind.TheVariants as kind
+use Rattle.words.specs.declared.word.Word.{Word}
+use Rattle.faults.specs.declared.fault.Wrong.TheVariants.{Shape, Name, DuplicateObject, UnknownObject, UnknownOperation, Argument}
+use Rattle.faults.specs.declared.fault.Wrong.TheVariants.{UnknownLabel, DuplicateLabel, Condition, Depth, TooMany, Start}
+use Rattle.words.specs.declared.verb.LoneVerb.TheVariants.{Balance}
+use Rattle.words.specs.declared.verb.Verb.{Verb}
+use Rattle.words.specs.declared.verb.Verb.TheVariants.{OfAmount, OfItem, OfPair, Alone}
+use Rattle.spelling.specs.declared.subject.Subject.{Subject}
+use Rattle.spelling.specs.declared.subject.Subject.TheVariants.{Reply, Outcome}
+use Rattle.spelling.specs.declared.steps.Sort.{Sort}
+use Rattle.spelling.specs.declared.steps.Sort.TheVariants.{Operation as an_operation, If as an_if, Sub as a_sub, Abort as an_abort}
+use Rattle.spelling.specs.declared.steps.Sort.TheVariants.{Parallel as a_parallel}
+use Rattle.spelling.specs.Demand.{Demand, holds, one_more_start, one_more_operation, one_more_node, in_transaction}
+use Rattle.spelling.specs.Look.{has, has_only, text_member, text_item, whole_item, whole, whole_member, list_member, count}
+use Rattle.spelling.specs.Look.{or_empty, within}
+use Rattle.spelling.specs.Scope.{Table, Setting, Scope, is_listed, kind_named, named, is_named, with_label, with_labels, with_text}
+use Rattle.batch.specs.Names.{is_name}
+use Rattle.spelling.specs.Subjects.{fits_word, fits_number, fits_item}
+use Rattle.words.specs.Verbs.{verb_of_text}
+use Rattle.words.specs.Words.{kind_of_text, word_of_text}
+use Rattle.meaning.specs.declared.limits.TheConstants.{MAX_DEPTH, MAX_OBJECTS, MAX_START, MAX_TRANSACTIONS}
+use Rattle.meaning.specs.WellFormed.{largest_amount}
+
+-- the member, or null
+abbrev pub part : List ℕ → Data → Data
+part k d = unwrap_or (get k d) null
+
+-- ---- labels
+
+-- a label, where the step has one, is text
+abbrev pub label_is_text : Data → Bool
+label_is_text d = not (has (codes "as") d) || is_some (text_member (codes "as") d)
+
+-- the label that a step has
+abbrev pub label_in : Data → Option (List ℕ)
+label_in d = text_member (codes "as") d
+
+-- a label is a name, and is neither seen nor an earlier sibling's
+unfoldable pub label_asked : Scope → Scope → Option (List ℕ) → List Demand
+label_asked scope earlier None = []
+label_asked scope earlier (Some name) = holds (is_name name) Name
+    ∷ holds (not (is_named name scope || is_named name earlier)) DuplicateLabel
+    ∷ []
+
+-- ---- operations
+
+-- the amount in an operation's array
+abbrev pub amount_item : ℕ → Data → Option ℕ
+amount_item i op = option_and_then (within 1 largest_amount) (whole_item i op)
+
+abbrev pub has_count : ℕ → Data → Bool
+has_count n op = option_map_or (λ m. m == n) (count op) false
+
+-- the name of an item in an operation's array
+abbrev pub name_item : ℕ → Data → List ℕ
+name_item i op = or_empty (text_item i op)
+
+unfoldable pub item_asked : ℕ → Data → List Demand
+item_asked i op = holds (is_some (text_item i op)) Argument ∷ holds (is_name (name_item i op)) Name ∷ []
+
+unfoldable pub amount_asked : Data → List Demand
+amount_asked op = holds (has_count 3 op) Argument ∷ holds (is_some (amount_item 2 op)) Argument ∷ []
+
+unfoldable pub arguments_asked : Verb → Data → List Demand
+arguments_asked (OfAmount v) op = amount_asked op
+arguments_asked (OfItem v) op = holds (has_count 3 op) Argument ∷ item_asked 2 op
+arguments_asked (OfPair v) op = holds (has_count 4 op) Argument ∷ item_asked 2 op ++ item_asked 3 op
+arguments_asked (Alone v) op = holds (has_count 2 op) Argument ∷ []
+
+abbrev pub object_of : Data → List ℕ
+object_of op = or_empty (text_item 0 op)
+
+abbrev pub call_named : Data → List ℕ
+call_named op = or_empty (text_item 1 op)
+
+-- what a text names among the calls of the kind of an object
+abbrev pub verb_at : Setting → List ℕ → List ℕ → Option Verb
+verb_at setting object call = option_and_then (λ k. verb_of_text setting.version k call) (kind_named object setting)
+
+abbrev pub operation_verb : Setting → List ℕ → List ℕ → Verb
+operation_verb setting object call = unwrap_or (verb_at setting object call) (Alone Balance)
+
+unfoldable pub operation_shape_asked : Data → List Demand
+operation_shape_asked d =
+    holds (has_only (codes "op" ∷ codes "as" ∷ []) d) Shape
+    ∷ holds (is_some (text_item 0 (part (codes "op") d))) Shape
+    ∷ holds (is_some (text_item 1 (part (codes "op") d))) Shape
+    ∷ holds (label_is_text d) Shape
+    ∷ []
+
+-- the object is known, and its kind has the call
+unfoldable pub target_asked : Setting → List ℕ → List ℕ → List Demand
+target_asked setting object call =
+    holds (is_listed object setting.names) UnknownObject
+    ∷ holds (is_some (verb_at setting object call)) UnknownOperation
+    ∷ []
+
+-- the call of an operation
+abbrev pub verb_in : Setting → Data → Verb
+verb_in setting op = operation_verb setting (object_of op) (call_named op)
+
+unfoldable pub operation_asked : Setting → Scope → Data → List Demand
+operation_asked setting scope d =
+    operation_shape_asked d
+    ++ one_more_operation setting.version ∷ []
+    ++ target_asked setting (object_of (part (codes "op") d)) (call_named (part (codes "op") d))
+    ++ arguments_asked (verb_in setting (part (codes "op") d)) (part (codes "op") d)
+    ++ label_asked scope [] (label_in d)
+
+-- ---- the other steps
+
+-- what a block of a step asks, where these labels are seen
+abbrev pub Asks : Type 0
+Asks = Scope → Data → List Demand
+
+abbrev pub one_test : Bool → Bool → Bool → Bool
+one_test true false false = true
+one_test false true false = true
+one_test false false true = true
+one_test _ _ _ = false
+
+abbrev pub has_one_test : Data → Bool
+has_one_test d = one_test (has (codes "is") d) (has (codes "atleast") d) (has (codes "item") d)
+
+abbrev pub fitting : Subject → Word → Option Word
+fitting subject w = if fits_word subject w then Some w else None
+
+-- the word that a test asks for, where its label can have it
+abbrev pub tested_word : Subject → Data → Option Word
+tested_word subject d = option_and_then (fitting subject) (option_and_then word_of_text (text_member (codes "is") d))
+
+abbrev pub holds_word : Subject → Data → List Demand
+holds_word subject d = holds (is_some (tested_word subject d)) Condition ∷ []
+
+abbrev pub holds_number : Subject → Data → List Demand
+holds_number subject d = holds (fits_number subject) Condition ∷ holds (is_some (whole_member (codes "atleast") d)) Condition ∷ []
+
+abbrev pub holds_item : Subject → Data → List Demand
+holds_item subject d = holds (fits_item subject) Condition ∷ holds (is_some (text_member (codes "item") d)) Condition ∷ holds
+    (is_name (or_empty (text_member (codes "item") d))) Name ∷ []
+
+-- the test of an `if`, against what its label is of
+unfoldable pub test_asked : Subject → Data → List Demand
+test_asked subject d = if has (codes "is") d then holds_word subject d else if has (codes "atleast") d then holds_number subject
+    d else holds_item subject d
+
+-- a block that a step may have
+unfoldable pub block_asked_if : Asks → Scope → Option Data → List Demand
+block_asked_if asks scope None = []
+block_asked_if asks scope (Some d) = asks scope d
+
+unfoldable pub if_shape_asked : Data → List Demand
+if_shape_asked d =
+    holds (has_only (codes "if" ∷ codes "is" ∷ codes "atleast" ∷ codes "item" ∷ codes "then" ∷ codes "else" ∷ []) d) Shape
+    ∷ holds (has_one_test d) Shape
+    ∷ holds (is_some (text_member (codes "if") d)) Shape
+    ∷ holds (has (codes "then") d) Shape
+    ∷ []
+
+-- what a label is of, once it is seen
+abbrev pub subject_of : List ℕ → Scope → Subject
+subject_of name scope = unwrap_or (named name scope) Outcome
+
+-- the label is seen
+unfoldable pub seen_asked : Scope → List ℕ → List Demand
+seen_asked scope name = holds (is_named name scope) UnknownLabel ∷ []
+
+-- the label that an `if` tests
+abbrev pub if_label : Data → List ℕ
+if_label d = or_empty (text_member (codes "if") d)
+
+unfoldable pub if_asked : Asks → Scope → Data → List Demand
+if_asked asks scope d =
+    if_shape_asked d
+    ++ one_more_node ∷ []
+    ++ seen_asked scope (if_label d)
+    ++ test_asked (subject_of (if_label d) scope) d
+    ++ asks scope (part (codes "then") d)
+    ++ block_asked_if asks scope (get (codes "else") d)
+
+-- handlers by reason, which a version may have
+abbrev pub handlers_are_members : ℕ → Data → Bool
+handlers_are_members version d = not (has (codes "handlers") d) ||
+    (nat_le 3 version && is_some (option_and_then as_object (get (codes "handlers") d)))
+
+unfoldable pub sub_shape_asked : ℕ → Data → List Demand
+sub_shape_asked version d =
+    holds (has_only (codes "sub" ∷ codes "handler" ∷ codes "handlers" ∷ codes "as" ∷ []) d) Shape
+    ∷ holds (has (codes "sub") d) Shape
+    ∷ holds (label_is_text d) Shape
+    ∷ holds (handlers_are_members version d) Shape
+    ∷ []
+
+-- each reason is a name, and its block is one
+abbrev pub member_asked : Asks → Scope → List ℕ → Data → List Demand
+member_asked asks scope reason d = holds (is_name reason) Name ∷ asks scope d
+
+abbrev pub members_asked : Asks → Scope → Members → List Demand
+members_asked asks scope no_members = []
+members_asked asks scope (member reason d ds) = member_asked asks scope reason d ++ members_asked asks scope ds
+
+-- the handlers by reason, in the order of the reasons' bytes
+abbrev pub handlers_in : Data → Option Members
+handlers_in d = option_and_then as_object (get (codes "handlers") d)
+
+unfoldable pub handlers_asked : Asks → Scope → Option Members → List Demand
+handlers_asked asks scope None = []
+handlers_asked asks scope (Some ds) = members_asked asks scope ds
+
+-- a subaction, or a child whose earlier siblings have these labels
+unfoldable pub sub_asked : ℕ → Asks → Scope → Scope → Data → List Demand
+sub_asked version asks scope earlier d =
+    sub_shape_asked version d
+    ++ one_more_node ∷ []
+    ++ label_asked scope earlier (label_in d)
+    ++ asks scope (part (codes "sub") d)
+    ++ handlers_asked asks scope (handlers_in d)
+    ++ block_asked_if asks scope (get (codes "handler") d)
+
+-- an abort without a reason, or for one, which a version may have
+abbrev pub is_abort : ℕ → Data → Bool
+is_abort version d = unwrap_or (as_bool d) false || (nat_le 3 version && is_some (as_str d))
+
+unfoldable pub reason_asked : Option (List ℕ) → List Demand
+reason_asked None = []
+reason_asked (Some reason) = holds (is_name reason) Name ∷ []
+
+unfoldable pub abort_shape_asked : ℕ → Data → List Demand
+abort_shape_asked version d = holds (has_only (codes "abort" ∷ []) d) Shape ∷ holds (is_abort version (part (codes "abort") d)) Shape
+    ∷ one_more_node ∷ []
+
+unfoldable pub abort_asked : ℕ → Data → List Demand
+abort_asked version d = abort_shape_asked version d ++ reason_asked (as_str (part (codes "abort") d))
+
+unfoldable pub parallel_shape_asked : Data → List Demand
+parallel_shape_asked d = holds (has_only (codes "parallel" ∷ []) d) Shape ∷ holds (is_some (list_member (codes "parallel") d)) Shape ∷ []
+
+-- the children, where their earlier siblings have these labels
+abbrev pub children_asked : ℕ → Asks → Scope → Scope → Items → List Demand
+children_asked version asks scope earlier no_items = []
+children_asked version asks scope earlier (item d ds) = sub_asked version asks scope earlier d ++ children_asked version asks scope
+    (with_label (label_in d) Outcome earlier) ds
+
+-- the labels of the children
+abbrev pub labels_of : Scope → Items → Scope
+labels_of earlier no_items = earlier
+labels_of earlier (item d ds) = labels_of (with_label (label_in d) Outcome earlier) ds
+
+abbrev pub or_no_items : Option Items → Items
+or_no_items o = unwrap_or o no_items
+
+abbrev pub children_in : Data → Items
+children_in d = or_no_items (list_member (codes "parallel") d)
+
+unfoldable pub parallel_asked : ℕ → Asks → Scope → Data → List Demand
+parallel_asked version asks scope d =
+    parallel_shape_asked d
+    ++ one_more_node ∷ []
+    ++ children_asked version asks scope [] (children_in d)
+
+-- ---- steps and blocks
+
+abbrev pub one_sort : Bool → Bool → Bool → Bool → Bool → Option Sort
+one_sort true false false false false = Some an_operation
+one_sort false true false false false = Some an_if
+one_sort false false true false false = Some a_sub
+one_sort false false false true false = Some an_abort
+one_sort false false false false true = Some a_parallel
+one_sort _ _ _ _ _ = None
+
+-- what sort of step it is, by the one member that says so
+unfoldable pub sort_of : Data → Option Sort
+sort_of d = one_sort (has (codes "op") d) (has (codes "if") d) (has (codes "sub") d) (has (codes "abort") d) (has (codes "parallel") d)
+
+abbrev pub step_asked_by : Option Sort → Asks → Setting → Scope → Data → List Demand
+step_asked_by None asks setting scope d = holds false Shape ∷ []
+step_asked_by (Some an_operation) asks setting scope d = operation_asked setting scope d
+step_asked_by (Some an_if) asks setting scope d = if_asked asks scope d
+step_asked_by (Some a_sub) asks setting scope d = sub_asked setting.version asks scope [] d
+step_asked_by (Some an_abort) asks setting scope d = abort_asked setting.version d
+step_asked_by (Some a_parallel) asks setting scope d = parallel_asked setting.version asks scope d
+
+unfoldable pub step_asked : Asks → Setting → Scope → Data → List Demand
+step_asked asks setting scope d = step_asked_by (sort_of d) asks setting scope d
+
+abbrev pub scope_after_by : Option Sort → Setting → Scope → Data → Scope
+scope_after_by (Some an_operation) setting scope d = with_label (label_in d) (Reply (verb_in setting (part (codes "op") d))) scope
+scope_after_by (Some a_sub) setting scope d = with_label (label_in d) Outcome scope
+scope_after_by (Some a_parallel) setting scope d = with_labels (labels_of [] (children_in d)) scope
+scope_after_by sort setting scope d = scope
+
+-- the labels that are seen after a step
+unfoldable pub scope_after : Setting → Scope → Data → Scope
+scope_after setting scope d = scope_after_by (sort_of d) setting scope d
+
+abbrev pub steps_asked : Asks → Setting → Scope → Items → List Demand
+steps_asked asks setting scope no_items = []
+steps_asked asks setting scope (item d ds) = step_asked asks setting scope d ++ steps_asked asks setting (scope_after setting scope d) ds
+
+abbrev pub array_asked : (Items → List Demand) → Option Items → List Demand
+array_asked asks None = holds false Shape ∷ []
+array_asked asks (Some ds) = asks ds
+
+-- a block within so many more levels
+unfoldable pub block_asked : Setting → ℕ → Asks
+block_asked setting zero scope d = array_asked (λ ds. holds false Depth ∷ []) (as_array d)
+block_asked setting (suc n) scope d = array_asked (steps_asked (block_asked setting n) setting scope) (as_array d)
+
+-- ---- objects
+
+abbrev pub text_of : Data → List ℕ
+text_of d = or_empty (as_str d)
+
+unfoldable pub entry_asked : Data → List Demand
+entry_asked d = holds (is_some (as_str d)) Start ∷ holds (is_name (text_of d)) Name ∷ one_more_start ∷ []
+
+-- the entries of a queue
+abbrev pub entries_asked : Items → List Demand
+entries_asked no_items = []
+entries_asked (item d ds) = entry_asked d ++ entries_asked ds
+
+unfoldable pub element_asked : Table → Data → List Demand
+element_asked earlier d = holds (is_some (as_str d)) Start ∷ holds (is_name (text_of d)) Name ∷ holds (not (is_listed (text_of d) earlier))
+    Start ∷ one_more_start ∷ []
+
+-- the entries of a set, which differ from these earlier ones
+abbrev pub elements_asked : Table → Items → List Demand
+elements_asked earlier no_items = []
+elements_asked earlier (item d ds) = element_asked earlier d ++ elements_asked (with_text (text_of d) earlier) ds
+
+abbrev pub key_of : Data → List ℕ
+key_of d = or_empty (text_item 0 d)
+
+abbrev pub value_of : Data → List ℕ
+value_of d = or_empty (text_item 1 d)
+
+unfoldable pub pair_asked : Table → Data → List Demand
+pair_asked earlier d =
+    holds (has_count 2 d) Start ∷ holds (is_some (text_item 0 d)) Start ∷ holds (is_some (text_item 1 d)) Start
+    ∷ holds (is_name (key_of d)) Name ∷ holds (is_name (value_of d)) Name
+    ∷ holds (not (is_listed (key_of d) earlier)) Start ∷ one_more_start ∷ []
+
+-- the entries of a directory, whose keys differ from these earlier ones
+abbrev pub pairs_asked : Table → Items → List Demand
+pairs_asked earlier no_items = []
+pairs_asked earlier (item d ds) = pair_asked earlier d ++ pairs_asked (with_text (key_of d) earlier) ds
+
+unfoldable pub array_start_asked : (Items → List Demand) → Option Items → List Demand
+array_start_asked asks None = holds false Start ∷ []
+array_start_asked asks (Some ds) = asks ds
+
+-- the number within a limit on its size
+abbrev pub number_start : Data → Option ℕ
+number_start d = option_and_then (within 0 MAX_START) (whole d)
+
+abbrev pub signed_within : ℕ → ℤ → Option ℤ
+signed_within most n = if nat_le (nat_abs n) most then Some n else None
+
+abbrev pub signed_start : Data → Option ℤ
+signed_start d = option_and_then (signed_within MAX_START) (whole d)
+
+unfoldable pub start_asked : Kind → Data → List Demand
+start_asked kind.Account d = holds (is_some (number_start d)) Start ∷ []
+start_asked kind.Counter d = holds (is_some (signed_start d)) Start ∷ []
+start_asked kind.Set d = array_start_asked (elements_asked []) (as_array d)
+start_asked kind.Queue d = array_start_asked entries_asked (as_array d)
+start_asked kind.Directory d = array_start_asked (pairs_asked []) (as_array d)
+start_asked kind.Max d = holds (is_some (number_start d)) Start ∷ []
+
+abbrev pub object_kind : ℕ → Data → Option Kind
+object_kind version d = option_and_then (kind_of_text version) (text_member (codes "kind") d)
+
+-- the kind, where a test before has found that there is one
+abbrev pub kind_in : ℕ → Data → Kind
+kind_in version d = unwrap_or (object_kind version d) kind.Account
+
+abbrev pub object_name : Data → List ℕ
+object_name d = or_empty (text_member (codes "name") d)
+
+unfoldable pub object_shape_asked : ℕ → Data → List Demand
+object_shape_asked version d =
+    holds (has_only (codes "name" ∷ codes "kind" ∷ codes "start" ∷ []) d) Shape
+    ∷ holds (is_some (text_member (codes "name") d)) Shape
+    ∷ holds (is_some (object_kind version d)) Shape
+    ∷ holds (has (codes "start") d) Shape
+    ∷ []
+
+-- the name is a name, and no earlier object has it
+unfoldable pub object_name_asked : Table → List ℕ → List Demand
+object_name_asked names name = holds (is_name name) Name ∷ holds (not (is_listed name names)) DuplicateObject ∷ []
+
+unfoldable pub object_asked : ℕ → Table → Data → List Demand
+object_asked version names d =
+    object_shape_asked version d
+    ++ object_name_asked names (object_name d)
+    ++ start_asked (kind_in version d) (part (codes "start") d)
+
+-- the objects, where these names stand before them
+abbrev pub objects_asked : ℕ → Table → Items → List Demand
+objects_asked version names no_items = []
+objects_asked version names (item d ds) = object_asked version names d ++ objects_asked version (names ++ object_name d ∷ []) ds
+
+abbrev pub names_of : Items → Table
+names_of no_items = []
+names_of (item d ds) = object_name d ∷ names_of ds
+
+abbrev pub kinds_of : ℕ → Items → List Kind
+kinds_of version no_items = []
+kinds_of version (item d ds) = kind_in version d ∷ kinds_of version ds
+
+-- what the objects declare
+abbrev pub declared_by : ℕ → Items → Setting
+declared_by version ds = record { version = version; names = names_of ds; kinds = kinds_of version ds }
+
+-- ---- the document
+
+-- a transaction by its number
+abbrev pub transaction_asked : ℕ → Setting → Data → List Demand
+transaction_asked n setting d = in_transaction n ∷ block_asked setting MAX_DEPTH [] d
+
+-- the transactions from a number on
+abbrev pub transactions_asked : ℕ → Setting → Items → List Demand
+transactions_asked n setting no_items = []
+transactions_asked n setting (item d ds) = transaction_asked n setting d ++ transactions_asked (n + 1) setting ds
+
+abbrev pub objects_in : Data → Items
+objects_in d = or_no_items (list_member (codes "objects") d)
+
+abbrev pub transactions_in : Data → Items
+transactions_in d = or_no_items (list_member (codes "transactions") d)
+
+abbrev pub version_of : Data → Option ℕ
+version_of d = option_and_then (within 1 4) (whole_member (codes "ordtx") d)
+
+abbrev pub version_in : Data → ℕ
+version_in d = unwrap_or (version_of d) 1
+
+unfoldable pub document_shape_asked : Data → List Demand
+document_shape_asked d =
+    holds (has_only (codes "ordtx" ∷ codes "objects" ∷ codes "transactions" ∷ []) d) Shape
+    ∷ holds (is_some (version_of d)) Shape
+    ∷ holds (is_some (list_member (codes "objects") d)) Shape
+    ∷ holds (is_some (list_member (codes "transactions") d)) Shape
+    ∷ holds (nat_le (items_len (objects_in d)) MAX_OBJECTS) TooMany
+    ∷ holds (nat_le (items_len (transactions_in d)) MAX_TRANSACTIONS) TooMany
+    ∷ []
+
+abbrev pub setting_in : Data → Setting
+setting_in d = declared_by (version_in d) (objects_in d)
+
+-- all that is asked of a document
+unfoldable pub asked : Data → List Demand
+asked d =
+    document_shape_asked d
+    ++ objects_asked (version_in d) [] (objects_in d)
+    ++ transactions_asked 1 (setting_in d) (transactions_in d)

@@ -1,0 +1,29 @@
+-- What is asked of a step before its blocks.
+use Rattle.std.specs.Prelude.{ℕ, List, [], ◌∷◌, ◌++◌}
+use Rattle.serde_json.specs.Data.{Data}
+use Rattle.spelling.specs.Asked.{if_label, if_shape_asked, label_asked, label_in, parallel_shape_asked, seen_asked}
+use Rattle.spelling.specs.Asked.{sub_shape_asked, subject_of}
+use Rattle.spelling.specs.Asked.{test_asked}
+use Rattle.spelling.specs.Demand.{Demand, one_more_node}
+use Rattle.spelling.specs.Scope.{Scope}
+
+-- of an `if`: its shape, its label and its test
+unfoldable pub if_head_asked : Scope → Data → List Demand
+if_head_asked scope d =
+    if_shape_asked d
+    ++ one_more_node ∷ []
+    ++ seen_asked scope (if_label d)
+    ++ test_asked (subject_of (if_label d) scope) d
+
+-- of a subaction, or a child whose earlier siblings have these labels: its shape and its label
+unfoldable pub sub_head_asked : ℕ → Scope → Scope → Data → List Demand
+sub_head_asked version scope earlier d =
+    sub_shape_asked version d
+    ++ one_more_node ∷ []
+    ++ label_asked scope earlier (label_in d)
+
+-- of a parallel step: its shape
+unfoldable pub parallel_head_asked : Data → List Demand
+parallel_head_asked d =
+    parallel_shape_asked d
+    ++ one_more_node ∷ []

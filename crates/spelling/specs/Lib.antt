@@ -1,0 +1,10 @@
+pub mod Hashing
+pub mod Demand
+pub mod Amounts
+pub mod Subjects
+pub mod Look
+pub mod Scope
+pub mod Asked
+pub mod Heads
+pub mod Spelled
+pub mod Answer

@@ -1,0 +1,105 @@
+//! Reads the test of an `if`.
+ghost use Rattle.std.specs.Prelude.{◌≡◌, codes, None, Some, IfErr, IfOk, OnOk};
+ghost use Rattle.serde_json.specs.View.{view};
+ghost use Rattle.spelling.specs.Answer.{IsFirst, IsMet};
+ghost use Rattle.spelling.specs.Asked.{has_one_test, if_label, if_shape_asked, part, test_asked, tested_word};
+ghost use Rattle.spelling.specs.Look.{text_member};
+ghost use Rattle.spelling.specs.Scope.{numbers_of};
+ghost use Rattle.spelling.specs.Spelled.{item_of, test_of};
+
+use crate::counts::Counts;
+use crate::look::{has, has_only, text_member, whole_member};
+use crate::operations::item_of;
+use crate::state::Numbering;
+use crate::subject::{Subject, fits_item, fits_number, fits_word};
+use batch::{Test, Word, is_name};
+use faults::{Fault, Wrong};
+use serde_json::Value;
+use std::alloc::Global;
+
+/// The parts of an `if`.
+#[derive(Clone, Copy, Drop)]
+pub(crate) struct IfShape<'v> {
+    pub label: &'v str,
+    pub then: &'v Value,
+}
+
+fn has_one_test(step: &Value) -> bool
+    ensures { result ≡ has_one_test (view step.now) }
+{
+    let is = has(step, "is");
+    let at_least = has(step, "atleast");
+    let item = has(step, "item");
+    matches!(
+        (is, at_least, item),
+        (true, false, false) | (false, true, false) | (false, false, true)
+    )
+}
+
+#[tactic(auto, unfolding(crate::specs::Asked::if_shape_asked))]
+pub(crate) fn if_shape_of<'v>(step: &'v Value, counts: &Counts) -> Result<IfShape<'v>, Fault>
+    ensures met { OnOk result (IsMet counts.now (if_shape_asked (view step.now)) counts.now) }
+    ensures first { IfErr result (IsFirst counts.now (if_shape_asked (view step.now))) }
+    ensures label { IfOk result (λ shape. shape.label.now ≡ if_label (view step.now)) }
+    ensures then { IfOk result (λ shape. view shape.then.now ≡ part (codes "then") (view step.now)) }
+{
+    counts.demand(
+        has_only(step, &["if", "is", "atleast", "item", "then", "else"]),
+        Wrong::Shape,
+    )?;
+    counts.demand(has_one_test(step), Wrong::Shape)?;
+    let Some(label) = text_member(step, "if") else {
+        return Err(counts.fault(Wrong::Shape));
+    };
+    let Some(then) = step.get("then") else {
+        return Err(counts.fault(Wrong::Shape));
+    };
+    Ok(IfShape { label, then })
+}
+
+/// The word that a test asks for, where its label can have it.
+fn tested_word(subject: Subject, step: &Value) -> Option<Word>
+    ensures { result ≡ tested_word subject (view step.now) }
+{
+    let word = Word::of_text(text_member(step, "is")?)?;
+    if fits_word(subject, word) {
+        Some(word)
+    } else {
+        None
+    }
+}
+
+/// The test of an `if`, against what its label is of.
+#[tactic(auto, unfolding(crate::specs::Asked::test_asked, crate::specs::Spelled::test_of))]
+pub(crate) fn read_test(
+    alloc: Global,
+    subject: Subject,
+    step: &Value,
+    counts: &Counts,
+    numbering: &mut Numbering,
+) -> Result<Test, Fault>
+    ensures met { OnOk result (IsMet counts.now (test_asked subject (view step.now)) counts.now) }
+    ensures first { IfErr result (IsFirst counts.now (test_asked subject (view step.now))) }
+    ensures value { IfOk result (λ test. (test, numbers_of numbering.new) ≡ test_of subject (numbers_of numbering.old) (view step.now)) }
+{
+    if has(step, "is") {
+        let Some(word) = tested_word(subject, step) else {
+            return Err(counts.fault(Wrong::Condition));
+        };
+        return Ok(Test::Is(word));
+    }
+    if has(step, "atleast") {
+        counts.demand(fits_number(subject), Wrong::Condition)?;
+        let Some(least) = whole_member(step, "atleast") else {
+            return Err(counts.fault(Wrong::Condition));
+        };
+        return Ok(Test::AtLeast(least));
+    }
+    counts.demand(fits_item(subject), Wrong::Condition)?;
+    let Some(name) = text_member(step, "item") else {
+        return Err(counts.fault(Wrong::Condition));
+    };
+    counts.demand(is_name(name), Wrong::Name)?;
+    let item = item_of(alloc, name, numbering)?;
+    Ok(Test::IsItem(item))
+}

@@ -1,0 +1,47 @@
+//! How the names of a document are hashed.
+ghost use Rattle.std.specs.Prelude.{◌≡◌};
+ghost use Rattle.spelling.specs.Hashing.{behind};
+
+use crate::subject::Subject;
+use indexmap::{IndexMap, IndexSet};
+use std::hash::{BuildHasher, DefaultHasher, Hasher};
+
+/// Hashes each name as what stands after the whole document.
+///
+/// The author of a document picks its names, and with a hash that is known beforehand he could pick
+/// names that all fall on one place of a table, so that each look-up walks through all of them. Here
+/// a change of any name moves all the others, and the same bytes are still read in the same way.
+/// SipHash-1-3 with a known key is not cryptographic: this only makes such names hard to find.
+#[derive(Clone, Copy, Drop)]
+pub struct NameHashing {
+    document: DefaultHasher,
+}
+
+/// Texts, each once, by number.
+pub type Texts = IndexSet<String, NameHashing>;
+
+/// Labels, each with what it is of.
+pub type Labels = IndexMap<String, Subject, NameHashing>;
+
+impl NameHashing {
+    /// For the names of the document that the bytes write.
+    pub fn of(bytes: &[u8]) -> NameHashing
+        ensures { result.document ≡ behind bytes.now }
+    {
+        let mut document = DefaultHasher::new();
+        document.write(bytes);
+        // Up to a whole word, so that each name begins a word.
+        document.write(&[0; 8][bytes.len() % 8..]);
+        NameHashing { document }
+    }
+}
+
+impl BuildHasher for NameHashing {
+    type Hasher = DefaultHasher;
+
+    ghost build_hasher = { λ hashing. hashing.document };
+
+    fn build_hasher(&self) -> DefaultHasher {
+        self.document
+    }
+}

@@ -1,0 +1,17 @@
+//! What the text of a document spells, member by member: what is asked of its objects and steps,
+//! in the order of the faults, and the batch's values that they spell. `pull` and `lang` stand on it.
+#![tactic(auto)]
+
+mod conditions;
+pub mod counts;
+pub mod declared;
+pub mod hashing;
+pub mod heads;
+pub mod labels;
+pub mod look;
+pub mod numbers;
+pub mod operations;
+pub mod starts;
+pub mod state;
+pub mod steps;
+pub mod subject;

@@ -1,0 +1,220 @@
+//! Reads an operation.
+ghost use Rattle.std.specs.Prelude.{◌≡◌, codes, is_some, option_map, None, Some, IfErr, IfOk, OnOk};
+ghost use Rattle.serde_json.specs.View.{view};
+ghost use Rattle.batch.specs.Names.{texts_of};
+ghost use Rattle.batch.specs.Views.{step_view};
+ghost use Rattle.spelling.specs.Amounts.{amount_of};
+ghost use Rattle.spelling.specs.Answer.{IsFirst, IsMet};
+ghost use Rattle.spelling.specs.Asked.{amount_asked, amount_item, arguments_asked, call_named, item_asked, label_in, name_item, object_of, operation_asked, operation_shape_asked, operation_verb, part, target_asked, verb_in};
+ghost use Rattle.faults.specs.Faults.{memory_fault};
+ghost use Rattle.spelling.specs.Look.{text_item};
+ghost use Rattle.spelling.specs.Scope.{is_listed, kind_named, numbers_of, place_of, scope_of, setting_of, with_item, with_label};
+ghost use Rattle.spelling.specs.Spelled.{call_of, item_of, operation_of, or_zero, target_of};
+
+use crate::counts::Counts;
+use crate::declared::Declared;
+use crate::labels::{add_new_label, label_of};
+use crate::look::{count, has_only, text_item, whole_item};
+use crate::state::{Numbering, State, number_of};
+use crate::subject::Subject;
+use batch::{Call, Item, Kind, Step, is_name};
+use faults::{Fault, Wrong};
+use objects::Amount;
+use serde_json::Value;
+use std::alloc::Global;
+use words::Verb;
+
+/// The parts of an operation.
+#[derive(Clone, Copy, Drop)]
+pub struct Shape<'v> {
+    op: &'v Value,
+    object: &'v str,
+    call: &'v str,
+    label: Option<&'v str>,
+}
+
+#[tactic(auto, unfolding(crate::specs::Asked::operation_shape_asked))]
+fn shape_of<'v>(step: &'v Value, counts: &Counts) -> Result<Shape<'v>, Fault>
+    ensures met { OnOk result (IsMet counts.now (operation_shape_asked (view step.now)) counts.now) }
+    ensures first { IfErr result (IsFirst counts.now (operation_shape_asked (view step.now))) }
+    ensures op { IfOk result (λ shape. view shape.op.now ≡ part (codes "op") (view step.now)) }
+    ensures object { IfOk result (λ shape. shape.object.now ≡ object_of (part (codes "op") (view step.now))) }
+    ensures call { IfOk result (λ shape. shape.call.now ≡ call_named (part (codes "op") (view step.now))) }
+    ensures label { IfOk result (λ shape. option_map (λ text. text.now) shape.label ≡ label_in (view step.now)) }
+{
+    counts.demand(has_only(step, &["op", "as"]), Wrong::Shape)?;
+    let Some(op) = step.get("op") else {
+        return Err(counts.fault(Wrong::Shape));
+    };
+    let Some(object) = text_item(op, 0) else {
+        return Err(counts.fault(Wrong::Shape));
+    };
+    let Some(call) = text_item(op, 1) else {
+        return Err(counts.fault(Wrong::Shape));
+    };
+    let label = label_of(step, counts)?;
+    Ok(Shape {
+        op,
+        object,
+        call,
+        label,
+    })
+}
+
+// ---- arguments
+
+/// The amount at a place of an operation's array.
+fn amount_item(op: &Value, index: usize) -> Option<Amount>
+    ensures { option_map (λ amount. amount.value) result ≡ amount_item index (view op.now) }
+{
+    match whole_item(op, index) {
+        Some(number) if number >= 1 => Amount::new(number as u64),
+        _ => None,
+    }
+}
+
+/// The amount that a call takes.
+#[tactic(auto, unfolding(crate::specs::Asked::amount_asked))]
+fn amount_of(op: &Value, counts: &Counts) -> Result<Amount, Fault>
+    ensures met { OnOk result (IsMet counts.now (amount_asked (view op.now)) counts.now) }
+    ensures first { IfErr result (IsFirst counts.now (amount_asked (view op.now))) }
+    ensures value { IfOk result (λ amount. amount ≡ amount_of (or_zero (amount_item 2 (view op.now)))) }
+{
+    counts.demand(count(op) == Some(3), Wrong::Argument)?;
+    match amount_item(op, 2) {
+        Some(amount) => Ok(amount),
+        None => Err(counts.fault(Wrong::Argument)),
+    }
+}
+
+/// The name of the item at a place of an operation's array.
+#[tactic(auto, unfolding(crate::specs::Asked::item_asked))]
+fn name_at<'v>(op: &'v Value, index: usize, counts: &Counts) -> Result<&'v str, Fault>
+    ensures met { OnOk result (IsMet counts.now (item_asked index (view op.now)) counts.now) }
+    ensures first { IfErr result (IsFirst counts.now (item_asked index (view op.now))) }
+    ensures value { IfOk result (λ name. name.now ≡ name_item index (view op.now)) }
+{
+    let Some(name) = text_item(op, index) else {
+        return Err(counts.fault(Wrong::Argument));
+    };
+    counts.demand(is_name(name), Wrong::Name)?;
+    Ok(name)
+}
+
+/// The item of a name, which joins the others if it is new.
+pub fn item_of(alloc: Global, name: &str, numbering: &mut Numbering) -> Result<Item, Fault>
+    ensures value { IfOk result (λ item. item ≡ item_of name.now (numbers_of numbering.old)) }
+    ensures numbers { OnOk result (numbers_of numbering.new ≡ with_item name.now (numbers_of numbering.old)) }
+    ensures err { IfErr result (λ fault. fault ≡ memory_fault) }
+{
+    Ok(Item(number_of(alloc, &mut numbering.items, name)?))
+}
+
+#[tactic(auto, using(crate::proofs::Checks::parts), unfolding(crate::specs::Asked::arguments_asked, crate::specs::Spelled::call_of))]
+fn read_call(
+    alloc: Global,
+    verb: Verb,
+    op: &Value,
+    counts: &Counts,
+    numbering: &mut Numbering,
+) -> Result<Call, Fault>
+    ensures met { OnOk result (IsMet counts.now (arguments_asked verb (view op.now)) counts.now) }
+    ensures first { IfErr result (IsFirst counts.now (arguments_asked verb (view op.now))) }
+    ensures value { IfOk result (λ call. (call, numbers_of numbering.new) ≡ call_of verb (numbers_of numbering.old) (view op.now)) }
+{
+    match verb {
+        Verb::OfAmount(verb) => {
+            let amount = amount_of(op, counts)?;
+            Ok(verb.call(amount))
+        }
+        Verb::OfItem(verb) => {
+            counts.demand(count(op) == Some(3), Wrong::Argument)?;
+            let name = name_at(op, 2, counts)?;
+            let item = item_of(alloc, name, numbering)?;
+            Ok(verb.call(item))
+        }
+        Verb::OfPair(verb) => {
+            counts.demand(count(op) == Some(4), Wrong::Argument)?;
+            let key_name = name_at(op, 2, counts)?;
+            let name = name_at(op, 3, counts)?;
+            let key = item_of(alloc, key_name, numbering)?;
+            let item = item_of(alloc, name, numbering)?;
+            Ok(verb.call(key, item))
+        }
+        Verb::Alone(verb) => {
+            counts.demand(count(op) == Some(2), Wrong::Argument)?;
+            Ok(verb.call())
+        }
+    }
+}
+
+// ---- the operation
+
+/// The place and the kind of the object of that name.
+#[tactic(auto, using(crate::proofs::TableLemmas::targets))]
+fn find(name: &str, declared: &Declared) -> Option<(u32, Kind)>
+    ensures place { option_map (λ found. found.0) result ≡ place_of name.now (texts_of declared.now.names.keys) }
+    ensures kind { option_map (λ found. found.1) result ≡ kind_named name.now (setting_of declared.now) }
+    ensures listed { is_some result ≡ is_listed name.now (texts_of declared.now.names.keys) }
+{
+    let place = declared.names.get_index_of(name)?;
+    let value = declared.objects.value(place as u32)?;
+    Some((place as u32, value.kind()))
+}
+
+/// The object's place and the call that an operation names.
+#[tactic(auto, unfolding(crate::specs::Asked::target_asked))]
+pub fn target_of(
+    object: &str,
+    call: &str,
+    declared: &Declared,
+    counts: &Counts,
+) -> Result<(u32, Verb), Fault>
+    ensures met { OnOk result (IsMet counts.now (target_asked (setting_of declared.now) object.now call.now) counts.now) }
+    ensures first { IfErr result (IsFirst counts.now (target_asked (setting_of declared.now) object.now call.now)) }
+    ensures object { IfOk result (λ target. target.0 ≡ target_of (setting_of declared.now) object.now) }
+    ensures verb { IfOk result (λ target. target.1 ≡ operation_verb (setting_of declared.now) object.now call.now) }
+{
+    let Some((place, kind)) = find(object, declared) else {
+        return Err(counts.fault(Wrong::UnknownObject));
+    };
+    let Some(verb) = Verb::of_text(declared.version, kind, call) else {
+        return Err(counts.fault(Wrong::UnknownOperation));
+    };
+    Ok((place, verb))
+}
+
+#[tactic(auto, using(crate::proofs::Checks::parts), unfolding(crate::specs::Asked::operation_asked, crate::specs::Spelled::operation_of))]
+pub fn read_operation(
+    alloc: Global,
+    step: &Value,
+    declared: &Declared,
+    state: &mut State,
+) -> Result<Step, Fault>
+    ensures met { OnOk result (IsMet state.old.counts (operation_asked (setting_of declared.now)
+        (scope_of state.old.labels.entries) (view step.now)) state.new.counts) }
+    ensures first { IfErr result (IsFirst state.old.counts (operation_asked (setting_of declared.now)
+        (scope_of state.old.labels.entries) (view step.now))) }
+    ensures value { IfOk result (λ read. (step_view read, numbers_of state.new.numbering)
+        ≡ operation_of (setting_of declared.now) (numbers_of state.old.numbering) (view step.now)) }
+    ensures labels { OnOk result (scope_of state.new.labels.entries
+        ≡ with_label (label_in (view step.now)) (Subject.Reply (verb_in (setting_of declared.now) (part (codes "op") (view step.now))))
+        (scope_of state.old.labels.entries)) }
+{
+    let shape = shape_of(step, &state.counts)?;
+    state.counts.one_more_operation(declared.version)?;
+    let (object, verb) = target_of(shape.object, shape.call, declared, &state.counts)?;
+    let call = read_call(alloc, verb, shape.op, &state.counts, &mut state.numbering)?;
+    add_new_label(
+        alloc,
+        shape.label,
+        Subject::Reply(verb),
+        &mut state.labels,
+        &state.counts,
+    )?;
+    Ok(Step::Op {
+        object,
+        call,
+        labelled: shape.label.is_some(),
+    })
+}

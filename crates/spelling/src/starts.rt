@@ -1,0 +1,352 @@
+//! Reads the objects.
+ghost use Rattle.std.specs.FinMap as finite_map;
+ghost use Rattle.std.specs.FinSet as finite_set;
+ghost use Rattle.std.specs.Prelude.{◌≡◌, ◌≤◌, ◌++◌, ◌∷◌, [], codes, length, Some, IfErr, IfOk, OnOk};
+ghost use Rattle.serde_json.specs.View.{items_view, view};
+ghost use Rattle.batch.specs.Names.{texts_of};
+ghost use Rattle.spelling.specs.Answer.{IsFirst, IsMet};
+ghost use Rattle.spelling.specs.Asked.{declared_by, element_asked, elements_asked, entries_asked, entry_asked, key_of, kind_in, names_of, number_start, object_asked, object_kind, object_name, object_name_asked, object_shape_asked, objects_asked, pair_asked, pairs_asked, part, signed_start, start_asked, text_of, value_of};
+ghost use Rattle.spelling.specs.Scope.{numbers_of, setting_of, with_item, with_text};
+ghost use Rattle.spelling.specs.Spelled.{bind_all, entries_of, item_of, pair_of, pairs_of, put_all, spelled_map, start_of, starts_of};
+ghost use Rattle.meaning.specs.declared.limits.TheConstants.{MAX_OBJECTS};
+
+use crate::counts::Counts;
+use crate::declared::Declared;
+use crate::hashing::Texts;
+use crate::look::{count, has_only, text_item, text_member};
+use crate::operations::item_of;
+use crate::state::{Numbering, add_text};
+use batch::{Item, Kind, Objects, Value as ObjectValue, is_name};
+use faults::{Fault, Wrong};
+use indexmap::IndexSet;
+use meaning::limits::MAX_START;
+use objects::{Directory, ItemSet, Queue};
+use serde_json::Value;
+use std::alloc::Global;
+use words::kind_of_text;
+
+/// The limit of starting numbers, below 0 too.
+const MAX_NUMBER: i64 = MAX_START as i64;
+
+// ---- starts
+
+/// A number that an account or a maximum register may start with.
+fn number_start(value: &Value) -> Option<u64>
+    ensures { result ≡ number_start (view value.now) }
+{
+    match value.as_i64() {
+        Some(number) if 0 <= number && number <= MAX_NUMBER => Some(number as u64),
+        _ => None,
+    }
+}
+
+/// A number that a counter may start with.
+fn signed_start(value: &Value) -> Option<i64>
+    ensures { result ≡ signed_start (view value.now) }
+{
+    match value.as_i64() {
+        Some(number) if -MAX_NUMBER <= number && number <= MAX_NUMBER => Some(number),
+        _ => None,
+    }
+}
+
+/// An item of a queue.
+#[tactic(auto, unfolding(crate::specs::Asked::entry_asked))]
+pub fn read_entry(
+    alloc: Global,
+    value: &Value,
+    counts: &mut Counts,
+    numbering: &mut Numbering,
+) -> Result<Item, Fault>
+    ensures met { OnOk result (IsMet counts.old (entry_asked (view value.now)) counts.new) }
+    ensures first { IfErr result (IsFirst counts.old (entry_asked (view value.now))) }
+    ensures item { IfOk result (λ item. item ≡ item_of (text_of (view value.now)) (numbers_of numbering.old)) }
+    ensures numbers { OnOk result (numbers_of numbering.new ≡ with_item (text_of (view value.now)) (numbers_of numbering.old)) }
+{
+    let Some(name) = value.as_str() else {
+        return Err(counts.fault(Wrong::Start));
+    };
+    counts.demand(is_name(name), Wrong::Name)?;
+    counts.one_more_start()?;
+    item_of(alloc, name, numbering)
+}
+
+fn read_queue(
+    alloc: Global,
+    list: &Vec<Value>,
+    counts: &mut Counts,
+    numbering: &mut Numbering,
+) -> Result<Queue, Fault>
+    ensures met { OnOk result (IsMet counts.old (entries_asked (items_view list.now.items)) counts.new) }
+    ensures first { IfErr result (IsFirst counts.old (entries_asked (items_view list.now.items))) }
+    ensures value { IfOk result (λ queue. (queue, numbers_of numbering.new) ≡ entries_of (numbers_of numbering.old) (items_view list.now.items)) }
+{
+    let mut queue = Queue::new(alloc);
+    for entry in list {
+        let item = read_entry(alloc, entry, counts, numbering)?;
+        queue.push_back(item)?;
+    }
+    Ok(queue)
+}
+
+/// An item of a set, which differs from the earlier ones and joins them.
+#[tactic(auto, unfolding(crate::specs::Asked::element_asked))]
+pub fn read_element(
+    alloc: Global,
+    value: &Value,
+    earlier: &mut Texts,
+    counts: &mut Counts,
+    numbering: &mut Numbering,
+) -> Result<Item, Fault>
+    ensures met { OnOk result (IsMet counts.old (element_asked (texts_of earlier.old.keys) (view value.now)) counts.new) }
+    ensures first { IfErr result (IsFirst counts.old (element_asked (texts_of earlier.old.keys) (view value.now))) }
+    ensures item { IfOk result (λ item. item ≡ item_of (text_of (view value.now)) (numbers_of numbering.old)) }
+    ensures numbers { OnOk result (numbers_of numbering.new ≡ with_item (text_of (view value.now)) (numbers_of numbering.old)) }
+    ensures earlier { OnOk result (texts_of earlier.new.keys ≡ with_text (text_of (view value.now)) (texts_of earlier.old.keys)) }
+{
+    let Some(name) = value.as_str() else {
+        return Err(counts.fault(Wrong::Start));
+    };
+    counts.demand(is_name(name), Wrong::Name)?;
+    let new = add_text(alloc, earlier, name)?;
+    counts.demand(new, Wrong::Start)?;
+    counts.one_more_start()?;
+    item_of(alloc, name, numbering)
+}
+
+fn read_set(
+    alloc: Global,
+    list: &Vec<Value>,
+    counts: &mut Counts,
+    numbering: &mut Numbering,
+) -> Result<ItemSet, Fault>
+    ensures met { OnOk result (IsMet counts.old (elements_asked [] (items_view list.now.items)) counts.new) }
+    ensures first { IfErr result (IsFirst counts.old (elements_asked [] (items_view list.now.items))) }
+    ensures value { IfOk result (λ set. (set, numbers_of numbering.new) ≡ spelled_map (put_all finite_set.empty) (entries_of (numbers_of numbering.old) (items_view list.now.items))) }
+{
+    let mut set = ItemSet::new(alloc);
+    let mut earlier = IndexSet::with_capacity_and_hasher(
+        alloc,
+        list.len(),
+        *numbering.items.hasher(),
+    )?;
+    for element in list {
+        let item = read_element(alloc, element, &mut earlier, counts, numbering)?;
+        set.insert(item)?;
+    }
+    Ok(set)
+}
+
+/// The names of a key and its item, whose key differs from the earlier ones and joins them.
+#[tactic(auto, unfolding(crate::specs::Asked::pair_asked))]
+fn check_pair<'v>(
+    alloc: Global,
+    value: &'v Value,
+    earlier: &mut Texts,
+    counts: &mut Counts,
+) -> Result<(&'v str, &'v str), Fault>
+    ensures met { OnOk result (IsMet counts.old (pair_asked (texts_of earlier.old.keys) (view value.now)) counts.new) }
+    ensures first { IfErr result (IsFirst counts.old (pair_asked (texts_of earlier.old.keys) (view value.now))) }
+    ensures key { IfOk result (λ pair. pair.0.now ≡ key_of (view value.now)) }
+    ensures value { IfOk result (λ pair. pair.1.now ≡ value_of (view value.now)) }
+    ensures earlier { OnOk result (texts_of earlier.new.keys ≡ with_text (key_of (view value.now)) (texts_of earlier.old.keys)) }
+{
+    counts.demand(count(value) == Some(2), Wrong::Start)?;
+    let Some(key) = text_item(value, 0) else {
+        return Err(counts.fault(Wrong::Start));
+    };
+    let Some(bound) = text_item(value, 1) else {
+        return Err(counts.fault(Wrong::Start));
+    };
+    counts.demand(is_name(key), Wrong::Name)?;
+    counts.demand(is_name(bound), Wrong::Name)?;
+    let new = add_text(alloc, earlier, key)?;
+    counts.demand(new, Wrong::Start)?;
+    counts.one_more_start()?;
+    Ok((key, bound))
+}
+
+/// A key and its item.
+pub fn read_pair(
+    alloc: Global,
+    value: &Value,
+    earlier: &mut Texts,
+    counts: &mut Counts,
+    numbering: &mut Numbering,
+) -> Result<(Item, Item), Fault>
+    ensures met { OnOk result (IsMet counts.old (pair_asked (texts_of earlier.old.keys) (view value.now)) counts.new) }
+    ensures first { IfErr result (IsFirst counts.old (pair_asked (texts_of earlier.old.keys) (view value.now))) }
+    ensures pair { IfOk result (λ pair. (pair, numbers_of numbering.new) ≡ pair_of (numbers_of numbering.old) (view value.now)) }
+    ensures earlier { OnOk result (texts_of earlier.new.keys ≡ with_text (key_of (view value.now)) (texts_of earlier.old.keys)) }
+{
+    let (key_name, name) = check_pair(alloc, value, earlier, counts)?;
+    let key = item_of(alloc, key_name, numbering)?;
+    let item = item_of(alloc, name, numbering)?;
+    Ok((key, item))
+}
+
+fn read_directory(
+    alloc: Global,
+    list: &Vec<Value>,
+    counts: &mut Counts,
+    numbering: &mut Numbering,
+) -> Result<Directory, Fault>
+    ensures met { OnOk result (IsMet counts.old (pairs_asked [] (items_view list.now.items)) counts.new) }
+    ensures first { IfErr result (IsFirst counts.old (pairs_asked [] (items_view list.now.items))) }
+    ensures value { IfOk result (λ directory. (directory, numbers_of numbering.new) ≡ spelled_map (bind_all finite_map.empty) (pairs_of (numbers_of numbering.old) (items_view list.now.items))) }
+{
+    let mut directory = Directory::new(alloc);
+    let mut earlier = IndexSet::with_capacity_and_hasher(
+        alloc,
+        list.len(),
+        *numbering.items.hasher(),
+    )?;
+    for pair in list {
+        let (key, item) = read_pair(alloc, pair, &mut earlier, counts, numbering)?;
+        directory.put(key, item)?;
+    }
+    Ok(directory)
+}
+
+#[tactic(auto, unfolding(crate::specs::Asked::start_asked, crate::specs::Asked::array_start_asked, crate::specs::Spelled::start_of))]
+pub fn read_start(
+    alloc: Global,
+    kind: Kind,
+    value: &Value,
+    counts: &mut Counts,
+    numbering: &mut Numbering,
+) -> Result<ObjectValue, Fault>
+    ensures met { OnOk result (IsMet counts.old (start_asked kind (view value.now)) counts.new) }
+    ensures first { IfErr result (IsFirst counts.old (start_asked kind (view value.now))) }
+    ensures value { IfOk result (λ start. (start, numbers_of numbering.new) ≡ start_of kind (numbers_of numbering.old) (view value.now)) }
+{
+    match kind {
+        Kind::Account => match number_start(value) {
+            Some(number) => Ok(ObjectValue::Account(number)),
+            None => Err(counts.fault(Wrong::Start)),
+        },
+        Kind::Counter => match signed_start(value) {
+            Some(number) => Ok(ObjectValue::Counter(number)),
+            None => Err(counts.fault(Wrong::Start)),
+        },
+        Kind::Max => match number_start(value) {
+            Some(number) => Ok(ObjectValue::Max(number)),
+            None => Err(counts.fault(Wrong::Start)),
+        },
+        Kind::Set => match value.as_array() {
+            Some(list) => Ok(ObjectValue::Set(read_set(alloc, list, counts, numbering)?)),
+            None => Err(counts.fault(Wrong::Start)),
+        },
+        Kind::Queue => match value.as_array() {
+            Some(list) => Ok(ObjectValue::Queue(read_queue(alloc, list, counts, numbering)?)),
+            None => Err(counts.fault(Wrong::Start)),
+        },
+        Kind::Directory => match value.as_array() {
+            Some(list) => Ok(ObjectValue::Directory(read_directory(
+                alloc, list, counts, numbering,
+            )?)),
+            None => Err(counts.fault(Wrong::Start)),
+        },
+    }
+}
+
+// ---- an object
+
+/// The parts of an object.
+#[derive(Clone, Copy, Drop)]
+pub struct Shape<'v> {
+    pub name: &'v str,
+    pub kind: Kind,
+    pub start: &'v Value,
+}
+
+#[tactic(auto, unfolding(crate::specs::Asked::object_shape_asked))]
+pub fn shape_of<'v>(value: &'v Value, version: u8, counts: &Counts) -> Result<Shape<'v>, Fault>
+    ensures met { OnOk result (IsMet counts.now (object_shape_asked version (view value.now)) counts.now) }
+    ensures first { IfErr result (IsFirst counts.now (object_shape_asked version (view value.now))) }
+    ensures name { IfOk result (λ shape. shape.name.now ≡ object_name (view value.now)) }
+    ensures kind { IfOk result (λ shape. shape.kind ≡ kind_in version (view value.now)) }
+    ensures start { IfOk result (λ shape. view shape.start.now ≡ part (codes "start") (view value.now)) }
+{
+    counts.demand(has_only(value, &["name", "kind", "start"]), Wrong::Shape)?;
+    let Some(name) = text_member(value, "name") else {
+        return Err(counts.fault(Wrong::Shape));
+    };
+    let Some(kind) = kind_member(value, version) else {
+        return Err(counts.fault(Wrong::Shape));
+    };
+    let Some(start) = value.get("start") else {
+        return Err(counts.fault(Wrong::Shape));
+    };
+    Ok(Shape { name, kind, start })
+}
+
+fn kind_member(value: &Value, version: u8) -> Option<Kind>
+    ensures { result ≡ object_kind version (view value.now) }
+{
+    kind_of_text(version, text_member(value, "kind")?)
+}
+
+/// Adds an object's name to the others.
+#[tactic(auto, unfolding(crate::specs::Asked::object_name_asked))]
+pub fn add_name(alloc: Global, name: &str, names: &mut Texts, counts: &Counts) -> Result<(), Fault>
+    ensures met { OnOk result (IsMet counts.now (object_name_asked (texts_of names.old.keys) name.now) counts.now) }
+    ensures first { IfErr result (IsFirst counts.now (object_name_asked (texts_of names.old.keys) name.now)) }
+    ensures names { OnOk result (texts_of names.new.keys ≡ texts_of names.old.keys ++ name.now ∷ []) }
+{
+    counts.demand(is_name(name), Wrong::Name)?;
+    let new = add_text(alloc, names, name)?;
+    counts.demand(new, Wrong::DuplicateObject)?;
+    Ok(())
+}
+
+#[tactic(auto, using(crate::proofs::Checks::parts), unfolding(crate::specs::Asked::object_asked))]
+fn read_object(
+    alloc: Global,
+    value: &Value,
+    version: u8,
+    names: &mut Texts,
+    counts: &mut Counts,
+    numbering: &mut Numbering,
+) -> Result<ObjectValue, Fault>
+    ensures met { OnOk result (IsMet counts.old (object_asked version (texts_of names.old.keys) (view value.now)) counts.new) }
+    ensures first { IfErr result (IsFirst counts.old (object_asked version (texts_of names.old.keys) (view value.now))) }
+    ensures value { IfOk result (λ start. (start, numbers_of numbering.new) ≡ start_of (kind_in version (view value.now)) (numbers_of numbering.old) (part (codes "start") (view value.now))) }
+    ensures names { OnOk result (texts_of names.new.keys ≡ texts_of names.old.keys ++ object_name (view value.now) ∷ []) }
+{
+    let shape = shape_of(value, version, counts)?;
+    add_name(alloc, shape.name, names, counts)?;
+    let start = read_start(alloc, shape.kind, shape.start, counts, numbering)?;
+    Ok(start)
+}
+
+pub fn read_objects(
+    alloc: Global,
+    list: &Vec<Value>,
+    version: u8,
+    counts: &mut Counts,
+    numbering: &mut Numbering,
+) -> Result<Declared, Fault>
+    requires few { length list.now.items ≤ MAX_OBJECTS }
+    ensures met { OnOk result (IsMet counts.old (objects_asked version [] (items_view list.now.items)) counts.new) }
+    ensures first { IfErr result (IsFirst counts.old (objects_asked version [] (items_view list.now.items))) }
+    ensures names { IfOk result (λ declared. texts_of declared.names.keys ≡ names_of (items_view list.now.items)) }
+    ensures setting { IfOk result (λ declared. setting_of declared ≡ declared_by version (items_view list.now.items)) }
+    ensures objects { IfOk result (λ declared. (declared.objects, numbers_of numbering.new) ≡ starts_of version (numbers_of numbering.old) (items_view list.now.items)) }
+{
+    let mut names = IndexSet::with_capacity_and_hasher(
+        alloc,
+        list.len(),
+        *numbering.items.hasher(),
+    )?;
+    let mut objects = Objects::new(alloc);
+    for object in list {
+        let value = read_object(alloc, object, version, &mut names, counts, numbering)?;
+        objects.push(value)?;
+    }
+    Ok(Declared {
+        version,
+        names,
+        objects,
+    })
+}

@@ -1,0 +1,88 @@
+//! What has been seen of a document at a place.
+ghost use Rattle.std.specs.Prelude.{◌≡◌, [], not, IfErr, IfOk, OnOk};
+ghost use Rattle.batch.specs.Names.{texts_of};
+ghost use Rattle.spelling.specs.Demand.{no_counts};
+ghost use Rattle.faults.specs.Faults.{memory_fault};
+ghost use Rattle.spelling.specs.Scope.{fit, is_listed, no_numbers, number_of, numbers_of, scope_of, with_text};
+
+use crate::counts::Counts;
+use crate::hashing::{Labels, NameHashing, Texts};
+use faults::Fault;
+use indexmap::{IndexMap, IndexSet};
+use std::alloc::Global;
+
+/// The texts that are numbered so far.
+#[derive(Drop)]
+pub struct Numbering {
+    pub items: Texts,
+    pub reasons: Texts,
+}
+
+/// What has been counted, what is numbered, and the labels that are seen here.
+#[derive(Drop)]
+pub struct State {
+    pub counts: Counts,
+    pub numbering: Numbering,
+    pub labels: Labels,
+    /// Whether the reasons of handlers may stand in any order, as some don't ascend.
+    pub any_order: bool,
+}
+
+impl State {
+    /// Before anything is read of the document whose names are hashed so.
+    pub fn new(alloc: Global, hashing: NameHashing) -> State
+        ensures counts { result.counts ≡ no_counts }
+        ensures numbers { numbers_of result.numbering ≡ no_numbers }
+        ensures labels { scope_of result.labels.entries ≡ [] }
+    {
+        State {
+            counts: Counts {
+                transaction: 0,
+                operations: 0,
+                nodes: 0,
+                starts: 0,
+            },
+            numbering: Numbering {
+                items: IndexSet::with_hasher(alloc, hashing),
+                reasons: IndexSet::with_hasher(alloc, hashing),
+            },
+            labels: IndexMap::with_hasher(alloc, hashing),
+            any_order: false,
+        }
+    }
+}
+
+/// A number, or the greatest of its type.
+pub fn fit(number: usize) -> u32
+    ensures { result ≡ fit number }
+{
+    if number < 4_294_967_295 {
+        number as u32
+    } else {
+        4_294_967_295
+    }
+}
+
+/// Adds a text to the others if it is new, and returns whether it is.
+pub(crate) fn add_text(alloc: Global, table: &mut Texts, text: &str) -> Result<bool, Fault>
+    ensures new { IfOk result (λ new. new ≡ not (is_listed text.now (texts_of table.old.keys))) }
+    ensures table { OnOk result (texts_of table.new.keys ≡ with_text text.now (texts_of table.old.keys)) }
+    ensures err { IfErr result (λ fault. fault ≡ memory_fault) }
+{
+    let new = table.insert(String::from_str(alloc, text)?)?;
+    Ok(new)
+}
+
+/// The number of a text, which joins the others if it is new.
+pub fn number_of(alloc: Global, table: &mut Texts, text: &str) -> Result<u32, Fault>
+    ensures number { IfOk result (λ number. number ≡ number_of text.now (texts_of table.old.keys)) }
+    ensures table { OnOk result (texts_of table.new.keys ≡ with_text text.now (texts_of table.old.keys)) }
+    ensures err { IfErr result (λ fault. fault ≡ memory_fault) }
+{
+    if let Some(number) = table.get_index_of(text) {
+        return Ok(fit(number));
+    }
+    let number = table.len();
+    table.insert(String::from_str(alloc, text)?)?;
+    Ok(fit(number))
+}

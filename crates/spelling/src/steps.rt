@@ -1,0 +1,609 @@
+//! Reads the steps of a transaction.
+ghost use Rattle.std.specs.Prelude.{◌≡◌, ◌≢◌, ◌≤◌, [], length, map, codes, option_map, true, false, None, Some, unwrap_or, IfErr, IfOk, MatchResult, OnOk};
+ghost use Rattle.serde_json.specs.Find.{as_str};
+ghost use Rattle.serde_json.specs.View.{items_view, members_view, view};
+ghost use Rattle.meaning.specs.Trees.{for_reasons, handlers_of};
+ghost use Rattle.batch.specs.Names.{is_name, texts_of};
+ghost use Rattle.batch.specs.Views.{block_view, handler_view, otherwise_view, step_view, subaction_view};
+ghost use Rattle.spelling.specs.Answer.{IsFirst, IsMet};
+ghost use Rattle.spelling.specs.Asked.{abort_asked, abort_shape_asked, block_asked, block_asked_if, children_asked, children_in, handlers_are_members, handlers_asked, handlers_in, if_asked, is_abort, label_in, labels_of, member_asked, members_asked, parallel_asked, parallel_shape_asked, part, reason_asked, scope_after, sort_of, step_asked, steps_asked, sub_asked, sub_shape_asked, transaction_asked, transactions_asked};
+ghost use Rattle.spelling.specs.Demand.{fault_at};
+ghost use Rattle.faults.specs.Faults.{memory_fault};
+ghost use Rattle.spelling.specs.Scope.{Extends, number_of, numbers_of, scope_of, setting_of, with_label, with_labels, with_text};
+ghost use Rattle.spelling.specs.Spelled.{abort_of, block_of, block_of_if, blocks_of, children_spelled, handlers_spelled, if_of, member_of, members_of, parallel_of, reason_of, spelled_map, step_of, steps_spelled, sub_of, sub_step};
+ghost use Rattle.meaning.specs.declared.limits.TheConstants.{MAX_DEPTH, MAX_TRANSACTIONS};
+
+use crate::counts::Counts;
+use crate::declared::Declared;
+use crate::hashing::{Labels, Texts};
+use crate::heads::{
+    if_head, if_step, no_labels, parallel_head, parallel_step, sub_head, sub_step, subaction_of,
+};
+use crate::labels::{add_label, label_of, leave_block};
+use crate::look::{has, has_only, list_member, text_member};
+use crate::operations::read_operation;
+use crate::state::{State, number_of};
+use crate::subject::Subject;
+use batch::{Block, Handler, Otherwise, Step, Subaction, is_name};
+use faults::{Fault, Wrong};
+use meaning::limits::MAX_DEPTH;
+use serde_json::{Map, Value};
+use std::alloc::Global;
+
+/// What a step is, by the one member that says so.
+#[derive(Clone, Copy, Drop)]
+pub enum Sort {
+    Operation,
+    If,
+    Sub,
+    Abort,
+    Parallel,
+}
+
+#[tactic(auto, using(crate::proofs::Members::operations), unfolding(crate::specs::Asked::sort_of))]
+pub fn sort_of(step: &Value) -> Option<Sort>
+    ensures { result ≡ sort_of (view step.now) }
+{
+    let op = has(step, "op");
+    // Most steps are operations: one look at the names of their members shows that they have no other.
+    if op && has_only(step, &["op", "as"]) {
+        return Some(Sort::Operation);
+    }
+    let condition = has(step, "if");
+    let sub = has(step, "sub");
+    let abort = has(step, "abort");
+    let parallel = has(step, "parallel");
+    match (op, condition, sub, abort, parallel) {
+        (true, false, false, false, false) => Some(Sort::Operation),
+        (false, true, false, false, false) => Some(Sort::If),
+        (false, false, true, false, false) => Some(Sort::Sub),
+        (false, false, false, true, false) => Some(Sort::Abort),
+        (false, false, false, false, true) => Some(Sort::Parallel),
+        _ => None,
+    }
+}
+
+// ---- abort
+
+/// Whether the value is `true`, or a reason where the version has them.
+fn is_abort(version: u8, value: &Value) -> bool
+    ensures { result ≡ is_abort version (view value.now) }
+{
+    value.as_bool() == Some(true) || version >= 3 && value.is_string()
+}
+
+/// The number of a reason, which is a name and joins the others if it is new.
+pub fn reason_number(
+    alloc: Global,
+    reason: &str,
+    counts: &Counts,
+    reasons: &mut Texts,
+) -> Result<u32, Fault>
+    ensures met { OnOk result (is_name reason.now ≡ true) }
+    ensures first { IfErr result (λ fault. fault ≢ memory_fault
+        → (is_name reason.now ≡ false) × (fault ≡ fault_at Wrong.Name counts.now)) }
+    ensures number { IfOk result (λ number. number ≡ number_of reason.now (texts_of reasons.old.keys)) }
+    ensures table { OnOk result (texts_of reasons.new.keys ≡ with_text reason.now (texts_of reasons.old.keys)) }
+{
+    counts.demand(is_name(reason), Wrong::Name)?;
+    number_of(alloc, reasons, reason)
+}
+
+/// The reason's number, where there is a reason.
+#[tactic(auto, unfolding(crate::specs::Asked::reason_asked, crate::specs::Spelled::reason_of))]
+pub fn read_reason(
+    alloc: Global,
+    reason: Option<&str>,
+    state: &mut State,
+) -> Result<Option<u32>, Fault>
+    ensures met { OnOk result (IsMet state.old.counts (reason_asked (option_map (λ text. text.now) reason.entry)) state.new.counts) }
+    ensures first { IfErr result (IsFirst state.old.counts (reason_asked (option_map (λ text. text.now) reason.entry))) }
+    ensures value { IfOk result (λ number. (number, numbers_of state.new.numbering)
+        ≡ reason_of (numbers_of state.old.numbering) (option_map (λ text. text.now) reason.entry)) }
+    ensures labels { OnOk result (scope_of state.new.labels.entries ≡ scope_of state.old.labels.entries) }
+{
+    let Some(name) = reason else {
+        return Ok(None);
+    };
+    let number = reason_number(alloc, name, &state.counts, &mut state.numbering.reasons)?;
+    Ok(Some(number))
+}
+
+#[tactic(auto, using(crate::proofs::Checks::parts), unfolding(crate::specs::Asked::abort_shape_asked))]
+fn abort_of<'v>(step: &'v Value, version: u8, counts: &mut Counts) -> Result<Option<&'v str>, Fault>
+    ensures met { OnOk result (IsMet counts.old (abort_shape_asked version (view step.now)) counts.new) }
+    ensures first { IfErr result (IsFirst counts.old (abort_shape_asked version (view step.now))) }
+    ensures reason { IfOk result (λ reason. option_map (λ text. text.now) reason ≡ as_str (part (codes "abort") (view step.now))) }
+{
+    counts.demand(has_only(step, &["abort"]), Wrong::Shape)?;
+    let Some(value) = step.get("abort") else {
+        return Err(counts.fault(Wrong::Shape));
+    };
+    counts.demand(is_abort(version, value), Wrong::Shape)?;
+    counts.one_more_node()?;
+    Ok(value.as_str())
+}
+
+#[tactic(auto, using(crate::proofs::Checks::parts), unfolding(crate::specs::Asked::abort_asked, crate::specs::Spelled::abort_of))]
+pub fn read_abort(
+    alloc: Global,
+    step: &Value,
+    version: u8,
+    state: &mut State,
+) -> Result<Step, Fault>
+    ensures met { OnOk result (IsMet state.old.counts (abort_asked version (view step.now)) state.new.counts) }
+    ensures first { IfErr result (IsFirst state.old.counts (abort_asked version (view step.now))) }
+    ensures value { IfOk result (λ read. (step_view read, numbers_of state.new.numbering) ≡ abort_of (numbers_of state.old.numbering) (view step.now)) }
+    ensures labels { OnOk result (scope_of state.new.labels.entries ≡ scope_of state.old.labels.entries) }
+{
+    let reason = abort_of(step, version, &mut state.counts)?;
+    let number = read_reason(alloc, reason, state)?;
+    Ok(Step::Abort(number))
+}
+
+// ---- the steps that hold blocks
+
+#[cycle(steps)]
+#[tactic(auto, using(crate::proofs::HeadLemmas::heads), unfolding(crate::specs::Spelled::if_of))]
+fn read_if(
+    alloc: Global,
+    step: &Value,
+    levels: usize,
+    declared: &Declared,
+    state: &mut State,
+) -> Result<Step, Fault>
+    ensures met { OnOk result (IsMet state.old.counts (if_asked (block_asked (setting_of declared.now) levels)
+        (scope_of state.old.labels.entries) (view step.now)) state.new.counts) }
+    ensures first { IfErr result (IsFirst state.old.counts (if_asked (block_asked (setting_of declared.now) levels)
+        (scope_of state.old.labels.entries) (view step.now))) }
+    ensures value { IfOk result (λ read. (step_view read, numbers_of state.new.numbering)
+        ≡ if_of (block_of (setting_of declared.now) levels) (scope_of state.old.labels.entries)
+        (numbers_of state.old.numbering) (view step.now)) }
+    ensures labels { OnOk result (scope_of state.new.labels.entries ≡ scope_of state.old.labels.entries) }
+{
+    let head = if_head(alloc, step, state)?;
+    let then = read_block(alloc, head.then, levels, declared, state)?;
+    let otherwise = read_block_if(alloc, step.get("else"), levels, declared, state)?;
+    let read = if_step(alloc, head.label, head.test, then, otherwise)?;
+    Ok(read)
+}
+
+/// The parts of a subaction.
+#[derive(Clone, Copy, Drop)]
+pub struct SubShape<'v> {
+    pub body: &'v Value,
+    pub label: Option<&'v str>,
+    pub handlers: Option<&'v Map<String, Value>>,
+}
+
+/// Handlers by reason, which a version may have.
+fn handlers_of<'v>(
+    step: &'v Value,
+    version: u8,
+    counts: &Counts,
+) -> Result<Option<&'v Map<String, Value>>, Fault>
+    ensures { MatchResult result
+        (λ handlers. (handlers_are_members version (view step.now) ≡ true)
+        × (option_map (λ members. members_view members.now.entries) handlers ≡ handlers_in (view step.now)))
+        (λ fault. (handlers_are_members version (view step.now) ≡ false)
+        × (fault ≡ fault_at Wrong.Shape counts.now)) }
+{
+    let Some(handlers) = step.get("handlers") else {
+        return Ok(None);
+    };
+    if version < 3 {
+        return Err(counts.fault(Wrong::Shape));
+    }
+    match handlers.as_object() {
+        Some(members) => Ok(Some(members)),
+        None => Err(counts.fault(Wrong::Shape)),
+    }
+}
+
+#[tactic(auto, unfolding(crate::specs::Asked::sub_shape_asked))]
+pub(crate) fn sub_shape_of<'v>(
+    step: &'v Value,
+    version: u8,
+    counts: &Counts,
+) -> Result<SubShape<'v>, Fault>
+    ensures met { OnOk result (IsMet counts.now (sub_shape_asked version (view step.now)) counts.now) }
+    ensures first { IfErr result (IsFirst counts.now (sub_shape_asked version (view step.now))) }
+    ensures body { IfOk result (λ shape. view shape.body.now ≡ part (codes "sub") (view step.now)) }
+    ensures label { IfOk result (λ shape. option_map (λ text. text.now) shape.label ≡ label_in (view step.now)) }
+    ensures handlers { IfOk result (λ shape. option_map (λ members. members_view members.now.entries) shape.handlers
+        ≡ handlers_in (view step.now)) }
+{
+    counts.demand(
+        has_only(step, &["sub", "handler", "handlers", "as"]),
+        Wrong::Shape,
+    )?;
+    let Some(body) = step.get("sub") else {
+        return Err(counts.fault(Wrong::Shape));
+    };
+    let label = label_of(step, counts)?;
+    let handlers = handlers_of(step, version, counts)?;
+    Ok(SubShape {
+        body,
+        label,
+        handlers,
+    })
+}
+
+/// A handler by reason.
+#[cycle(steps)]
+#[tactic(auto, using(crate::proofs::Checks::parts))]
+fn read_handler(
+    alloc: Global,
+    reason: &str,
+    value: &Value,
+    levels: usize,
+    declared: &Declared,
+    state: &mut State,
+) -> Result<Handler, Fault>
+    ensures met { OnOk result (IsMet state.old.counts (member_asked (block_asked (setting_of declared.now) levels)
+        (scope_of state.old.labels.entries) reason.now (view value.now)) state.new.counts) }
+    ensures first { IfErr result (IsFirst state.old.counts (member_asked (block_asked (setting_of declared.now) levels)
+        (scope_of state.old.labels.entries) reason.now (view value.now))) }
+    ensures value { IfOk result (λ read. (handler_view read, numbers_of state.new.numbering)
+        ≡ member_of (block_of (setting_of declared.now) levels) (scope_of state.old.labels.entries)
+        (numbers_of state.old.numbering) reason.now (view value.now)) }
+    ensures labels { OnOk result (scope_of state.new.labels.entries ≡ scope_of state.old.labels.entries) }
+{
+    let number = reason_number(alloc, reason, &state.counts, &mut state.numbering.reasons)?;
+    let block = read_block(alloc, value, levels, declared, state)?;
+    Ok(Handler {
+        reason: number,
+        block,
+    })
+}
+
+/// The handlers by reason, in the order of the reasons' bytes.
+#[cycle(steps)]
+pub fn read_members(
+    alloc: Global,
+    members: &Map<String, Value>,
+    levels: usize,
+    declared: &Declared,
+    state: &mut State,
+) -> Result<Vec<Handler>, Fault>
+    ensures met { OnOk result (IsMet state.old.counts (members_asked (block_asked (setting_of declared.now) levels)
+        (scope_of state.old.labels.entries) (members_view members.now.entries)) state.new.counts) }
+    ensures first { IfErr result (IsFirst state.old.counts (members_asked (block_asked (setting_of declared.now) levels)
+        (scope_of state.old.labels.entries) (members_view members.now.entries))) }
+    ensures value { IfOk result (λ read. (map handler_view read.items, numbers_of state.new.numbering)
+        ≡ members_of (block_of (setting_of declared.now) levels) (scope_of state.old.labels.entries)
+        (numbers_of state.old.numbering) (members_view members.now.entries)) }
+    ensures labels { OnOk result (scope_of state.new.labels.entries ≡ scope_of state.old.labels.entries) }
+{
+    let mut handlers = Vec::with_capacity(alloc, members.len())?;
+    for (reason, value) in members {
+        handlers.push(read_handler(alloc, reason.as_str(), value, levels, declared, state)?)?;
+    }
+    Ok(handlers)
+}
+
+#[cycle(steps)]
+#[tactic(auto, unfolding(crate::specs::Asked::handlers_asked, crate::specs::Spelled::handlers_spelled))]
+fn read_handlers(
+    alloc: Global,
+    handlers: Option<&Map<String, Value>>,
+    levels: usize,
+    declared: &Declared,
+    state: &mut State,
+) -> Result<Option<Vec<Handler>>, Fault>
+    ensures met { OnOk result (IsMet state.old.counts (handlers_asked (block_asked (setting_of declared.now) levels)
+        (scope_of state.old.labels.entries) (option_map (λ members. members_view members.now.entries) handlers.entry)) state.new.counts) }
+    ensures first { IfErr result (IsFirst state.old.counts (handlers_asked (block_asked (setting_of declared.now) levels)
+        (scope_of state.old.labels.entries) (option_map (λ members. members_view members.now.entries) handlers.entry))) }
+    ensures value { IfOk result (λ read. (option_map (λ list. map handler_view list.items) read, numbers_of state.new.numbering)
+        ≡ handlers_spelled (block_of (setting_of declared.now) levels) (scope_of state.old.labels.entries)
+        (numbers_of state.old.numbering) (option_map (λ members. members_view members.now.entries) handlers.entry)) }
+    ensures labels { OnOk result (scope_of state.new.labels.entries ≡ scope_of state.old.labels.entries) }
+{
+    match handlers {
+        Some(members) => {
+            let read = read_members(alloc, members, levels, declared, state)?;
+            Ok(Some(read))
+        }
+        None => Ok(None),
+    }
+}
+
+/// What takes an abort, of the handlers by reason and the handler for every abort: where there is
+/// neither, the parent goes on.
+pub(crate) fn taking(
+    alloc: Global,
+    handlers: Option<Vec<Handler>>,
+    handler: Option<Block>,
+) -> (Vec<Handler>, Otherwise)
+    ensures { for_reasons (map handler_view result.0.items) (otherwise_view result.1)
+        ≡ handlers_of (option_map (λ list. map handler_view list.items) handlers) (option_map block_view handler) }
+{
+    match (handlers, handler) {
+        (None, None) => (Vec::new(alloc), Otherwise::GoOn),
+        (None, Some(block)) => (Vec::new(alloc), Otherwise::Run(block)),
+        (Some(handlers), None) => (handlers, Otherwise::Pass),
+        (Some(handlers), Some(block)) => (handlers, Otherwise::Run(block)),
+    }
+}
+
+/// A subaction, or a child whose earlier siblings have these labels. Its own label is not yet seen.
+#[cycle(steps)]
+#[tactic(auto, using(crate::proofs::HeadLemmas::heads), unfolding(crate::specs::Spelled::sub_of))]
+fn read_sub(
+    alloc: Global,
+    step: &Value,
+    levels: usize,
+    declared: &Declared,
+    earlier: Option<&Labels>,
+    state: &mut State,
+) -> Result<Subaction, Fault>
+    ensures met { OnOk result (IsMet state.old.counts (sub_asked declared.now.version (block_asked (setting_of declared.now) levels)
+        (scope_of state.old.labels.entries) (unwrap_or (option_map (λ labels. scope_of labels.now.entries) earlier.entry) []) (view step.now)) state.new.counts) }
+    ensures first { IfErr result (IsFirst state.old.counts (sub_asked declared.now.version (block_asked (setting_of declared.now) levels)
+        (scope_of state.old.labels.entries) (unwrap_or (option_map (λ labels. scope_of labels.now.entries) earlier.entry) []) (view step.now))) }
+    ensures value { IfOk result (λ read. (subaction_view read, numbers_of state.new.numbering)
+        ≡ sub_of (block_of (setting_of declared.now) levels) (scope_of state.old.labels.entries)
+        (numbers_of state.old.numbering) (view step.now)) }
+    ensures labels { OnOk result (scope_of state.new.labels.entries ≡ scope_of state.old.labels.entries) }
+{
+    let head = sub_head(
+        step,
+        declared.version,
+        &state.labels,
+        earlier,
+        &mut state.counts,
+    )?;
+    let body = read_block(alloc, head.body, levels, declared, state)?;
+    let handlers = read_handlers(alloc, head.handlers, levels, declared, state)?;
+    let handler = read_block_if(alloc, step.get("handler"), levels, declared, state)?;
+    let labelled = head.label.is_some();
+    Ok(subaction_of(alloc, body, handlers, handler, labelled))
+}
+
+#[cycle(steps)]
+fn read_sub_step(
+    alloc: Global,
+    step: &Value,
+    levels: usize,
+    declared: &Declared,
+    state: &mut State,
+) -> Result<Step, Fault>
+    ensures met { OnOk result (IsMet state.old.counts (sub_asked declared.now.version (block_asked (setting_of declared.now) levels)
+        (scope_of state.old.labels.entries) [] (view step.now)) state.new.counts) }
+    ensures first { IfErr result (IsFirst state.old.counts (sub_asked declared.now.version (block_asked (setting_of declared.now) levels)
+        (scope_of state.old.labels.entries) [] (view step.now))) }
+    ensures value { IfOk result (λ read. (step_view read, numbers_of state.new.numbering)
+        ≡ spelled_map sub_step (sub_of (block_of (setting_of declared.now) levels) (scope_of state.old.labels.entries)
+        (numbers_of state.old.numbering) (view step.now))) }
+    ensures labels { OnOk result (scope_of state.new.labels.entries
+        ≡ with_label (label_in (view step.now)) Subject.Outcome (scope_of state.old.labels.entries)) }
+{
+    let child = read_sub(alloc, step, levels, declared, None, state)?;
+    let read = sub_step(alloc, child, text_member(step, "as"), &mut state.labels)?;
+    Ok(read)
+}
+
+/// The children, with their labels, which none of them sees.
+#[cycle(steps)]
+fn read_children(
+    alloc: Global,
+    list: &Vec<Value>,
+    levels: usize,
+    declared: &Declared,
+    earlier: &mut Labels,
+    state: &mut State,
+) -> Result<Vec<Subaction>, Fault>
+    ensures met { OnOk result (IsMet state.old.counts (children_asked declared.now.version (block_asked (setting_of declared.now) levels)
+        (scope_of state.old.labels.entries) (scope_of earlier.old.entries) (items_view list.now.items)) state.new.counts) }
+    ensures first { IfErr result (IsFirst state.old.counts (children_asked declared.now.version (block_asked (setting_of declared.now) levels)
+        (scope_of state.old.labels.entries) (scope_of earlier.old.entries) (items_view list.now.items))) }
+    ensures value { IfOk result (λ read. (map subaction_view read.items, numbers_of state.new.numbering)
+        ≡ children_spelled (block_of (setting_of declared.now) levels) (scope_of state.old.labels.entries)
+        (numbers_of state.old.numbering) (items_view list.now.items)) }
+    ensures earlier { OnOk result (scope_of earlier.new.entries ≡ labels_of (scope_of earlier.old.entries) (items_view list.now.items)) }
+    ensures labels { OnOk result (scope_of state.new.labels.entries ≡ scope_of state.old.labels.entries) }
+{
+    let mut children = Vec::with_capacity(alloc, list.len())?;
+    for child in list {
+        children.push(read_sub(alloc, child, levels, declared, Some(earlier), state)?)?;
+        add_label(alloc, text_member(child, "as"), Subject::Outcome, earlier)?;
+    }
+    Ok(children)
+}
+
+#[tactic(auto, unfolding(crate::specs::Asked::parallel_shape_asked))]
+pub fn children_of<'v>(step: &'v Value, counts: &Counts) -> Result<&'v Vec<Value>, Fault>
+    ensures met { OnOk result (IsMet counts.now (parallel_shape_asked (view step.now)) counts.now) }
+    ensures first { IfErr result (IsFirst counts.now (parallel_shape_asked (view step.now))) }
+    ensures children { IfOk result (λ list. items_view list.now.items ≡ children_in (view step.now)) }
+{
+    counts.demand(has_only(step, &["parallel"]), Wrong::Shape)?;
+    let Some(list) = list_member(step, "parallel") else {
+        return Err(counts.fault(Wrong::Shape));
+    };
+    Ok(list)
+}
+
+#[cycle(steps)]
+#[tactic(auto, using(crate::proofs::HeadLemmas::heads))]
+fn read_parallel(
+    alloc: Global,
+    step: &Value,
+    levels: usize,
+    declared: &Declared,
+    state: &mut State,
+) -> Result<Step, Fault>
+    ensures met { OnOk result (IsMet state.old.counts (parallel_asked declared.now.version (block_asked (setting_of declared.now) levels)
+        (scope_of state.old.labels.entries) (view step.now)) state.new.counts) }
+    ensures first { IfErr result (IsFirst state.old.counts (parallel_asked declared.now.version (block_asked (setting_of declared.now) levels)
+        (scope_of state.old.labels.entries) (view step.now))) }
+    ensures value { IfOk result (λ read. (step_view read, numbers_of state.new.numbering)
+        ≡ parallel_of (block_of (setting_of declared.now) levels) (scope_of state.old.labels.entries)
+        (numbers_of state.old.numbering) (view step.now)) }
+    ensures labels { OnOk result (scope_of state.new.labels.entries
+        ≡ with_labels (labels_of [] (children_in (view step.now))) (scope_of state.old.labels.entries)) }
+{
+    let list = parallel_head(step, &mut state.counts)?;
+    let mut earlier = no_labels(alloc, &state.labels);
+    let children = read_children(alloc, list, levels, declared, &mut earlier, state)?;
+    let read = parallel_step(alloc, children, earlier, &mut state.labels)?;
+    Ok(read)
+}
+
+// ---- blocks
+
+/// A block that a step may have.
+#[cycle(steps)]
+#[tactic(auto, unfolding(crate::specs::Asked::block_asked_if, crate::specs::Spelled::block_of_if))]
+fn read_block_if(
+    alloc: Global,
+    value: Option<&Value>,
+    levels: usize,
+    declared: &Declared,
+    state: &mut State,
+) -> Result<Option<Block>, Fault>
+    ensures met { OnOk result (IsMet state.old.counts (block_asked_if (block_asked (setting_of declared.now) levels)
+        (scope_of state.old.labels.entries) (option_map (λ v. view v.now) value.entry)) state.new.counts) }
+    ensures first { IfErr result (IsFirst state.old.counts (block_asked_if (block_asked (setting_of declared.now) levels)
+        (scope_of state.old.labels.entries) (option_map (λ v. view v.now) value.entry))) }
+    ensures value { IfOk result (λ block. (option_map block_view block, numbers_of state.new.numbering)
+        ≡ block_of_if (block_of (setting_of declared.now) levels) (scope_of state.old.labels.entries)
+        (numbers_of state.old.numbering) (option_map (λ v. view v.now) value.entry)) }
+    ensures labels { OnOk result (scope_of state.new.labels.entries ≡ scope_of state.old.labels.entries) }
+{
+    match value {
+        Some(value) => {
+            let block = read_block(alloc, value, levels, declared, state)?;
+            Ok(Some(block))
+        }
+        None => Ok(None),
+    }
+}
+
+#[cycle(steps)]
+#[tactic(auto, unfolding(crate::specs::Asked::step_asked, crate::specs::Asked::scope_after, crate::specs::Spelled::step_of))]
+pub fn read_step(
+    alloc: Global,
+    step: &Value,
+    levels: usize,
+    declared: &Declared,
+    state: &mut State,
+) -> Result<Step, Fault>
+    ensures met { OnOk result (IsMet state.old.counts (step_asked (block_asked (setting_of declared.now) levels)
+        (setting_of declared.now) (scope_of state.old.labels.entries) (view step.now)) state.new.counts) }
+    ensures first { IfErr result (IsFirst state.old.counts (step_asked (block_asked (setting_of declared.now) levels)
+        (setting_of declared.now) (scope_of state.old.labels.entries) (view step.now))) }
+    ensures value { IfOk result (λ read. (step_view read, numbers_of state.new.numbering)
+        ≡ step_of (block_of (setting_of declared.now) levels) (setting_of declared.now)
+        (scope_of state.old.labels.entries) (numbers_of state.old.numbering) (view step.now)) }
+    ensures labels { OnOk result (scope_of state.new.labels.entries
+        ≡ scope_after (setting_of declared.now) (scope_of state.old.labels.entries) (view step.now)) }
+{
+    match sort_of(step) {
+        Some(Sort::Operation) => read_operation(alloc, step, declared, state),
+        Some(Sort::If) => read_if(alloc, step, levels, declared, state),
+        Some(Sort::Sub) => read_sub_step(alloc, step, levels, declared, state),
+        Some(Sort::Abort) => read_abort(alloc, step, declared.version, state),
+        Some(Sort::Parallel) => read_parallel(alloc, step, levels, declared, state),
+        None => Err(state.counts.fault(Wrong::Shape)),
+    }
+}
+
+/// The steps of a block, each of which sees the labels of those before it.
+#[cycle(steps)]
+fn read_steps(
+    alloc: Global,
+    list: &Vec<Value>,
+    levels: usize,
+    declared: &Declared,
+    state: &mut State,
+) -> Result<Vec<Step>, Fault>
+    ensures met { OnOk result (IsMet state.old.counts (steps_asked (block_asked (setting_of declared.now) levels)
+        (setting_of declared.now) (scope_of state.old.labels.entries) (items_view list.now.items)) state.new.counts) }
+    ensures first { IfErr result (IsFirst state.old.counts (steps_asked (block_asked (setting_of declared.now) levels)
+        (setting_of declared.now) (scope_of state.old.labels.entries) (items_view list.now.items))) }
+    ensures value { IfOk result (λ read. (map step_view read.items, numbers_of state.new.numbering)
+        ≡ steps_spelled (block_of (setting_of declared.now) levels) (setting_of declared.now)
+        (scope_of state.old.labels.entries) (numbers_of state.old.numbering) (items_view list.now.items)) }
+    ensures labels { OnOk result (Extends (scope_of state.old.labels.entries) (scope_of state.new.labels.entries)) }
+{
+    let mut steps = Vec::with_capacity(alloc, list.len())?;
+    for step in list {
+        steps.push(read_step(alloc, step, levels, declared, state)?)?;
+    }
+    Ok(steps)
+}
+
+/// A block within so many more levels. Its labels are no longer seen after it.
+#[cycle(steps)]
+fn read_block(
+    alloc: Global,
+    value: &Value,
+    levels: usize,
+    declared: &Declared,
+    state: &mut State,
+) -> Result<Block, Fault>
+    ensures met { OnOk result (IsMet state.old.counts (block_asked (setting_of declared.now) levels
+        (scope_of state.old.labels.entries) (view value.now)) state.new.counts) }
+    ensures first { IfErr result (IsFirst state.old.counts (block_asked (setting_of declared.now) levels
+        (scope_of state.old.labels.entries) (view value.now))) }
+    ensures value { IfOk result (λ block. (block_view block, numbers_of state.new.numbering)
+        ≡ block_of (setting_of declared.now) levels (scope_of state.old.labels.entries)
+        (numbers_of state.old.numbering) (view value.now)) }
+    ensures labels { OnOk result (scope_of state.new.labels.entries ≡ scope_of state.old.labels.entries) }
+{
+    let Some(list) = value.as_array() else {
+        return Err(state.counts.fault(Wrong::Shape));
+    };
+    if levels == 0 {
+        return Err(state.counts.fault(Wrong::Depth));
+    }
+    let seen = state.labels.len();
+    let steps = read_steps(alloc, list, levels - 1, declared, state)?;
+    leave_block(&mut state.labels, seen);
+    Ok(Block { steps })
+}
+
+// ---- transactions
+
+pub fn read_transaction(
+    alloc: Global,
+    value: &Value,
+    number: u32,
+    declared: &Declared,
+    state: &mut State,
+) -> Result<Block, Fault>
+    requires { scope_of state.old.labels.entries ≡ [] }
+    ensures met { OnOk result (IsMet state.old.counts (transaction_asked number (setting_of declared.now) (view value.now)) state.new.counts) }
+    ensures first { IfErr result (IsFirst state.old.counts (transaction_asked number (setting_of declared.now) (view value.now))) }
+    ensures value { IfOk result (λ block. (block_view block, numbers_of state.new.numbering)
+        ≡ block_of (setting_of declared.now) MAX_DEPTH [] (numbers_of state.old.numbering) (view value.now)) }
+    ensures labels { OnOk result (scope_of state.new.labels.entries ≡ []) }
+{
+    state.counts.transaction = number;
+    read_block(alloc, value, MAX_DEPTH, declared, state)
+}
+
+pub fn read_transactions(
+    alloc: Global,
+    list: &Vec<Value>,
+    declared: &Declared,
+    state: &mut State,
+) -> Result<Vec<Block>, Fault>
+    requires transactions { length list.now.items ≤ MAX_TRANSACTIONS }
+    requires labels { scope_of state.old.labels.entries ≡ [] }
+    ensures met { OnOk result (IsMet state.old.counts (transactions_asked 1 (setting_of declared.now) (items_view list.now.items)) state.new.counts) }
+    ensures first { IfErr result (IsFirst state.old.counts (transactions_asked 1 (setting_of declared.now) (items_view list.now.items))) }
+    ensures value { IfOk result (λ blocks. (map block_view blocks.items, numbers_of state.new.numbering)
+        ≡ blocks_of (setting_of declared.now) (numbers_of state.old.numbering) (items_view list.now.items)) }
+{
+    let mut blocks = Vec::with_capacity(alloc, list.len())?;
+    let mut number = 0;
+    for transaction in list {
+        number += 1;
+        let block = read_transaction(alloc, transaction, number, declared, state)?;
+        blocks.push(block)?;
+    }
+    Ok(blocks)
+}
