@@ -5,7 +5,7 @@ ghost use Rattle.ordtx.specs.Answers.{IsAuditOf, IsCarriedOf, IsCarryFaultOf, Is
 ghost use Rattle.ordtx.specs.Streams.{IsRead, WritesAnswer, WritesBeginning, ReadsFault};
 
 use crate::location::location_of;
-use crate::texts::{audit_of, carried_of, check_of, explained_of, plain_report_of, report_of};
+use crate::texts::{audit_of, carried_of, check_of, explanation_of, plain_report_of, report_of};
 use devices::{Sink, Source, read_input, write_text};
 use lang::{Fault, MAX_BYTES};
 use rounds::Plan;
@@ -128,7 +128,7 @@ pub fn explain_stream<T: Threads + Sync, R: Source, W: Sink, G: Gate>(
         → WritesBeginning (IsExplainedOf audit) (R.remaining source.old) (W.taken sink.old) (W.taken sink.new) }
 {
     let document = read_input(alloc, source, MOST_READ)?;
-    let text = explained_of(threads, alloc, document, plan, audit, gate)?;
+    let text = explanation_of(threads, alloc, document, plan, audit, gate)?;
     write_text(sink, text.as_bytes())
 }
 

@@ -24,7 +24,7 @@ fn batch_of(alloc: Global, document: Vec<u8>) -> Result<Batch, Fault>
 }
 
 // The report, or the report with the run counts, of a batch that was read.
-fn shown_of<T: Threads + Sync, G: Gate>(
+fn report_of_batch<T: Threads + Sync, G: Gate>(
     threads: &T,
     alloc: Global,
     batch: &Batch,
@@ -54,7 +54,7 @@ pub(crate) fn report_of<T: Threads + Sync, G: Gate>(
     ensures code { IfErr result (λ fault. is_of_reading fault.code ≡ true) }
 {
     let batch = batch_of(alloc, document)?;
-    let text = shown_of(threads, alloc, &batch, plan, false, gate)?;
+    let text = report_of_batch(threads, alloc, &batch, plan, false, gate)?;
     Ok(text)
 }
 
@@ -71,13 +71,13 @@ pub(crate) fn audit_of<T: Threads + Sync, G: Gate>(
     ensures code { IfErr result (λ fault. is_of_reading fault.code ≡ true) }
 {
     let batch = batch_of(alloc, document)?;
-    let text = shown_of(threads, alloc, &batch, plan, true, gate)?;
+    let text = report_of_batch(threads, alloc, &batch, plan, true, gate)?;
     Ok(text)
 }
 
 // The report, with the run counts where an audit is asked for, and which operations ended the
 // rounds.
-pub(crate) fn explained_of<T: Threads + Sync, G: Gate>(
+pub(crate) fn explanation_of<T: Threads + Sync, G: Gate>(
     threads: &T,
     alloc: Global,
     document: Vec<u8>,
@@ -90,12 +90,12 @@ pub(crate) fn explained_of<T: Threads + Sync, G: Gate>(
     ensures code { IfErr result (λ fault. is_of_reading fault.code ≡ true) }
 {
     let batch = batch_of(alloc, document)?;
-    let text = explanation_of(threads, alloc, &batch, plan, audit, gate)?;
+    let text = explanation_of_batch(threads, alloc, &batch, plan, audit, gate)?;
     Ok(text)
 }
 
 // The same of a batch that was read.
-fn explanation_of<T: Threads + Sync, G: Gate>(
+fn explanation_of_batch<T: Threads + Sync, G: Gate>(
     threads: &T,
     alloc: Global,
     batch: &Batch,
@@ -105,7 +105,7 @@ fn explanation_of<T: Threads + Sync, G: Gate>(
 ) -> Result<String, NoMemory>
     ensures { IfOk result (λ text. (bytes : List ℕ) → reading bytes ≡ Ok (document_of batch.now) → IsExplainedOf audit bytes (string_bytes text)) }
 {
-    let mut text = shown_of(threads, alloc, batch, plan, audit, gate)?;
+    let mut text = report_of_batch(threads, alloc, batch, plan, audit, gate)?;
     let why = render_why(threads, alloc, batch)?;
     text.push_str(why.as_str())?;
     Ok(text)
@@ -118,12 +118,12 @@ pub(crate) fn plain_report_of(alloc: Global, document: Vec<u8>) -> Result<String
     ensures code { IfErr result (λ fault. is_of_reading fault.code ≡ true) }
 {
     let batch = batch_of(alloc, document)?;
-    let text = plain_text_of(alloc, &batch)?;
+    let text = plain_report_of_batch(alloc, &batch)?;
     Ok(text)
 }
 
 // The same of a batch that was read.
-fn plain_text_of(alloc: Global, batch: &Batch) -> Result<String, NoMemory>
+fn plain_report_of_batch(alloc: Global, batch: &Batch) -> Result<String, NoMemory>
     ensures { IfOk result (λ text. (bytes : List ℕ) → reading bytes ≡ Ok (document_of batch.now) → IsPlainReportOf bytes (string_bytes text)) }
 {
     let answer = plain(alloc, batch)?;
@@ -137,11 +137,11 @@ pub(crate) fn carried_of(alloc: Global, document: Vec<u8>) -> Result<String, Fau
     ensures code { IfErr result (λ fault. is_of_reading fault.code ≡ true) }
 {
     let batch = batch_of(alloc, document)?;
-    carried_text_of(alloc, &batch)
+    carried_of_batch(alloc, &batch)
 }
 
 // The same of a batch that was read.
-fn carried_text_of(alloc: Global, batch: &Batch) -> Result<String, Fault>
+fn carried_of_batch(alloc: Global, batch: &Batch) -> Result<String, Fault>
     ensures text { IfOk result (λ text. (bytes : List ℕ) → reading bytes ≡ Ok (document_of batch.now) → IsCarriedOf bytes (string_bytes text)) }
     ensures fault { IfErr result (λ fault. fault ≢ memory_fault → (bytes : List ℕ) → reading bytes ≡ Ok (document_of batch.now) → IsUnfitOf bytes fault) }
     ensures code { IfErr result (λ fault. is_of_reading fault.code ≡ true) }

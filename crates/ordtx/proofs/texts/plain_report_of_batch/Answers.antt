@@ -6,7 +6,7 @@ use Rattle.meaning.specs.Texts.{plain_text}
 use Rattle.batch.specs.Names.{names_of}
 use Rattle.batch.specs.Views.{block_view}
 use Rattle.lang.specs.Reading.{document_of}
-use Rattle.ordtx.proofs.texts.plain_text_of.Goals as goal
+use Rattle.ordtx.proofs.texts.plain_report_of_batch.Goals as goal
 
 pub returns : goal.returns
 returns c =

@@ -7,7 +7,7 @@ use Rattle.batch.specs.Names.{names_of}
 use Rattle.lang.specs.Reading.{document_of}
 use Rattle.rounds.specs.Views.{blocks_of}
 use Rattle.ordtx.specs.Answers.{IsAuditOf, IsReportOf, IsShownOf}
-use Rattle.ordtx.proofs.texts.shown_of.Goals as goal
+use Rattle.ordtx.proofs.texts.report_of_batch.Goals as goal
 
 audit_shown : (audit : Bool) (bytes written : List ℕ) → audit ≡ true → IsAuditOf bytes written → IsShownOf audit bytes written
 audit_shown true bytes written asked is = is
