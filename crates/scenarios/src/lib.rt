@@ -1,4 +1,4 @@
-//! Tests of documents, of whole batches and of whole calls from a source to a sink, and those that start
+//! Tests of documents, of whole batches, of whole calls from a source to a sink, and those that start
 //! threads. Gates hold one call until another comes, and count.
 #![tactic(auto)]
 
@@ -14,6 +14,8 @@ pub use crowd::Crowd;
 pub use meeting::Meeting;
 pub use tally::Tally;
 
+#[cfg(test)]
+mod board_tests;
 #[cfg(test)]
 mod carry_tests;
 #[cfg(test)]

@@ -1,6 +1,6 @@
 use Rattle.claims.specs.Views.{claims_left}
 use Rattle.claims.specs.Seated.{IsSeatOf}
-use Rattle.claim_tests.proofs.board_tests.claim_all.Given as goal
+use Rattle.scenarios.proofs.board_tests.claim_all.Given as goal
 
 abbrev pub invariant-claiming : goal.invariant-claiming
 invariant-claiming l = IsSeatOf l.board l.seat
