@@ -524,7 +524,7 @@ module _ (setting : Setting) (paired : length setting.names ≡ length setting.k
     -- the children's labels: new, those of the spelled children, and not more than the children
     children_labels : (scope earlier : Scope) (numbers : Numbers) (ds : Items) (labels : List Label)
         → AllMet (children_asked setting.version asks scope earlier ds) → AreNew scope earlier
-            → subjects earlier ≡ map subject_of_label labels
+        → subjects earlier ≡ map subject_of_label labels
         → AreNew scope (labels_of earlier ds)
         × (subjects (labels_of earlier ds) ≡ map subject_of_label
         (labels ++ added_by_children (children_of (children_spelled block scope numbers ds).0)))
