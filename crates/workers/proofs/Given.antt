@@ -1,5 +1,6 @@
 -- What is known of seats that claim one after the other, and of what is given of them.
-use Rattle.std.proofs.Common.{◌≡◌, ℕ, List, [], ◌∷◌, ◌++◌, get_or, sym, subst}
+use Rattle.std.proofs.Common.{◌≡◌, ℕ, zero, suc, ◌+◌, ◌<◌, nat_eq, false, true≢false, arith}
+use Rattle.std.proofs.Common.{List, [], ◌∷◌, ◌++◌, length, get_or, sym, ap, subst, length-append}
 use Rattle.std.specs.Prelude.{Some, Result, Ok, Err, IfOk}
 use Rattle.std.specs.declared.vec.Vec.{Vec}
 use Rattle.std.specs.declared.alloc.Global.{Global}
@@ -18,6 +19,15 @@ use Rattle.workers.specs.Seating.{IsNewSeat, HasClaimed, IsGivenBy}
 pub new_but_last : (board : Opened) (seats others : List Seated) (seat : Seated) → seats ≡ others ++ seat ∷ [] → All (IsNewSeat board) seats
     → All (IsNewSeat board) others × IsNewSeat board seat
 new_but_last board seats others seat is each = All-pop (IsNewSeat board) seats others (Some seat) is each
+
+-- and the others are one fewer
+pub one_fewer : (seats others : List Seated) (seat : Seated) → seats ≡ others ++ seat ∷ [] → length seats ≡ length others + 1
+one_fewer seats others seat is = omega (arith, ap length is, length-append others (seat ∷ []))
+
+-- a number that is not 0
+pub not_none : (n : ℕ) → nat_eq n 0 ≡ false → 0 < n
+not_none zero is = absurd (true≢false is)
+not_none (suc n) is = omega arith
 
 -- a new seat that claims has claimed first
 pub first_claim : (board : Opened) (before after : Seated) (claim : Claim) → IsNewSeat board before → IsSeatOf board after

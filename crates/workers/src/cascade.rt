@@ -36,6 +36,26 @@ pub(crate) fn at_each_seat<R: Threads + Sync, X: Send + Drop, F: Fn(Seat, Claim)
     Ok(seat_by_seat(threads, board, work, seats, all))
 }
 
+// Adds what `work` returns for the last seat that claims. The seats that are left don't claim.
+fn give_last<X: Drop, F: Fn(Seat, Claim) -> X>(
+    work: &F,
+    seat: Seat,
+    first: Claim,
+    mut all: Vec<X>,
+    left: Vec<Seat>,
+) -> (Vec<X>, Vec<Seat>)
+    requires can { F.pre work.now seat first }
+    requires room { length all.items < vec_capacity all }
+    requires each { All (IsGivenBy (F.post work.now)) all.items }
+    ensures room { vec_capacity result.0 ≡ vec_capacity all }
+    ensures more { length result.0.items ≡ length all.items + 1 }
+    ensures each { All (IsGivenBy (F.post work.now)) result.0.items }
+    ensures left { result.1.items ≡ left.items }
+{
+    all.push_reserved(work(seat, first));
+    (all, left)
+}
+
 // Adds what `work` returns for each seat that claims, for which there is room, and returns the seats
 // that don't claim. The other seats are left to a new thread before the piece is done, so that a long
 // piece holds none of them up.
@@ -45,7 +65,7 @@ fn seat_by_seat<R: Threads + Sync, X: Send + Drop, F: Fn(Seat, Claim) -> X + Syn
     board: &Board,
     work: &F,
     mut seats: Vec<Seat>,
-    mut all: Vec<X>,
+    all: Vec<X>,
 ) -> (Vec<X>, Vec<Seat>)
     requires next { AreNext board.now (F.post work.now) seats.items all.items (vec_capacity all) }
     requires can { CanWork board.now (F.pre work.now) }
@@ -61,8 +81,7 @@ fn seat_by_seat<R: Threads + Sync, X: Send + Drop, F: Fn(Seat, Claim) -> X + Syn
     let first = board.claim(&mut seat);
     let has_piece = matches!(first, Claim::Piece(_));
     if !has_piece || seats.is_empty() {
-        all.push_reserved(work(seat, first));
-        return (all, seats);
+        return give_last(work, seat, first, all, seats);
     }
     let others = move || -> (Vec<X>, Vec<Seat>)
         requires { IsSync R.row × IsSync F.row × IsSend X.row × CanWork board.now (F.pre work.now)
