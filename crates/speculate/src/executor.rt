@@ -16,7 +16,7 @@ use crate::ahead::{Ahead, Fork, both_halves, list_since};
 use crate::gate::Gate;
 use crate::reached::Reached;
 use crate::spare::{Spare, boxed, list_of, put_at, record_of, spare_at, with_room};
-use crate::step::{branch_of, perform, undo};
+use crate::step::{branch_of, forget, perform, undo};
 use batch::{Block, Record, Step, Subaction, Taken, Tried, handled, test_holds};
 use intentions::{Committed, NoMemory, View};
 use meaning::{End, Held};
@@ -57,7 +57,7 @@ pub(crate) fn run_block<T: Threads + Sync, G: Gate>(
 {
     let seen = labels.len();
     let record = run_steps(making, &block.steps, labels, view, width, spare)?;
-    labels.truncate(seen);
+    forget(labels, seen);
     Ok(record)
 }
 
@@ -216,9 +216,7 @@ fn run_children<T: Threads + Sync, G: Gate>(
 }
 
 // Takes in a child's run that was made ahead, where each of its entries commutes forward with all
-// that its earlier siblings left. Otherwise the child is run again, in its parent's view, after
-// them. It then has a width of 1: its own children were run ahead once, and would be again at each
-// level.
+// that its earlier siblings left. Otherwise the child is run again.
 #[cycle(run)]
 fn run_child<T: Threads + Sync, G: Gate>(
     making: &Making<'_, T, G>,
@@ -245,6 +243,27 @@ fn run_child<T: Threads + Sync, G: Gate>(
     if let Some(tried) = run.keep(kept, view)? {
         return Ok(tried);
     }
+    Ok(run_anew(making, child, place, kept, labels, view)?)
+}
+
+// Runs a child in its parent's view, after its earlier siblings, and lists what it leaves. It has a
+// width of 1: its own children were run ahead once, and would be again at each level.
+#[cycle(run)]
+fn run_anew<T: Threads + Sync, G: Gate>(
+    making: &Making<'_, T, G>,
+    child: &Subaction,
+    place: usize,
+    kept: &mut Committed,
+    labels: &mut Vec<Held>,
+    view: &mut View<'_>,
+) -> Result<Tried, NoMemory>
+    requires { CanTryHere (subaction_view child.now) labels.old.items (state_of_view view.old) }
+    ensures shows { IfOk result
+        (λ r. ShowsTried in_view (subaction_view child.now) (acted (subaction_view child.now) labels.old.items (state_of_view view.old)) r view.old view.new) }
+    ensures kept { OnOk result
+        (kept.new ≡ kept.old ++ kept_of_child (record_of (acted (subaction_view child.now) labels.old.items (state_of_view view.old)))) }
+    ensures labels { OnOk result (labels.new.items ≡ labels.old.items) }
+{
     let before = view.net().len();
     making.pass(place);
     let tried = run_subaction(making, child, labels, view, 1, &mut Spare::none())?;

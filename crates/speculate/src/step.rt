@@ -1,6 +1,6 @@
-//! What a step does beside running blocks: its operation, the choice of a branch, and the end of an
-//! aborted body.
-ghost use Rattle.std.specs.Prelude.{◌≡◌, ◌++◌, ◌<◌, true, false, length, IfOk, IfErr, Some, None};
+//! What a step does beside running blocks: its operation, the choice of a branch, the end of an aborted
+//! body, and of a block's labels.
+ghost use Rattle.std.specs.Prelude.{◌≡◌, ◌++◌, ◌<◌, true, false, length, take, IfOk, IfErr, Some, None};
 ghost use Rattle.objects.specs.Objects.{objects, Fits, ObjectHasRoom};
 ghost use Rattle.meaning.specs.OneThread.{label_if};
 ghost use Rattle.meaning.specs.declared.held.Held.TheVariants.{Replied};
@@ -31,6 +31,13 @@ pub(crate) fn perform(
     let reply = view.perform(object, call)?;
     add_label(labels, labelled, Held::Replied(reply))?;
     Ok(reply)
+}
+
+/// Forgets the labels after the first `seen`.
+pub(crate) fn forget(labels: &mut Vec<Held>, seen: usize)
+    ensures { labels.new.items ≡ take seen labels.old.items }
+{
+    labels.truncate(seen);
 }
 
 /// The branch that is run, by whether the test holds.

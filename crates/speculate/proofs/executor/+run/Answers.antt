@@ -198,14 +198,6 @@ run_child-returns-in-Some-2-clause-kept g t c = λ run is.
     c.keep.new.view c.in-Some-2.tried (c.requires.ahead c.in-Some.run' c.in-Some.is)
     (c.in_ok-tried.ensures.taken_in c.in-Some-2.tried c.in-Some-2.is)
 
-pub run_child-returns-clause-kept : goal.run_child-returns-clause-kept
-run_child-returns-clause-kept g t c = λ run is.
-    let same : c.keep.new.kept ≡ c.args.kept.now = search rules in
-    let view : c.keep.new.view ≡ c.args.view.now = search rules in
-    added_listed (subaction_view c.args.child.now) c.args.labels.now.items c.args.view.now c.run_subaction-2.new.view
-    c.in_ok-tried-2.tried c.net-before.result.now (rw view at c.in_ok-tried-2.ensures.shows) (rw view at c.net-before.ensures)
-    c.args.kept.now c.list_since.new.kept (rw same at c.in_ok-list_since.ensures)
-
 pub run_children-run_if_wide-requires-after_bounds : goal.run_children-run_if_wide-requires-after_bounds
 run_children-run_if_wide-requires-after_bounds g t c κs lives =
     rw c.deref.ensures.value (each_can_try c.args.children.now c.args.labels.now.items (state_of_view c.args.view.now) c.requires)
@@ -258,8 +250,8 @@ run_block-returns-clause-shows g t c =
 
 pub run_block-returns-clause-labels : goal.run_block-returns-clause-labels
 run_block-returns-clause-labels g t c =
-    labels_left c.args.labels.now.items c.run_steps.new.labels.items c.truncate.new.self.items c.len-seen.result
-    c.in_ok-record.ensures.labels (omega (arith, c.args.labels.now.ok.0, c.len-seen.ensures)) c.truncate.ensures.items
+    labels_left c.args.labels.now.items c.run_steps.new.labels.items c.forget.new.labels.items c.len-seen.result
+    c.in_ok-record.ensures.labels (omega (arith, c.args.labels.now.ok.0, c.len-seen.ensures)) c.forget.ensures
 
 -- ---- labels
 
@@ -303,9 +295,6 @@ run_subaction-returns-in-Err-clause-labels g t c = c.in_ok-body.ensures.labels
 pub run_child-returns-in-Some-2-clause-labels : goal.run_child-returns-in-Some-2-clause-labels
 run_child-returns-in-Some-2-clause-labels g t c = refl
 
-pub run_child-returns-clause-labels : goal.run_child-returns-clause-labels
-run_child-returns-clause-labels g t c = c.in_ok-tried-2.ensures.labels
-
 pub run_children-returns-in-Aborted-clause-labels : goal.run_children-returns-in-Aborted-clause-labels
 run_children-returns-in-Aborted-clause-labels g t c = c.in_ok-tried.ensures.labels ∙ c.loop-place.invariant.same
 
@@ -314,7 +303,14 @@ run_children-returns-clause-labels g t c = c.loop-place.invariant.same
 
 -- ---- a child that is run again
 
-pub run_child-returns-clause-shows : goal.run_child-returns-clause-shows
-run_child-returns-clause-shows g t c =
-    let view : c.keep.new.view ≡ c.args.view.now = search rules in
-    rw view at c.in_ok-tried-2.ensures.shows
+pub run_anew-returns-clause-shows : goal.run_anew-returns-clause-shows
+run_anew-returns-clause-shows g t c = c.in_ok-tried.ensures.shows
+
+pub run_anew-returns-clause-kept : goal.run_anew-returns-clause-kept
+run_anew-returns-clause-kept g t c =
+    added_listed (subaction_view c.args.child.now) c.args.labels.now.items c.args.view.now c.run_subaction.new.view c.in_ok-tried.tried
+    c.net-before.result.now c.in_ok-tried.ensures.shows c.net-before.ensures c.args.kept.now c.list_since.new.kept
+    c.in_ok-list_since.ensures
+
+pub run_anew-returns-clause-labels : goal.run_anew-returns-clause-labels
+run_anew-returns-clause-labels g t c = c.in_ok-tried.ensures.labels

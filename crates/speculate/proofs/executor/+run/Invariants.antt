@@ -27,7 +27,10 @@ abbrev pub decreases-run_subaction : goal.decreases-run_subaction
 decreases-run_subaction g l = deep (size-Subaction l.child.now) 1
 
 abbrev pub decreases-run_child : goal.decreases-run_child
-decreases-run_child g l = deep (size-Subaction l.child.now) 2
+decreases-run_child g l = deep (size-Subaction l.child.now) 3
+
+abbrev pub decreases-run_anew : goal.decreases-run_anew
+decreases-run_anew g l = deep (size-Subaction l.child.now) 2
 
 abbrev pub decreases-run_alone : goal.decreases-run_alone
 decreases-run_alone g l = deep (size-Subaction l.child.now) 2
