@@ -27,7 +27,7 @@ use Rattle.batch.specs.Views.{Tried, subaction_view, children_view}
 use Rattle.batch.specs.Running.{CanTryHere, CanRunAllHere, acted}
 use Rattle.batch.specs.declared.tree.Subaction.{Subaction}
 use Rattle.batch.proofs.CanRun.{can_try}
-use Rattle.intentions.specs.Levels.{Intentions as View, shown_values as state_of_view, AllHaveRoom, absorbed}
+use Rattle.intentions.specs.Levels.{Intentions as View, shown_values as state_of_view, AllHaveRoom, opened, absorbed}
 use Rattle.committed.specs.Summaries.{entries_of, IsSummary}
 use Rattle.committed.specs.declared.marks.MarkedEntry.{MarkedEntry}
 use Rattle.committed.proofs.SummaryLemmas.{stands-summary}
@@ -159,6 +159,26 @@ pub kept_listed : (child : Tried) (held : List Held) (since later : List Entry) 
 kept_listed child held since later run view next done before kept =
     net_listed child held since (state_of_view view) run before kept.commute run.net.items later refl kept.listed
 
+-- the run of a child alone, in a view that was opened for it
+pub ran_alone : (child : Tried) (held labels : List Held) (state : State) (fresh now : View) (tried : executed.Tried) (run : Ahead)
+    → labels ≡ held → fresh ≡ opened state → ShowsTried in_view child (acted child labels (state_of_view fresh)) tried fresh now
+    → run.tried ≡ tried → run.entries.items ≡ now.entries → run.net.items ≡ now.net
+    → IsSummary (entries_of run.summary.items) run.entries.items → IsRunAhead child held state run
+ran_alone child held labels state fresh now tried run same opens shows tried_is entries_is net_is sums =
+    let here : ShowsTried in_view child (acted child held state) tried (opened state) now =
+    subst (λ ls. ShowsTried in_view child (acted child ls state) tried (opened state) now) same
+    (subst (λ v. ShowsTried in_view child (acted child labels (state_of_view v)) tried v now) opens shows) in
+    let entries = entries_of_child (record_of (acted child held state)) in
+    let net = kept_of_child (record_of (acted child held state)) in
+    let all : run.entries.items ≡ entries = entries_is ∙ ap (λ (v : View). v.entries) here.took in
+    let left : run.net.items ≡ net = net_is ∙ ap (λ (v : View). v.net) here.took in
+    let took : now ≡ absorbed (opened state) run.entries.items run.net.items = here.took
+    ∙ ap (λ es. absorbed (opened state) es net) (sym all) ∙ ap (absorbed (opened state) run.entries.items) (sym left) in (
+      subst (λ v. ShowsTried in_view child (acted child held state) run.tried (opened state) v) took
+          (subst (λ t. ShowsTried in_view child (acted child held state) t (opened state) now) (sym tried_is) here),
+      sums,
+    )
+
 -- ---- children from place to place
 
 -- each child can be tried on the state of the step
@@ -211,6 +231,10 @@ halves children from middle upto held state runs others first second within all 
 both_long : (runs others : List Ahead) (from middle upto : ℕ) → from ≤ middle → middle ≤ upto → length runs ≡ middle - from
     → length others ≡ upto - middle → length (runs ++ others) ≡ upto - from
 both_long runs others from middle upto first second front back = omega (arith, length-append runs others)
+
+-- all of a list
+pub range-all : {X : Type 0} (xs : List X) → slice_range xs 0 (length xs) ≡ xs
+range-all xs = let whole : length xs - 0 ≡ length xs = omega arith in ap (λ n. take n xs) whole ∙ take-length xs
 
 -- these runs are those of the children from one place to another
 abbrev AreOfPart : List Subaction → ℕ → ℕ → List Held → State → List Ahead → Type 0
@@ -309,6 +333,13 @@ module _ (children : List Subaction) (place : ℕ) (x : Subaction) (held : List 
   left_here run steps =
       subst (λ cs. AreLeft cs held since (state_of_view view) (run ∷ into_iter_items after)) (next_of children place x within is)
       (subst (AreLeft (drop place children) held since (state_of_view view)) steps.0 (left (omega (arith, steps.1))))
+
+  -- the next run was made of the next child
+  pub next_before : (ahead : Option Ahead) → into_iter_steps before ahead after
+      → ForSome ahead (IsRunBefore (subaction_view x) held since (state_of_view view))
+  next_before ahead steps = λ run some.
+      let here = left_here run (subst (λ a. into_iter_steps before a after) some steps) in
+      record { from = here.from; leads = here.leads; ahead = here.ahead.0 }
 
   -- the runs after the next one were made of the children after the next child
   pub left-more : (ahead : Option Ahead) (next : View) (tried : executed.Tried) (later : List Entry) → into_iter_steps before ahead after

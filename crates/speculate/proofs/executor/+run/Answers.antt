@@ -1,21 +1,23 @@
-use Rattle.std.proofs.Common.{true, false, ◌+◌, ◌≡◌, ◌++◌, ◌∷◌, [], ◌∙◌, List, length, take, refl, sym, ap, rules, arith}
+use Rattle.std.proofs.Common.{true, false, ◌+◌, ◌<◌, ◌≡◌, ◌++◌, ◌∷◌, [], ◌∙◌, List, length, take, refl, sym, ap, subst, rules, arith}
 use Rattle.std.proofs.lemmas.List.{append-nil}
 use Rattle.speculate.proofs.Bodies.{body_ended, handler_can_run, taken_over, passed_on}
 use Rattle.meaning.specs.OneThread.{label_if}
 use Rattle.meaning.specs.declared.held.Held.{Held}
-use Rattle.batch.specs.Running.{StillSeen}
+use Rattle.batch.specs.Running.{StillSeen, CanRunHere, CanTryHere}
 use Rattle.meaning.specs.declared.held.Held.TheVariants.{Outcome}
-use Rattle.batch.proofs.ViewLemmas.{subaction_view-labelled}
+use Rattle.batch.proofs.ViewLemmas.{subaction_view-labelled, block_view-is}
 use Rattle.batch.specs.Views.{block_view, subaction_view}
-use Rattle.intentions.specs.Levels.{shown_values as state_of_view}
-use Rattle.batch.proofs.PartRuns.{part_run-start, part_run-more, part_run-aborted, part_run-ended}
+use Rattle.intentions.specs.Levels.{shown_values as state_of_view, opened}
+use Rattle.batch.proofs.PartRuns.{part_run-start, part_run-can_step, part_run-more, part_run-aborted, part_run-ended}
 use Rattle.batch.proofs.Blocks.{block_shows, labels_left}
 use Rattle.batch.proofs.CanRun.{op-can, if-bound, still_same, still_then}
 use Rattle.batch.proofs.StepShows.{op-shows, sub-shows, abort-shows, parallel-shows}
-use Rattle.batch.proofs.PartTried.{part_tried-start, part_tried-more, part_tried-aborted, part_tried-ended}
-use Rattle.speculate.proofs.Siblings.{net_is_legal, net_has_room, kept_shows, kept_listed, added_listed, each_can_try, one_more, one_longer}
+use Rattle.batch.proofs.PartTried.{part_tried-start, part_tried-can_try, part_tried-more, part_tried-aborted, part_tried-ended}
+use Rattle.speculate.proofs.Siblings.{ran_alone, range-all, next_before, net_is_legal, net_has_room, kept_shows, kept_listed, added_listed, each_can_try, one_more, one_longer}
 use Rattle.speculate.proofs.Siblings.{joined_halves, to_middle, left-start, left-more}
 use Rattle.speculate.proofs.Choices.{branch_can_run, branch_is_smaller, branch_shows}
+use Rattle.std.specs.List.{slice_range}
+use Rattle.speculate.specs.Ahead.{AreRunAhead}
 use Rattle.speculate.specs.Running.{in_view}
 use Rattle.speculate.proofs.InView.{ground}
 use Rattle.speculate.proofs.executor.+run.Goals as goal
@@ -314,3 +316,111 @@ run_anew-returns-clause-kept g t c =
 
 pub run_anew-returns-clause-labels : goal.run_anew-returns-clause-labels
 run_anew-returns-clause-labels g t c = c.in_ok-tried.ensures.labels
+
+pub run_anew-run_subaction-requires-after_bounds : goal.run_anew-run_subaction-requires-after_bounds
+run_anew-run_subaction-requires-after_bounds g t c κs lives = c.requires
+
+-- ---- what is called can run
+
+pub run_block-run_steps-requires-after_bounds : goal.run_block-run_steps-requires-after_bounds
+run_block-run_steps-requires-after_bounds g t c κs lives = rw c.deref.ensures.value
+    (subst (λ b. CanRunHere b c.args.labels.now.items (state_of_view c.args.view.now)) (block_view-is c.args.block.now) c.requires)
+
+pub run_steps-run_step-requires-after_bounds : goal.run_steps-run_step-requires-after_bounds
+run_steps-run_step-requires-after_bounds g t c κs lives =
+    part_run-can_step ground c.args.steps.now c.args.labels.now.items c.args.view.now c.loop-place.place _ c.loop-place.labels.items
+    c.loop-place.view c.index-steps-place.result c.loop-place.invariant.part c.loop-place-test.true c.index-steps-place.is
+
+pub run_children-run_child-requires-clause-can : goal.run_children-run_child-requires-clause-can
+run_children-run_child-requires-clause-can g t c κs lives =
+    part_tried-can_try ground c.args.children.now c.loop-place.labels.items c.args.view.now c.loop-place.place c.loop-place.reached.all.items
+    c.loop-place.reached.outcomes.items c.loop-place.view c.index-children-place.result c.loop-place.invariant.part c.loop-place-test.true
+    c.index-children-place.is
+
+pub run_children-run_child-requires-clause-ahead : goal.run_children-run_child-requires-clause-ahead
+run_children-run_child-requires-clause-ahead g t c κs lives =
+    next_before c.args.children.now c.loop-place.place c.index-children-place.result c.loop-place.labels.items c.loop-place.kept
+    c.loop-place.view c.loop-place.ahead c.next-run.new.self c.loop-place.invariant.left c.loop-place-test.true c.index-children-place.is
+    c.next-run.result c.next-run.ensures.cases
+
+pub run_child-run_subaction-requires-after_bounds : goal.run_child-run_subaction-requires-after_bounds
+run_child-run_subaction-requires-after_bounds g t c κs lives = c.requires.can
+
+pub run_child-run_anew-requires-after_bounds : goal.run_child-run_anew-requires-after_bounds
+run_child-run_anew-requires-after_bounds g t c κs lives =
+    let view : c.keep.new.view ≡ c.args.view.now = search rules in
+    rw view c.requires.can
+
+pub run_part-run_alone-requires-after_bounds : goal.run_part-run_alone-requires-after_bounds
+run_part-run_alone-requires-after_bounds g t c κs lives =
+    let below : c.loop-place.place < length c.args.children.now = omega (arith, c.loop-place-test.true, c.requires.within) in
+    subst (λ x. CanTryHere (subaction_view x) c.args.fork.now.labels.items c.args.fork.now.state) (sym c.index-children-place.is)
+    (c.requires.can c.loop-place.place c.index-children-place.result below)
+
+-- ---- a child after its run ahead did not hold, or where there is none
+
+pub run_child-returns-clause-shows : goal.run_child-returns-clause-shows
+run_child-returns-clause-shows g t c =
+    let view : c.keep.new.view ≡ c.args.view.now = search rules in
+    rw view at c.in_ok-run_anew.ensures.shows
+
+pub run_child-returns-clause-kept : goal.run_child-returns-clause-kept
+run_child-returns-clause-kept g t c =
+    let same : c.keep.new.kept ≡ c.args.kept.now = search rules in
+    let view : c.keep.new.view ≡ c.args.view.now = search rules in
+    λ run is. rw (same, view) at c.in_ok-run_anew.ensures.kept
+
+pub run_child-returns-clause-labels : goal.run_child-returns-clause-labels
+run_child-returns-clause-labels g t c = c.in_ok-run_anew.ensures.labels
+
+pub run_child-returns-in_default-clause-shows : goal.run_child-returns-in_default-clause-shows
+run_child-returns-in_default-clause-shows g t c = c.run_subaction.ensures.shows
+
+pub run_child-returns-in_default-clause-labels : goal.run_child-returns-in_default-clause-labels
+run_child-returns-in_default-clause-labels g t c = c.run_subaction.ensures.labels
+
+-- ---- runs ahead
+
+pub run_alone-returns : goal.run_alone-returns
+run_alone-returns g t c =
+    let same : c.in_ok-labels.labels.items ≡ c.args.fork.now.labels.items = search rules in
+    let fresh : c.in_ok-view.view ≡ opened c.args.fork.now.state = search rules in
+    let made = c.in_ok-of.ensures in
+    ran_alone (subaction_view c.args.child.now) c.args.fork.now.labels.items c.in_ok-labels.labels.items c.args.fork.now.state
+    c.in_ok-view.view c.run_subaction.new.view c.in_ok-tried.tried c.in_ok-of.field-0 same fresh c.in_ok-tried.ensures.shows made.tried
+    made.entries made.net made.summary
+
+pub run_part-loop-place-init : goal.run_part-loop-place-init
+run_part-loop-place-init g t c = record {
+  all = rw c.in_ok-runs.ensures.items (omega arith);
+  runs = rw c.in_ok-runs.ensures.items tt;
+}
+
+pub run_part-returns-clause-all : goal.run_part-returns-clause-all
+run_part-returns-clause-all g t c =
+    let all : c.loop-place.place ≡ c.args.upto = omega (arith, c.loop-place-test.false, c.loop-place.auto.place-end, c.requires.ordered) in
+    omega (arith, all, c.loop-place.invariant.all)
+
+pub run_part-returns-clause-runs : goal.run_part-returns-clause-runs
+run_part-returns-clause-runs g t c =
+    let all : c.loop-place.place ≡ c.args.upto = omega (arith, c.loop-place-test.false, c.loop-place.auto.place-end, c.requires.ordered) in
+    subst (λ n. AreRunAhead (slice_range c.args.children.now c.args.from n) c.args.fork.now.labels.items c.args.fork.now.state
+    c.loop-place.runs.items) all c.loop-place.invariant.runs
+
+pub run_ahead-returns-then-width-lt2-clause-all : goal.run_ahead-returns-then-width-lt2-clause-all
+run_ahead-returns-then-width-lt2-clause-all g t c = c.run_part.ensures.all
+
+pub run_ahead-returns-then-width-lt2-clause-runs : goal.run_ahead-returns-then-width-lt2-clause-runs
+run_ahead-returns-then-width-lt2-clause-runs g t c = c.run_part.ensures.runs
+
+pub run_if_wide-run_ahead-requires-clause-can : goal.run_if_wide-run_ahead-requires-clause-can
+run_if_wide-run_ahead-requires-clause-can g t c κs lives =
+    let labels = c.in_ok-fork.ensures.labels c.in-Some.fork c.in-Some.is in
+    let state = c.in_ok-fork.ensures.state c.in-Some.fork c.in-Some.is in
+    rw (labels, state) c.requires
+
+pub run_if_wide-returns : goal.run_if_wide-returns
+run_if_wide-returns g t c =
+    let labels = c.in_ok-fork.ensures.labels c.in-Some.fork c.in-Some.is in
+    let state = c.in_ok-fork.ensures.state c.in-Some.fork c.in-Some.is in
+    rw (range-all c.args.children.now, labels, state) at c.run_ahead.ensures.runs
