@@ -13,7 +13,8 @@ use Rattle.batch.proofs.Blocks.{block_shows, labels_left}
 use Rattle.batch.proofs.CanRun.{op-can, if-bound, still_same, still_then}
 use Rattle.batch.proofs.StepShows.{op-shows, sub-shows, abort-shows, parallel-shows}
 use Rattle.batch.proofs.PartTried.{part_tried-start, part_tried-can_try, part_tried-more, part_tried-aborted, part_tried-ended}
-use Rattle.speculate.proofs.Siblings.{ran_alone, range-all, next_before, net_is_legal, net_has_room, kept_shows, kept_listed, added_listed, each_can_try, one_more, one_longer}
+use Rattle.speculate.proofs.Siblings.{ran_alone, range-all, next_before, net_is_legal, net_has_room, kept_shows, kept_listed}
+use Rattle.speculate.proofs.Siblings.{added_listed, each_can_try, one_more, one_longer}
 use Rattle.speculate.proofs.Siblings.{joined_halves, to_middle, left-start, left-more}
 use Rattle.speculate.proofs.Choices.{branch_can_run, branch_is_smaller, branch_shows}
 use Rattle.std.specs.List.{slice_range}
@@ -32,7 +33,10 @@ run_steps-loop-place-init g t c = record {
 
 pub run_steps-returns-in-Aborted-clause-shows : goal.run_steps-returns-in-Aborted-clause-shows
 run_steps-returns-in-Aborted-clause-shows g t c =
-    part_run-aborted ground _ _ _ _ _ _ _ c.index-steps-place.result c.in_ok-done.done c.in_ok-done.end _ _ c.in-Aborted.field-0 _
+    part_run-aborted ground c.args.steps.now c.args.labels.now.items c.args.view.now c.loop-place.place
+    (take c.loop-place.place c.loop-place.taken.items) c.loop-place.labels.items c.loop-place.view
+    c.index-steps-place.result c.in_ok-done.done c.in_ok-done.end c.run_step.new.labels.items c.run_step.new.view c.in-Aborted.field-0
+    c.record_of.result
     c.loop-place.invariant.part c.loop-place-test.true c.index-steps-place.is c.in_ok-done.ensures.shows c.in-Aborted.is
     (c.record_of.ensures.taken ∙ c.in_ok-put_at.ensures.put ∙ ap (λ ts. ts ++ c.in_ok-done.done ∷ []) c.spare_at-spare.ensures.before)
     c.record_of.ensures.outcome
@@ -41,14 +45,19 @@ pub run_steps-loop-place-preserved : goal.run_steps-loop-place-preserved
 run_steps-loop-place-preserved g t c = record {
   long = c.in_ok-put_at.ensures.long;
   part = rw (c.in_ok-put_at.ensures.put, c.spare_at-spare.ensures.before)
-      (part_run-more ground _ _ _ _ _ _ _ c.index-steps-place.result c.in_ok-done.done c.in_ok-done.end _ _ c.loop-place.invariant.part
+      (part_run-more ground c.args.steps.now c.args.labels.now.items c.args.view.now c.loop-place.place
+      (take c.loop-place.place c.loop-place.taken.items) c.loop-place.labels.items c.loop-place.view
+      c.index-steps-place.result c.in_ok-done.done c.in_ok-done.end c.run_step.new.labels.items c.run_step.new.view
+      c.loop-place.invariant.part
       c.loop-place-test.true c.index-steps-place.is c.in_ok-done.ensures.shows c.in-Ended.is c.in_ok-done.ensures.labels);
 }
 
 pub run_steps-returns-clause-shows : goal.run_steps-returns-clause-shows
 run_steps-returns-clause-shows g t c =
     let all : c.loop-place.place ≡ length c.args.steps.now = omega (arith, c.loop-place-test.false, c.loop-place.auto.place-end) in
-    part_run-ended ground _ _ _ _ _ _ _ _ c.loop-place.invariant.part c.loop-place-test.false (c.record_of-2.ensures.taken
+    part_run-ended ground c.args.steps.now c.args.labels.now.items c.args.view.now c.loop-place.place
+    (take c.loop-place.place c.loop-place.taken.items) c.loop-place.labels.items c.loop-place.view
+    c.record_of-2.result c.loop-place.invariant.part c.loop-place-test.false (c.record_of-2.ensures.taken
     ∙ ap (λ n. take n c.loop-place.taken.items) (sym all)) c.record_of-2.ensures.outcome
 
 -- ---- one step
@@ -217,14 +226,20 @@ pub run_children-returns-in-Aborted-clause-shows : goal.run_children-returns-in-
 run_children-returns-in-Aborted-clause-shows g t c =
     let ends = c.in_ok-end.ensures in
     rw (ends.all, ends.end, ← c.loop-place.invariant.same)
-    (part_tried-aborted ground _ _ _ _ _ _ _ c.index-children-place.result c.in_ok-tried.tried _ c.in-Aborted.field-0
+    (part_tried-aborted ground c.args.children.now c.loop-place.labels.items c.args.view.now c.loop-place.place
+    c.loop-place.reached.all.items
+    c.loop-place.reached.outcomes.items c.loop-place.view
+    c.index-children-place.result c.in_ok-tried.tried c.run_child.new.view c.in-Aborted.field-0
     (c.in_ok-tried.tried.body, c.in_ok-tried.tried.handler) _ c.loop-place.invariant.part c.loop-place-test.true
     c.index-children-place.is c.in_ok-tried.ensures.shows (sym ends.end ∙ c.in-Aborted.is) refl)
 
 pub run_children-loop-place-preserved : goal.run_children-loop-place-preserved
 run_children-loop-place-preserved g t c =
     let ends = c.in_ok-end.ensures in
-    let more = part_tried-more ground _ _ _ _ _ _ _ c.index-children-place.result c.in_ok-tried.tried _
+    let more = part_tried-more ground c.args.children.now c.loop-place.labels.items c.args.view.now c.loop-place.place
+    c.loop-place.reached.all.items
+    c.loop-place.reached.outcomes.items c.loop-place.view
+    c.index-children-place.result c.in_ok-tried.tried c.run_child.new.view
     (c.in_ok-tried.tried.body, c.in_ok-tried.tried.handler) _ c.loop-place.invariant.part c.loop-place-test.true
     c.index-children-place.is c.in_ok-tried.ensures.shows (sym ends.end ∙ c.in-Ended.is) refl
     (ap (λ b. label_if b (Outcome c.in_ok-tried.tried.body.outcome)) (sym (subaction_view-labelled c.index-children-place.result))) in
@@ -241,7 +256,9 @@ run_children-loop-place-preserved g t c =
 
 pub run_children-returns-clause-shows : goal.run_children-returns-clause-shows
 run_children-returns-clause-shows g t c = rw (← c.loop-place.invariant.same)
-    (part_tried-ended ground _ _ _ _ _ _ _ c.loop-place.invariant.part c.loop-place-test.false)
+    (part_tried-ended ground c.args.children.now c.loop-place.labels.items c.args.view.now c.loop-place.place c.loop-place.reached.all.items
+    c.loop-place.reached.outcomes.items c.loop-place.view
+    c.loop-place.invariant.part c.loop-place-test.false)
 
 -- ---- a block
 
@@ -333,8 +350,9 @@ run_steps-run_step-requires-after_bounds g t c κs lives =
 
 pub run_children-run_child-requires-clause-can : goal.run_children-run_child-requires-clause-can
 run_children-run_child-requires-clause-can g t c κs lives =
-    part_tried-can_try ground c.args.children.now c.loop-place.labels.items c.args.view.now c.loop-place.place c.loop-place.reached.all.items
-    c.loop-place.reached.outcomes.items c.loop-place.view c.index-children-place.result c.loop-place.invariant.part c.loop-place-test.true
+    part_tried-can_try ground c.args.children.now c.loop-place.labels.items c.args.view.now c.loop-place.place
+    c.loop-place.reached.all.items c.loop-place.reached.outcomes.items c.loop-place.view c.index-children-place.result
+    c.loop-place.invariant.part c.loop-place-test.true
     c.index-children-place.is
 
 pub run_children-run_child-requires-clause-ahead : goal.run_children-run_child-requires-clause-ahead
