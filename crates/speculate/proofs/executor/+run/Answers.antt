@@ -36,8 +36,7 @@ run_steps-returns-in-Aborted-clause-shows g t c =
     part_run-aborted ground c.args.steps.now c.args.labels.now.items c.args.view.now c.loop-place.place
     (take c.loop-place.place c.loop-place.taken.items) c.loop-place.labels.items c.loop-place.view
     c.index-steps-place.result c.in_ok-done.done c.in_ok-done.end c.run_step.new.labels.items c.run_step.new.view c.in-Aborted.field-0
-    c.record_of.result
-    c.loop-place.invariant.part c.loop-place-test.true c.index-steps-place.is c.in_ok-done.ensures.shows c.in-Aborted.is
+    c.record_of.result c.loop-place.invariant.part c.loop-place-test.true c.index-steps-place.is c.in_ok-done.ensures.shows c.in-Aborted.is
     (c.record_of.ensures.taken ∙ c.in_ok-put_at.ensures.put ∙ ap (λ ts. ts ++ c.in_ok-done.done ∷ []) c.spare_at-spare.ensures.before)
     c.record_of.ensures.outcome
 
@@ -48,16 +47,16 @@ run_steps-loop-place-preserved g t c = record {
       (part_run-more ground c.args.steps.now c.args.labels.now.items c.args.view.now c.loop-place.place
       (take c.loop-place.place c.loop-place.taken.items) c.loop-place.labels.items c.loop-place.view
       c.index-steps-place.result c.in_ok-done.done c.in_ok-done.end c.run_step.new.labels.items c.run_step.new.view
-      c.loop-place.invariant.part
-      c.loop-place-test.true c.index-steps-place.is c.in_ok-done.ensures.shows c.in-Ended.is c.in_ok-done.ensures.labels);
+      c.loop-place.invariant.part c.loop-place-test.true c.index-steps-place.is c.in_ok-done.ensures.shows c.in-Ended.is
+      c.in_ok-done.ensures.labels);
 }
 
 pub run_steps-returns-clause-shows : goal.run_steps-returns-clause-shows
 run_steps-returns-clause-shows g t c =
     let all : c.loop-place.place ≡ length c.args.steps.now = omega (arith, c.loop-place-test.false, c.loop-place.auto.place-end) in
     part_run-ended ground c.args.steps.now c.args.labels.now.items c.args.view.now c.loop-place.place
-    (take c.loop-place.place c.loop-place.taken.items) c.loop-place.labels.items c.loop-place.view
-    c.record_of-2.result c.loop-place.invariant.part c.loop-place-test.false (c.record_of-2.ensures.taken
+    (take c.loop-place.place c.loop-place.taken.items) c.loop-place.labels.items c.loop-place.view c.record_of-2.result
+    c.loop-place.invariant.part c.loop-place-test.false (c.record_of-2.ensures.taken
     ∙ ap (λ n. take n c.loop-place.taken.items) (sym all)) c.record_of-2.ensures.outcome
 
 -- ---- one step
@@ -227,9 +226,8 @@ run_children-returns-in-Aborted-clause-shows g t c =
     let ends = c.in_ok-end.ensures in
     rw (ends.all, ends.end, ← c.loop-place.invariant.same)
     (part_tried-aborted ground c.args.children.now c.loop-place.labels.items c.args.view.now c.loop-place.place
-    c.loop-place.reached.all.items
-    c.loop-place.reached.outcomes.items c.loop-place.view
-    c.index-children-place.result c.in_ok-tried.tried c.run_child.new.view c.in-Aborted.field-0
+    c.loop-place.reached.all.items c.loop-place.reached.outcomes.items c.loop-place.view c.index-children-place.result c.in_ok-tried.tried
+    c.run_child.new.view c.in-Aborted.field-0
     (c.in_ok-tried.tried.body, c.in_ok-tried.tried.handler) _ c.loop-place.invariant.part c.loop-place-test.true
     c.index-children-place.is c.in_ok-tried.ensures.shows (sym ends.end ∙ c.in-Aborted.is) refl)
 
@@ -237,9 +235,8 @@ pub run_children-loop-place-preserved : goal.run_children-loop-place-preserved
 run_children-loop-place-preserved g t c =
     let ends = c.in_ok-end.ensures in
     let more = part_tried-more ground c.args.children.now c.loop-place.labels.items c.args.view.now c.loop-place.place
-    c.loop-place.reached.all.items
-    c.loop-place.reached.outcomes.items c.loop-place.view
-    c.index-children-place.result c.in_ok-tried.tried c.run_child.new.view
+    c.loop-place.reached.all.items c.loop-place.reached.outcomes.items c.loop-place.view c.index-children-place.result c.in_ok-tried.tried
+    c.run_child.new.view
     (c.in_ok-tried.tried.body, c.in_ok-tried.tried.handler) _ c.loop-place.invariant.part c.loop-place-test.true
     c.index-children-place.is c.in_ok-tried.ensures.shows (sym ends.end ∙ c.in-Ended.is) refl
     (ap (λ b. label_if b (Outcome c.in_ok-tried.tried.body.outcome)) (sym (subaction_view-labelled c.index-children-place.result))) in
@@ -256,9 +253,9 @@ run_children-loop-place-preserved g t c =
 
 pub run_children-returns-clause-shows : goal.run_children-returns-clause-shows
 run_children-returns-clause-shows g t c = rw (← c.loop-place.invariant.same)
-    (part_tried-ended ground c.args.children.now c.loop-place.labels.items c.args.view.now c.loop-place.place c.loop-place.reached.all.items
-    c.loop-place.reached.outcomes.items c.loop-place.view
-    c.loop-place.invariant.part c.loop-place-test.false)
+    (part_tried-ended ground c.args.children.now c.loop-place.labels.items c.args.view.now c.loop-place.place
+    c.loop-place.reached.all.items c.loop-place.reached.outcomes.items c.loop-place.view c.loop-place.invariant.part
+    c.loop-place-test.false)
 
 -- ---- a block
 
