@@ -3,20 +3,19 @@ use Rattle.std.proofs.Common.{◌≡◌, ℕ, zero, suc, ◌+◌, ◌<◌, ◌�
 use Rattle.std.proofs.lemmas.List.{take_more, get_or-set_same, get_or-set_other, length-set}
 use native.Mathlib.Decide.{ℕ_discrete}
 use Rattle.objects.specs.Entries.{State}
-use Rattle.meaning.specs.declared.held.Held.{Held}
-use Rattle.intentions.specs.Levels.{Intentions as View, opened}
+use Rattle.rounds.specs.Desks.{IsDeskOn}
+use Rattle.rounds.specs.declared.desk.Desk.{Desk}
 use Rattle.rounds.specs.Views.{meaning}
 use Rattle.rounds.specs.declared.pending_run.PendingRun.{PendingRun}
 use Rattle.batch.specs.declared.batch.Batch.{Batch}
 use Rattle.rounds.specs.PendingRuns.{IsPendingOf, times, AreRenewed}
 use Rattle.rounds.proofs.Times.{times_append, times_one, times_none}
 
--- the runs of some numbers are in their places, and a view and labels are ready for the next
-pub record AreInPlace (batch : Batch) (state : State) (numbers : List ℕ) (old runs : List PendingRun) (was counts : List ℕ) (view : View)
-    (labels : List Held) : Type 0 where
+-- the runs of some numbers are in their places, and a desk is ready for the next
+pub record AreInPlace (batch : Batch) (state : State) (numbers : List ℕ) (old runs : List PendingRun) (was counts : List ℕ)
+    (desk : Desk) : Type 0 where
   pub renewed : AreRenewed batch state numbers old runs was counts
-  pub as_opened : view ≡ opened state
-  pub unlabelled : labels ≡ []
+  pub ready : IsDeskOn state desk
 
 -- a number stands in the first of a list no more often than in all
 pub times_take : (x k : ℕ) (ys : List ℕ) → times x (take k ys) ≤ times x ys
@@ -35,48 +34,54 @@ none_renewed batch state runs counts = record {
   told = λ i lt. omega arith;
 }
 
--- the run of one number more takes its place
-pub renewed_more : (batch : Batch) (state : State) (numbers : List ℕ) (k n : ℕ) (run : PendingRun) (old runs : List PendingRun)
-    (was counts : List ℕ) → k < length numbers → n ≡ get_or numbers k 0
-    → length was ≡ length old → n < length old → IsPendingOf (meaning batch n state) run
-    → AreRenewed batch state (take k numbers) old runs was counts
-    → AreRenewed batch state (take (k + 1) numbers) old (set runs n run) was (set counts n (get_or counts n 0 + 1))
-renewed_more batch state numbers k n run old runs was counts lt is sizes inside here so_far =
+-- one run takes its place
+pub one_renewed : (batch : Batch) (state : State) (n : ℕ) (run : PendingRun) (old : List PendingRun) (was : List ℕ)
+    → n < length old → n < length was → IsPendingOf (meaning batch n state) run
+    → AreRenewed batch state (n ∷ []) old (set old n run) was (set was n (get_or was n 0 + 1))
+one_renewed batch state n run old was inside counted here = record {
+  runs = length-set old n run;
+  counted = length-set was n (get_or was n 0 + 1);
+  same = λ i d none. elim (ℕ_discrete i n) [
+    | yes at ↦ let once : times i (n ∷ []) ≡ 1 = ap (λ m. times i (m ∷ [])) (sym at) ∙ times_one i in absurd (omega arith)
+    | no other ↦ get_or-set_other old n i run d other
+  ];
+  made = λ i d some. elim (ℕ_discrete i n) [
+    | yes at ↦ subst (λ m. IsPendingOf (meaning batch m state) (get_or (set old n run) m d)) (sym at)
+        (subst (IsPendingOf (meaning batch n state)) (sym (get_or-set_same old n run d inside)) here)
+    | no other ↦ let none = times_none i n (λ h. other (sym h)) in absurd (omega arith)
+  ];
+  told = λ i below. elim (ℕ_discrete i n) [
+    | yes at ↦
+        let once : times i (n ∷ []) ≡ 1 = ap (λ m. times i (m ∷ [])) (sym at) ∙ times_one i in
+        let now : get_or (set was n (get_or was n 0 + 1)) i 0 ≡ get_or was i 0 + 1 =
+        ap (λ m. get_or (set was n (get_or was n 0 + 1)) m 0) at ∙ (get_or-set_same was n (get_or was n 0 + 1) 0 counted
+        ∙ ap (λ m. get_or was m 0 + 1) (sym at)) in
+        omega arith
+    | no other ↦
+        let none = times_none i n (λ h. other (sym h)) in
+        let now = get_or-set_other was n i (get_or was n 0 + 1) 0 other in
+        omega arith
+  ];
+}
+
+-- the run of one number more took its place
+pub renewed_next : (batch : Batch) (state : State) (numbers : List ℕ) (k n : ℕ) (old runs new : List PendingRun)
+    (was counts more : List ℕ) → k < length numbers → n ≡ get_or numbers k 0
+    → AreRenewed batch state (take k numbers) old runs was counts → AreRenewed batch state (n ∷ []) runs new counts more
+    → AreRenewed batch state (take (k + 1) numbers) old new was more
+renewed_next batch state numbers k n old runs new was counts more lt is so_far one =
     let split : (i : ℕ) → times i (take (k + 1) numbers) ≡ times i (take k numbers) + times i (n ∷ []) = λ i.
     ap (times i) (take_more numbers k 0 lt) ∙ (times_append i (take k numbers) (get_or numbers k 0 ∷ [])
     ∙ ap (λ m. times i (take k numbers) + times i (m ∷ [])) (sym is)) in
-    let runs_all = so_far.runs in
-    let counts_all = so_far.counted in
+    let counted = so_far.counted in
     record {
-      runs = length-set runs n run ∙ so_far.runs;
-      counted = length-set counts n (get_or counts n 0 + 1) ∙ so_far.counted;
-      same = λ i d none. elim (ℕ_discrete i n) [
-        | yes at ↦ let s = split i in let once : times i (n ∷ []) ≡ 1 = ap (λ m. times i (m ∷ [])) (sym at) ∙ times_one i in
-            absurd (omega arith)
-        | no other ↦ let s = split i in get_or-set_other runs n i run d other ∙ so_far.same i d (omega arith)
-      ];
+      runs = one.runs ∙ so_far.runs;
+      counted = one.counted ∙ so_far.counted;
+      same = λ i d none. let s = split i in one.same i d (omega arith) ∙ so_far.same i d (omega arith);
       made = λ i d some. elim (ℕ_discrete i n) [
-        | yes at ↦ let place : n < length runs = omega arith in
-            subst (λ m. IsPendingOf (meaning batch m state) (get_or (set runs n run) m d)) (sym at)
-            (subst (IsPendingOf (meaning batch n state)) (sym (get_or-set_same runs n run d place)) here)
+        | yes at ↦ let once : times i (n ∷ []) ≡ 1 = ap (λ m. times i (m ∷ [])) (sym at) ∙ times_one i in one.made i d (omega arith)
         | no other ↦ let s = split i in let none = times_none i n (λ h. other (sym h)) in subst (IsPendingOf (meaning batch i state))
-            (sym (get_or-set_other runs n i run d other)) (so_far.made i d (omega arith))
+            (sym (one.same i d none)) (so_far.made i d (omega arith))
       ];
-      told = λ i below. elim (ℕ_discrete i n) [
-        | yes at ↦
-            let s = split i in
-            let t = so_far.told i below in
-            let once : times i (n ∷ []) ≡ 1 = ap (λ m. times i (m ∷ [])) (sym at) ∙ times_one i in
-            let place : n < length counts = omega arith in
-            let now : get_or (set counts n (get_or counts n 0 + 1)) i 0 ≡ get_or counts i 0 + 1 =
-            ap (λ m. get_or (set counts n (get_or counts n 0 + 1)) m 0) at ∙ (get_or-set_same counts n (get_or counts n 0 + 1) 0 place
-            ∙ ap (λ m. get_or counts m 0 + 1) (sym at)) in
-            omega arith
-        | no other ↦
-            let s = split i in
-            let t = so_far.told i below in
-            let none = times_none i n (λ h. other (sym h)) in
-            let now = get_or-set_other counts n i (get_or counts n 0 + 1) 0 other in
-            omega arith
-      ];
+      told = λ i below. let s = split i in let before = so_far.told i below in let now = one.told i (omega arith) in omega arith;
     }

@@ -25,7 +25,7 @@ use Rattle.rounds.specs.Passes.{CanBeMade}
 use Rattle.rounds.specs.PendingRuns.{IsPendingOf, own_nets, all_left, times, Kept, HoldsPast, AreRefuted, AreRenewed, IsFirstFrom}
 use Rattle.rounds.specs.Checks.{IsSeen}
 use Rattle.rounds.specs.declared.check.Seen.{Seen}
-use Rattle.rounds.proofs.Reached.{AtOpening}
+use Rattle.rounds.specs.Openings.{AtOpening}
 use Rattle.rounds.proofs.Conflicts.{some_run, AreAlone, left, holds_past, still_stands, keeps_answers, next_opening}
 
 none_or_some : (n : ℕ) → (n ≡ 0) ⊎ (0 < n)
@@ -236,16 +236,12 @@ pub listed_nets : (b : ℕ) (seen : Seen) (new first_of kept_of : List PendingRu
     → first_of ≡ new
     → IsSeen (take (length first_of - b) (drop b first_of)) seen
     → kept_of ≡ new
-    → take seen.upto seen.nets ≡ all_left (take ((b + seen.first) - ((b + seen.first) - seen.first))
-    (drop ((b + seen.first) - seen.first) kept_of))
+    → take seen.upto seen.nets ≡ all_left (take ((b + seen.first) - b) (drop b kept_of))
 listed_nets b seen new first_of kept_of first_is saw kept_is =
     let first = seen.first in
     let here = subst (λ rs. IsSeen rs seen) (rest_of new b) (subst (λ rs. IsSeen (take (length rs - b) (drop b rs)) seen) first_is saw) in
-    let start : b ≡ (b + first) - first = omega arith in
-    let size : first ≡ (b + first) - ((b + first) - first) = omega arith in
-    here.nets ∙ (ap (λ n. all_left (take n (drop b new))) size
-    ∙ (ap (λ n. all_left (take ((b + first) - ((b + first) - first)) (drop n new))) start
-    ∙ ap (λ rs. all_left (take ((b + first) - ((b + first) - first)) (drop ((b + first) - first) rs))) (sym kept_is)))
+    let size : first ≡ (b + first) - b = omega arith in
+    here.nets ∙ (ap (λ n. all_left (take n (drop b new))) size ∙ ap (λ rs. all_left (take ((b + first) - b) (drop b rs))) (sym kept_is))
 
 -- what a round commits is legal on the objects of its opening, and has room
 pub round_commits : (batch : Batch) (b rounds passed : ℕ) (state : State) (old new first_of prefix_of : List PendingRun)

@@ -187,9 +187,8 @@ fn summed(alloc: Global, runs: &[Run]) -> Result<Vec<PendingRun>, NoMemory>
 {
     let mut pending = Vec::with_capacity(alloc, runs.len())?;
     for run in runs {
-        let PendingRun { tree, net, sums } = PendingRun::empty(alloc);
-        let sums = Sums::of(alloc, &run.entries, &run.net, sums)?;
-        pending.push(PendingRun { tree, net, sums })?;
+        let sums = Sums::of(alloc, &run.entries, &run.net, Sums::empty(alloc))?;
+        pending.push(PendingRun::of_sums(alloc, sums))?;
     }
     Ok(pending)
 }

@@ -8,7 +8,7 @@ ghost use Rattle.batch.specs.Views.{record_view};
 ghost use Rattle.intentions.specs.Levels.{AllHaveRoom};
 ghost use Rattle.rounds.specs.Views.{start_of, blocks_of};
 ghost use Rattle.rounds.specs.PendingRuns.{own_nets, times};
-ghost use Rattle.rounds.specs.Openings.{AreCounts};
+ghost use Rattle.rounds.specs.Openings.{AreCounts, IsOpening};
 ghost use Rattle.meaning.specs.declared.limits.TheConstants.{MAX_OBJECTS};
 
 use crate::check::seek_conflict;
@@ -85,35 +85,82 @@ fn records_of(alloc: Global, runs: Vec<PendingRun>) -> Result<Vec<Record>, NoMem
     Ok(records)
 }
 
-// What is at hand before the first round.
+// An opening: the objects, the runs and how often each was made, those that are to be made, and which
+// transactions are committed.
 #[derive(Drop)]
-struct Beginning {
+struct Opening {
     objects: Objects,
     runs: Vec<PendingRun>,
     counts: Vec<u32>,
     stale: Vec<usize>,
     pending: Pending,
+    opened: usize,
+    // How many transactions the round before committed.
+    passed: usize,
+    rounds: u32,
 }
 
-// The objects as they start, and all runs still to be made.
-fn begin(alloc: Global, batch: &Batch) -> Result<Beginning, NoMemory>
-    ensures objects { IfOk result (λ s. s.objects ≡ batch.now.objects) }
-    ensures runs { IfOk result (λ s. length s.runs.items ≡ length batch.now.transactions.items) }
-    ensures counts { IfOk result (λ s. (length s.counts.items ≡ length batch.now.transactions.items)
-        × ((i : ℕ) → slice_index_or s.counts.items i 0 ≡ 0)) }
-    ensures stale { IfOk result (λ s. length s.stale.items ≡ length batch.now.transactions.items) }
-    ensures below { IfOk result (λ s. (i : ℕ) → i < length batch.now.transactions.items → times i s.stale.items ≡ 1) }
-    ensures beyond { IfOk result (λ s. (i : ℕ) → length batch.now.transactions.items ≤ i → times i s.stale.items ≡ 0) }
-    ensures pending { IfOk result (λ s. s.pending.watch.count ≡ length batch.now.transactions.items) }
+// The first opening. The objects are as they start, and all runs are still to be made.
+fn begin(alloc: Global, batch: &Batch) -> Result<Opening, NoMemory>
+    ensures { IfOk result (IsOpening batch.now) }
 {
     let count = batch.transactions.len();
-    Ok(Beginning {
+    Ok(Opening {
         objects: batch.objects.copy()?,
         runs: blank_runs(alloc, count)?,
         counts: no_counts(alloc, count)?,
         stale: all_numbers(alloc, count)?,
         pending: Pending::new(alloc, count)?,
+        opened: 0,
+        passed: 0,
+        rounds: 0,
     })
+}
+
+// A round leads from one opening to the next.
+fn round<R: Threads + Sync, G: Gate>(
+    crew: &Crew<R, G>,
+    batch: &Batch,
+    at: &mut Opening,
+) -> Result<(), NoMemory>
+    requires at { IsOpening batch.now at.old }
+    requires going { at.old.opened < length batch.now.transactions.items }
+    ensures at { OnOk result (IsOpening batch.now at.new) }
+    ensures on { OnOk result (at.old.opened < at.new.opened) }
+{
+    renew(
+        crew,
+        batch,
+        &at.objects,
+        &at.stale,
+        &mut at.runs,
+        &mut at.counts,
+    )?;
+    let opened = at.opened;
+    // As many runs are expected to stand as in the round before.
+    let seen = seek_conflict(crew, &at.runs[opened..], at.passed)?;
+    let passed = seen.first;
+    commit(&at.runs[opened..opened + passed], &mut at.objects)?;
+    at.opened += passed;
+    at.passed = passed;
+    at.rounds += 1;
+    crew.gate.ended(&Progress {
+        round: at.rounds,
+        before: opened,
+        committed: at.opened,
+        transactions: batch.transactions.len(),
+    });
+    at.stale = keep_all(
+        crew,
+        &at.runs,
+        &mut at.pending,
+        &at.stale,
+        opened,
+        at.opened,
+        &seen.nets,
+        seen.upto,
+    )?;
+    Ok(())
 }
 
 /// Runs a batch in rounds. It returns what one thread returns that runs the transactions by number,
@@ -141,46 +188,20 @@ pub fn execute<R: Threads + Sync, G: Gate>(
     // So is how often each transaction was run.
     ensures runs { IfOk result (λ o. AreCounts batch.now o.runs.items) }
 {
-    let count = batch.transactions.len();
-    let Beginning {
-        mut objects,
-        mut runs,
-        mut counts,
-        mut stale,
-        mut pending,
-    } = begin(alloc, batch)?;
-    let mut opened: usize = 0;
-    let mut passed: usize = 0;
-    let mut rounds: u32 = 0;
     let crew = Crew::of(threads, alloc, batch, plan, gate);
-    'opening: while opened < count {
-        renew(&crew, batch, &objects, &stale, &mut runs, &mut counts)?;
-        // As many runs are expected to stand as in the round before.
-        let seen = seek_conflict(&crew, &runs[opened..], passed)?;
-        passed = seen.first;
-        commit(&runs[opened..opened + passed], &mut objects)?;
-        opened += passed;
-        rounds += 1;
-        gate.ended(&Progress {
-            round: rounds,
-            before: opened - passed,
-            committed: opened,
-            transactions: count,
-        });
-        stale = keep_all(
-            &crew,
-            &runs,
-            &mut pending,
-            &stale,
-            opened - passed,
-            opened,
-            &seen.nets,
-            seen.upto,
-        )?;
+    let mut at = begin(alloc, batch)?;
+    'opening: while at.opened < batch.transactions.len() {
+        round(&crew, batch, &mut at)?;
     }
-    let records = records_of(alloc, runs)?;
+    let Opening {
+        objects,
+        runs,
+        counts,
+        rounds,
+        ..
+    } = at;
     Ok(Outcome {
-        records,
+        records: records_of(alloc, runs)?,
         objects,
         rounds,
         runs: counts,

@@ -19,7 +19,7 @@ pub(crate) struct Sums {
 
 impl Sums {
     /// No summaries. This takes no memory.
-    fn empty(alloc: Global) -> Sums {
+    pub(crate) fn empty(alloc: Global) -> Sums {
         Sums {
             entries: Vec::new(alloc),
             of_net: None,
@@ -75,13 +75,20 @@ pub(crate) struct PendingRun {
 impl PendingRun {
     /// A run of no steps. This takes no memory.
     pub(crate) fn empty(alloc: Global) -> PendingRun {
+        PendingRun::of_sums(alloc, Sums::empty(alloc))
+    }
+
+    /// A run of no steps with these summaries. This takes no memory.
+    pub(crate) fn of_sums(alloc: Global, sums: Sums) -> PendingRun
+        ensures { result.sums ≡ sums }
+    {
         PendingRun {
             tree: Record {
                 taken: Vec::new(alloc),
                 outcome: End::Ended,
             },
             net: Vec::new(alloc),
-            sums: Sums::empty(alloc),
+            sums,
         }
     }
 

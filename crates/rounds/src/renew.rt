@@ -1,10 +1,12 @@
 //! Runs that are made again, each in the place of the one before it.
-ghost use Rattle.std.specs.Prelude.{◌≡◌, ◌+◌, ◌<◌, ◌≤◌, ℕ, length, IfOk, slice_index_or};
+ghost use Rattle.std.specs.Prelude.{◌≡◌, ◌+◌, ◌<◌, ◌≤◌, ℕ, [], ◌∷◌, length, set, IfOk, OnOk, slice_index_or};
 ghost use Rattle.std.specs.List.{All};
 ghost use Rattle.objects.specs.Entries.{kinds};
+ghost use Rattle.rounds.specs.Desks.{IsDeskOn};
 ghost use Rattle.rounds.specs.Passes.{CanBeMade};
 ghost use Rattle.rounds.specs.PendingRuns.{times, AreRenewed};
 ghost use Rattle.meaning.specs.declared.limits.TheConstants.{MAX_TRANSACTIONS};
+ghost use Rattle.plan.specs.declared.plan.TheConstants.{MAX_WORKERS};
 
 use crate::crew::{Crew, makers};
 use crate::desk::Desk;
@@ -15,8 +17,50 @@ use speculate::{Gate, NoMemory, Objects};
 use std::mem::replace;
 use std::thread::Threads;
 
-// The same as `renew` by one worker, at one desk. Each run takes its place at once, in the memory of
-// the one before it.
+// Puts a run into the place of its number, and counts it.
+fn put(run: PendingRun, number: usize, runs: &mut Vec<PendingRun>, counts: &mut Vec<u32>)
+    requires within { number < length runs.old.items }
+    requires counted { number < length counts.old.items }
+    requires few { slice_index_or counts.old.items number 0 ≤ MAX_TRANSACTIONS + 1 }
+    ensures runs { runs.new.items ≡ set runs.old.items number run }
+    ensures counts { counts.new.items ≡ set counts.old.items number (slice_index_or counts.old.items number 0 + 1) }
+{
+    runs[number] = run;
+    counts[number] += 1;
+}
+
+// Makes a run at the desk. It takes its place at once, in the memory of the one before it.
+fn renew_at<R: Threads + Sync, G: Gate>(
+    crew: &Crew<R, G>,
+    batch: &Batch,
+    place: usize,
+    width: u32,
+    desk: &mut Desk<'_>,
+    runs: &mut Vec<PendingRun>,
+    counts: &mut Vec<u32>,
+) -> Result<(), NoMemory>
+    requires within { (place < length runs.old.items) × (place < length counts.old.items) × (place ≤ MAX_TRANSACTIONS) }
+    requires few { slice_index_or counts.old.items place 0 ≤ MAX_TRANSACTIONS + 1 }
+    requires can { CanBeMade batch.now desk.old.view.snapshot place }
+    requires same_kinds { kinds desk.old.view.snapshot ≡ kinds batch.now.objects }
+    requires narrow { (1 ≤ width) × (width ≤ MAX_WORKERS) }
+    requires ready { IsDeskOn desk.old.view.snapshot desk.old }
+    ensures ready { OnOk result (IsDeskOn desk.old.view.snapshot desk.new) }
+    ensures renewed { OnOk result (AreRenewed batch.now desk.old.view.snapshot (place ∷ []) runs.old.items runs.new.items counts.old.items counts.new.items) }
+{
+    let Crew {
+        threads,
+        alloc,
+        gate,
+        ..
+    } = *crew;
+    let spare = replace(&mut runs[place], PendingRun::empty(alloc));
+    let run = desk.run(threads, alloc, batch, place, width, gate, spare)?;
+    put(run, place, runs, counts);
+    Ok(())
+}
+
+// The same as `renew` by one worker, at one desk.
 fn renew_in_turn<R: Threads + Sync, G: Gate>(
     crew: &Crew<R, G>,
     batch: &Batch,
@@ -34,21 +78,10 @@ fn renew_in_turn<R: Threads + Sync, G: Gate>(
     requires room { (i : ℕ) → slice_index_or counts.old.items i 0 + times i stale.now ≤ MAX_TRANSACTIONS + 1 }
     ensures renewed { IfOk result (λ _. AreRenewed batch.now objects.now stale.now runs.old.items runs.new.items counts.old.items counts.new.items) }
 {
-    let Crew {
-        threads,
-        alloc,
-        plan,
-        gate,
-        ..
-    } = *crew;
-    let width = plan.width(stale.len() as u32);
-    let mut desk = Desk::open(alloc, objects)?;
+    let width = crew.plan.width(stale.len() as u32);
+    let mut desk = Desk::open(crew.alloc, objects)?;
     for number in stale {
-        let place = *number;
-        let spare = replace(&mut runs[place], PendingRun::empty(alloc));
-        let run = desk.run(threads, alloc, batch, place, width, gate, spare)?;
-        runs[place] = run;
-        counts[place] += 1;
+        renew_at(crew, batch, *number, width, &mut desk, runs, counts)?;
     }
     Ok(())
 }
@@ -79,8 +112,7 @@ pub(crate) fn renew<R: Threads + Sync, G: Gate>(
     let mut made = make_all(crew, batch, objects, stale)?;
     'putting: while let Some(next) = made.pop() {
         let Made { number, run } = next;
-        runs[number] = run;
-        counts[number] += 1;
+        put(run, number, runs, counts);
     }
     Ok(())
 }

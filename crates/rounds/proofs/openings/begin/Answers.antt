@@ -1,0 +1,28 @@
+use Rattle.std.proofs.Common.{◌≡◌, length, arith}
+use Rattle.std.proofs.lemmas.List.{length-map}
+use Rattle.rounds.specs.Views.{blocks_of}
+use Rattle.batch.specs.Views.{block_view}
+use Rattle.rounds.proofs.Steps.{starts}
+use Rattle.rounds.proofs.Touched.{has_of_times}
+use Rattle.rounds.proofs.openings.begin.Goals as goal
+
+pub returns : goal.returns
+returns c =
+    let batch = c.args.batch.now in
+    let count = c.len-count.ensures in
+    let blocks : length (blocks_of batch) ≡ length batch.transactions.items = length-map batch.transactions.items block_view in
+    let runs = c.in_ok-blank_runs in
+    let counts = c.in_ok-no_counts in
+    let stale = c.in_ok-all_numbers in
+    record {
+      here = starts batch c.in_ok-copy.field-0 runs.field-0.items counts.field-0.items stale.field-0.items c.in_ok-copy.ensures
+          (omega (arith, runs.ensures)) (omega (arith, counts.ensures.0)) counts.ensures.1
+          (λ i lt. stale.ensures.below i (omega (arith, lt))) (λ i le. stale.ensures.beyond i (omega (arith, le)));
+      few = omega (arith, stale.ensures.all);
+      tells = record {
+        all = omega (arith, c.in_ok-new.ensures, runs.ensures);
+        watched = λ run d low high out.
+            let once = stale.ensures.below run (omega (arith, high, runs.ensures)) in
+            absurd (out (has_of_times stale.field-0.items run (omega (arith, once))));
+      };
+    }
