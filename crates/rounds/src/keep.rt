@@ -28,7 +28,8 @@ fn tell(
     requires upto { upto ≤ length nets.now }
     ensures { OnOk result (IsTold runs.now (take upto nets.now) place told.old.items told.new.items) }
 {
-    if !stands_past(runs, place, nets, upto) {
+    let fails = !stands_past(runs, place, nets, upto);
+    if fails {
         told.push(place)?;
     }
     Ok(())
