@@ -12,10 +12,11 @@ use Rattle.rounds.specs.Views.{start_of, blocks_of}
 use Rattle.rounds.specs.declared.pending_run.PendingRun.{PendingRun}
 use Rattle.batch.specs.declared.record.Record.{Record}
 use Rattle.batch.specs.declared.batch.Batch.{Batch}
-use Rattle.rounds.specs.Openings.{AreCounts, AtOpening}
+use Rattle.rounds.specs.Openings.{AreCounts}
+use Rattle.rounds.specs.AtOpenings.{AtOpening}
 use Rattle.speculate.proofs.Room.{kinds_at}
 use Rattle.rounds.proofs.Conflicts.{some_run}
-use Rattle.rounds.proofs.Reached.{IsRecordOf, AreAnswers}
+use Rattle.rounds.proofs.Records.{IsRecordOf, AreAnswers}
 
 module _ (batch : Batch) (b rounds : ℕ) (state : State) (runs : List PendingRun) (counts stale : List ℕ) where
   abbrev pub AtTheEnd : Type 0

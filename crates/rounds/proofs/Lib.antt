@@ -6,7 +6,7 @@ pub mod Firsts
 pub mod Conflicts
 pub mod Room
 pub mod Commits
-pub mod Reached
+pub mod Records
 pub mod Summed
 pub mod Steps
 pub mod Ends

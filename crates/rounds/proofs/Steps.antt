@@ -25,7 +25,7 @@ use Rattle.rounds.specs.Passes.{CanBeMade}
 use Rattle.rounds.specs.PendingRuns.{IsPendingOf, own_nets, all_left, times, Kept, HoldsPast, AreRefuted, AreRenewed, IsFirstFrom}
 use Rattle.rounds.specs.Checks.{IsSeen}
 use Rattle.rounds.specs.declared.check.Seen.{Seen}
-use Rattle.rounds.specs.Openings.{AtOpening}
+use Rattle.rounds.specs.AtOpenings.{AtOpening}
 use Rattle.rounds.proofs.Conflicts.{some_run, AreAlone, left, holds_past, still_stands, keeps_answers, next_opening}
 
 none_or_some : (n : ℕ) → (n ≡ 0) ⊎ (0 < n)

@@ -3,5 +3,6 @@ pub mod Passes
 pub mod PendingRuns
 pub mod Desks
 pub mod Openings
+pub mod AtOpenings
 pub mod Checks
 pub mod Pending

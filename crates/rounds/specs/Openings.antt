@@ -1,42 +1,10 @@
--- Openings, and how often each transaction is run.
-use Rattle.std.specs.Prelude.{◌≡◌, ℕ, suc, ◌+◌, ◌<◌, ◌≤◌, List, length, slice_index_or}
-use Rattle.objects.specs.Entries.{State}
-use Rattle.meaning.specs.Batch.{state_at, alone, answer}
-use Rattle.meaning.specs.Rounds.{RoundsFrom, Rounds, CountFrom, Count}
-use Rattle.meaning.specs.declared.limits.TheConstants.{MAX_TRANSACTIONS}
+-- How often each transaction is run.
+use Rattle.std.specs.Prelude.{◌≡◌, ℕ, ◌<◌, List, length, slice_index_or}
+use Rattle.meaning.specs.Rounds.{Count}
 use Rattle.rounds.specs.Views.{start_of, blocks_of}
-use Rattle.rounds.specs.Pending.{Tells}
-use Rattle.rounds.specs.PendingRuns.{IsPendingOf, times}
-use Rattle.rounds.specs.declared.openings.Opening.{Opening}
-use Rattle.rounds.specs.declared.pending_run.PendingRun.{PendingRun}
 use Rattle.batch.specs.declared.batch.Batch.{Batch}
 
 -- the counts say how often each transaction is run
 pub record AreCounts (batch : Batch) (counts : List ℕ) : Type 0 where
   pub all : length counts ≡ length (blocks_of batch)
   pub each : (i : ℕ) → i < length (blocks_of batch) → Count (start_of batch) (blocks_of batch) i (slice_index_or counts i 0)
-
--- At opening b, after so many rounds: the objects are those after the first b transactions, which have their results,
--- and each later one has a run on this state, or its number is among the stale ones.
-pub record AtOpening (batch : Batch) (b rounds : ℕ) (state : State) (runs : List PendingRun) (counts stale : List ℕ) : Type 0 where
-  pub within : b ≤ length (blocks_of batch)
-  pub all : length runs ≡ length (blocks_of batch)
-  pub counted : length counts ≡ length (blocks_of batch)
-  pub reached : state ≡ state_at (start_of batch) (blocks_of batch) b
-  pub committed : (i : ℕ) (d : PendingRun) → i < b → IsPendingOf (answer (start_of batch) (blocks_of batch) i) (slice_index_or runs i d)
-  pub pending : (i : ℕ) (d : PendingRun) → b ≤ i → i < length (blocks_of batch) → times i stale ≡ 0
-      → IsPendingOf (alone (start_of batch) (blocks_of batch) i b) (slice_index_or runs i d)
-  pub numbers : (i : ℕ) → 0 < times i stale → (b ≤ i) × (i < length (blocks_of batch))
-  pub few_rounds : rounds ≤ b
-  pub few_runs : (i : ℕ) → slice_index_or counts i 0 + times i stale ≤ rounds + 1
-  pub all_rounds : (more : ℕ) → RoundsFrom (start_of batch) (blocks_of batch) b more → Rounds (start_of batch) (blocks_of batch)
-      (rounds + more)
-  pub committed_counts : (i : ℕ) → i < b → Count (start_of batch) (blocks_of batch) i (slice_index_or counts i 0)
-  pub pending_counts : (i more : ℕ) → b ≤ i → i < length (blocks_of batch) → CountFrom (start_of batch) (blocks_of batch) i b (suc more)
-      → Count (start_of batch) (blocks_of batch) i (slice_index_or counts i 0 + times i stale + more)
-
--- what is at hand at an opening
-pub record IsOpening (batch : Batch) (at : Opening) : Type 0 where
-  pub here : AtOpening batch at.opened at.rounds at.objects at.runs.items at.counts.items at.stale.items
-  pub few : length at.stale.items ≤ MAX_TRANSACTIONS
-  pub tells : Tells at.pending at.runs.items at.opened at.stale.items

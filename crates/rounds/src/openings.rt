@@ -8,7 +8,8 @@ ghost use Rattle.batch.specs.Views.{record_view};
 ghost use Rattle.intentions.specs.Levels.{AllHaveRoom};
 ghost use Rattle.rounds.specs.Views.{start_of, blocks_of};
 ghost use Rattle.rounds.specs.PendingRuns.{own_nets, times};
-ghost use Rattle.rounds.specs.Openings.{AreCounts, IsOpening};
+ghost use Rattle.rounds.specs.Openings.{AreCounts};
+ghost use Rattle.rounds.specs.AtOpenings.{IsOpening};
 ghost use Rattle.meaning.specs.declared.limits.TheConstants.{MAX_OBJECTS};
 
 use crate::check::seek_conflict;

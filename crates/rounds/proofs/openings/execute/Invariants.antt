@@ -1,5 +1,5 @@
 use Rattle.std.proofs.Common.{◌-◌, length}
-use Rattle.rounds.specs.Openings.{IsOpening}
+use Rattle.rounds.specs.AtOpenings.{IsOpening}
 use Rattle.rounds.proofs.openings.execute.Given as goal
 
 abbrev pub invariant-opening : goal.invariant-opening
