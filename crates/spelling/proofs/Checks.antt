@@ -1,8 +1,10 @@
 -- A list of demands in parts.
-use Rattle.std.specs.Result.{IfErr, IsErrAnd}
+use Rattle.std.specs.Result.{IfErr, IfOk, IsErrAnd, OnOk}
 use Rattle.std.proofs.Common.{subst, sym, ◌≡◌, List, [], ◌∷◌, ◌++◌, Result, Ok, Err, refl, ap, ◌∙◌}
 use Rattle.faults.specs.declared.fault.Fault.{Fault}
 use Rattle.spelling.specs.declared.counts.Counts.{Counts}
+use Rattle.faults.specs.Faults.{memory_fault}
+use Rattle.spelling.specs.Answer.{IsFirst, IsMet}
 use Rattle.spelling.specs.Demand.{Demand, check, check_one, and_then}
 
 -- the rest of a list, once its beginning is checked
@@ -34,6 +36,24 @@ pub passed_on : {T : Type 0} (r : Result T Fault) (P : Fault → Type 0) (e : Fa
 passed_on (Ok x) P e h p = tt
 passed_on (Err x) P e h p = subst P (sym h) p
 
+-- what a call leaves that may only be refused memory
+module _ {T : Type 0} where
+  pub memory_only : (r : Result T Fault) (c : Counts) (ds : List Demand) → IfErr r (λ e. e ≡ memory_fault) → IfErr r (IsFirst c ds)
+  memory_only (Ok x) c ds h = tt
+  memory_only (Err e) c ds h = λ other. absurd (other h)
+
+  pub on_ok : (r : Result T Fault) (P : Type 0) → P → OnOk r P
+  on_ok (Ok x) P p = p
+  on_ok (Err e) P p = tt
+
+  pub then_ok : (r : Result T Fault) (P Q : T → Type 0) → IfOk r P → ((x : T) → P x → Q x) → IfOk r Q
+  then_ok (Ok x) P Q p f = f x p
+  then_ok (Err e) P Q p f = tt
+
+  pub then_err : (r : Result T Fault) (P Q : Fault → Type 0) → IfErr r P → ((e : Fault) → P e → Q e) → IfErr r Q
+  then_err (Ok x) P Q p f = tt
+  then_err (Err e) P Q p f = f e p
+
 -- demands in parts, for an attribute or a tactic to cite
 pub ruleset parts = (check-append, check-after, failed-before)
 
@@ -41,6 +61,14 @@ pub ruleset parts = (check-append, check-after, failed-before)
 pub check_met : (c next : Counts) (xs ys : List Demand) → check c xs ≡ Ok next → check c (xs ++ ys) ≡ check next ys
 unfolding and_check
 check_met c next xs ys met = check-append c xs ys ∙ ap (λ r. and_check r ys) met
+
+-- where the first part is met, what a call answers of the rest it answers of the whole
+module _ {T : Type 0} (r : Result T Fault) (c next : Counts) (xs ys : List Demand) (met : check c xs ≡ Ok next) where
+  pub rest_met : (last : Counts) → OnOk r (IsMet next ys last) → OnOk r (IsMet c (xs ++ ys) last)
+  rest_met last h = then_ok r (λ _. IsMet next ys last) (λ _. IsMet c (xs ++ ys) last) h (λ _ rest. check_met c next xs ys met ∙ rest)
+
+  pub rest_first : IfErr r (IsFirst next ys) → IfErr r (IsFirst c (xs ++ ys))
+  rest_first h = then_err r (IsFirst next ys) (IsFirst c (xs ++ ys)) h (λ e first other. check_met c next xs ys met ∙ first other)
 
 -- where the first part fails, so does the whole
 pub check_failed : (c : Counts) (e : Fault) (xs ys : List Demand) → check c xs ≡ Err e → check c (xs ++ ys) ≡ Err e

@@ -9,10 +9,11 @@ use Rattle.spelling.specs.declared.counts.Counts.{Counts}
 use Rattle.faults.specs.declared.fault.Fault.{Fault}
 use Rattle.spelling.specs.Asked.{Asks, block_asked_if, children_asked, children_in, handlers_asked, handlers_in, if_asked, if_label}
 use Rattle.spelling.specs.Asked.{if_shape_asked, label_asked, label_in, parallel_asked, part, seen_asked, sub_asked, sub_shape_asked}
-use Rattle.spelling.specs.Asked.{subject_of, test_asked}
-use Rattle.spelling.specs.Demand.{Demand, check, one_more_node}
-use Rattle.spelling.specs.Heads.{if_head_asked, parallel_head_asked, sub_head_asked}
-use Rattle.spelling.specs.Scope.{Numbers, Scope, label_number}
+use Rattle.spelling.specs.Asked.{arguments_asked, call_named, object_of, operation_asked, operation_shape_asked, subject_of, target_asked}
+use Rattle.spelling.specs.Asked.{test_asked, verb_in}
+use Rattle.spelling.specs.Demand.{Demand, check, one_more_node, one_more_operation}
+use Rattle.spelling.specs.Heads.{if_head_asked, operation_head_asked, parallel_head_asked, sub_head_asked}
+use Rattle.spelling.specs.Scope.{Numbers, Scope, Setting, label_number}
 use Rattle.spelling.specs.Spelled.{Spelling, block_of_if, handlers_spelled, if_of, or_no_step, sub_of, test_of, tried}
 use Rattle.spelling.proofs.Checks.{check-append, check-after, check_failed, check_met, failed-before}
 
@@ -32,6 +33,15 @@ pub parallel_asked-is : (version : ℕ) (asks : Asks) (scope : Scope) (d : Data)
 unfolding parallel_asked parallel_head_asked
 parallel_asked-is version asks scope d = refl
 
+pub operation_asked-is : (setting : Setting) (scope : Scope) (d : Data) → operation_asked setting scope d
+    ≡ operation_head_asked setting d ++ arguments_asked (verb_in setting (part (codes "op") d)) (part (codes "op") d)
+    ++ label_asked scope [] (label_in d)
+unfolding operation_asked operation_head_asked
+operation_asked-is setting scope d = refl
+
+-- for the function that reads an operation
+pub ruleset operations = (operation_asked-is, check-append, check-after, failed-before)
+
 -- for the functions that read a head and then the blocks
 pub ruleset heads = (if_asked-is, sub_asked-is, parallel_asked-is, check-append, check-after, failed-before)
 
@@ -43,6 +53,44 @@ second_failed c next e xs ys met failed = check_met c next xs ys met ∙ failed
 
 both_met : (c next last : Counts) (xs ys : List Demand) → check c xs ≡ Ok next → check next ys ≡ Ok last → check c (xs ++ ys) ≡ Ok last
 both_met c next last xs ys met rest = check_met c next xs ys met ∙ rest
+
+-- ---- an operation
+
+module _ (setting : Setting) (scope : Scope) (d : Data) (start : Counts) where
+  abbrev operation_head : List Demand
+  operation_head = operation_head_asked setting d
+
+  abbrev arguments : List Demand
+  arguments = arguments_asked (verb_in setting (part (codes "op") d)) (part (codes "op") d)
+
+  abbrev operation_label : List Demand
+  operation_label = label_asked scope [] (label_in d)
+
+  -- the first fault is before the arguments
+  pub operation_head_failed : (e : Fault) → check start operation_head ≡ Err e → check start (operation_asked setting scope d) ≡ Err e
+  operation_head_failed e failed = ap (check start) (operation_asked-is setting scope d)
+      ∙ check_failed start e (operation_head ++ arguments) operation_label (check_failed start e operation_head arguments failed)
+
+  -- it is in the arguments
+  pub arguments_failed : (next : Counts) (e : Fault) → check start operation_head ≡ Ok next → check next arguments ≡ Err e
+      → check start (operation_asked setting scope d) ≡ Err e
+  arguments_failed next e met failed = ap (check start) (operation_asked-is setting scope d)
+      ∙ check_failed start e (operation_head ++ arguments) operation_label
+      (second_failed start next e operation_head arguments met failed)
+
+  -- it is in the label
+  pub operation_label_failed : (next after : Counts) (e : Fault) → check start operation_head ≡ Ok next
+      → check next arguments ≡ Ok after → check after operation_label ≡ Err e → check start (operation_asked setting scope d) ≡ Err e
+  operation_label_failed next after e met also failed = ap (check start) (operation_asked-is setting scope d)
+      ∙ second_failed start after e (operation_head ++ arguments) operation_label
+      (both_met start next after operation_head arguments met also) failed
+
+  -- there is none
+  pub operation_parts_met : (next after last : Counts) → check start operation_head ≡ Ok next → check next arguments ≡ Ok after
+      → check after operation_label ≡ Ok last → check start (operation_asked setting scope d) ≡ Ok last
+  operation_parts_met next after last met also rest = ap (check start) (operation_asked-is setting scope d)
+      ∙ both_met start after last (operation_head ++ arguments) operation_label
+      (both_met start next after operation_head arguments met also) rest
 
 -- ---- an `if`
 
@@ -146,7 +194,49 @@ pub sub_read : (block : Spelling) (scope : Scope) (d : Data) (numbers after betw
 unfolding sub_of
 sub_read block scope d numbers after between last b hs h e f g = rw (← e, ← f, ← g) refl
 
+-- ---- a parallel step
+
+module _ (version : ℕ) (asks : Asks) (scope : Scope) (d : Data) (start : Counts) where
+  abbrev list : List Demand
+  list = parallel_head_asked d
+
+  abbrev children : List Demand
+  children = children_asked version asks scope [] (children_in d)
+
+  -- the first fault is before the children
+  pub parallel_head_failed : (e : Fault) → check start list ≡ Err e → check start (parallel_asked version asks scope d) ≡ Err e
+  parallel_head_failed e failed = ap (check start) (parallel_asked-is version asks scope d) ∙ check_failed start e list children failed
+
+  -- it is in a child
+  pub parallel_child_failed : (next : Counts) (e : Fault) → check start list ≡ Ok next → check next children ≡ Err e
+      → check start (parallel_asked version asks scope d) ≡ Err e
+  parallel_child_failed next e met failed = ap (check start) (parallel_asked-is version asks scope d)
+      ∙ second_failed start next e list children met failed
+
+  -- there is none
+  pub parallel_parts_met : (next last : Counts) → check start list ≡ Ok next → check next children ≡ Ok last
+      → check start (parallel_asked version asks scope d) ≡ Ok last
+  parallel_parts_met next last met rest = ap (check start) (parallel_asked-is version asks scope d)
+      ∙ both_met start next last list children met rest
+
 -- ---- before the blocks
+
+module _ (setting : Setting) (d : Data) (start : Counts) where
+  abbrev operation_shape : List Demand
+  operation_shape = operation_shape_asked d
+
+  abbrev counted : List Demand
+  counted = one_more_operation setting.version ∷ []
+
+  abbrev target : List Demand
+  target = target_asked setting (object_of (part (codes "op") d)) (call_named (part (codes "op") d))
+
+  -- there are too many operations
+  pub operation_count_failed : (e : Fault) → check start operation_shape ≡ Ok start → check start counted ≡ Err e
+      → check start (operation_head_asked setting d) ≡ Err e
+  unfolding operation_head_asked
+  operation_count_failed e right failed = check_failed start e (operation_shape ++ counted) target
+      (second_failed start start e operation_shape counted right failed)
 
 module _ (scope : Scope) (d : Data) (start : Counts) where
   abbrev shape : List Demand

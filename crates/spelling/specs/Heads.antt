@@ -1,11 +1,18 @@
 -- What is asked of a step before its blocks.
-use Rattle.std.specs.Prelude.{ℕ, List, [], ◌∷◌, ◌++◌}
+use Rattle.std.specs.Prelude.{ℕ, List, [], ◌∷◌, ◌++◌, codes}
 use Rattle.serde_json.specs.Data.{Data}
 use Rattle.spelling.specs.Asked.{if_label, if_shape_asked, label_asked, label_in, parallel_shape_asked, seen_asked}
 use Rattle.spelling.specs.Asked.{sub_shape_asked, subject_of}
-use Rattle.spelling.specs.Asked.{test_asked}
-use Rattle.spelling.specs.Demand.{Demand, one_more_node}
-use Rattle.spelling.specs.Scope.{Scope}
+use Rattle.spelling.specs.Asked.{call_named, object_of, operation_shape_asked, part, target_asked, test_asked}
+use Rattle.spelling.specs.Demand.{Demand, one_more_node, one_more_operation}
+use Rattle.spelling.specs.Scope.{Scope, Setting}
+
+-- of an operation: its shape, and what it names
+unfoldable pub operation_head_asked : Setting → Data → List Demand
+operation_head_asked setting d =
+    operation_shape_asked d
+    ++ one_more_operation setting.version ∷ []
+    ++ target_asked setting (object_of (part (codes "op") d)) (call_named (part (codes "op") d))
 
 -- of an `if`: its shape, its label and its test
 unfoldable pub if_head_asked : Scope → Data → List Demand

@@ -41,6 +41,11 @@ or_zero o = unwrap_or o 0
 abbrev pub item_of : List ℕ → Numbers → Item
 item_of name numbers = record { 0 = number_of name numbers.items }
 
+-- the items of two names, the first of which comes first
+abbrev pub items_of : List ℕ → List ℕ → Numbers → (Item × Item) × Numbers
+items_of first second numbers =
+    ((item_of first numbers, item_of second (with_item first numbers)), with_item second (with_item first numbers))
+
 -- a part, with the numbers after it
 abbrev pub spelled_map : {A B : Type 0} → (A → B) → A × Numbers → B × Numbers
 spelled_map f p = (f p.0, p.1)

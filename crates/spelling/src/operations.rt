@@ -7,9 +7,10 @@ ghost use Rattle.spelling.specs.Amounts.{amount_of};
 ghost use Rattle.spelling.specs.Answer.{IsFirst, IsMet};
 ghost use Rattle.spelling.specs.Asked.{amount_asked, amount_item, arguments_asked, call_named, item_asked, label_in, name_item, object_of, operation_asked, operation_shape_asked, operation_verb, part, target_asked, verb_in};
 ghost use Rattle.faults.specs.Faults.{memory_fault};
+ghost use Rattle.spelling.specs.Heads.{operation_head_asked};
 ghost use Rattle.spelling.specs.Look.{text_item};
 ghost use Rattle.spelling.specs.Scope.{is_listed, kind_named, numbers_of, place_of, scope_of, setting_of, with_item, with_label};
-ghost use Rattle.spelling.specs.Spelled.{call_of, item_of, operation_of, or_zero, target_of};
+ghost use Rattle.spelling.specs.Spelled.{call_of, item_of, items_of, operation_of, or_zero, target_of};
 
 use crate::counts::Counts;
 use crate::declared::Declared;
@@ -22,7 +23,7 @@ use faults::{Fault, Wrong};
 use objects::Amount;
 use serde_json::Value;
 use std::alloc::Global;
-use words::Verb;
+use words::{ItemVerb, PairVerb, Verb};
 
 /// The parts of an operation.
 #[derive(Clone, Copy, Drop)]
@@ -110,6 +111,60 @@ pub fn item_of(alloc: Global, name: &str, numbering: &mut Numbering) -> Result<I
     Ok(Item(number_of(alloc, &mut numbering.items, name)?))
 }
 
+/// The items of two names, the first of which joins the others first.
+pub(crate) fn items_of(
+    alloc: Global,
+    first: &str,
+    second: &str,
+    numbering: &mut Numbering,
+) -> Result<(Item, Item), Fault>
+    ensures value { IfOk result (λ items. (items, numbers_of numbering.new) ≡ items_of first.now second.now (numbers_of numbering.old)) }
+    ensures err { IfErr result (λ fault. fault ≡ memory_fault) }
+{
+    let first = item_of(alloc, first, numbering)?;
+    let second = item_of(alloc, second, numbering)?;
+    Ok((first, second))
+}
+
+/// A call with an item.
+#[tactic(auto, using(crate::proofs::Checks::parts), unfolding(crate::specs::Asked::arguments_asked, crate::specs::Spelled::call_of))]
+fn read_item_call(
+    alloc: Global,
+    verb: ItemVerb,
+    op: &Value,
+    counts: &Counts,
+    numbering: &mut Numbering,
+) -> Result<Call, Fault>
+    ensures met { OnOk result (IsMet counts.now (arguments_asked (Verb.OfItem verb) (view op.now)) counts.now) }
+    ensures first { IfErr result (IsFirst counts.now (arguments_asked (Verb.OfItem verb) (view op.now))) }
+    ensures value { IfOk result (λ call. (call, numbers_of numbering.new) ≡ call_of (Verb.OfItem verb) (numbers_of numbering.old) (view op.now)) }
+{
+    counts.demand(count(op) == Some(3), Wrong::Argument)?;
+    let name = name_at(op, 2, counts)?;
+    let item = item_of(alloc, name, numbering)?;
+    Ok(verb.call(item))
+}
+
+/// A call with a key and an item.
+#[tactic(auto, using(crate::proofs::Checks::parts), unfolding(crate::specs::Asked::arguments_asked, crate::specs::Spelled::call_of))]
+fn read_pair_call(
+    alloc: Global,
+    verb: PairVerb,
+    op: &Value,
+    counts: &Counts,
+    numbering: &mut Numbering,
+) -> Result<Call, Fault>
+    ensures met { OnOk result (IsMet counts.now (arguments_asked (Verb.OfPair verb) (view op.now)) counts.now) }
+    ensures first { IfErr result (IsFirst counts.now (arguments_asked (Verb.OfPair verb) (view op.now))) }
+    ensures value { IfOk result (λ call. (call, numbers_of numbering.new) ≡ call_of (Verb.OfPair verb) (numbers_of numbering.old) (view op.now)) }
+{
+    counts.demand(count(op) == Some(4), Wrong::Argument)?;
+    let key_name = name_at(op, 2, counts)?;
+    let name = name_at(op, 3, counts)?;
+    let (key, item) = items_of(alloc, key_name, name, numbering)?;
+    Ok(verb.call(key, item))
+}
+
 #[tactic(auto, using(crate::proofs::Checks::parts), unfolding(crate::specs::Asked::arguments_asked, crate::specs::Spelled::call_of))]
 fn read_call(
     alloc: Global,
@@ -127,20 +182,8 @@ fn read_call(
             let amount = amount_of(op, counts)?;
             Ok(verb.call(amount))
         }
-        Verb::OfItem(verb) => {
-            counts.demand(count(op) == Some(3), Wrong::Argument)?;
-            let name = name_at(op, 2, counts)?;
-            let item = item_of(alloc, name, numbering)?;
-            Ok(verb.call(item))
-        }
-        Verb::OfPair(verb) => {
-            counts.demand(count(op) == Some(4), Wrong::Argument)?;
-            let key_name = name_at(op, 2, counts)?;
-            let name = name_at(op, 3, counts)?;
-            let key = item_of(alloc, key_name, numbering)?;
-            let item = item_of(alloc, name, numbering)?;
-            Ok(verb.call(key, item))
-        }
+        Verb::OfItem(verb) => read_item_call(alloc, verb, op, counts, numbering),
+        Verb::OfPair(verb) => read_pair_call(alloc, verb, op, counts, numbering),
         Verb::Alone(verb) => {
             counts.demand(count(op) == Some(2), Wrong::Argument)?;
             Ok(verb.call())
@@ -184,7 +227,37 @@ pub fn target_of(
     Ok((place, verb))
 }
 
-#[tactic(auto, using(crate::proofs::Checks::parts), unfolding(crate::specs::Asked::operation_asked, crate::specs::Spelled::operation_of))]
+/// What an operation has before its arguments are read.
+#[derive(Clone, Copy, Drop)]
+struct Head<'v> {
+    op: &'v Value,
+    label: Option<&'v str>,
+    object: u32,
+    verb: Verb,
+}
+
+/// Reads an operation up to its arguments.
+#[tactic(auto, using(crate::proofs::Checks::parts), unfolding(crate::specs::Heads::operation_head_asked))]
+fn head_of<'v>(step: &'v Value, declared: &Declared, counts: &mut Counts) -> Result<Head<'v>, Fault>
+    ensures met { OnOk result (IsMet counts.old (operation_head_asked (setting_of declared.now) (view step.now)) counts.new) }
+    ensures first { IfErr result (IsFirst counts.old (operation_head_asked (setting_of declared.now) (view step.now))) }
+    ensures op { IfOk result (λ head. view head.op.now ≡ part (codes "op") (view step.now)) }
+    ensures label { IfOk result (λ head. option_map (λ text. text.now) head.label ≡ label_in (view step.now)) }
+    ensures object { IfOk result (λ head. head.object ≡ target_of (setting_of declared.now) (object_of (part (codes "op") (view step.now)))) }
+    ensures verb { IfOk result (λ head. head.verb ≡ verb_in (setting_of declared.now) (part (codes "op") (view step.now))) }
+{
+    let shape = shape_of(step, counts)?;
+    counts.one_more_operation(declared.version)?;
+    let (object, verb) = target_of(shape.object, shape.call, declared, counts)?;
+    Ok(Head {
+        op: shape.op,
+        label: shape.label,
+        object,
+        verb,
+    })
+}
+
+#[tactic(auto, using(crate::proofs::HeadLemmas::operations), unfolding(crate::specs::Spelled::operation_of))]
 pub fn read_operation(
     alloc: Global,
     step: &Value,
@@ -201,20 +274,19 @@ pub fn read_operation(
         ≡ with_label (label_in (view step.now)) (Subject.Reply (verb_in (setting_of declared.now) (part (codes "op") (view step.now))))
         (scope_of state.old.labels.entries)) }
 {
-    let shape = shape_of(step, &state.counts)?;
-    state.counts.one_more_operation(declared.version)?;
-    let (object, verb) = target_of(shape.object, shape.call, declared, &state.counts)?;
-    let call = read_call(alloc, verb, shape.op, &state.counts, &mut state.numbering)?;
-    add_new_label(
+    let head = head_of(step, declared, &mut state.counts)?;
+    let call = read_call(
         alloc,
-        shape.label,
-        Subject::Reply(verb),
-        &mut state.labels,
+        head.verb,
+        head.op,
         &state.counts,
+        &mut state.numbering,
     )?;
+    let subject = Subject::Reply(head.verb);
+    add_new_label(alloc, head.label, subject, &mut state.labels, &state.counts)?;
     Ok(Step::Op {
-        object,
+        object: head.object,
         call,
-        labelled: shape.label.is_some(),
+        labelled: head.label.is_some(),
     })
 }

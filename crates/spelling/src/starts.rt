@@ -14,7 +14,7 @@ use crate::counts::Counts;
 use crate::declared::Declared;
 use crate::hashing::Texts;
 use crate::look::{count, has_only, text_item, text_member};
-use crate::operations::item_of;
+use crate::operations::{item_of, items_of};
 use crate::state::{Numbering, add_text};
 use batch::{Item, Kind, Objects, Value as ObjectValue, is_name};
 use faults::{Fault, Wrong};
@@ -180,9 +180,7 @@ pub fn read_pair(
     ensures earlier { OnOk result (texts_of earlier.new.keys ≡ with_text (key_of (view value.now)) (texts_of earlier.old.keys)) }
 {
     let (key_name, name) = check_pair(alloc, value, earlier, counts)?;
-    let key = item_of(alloc, key_name, numbering)?;
-    let item = item_of(alloc, name, numbering)?;
-    Ok((key, item))
+    items_of(alloc, key_name, name, numbering)
 }
 
 fn read_directory(
@@ -206,6 +204,63 @@ fn read_directory(
         directory.put(key, item)?;
     }
     Ok(directory)
+}
+
+/// What a set starts with.
+#[tactic(auto, unfolding(crate::specs::Asked::start_asked, crate::specs::Asked::array_start_asked, crate::specs::Spelled::start_of))]
+fn read_set_start(
+    alloc: Global,
+    value: &Value,
+    counts: &mut Counts,
+    numbering: &mut Numbering,
+) -> Result<ObjectValue, Fault>
+    ensures met { OnOk result (IsMet counts.old (start_asked Kind.Set (view value.now)) counts.new) }
+    ensures first { IfErr result (IsFirst counts.old (start_asked Kind.Set (view value.now))) }
+    ensures value { IfOk result (λ start. (start, numbers_of numbering.new) ≡ start_of Kind.Set (numbers_of numbering.old) (view value.now)) }
+{
+    let Some(list) = value.as_array() else {
+        return Err(counts.fault(Wrong::Start));
+    };
+    let start = read_set(alloc, list, counts, numbering)?;
+    Ok(ObjectValue::Set(start))
+}
+
+/// What a queue starts with.
+#[tactic(auto, unfolding(crate::specs::Asked::start_asked, crate::specs::Asked::array_start_asked, crate::specs::Spelled::start_of))]
+fn read_queue_start(
+    alloc: Global,
+    value: &Value,
+    counts: &mut Counts,
+    numbering: &mut Numbering,
+) -> Result<ObjectValue, Fault>
+    ensures met { OnOk result (IsMet counts.old (start_asked Kind.Queue (view value.now)) counts.new) }
+    ensures first { IfErr result (IsFirst counts.old (start_asked Kind.Queue (view value.now))) }
+    ensures value { IfOk result (λ start. (start, numbers_of numbering.new) ≡ start_of Kind.Queue (numbers_of numbering.old) (view value.now)) }
+{
+    let Some(list) = value.as_array() else {
+        return Err(counts.fault(Wrong::Start));
+    };
+    let start = read_queue(alloc, list, counts, numbering)?;
+    Ok(ObjectValue::Queue(start))
+}
+
+/// What a directory starts with.
+#[tactic(auto, unfolding(crate::specs::Asked::start_asked, crate::specs::Asked::array_start_asked, crate::specs::Spelled::start_of))]
+fn read_directory_start(
+    alloc: Global,
+    value: &Value,
+    counts: &mut Counts,
+    numbering: &mut Numbering,
+) -> Result<ObjectValue, Fault>
+    ensures met { OnOk result (IsMet counts.old (start_asked Kind.Directory (view value.now)) counts.new) }
+    ensures first { IfErr result (IsFirst counts.old (start_asked Kind.Directory (view value.now))) }
+    ensures value { IfOk result (λ start. (start, numbers_of numbering.new) ≡ start_of Kind.Directory (numbers_of numbering.old) (view value.now)) }
+{
+    let Some(list) = value.as_array() else {
+        return Err(counts.fault(Wrong::Start));
+    };
+    let start = read_directory(alloc, list, counts, numbering)?;
+    Ok(ObjectValue::Directory(start))
 }
 
 #[tactic(auto, unfolding(crate::specs::Asked::start_asked, crate::specs::Asked::array_start_asked, crate::specs::Spelled::start_of))]
@@ -233,20 +288,9 @@ pub fn read_start(
             Some(number) => Ok(ObjectValue::Max(number)),
             None => Err(counts.fault(Wrong::Start)),
         },
-        Kind::Set => match value.as_array() {
-            Some(list) => Ok(ObjectValue::Set(read_set(alloc, list, counts, numbering)?)),
-            None => Err(counts.fault(Wrong::Start)),
-        },
-        Kind::Queue => match value.as_array() {
-            Some(list) => Ok(ObjectValue::Queue(read_queue(alloc, list, counts, numbering)?)),
-            None => Err(counts.fault(Wrong::Start)),
-        },
-        Kind::Directory => match value.as_array() {
-            Some(list) => Ok(ObjectValue::Directory(read_directory(
-                alloc, list, counts, numbering,
-            )?)),
-            None => Err(counts.fault(Wrong::Start)),
-        },
+        Kind::Set => read_set_start(alloc, value, counts, numbering),
+        Kind::Queue => read_queue_start(alloc, value, counts, numbering),
+        Kind::Directory => read_directory_start(alloc, value, counts, numbering),
     }
 }
 
@@ -316,8 +360,7 @@ fn read_object(
 {
     let shape = shape_of(value, version, counts)?;
     add_name(alloc, shape.name, names, counts)?;
-    let start = read_start(alloc, shape.kind, shape.start, counts, numbering)?;
-    Ok(start)
+    read_start(alloc, shape.kind, shape.start, counts, numbering)
 }
 
 pub fn read_objects(

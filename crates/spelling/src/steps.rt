@@ -164,8 +164,7 @@ fn read_if(
     let head = if_head(alloc, step, state)?;
     let then = read_block(alloc, head.then, levels, declared, state)?;
     let otherwise = read_block_if(alloc, step.get("else"), levels, declared, state)?;
-    let read = if_step(alloc, head.label, head.test, then, otherwise)?;
-    Ok(read)
+    if_step(alloc, head.label, head.test, then, otherwise)
 }
 
 /// The parts of a subaction.
@@ -380,8 +379,7 @@ fn read_sub_step(
         ≡ with_label (label_in (view step.now)) Subject.Outcome (scope_of state.old.labels.entries)) }
 {
     let child = read_sub(alloc, step, levels, declared, None, state)?;
-    let read = sub_step(alloc, child, text_member(step, "as"), &mut state.labels)?;
-    Ok(read)
+    sub_step(alloc, child, text_member(step, "as"), &mut state.labels)
 }
 
 /// The children, with their labels, which none of them sees.
@@ -447,8 +445,7 @@ fn read_parallel(
     let list = parallel_head(step, &mut state.counts)?;
     let mut earlier = no_labels(alloc, &state.labels);
     let children = read_children(alloc, list, levels, declared, &mut earlier, state)?;
-    let read = parallel_step(alloc, children, earlier, &mut state.labels)?;
-    Ok(read)
+    parallel_step(alloc, children, earlier, &mut state.labels)
 }
 
 // ---- blocks

@@ -9,14 +9,14 @@ use Rattle.meaning.specs.Trees as tree
 use Rattle.batch.specs.Views.{Tried, block_view, handler_view, step_view, steps_of, subaction_view, children_of}
 use Rattle.spelling.specs.Answer.{IsFirst}
 use Rattle.spelling.specs.Asked.{block_asked, children_asked, label_in, labels_of, member_asked, members_asked, scope_after, step_asked}
-use Rattle.spelling.specs.Asked.{if_asked, steps_asked, sub_asked}
+use Rattle.spelling.specs.Asked.{if_asked, parallel_asked, steps_asked, sub_asked}
 use Rattle.batch.specs.Names.{is_name}
 use Rattle.spelling.specs.Demand.{check, holds}
 use Rattle.faults.specs.declared.fault.Wrong.TheVariants.{Name}
-use Rattle.spelling.specs.Scope.{Extends, Numbers, Scope, Table, numbers_of, scope_of, setting_of, with_label}
-use Rattle.spelling.specs.Spelled.{block_of, children_spelled, spelled_map, steps_spelled}
+use Rattle.spelling.specs.Scope.{Extends, Numbers, Scope, Table, numbers_of, scope_of, setting_of, with_label, with_labels}
+use Rattle.spelling.specs.Spelled.{block_of, children_spelled, spelled_map, steps_spelled, sub_step}
 use Rattle.spelling.specs.declared.subject.Subject.TheVariants.{Outcome}
-use Rattle.spelling.proofs.Checks.{check_failed, check_met, passed_on}
+use Rattle.spelling.proofs.Checks.{check_failed, check_met, memory_only, on_ok, passed_on, then_ok}
 use Rattle.spelling.proofs.ListLemmas.{in_front, in_front_push, items_from}
 use Rattle.batch.specs.declared.tree.Block.{roll-Block}
 use Rattle.batch.specs.declared.tree.Handler.{Handler, roll-Handler, the_lemmas as handler_lemmas}
@@ -24,6 +24,7 @@ use Rattle.batch.proofs.ViewLemmas.{block_view-is}
 use Rattle.spelling.specs.Spelled.{parallel_of, members_of, tried}
 use Rattle.spelling.proofs.BlockLemmas.{block_asks, block_spells, no_array, too_deep}
 use Rattle.spelling.proofs.HeadLemmas.{if_else_failed, if_head_failed, if_parts_met, if_read, if_then_failed, sub_body_failed}
+use Rattle.spelling.proofs.HeadLemmas.{parallel_child_failed, parallel_head_failed, parallel_parts_met}
 use Rattle.spelling.proofs.HeadLemmas.{sub_handler_failed, sub_handlers_failed, sub_head_failed, sub_parts_met, sub_read}
 use Rattle.spelling.proofs.LabelLemmas.{extends_twice, scope_after_extends}
 use Rattle.spelling.proofs.steps.+steps.Goals as goal
@@ -287,6 +288,22 @@ read_members-loop-reason-preserved t c =
       labels = done.labels ∙ l.invariant.labels;
     }
 
+pub read_parallel-returns-clause-met : goal.read_parallel-returns-clause-met
+read_parallel-returns-clause-met t c =
+    let asks = block_asked (setting_of c.args.declared.now) c.args.levels in
+    let scope = scope_of c.args.state.now.labels.entries in
+    let list = c.in_ok-list.ensures in
+    on_ok c.parallel_step.result _ (parallel_parts_met c.args.declared.now.version asks scope (view c.args.step.now)
+    c.args.state.now.counts c.parallel_head.new.counts c.read_children.new.state.counts list.met
+    (rw (list.children, c.no_labels-earlier.ensures) at c.in_ok-children.ensures.met))
+
+pub read_parallel-returns-clause-first : goal.read_parallel-returns-clause-first
+read_parallel-returns-clause-first t c =
+    let asks = block_asked (setting_of c.args.declared.now) c.args.levels in
+    memory_only c.parallel_step.result c.args.state.now.counts
+    (parallel_asked c.args.declared.now.version asks (scope_of c.args.state.now.labels.entries) (view c.args.step.now))
+    c.parallel_step.ensures.err
+
 pub read_parallel-returns-clause-value : goal.read_parallel-returns-clause-value
 unfolding parallel_of
 read_parallel-returns-clause-value t c =
@@ -295,9 +312,70 @@ read_parallel-returns-clause-value t c =
     let scope = scope_of c.args.state.now.labels.entries in
     let numbers = numbers_of c.args.state.now.numbering in
     let make = λ (children : List Tried). tree.Parallel (children_of children) in
-    ap (λ (step : tree.Step). (step, numbers_of c.read_children.new.state.numbering)) c.in_ok-read.ensures.value
+    then_ok c.parallel_step.result _ _ c.parallel_step.ensures.value (λ read is.
+    ap (λ (step : tree.Step). (step, numbers_of c.read_children.new.state.numbering)) is
     ∙ ap (spelled_map make) c.in_ok-children.ensures.value
-    ∙ ap (λ ds. spelled_map make (children_spelled block scope numbers ds)) c.in_ok-list.ensures.children
+    ∙ ap (λ ds. spelled_map make (children_spelled block scope numbers ds)) c.in_ok-list.ensures.children)
+
+pub read_parallel-returns-clause-labels : goal.read_parallel-returns-clause-labels
+read_parallel-returns-clause-labels t c =
+    let here = scope_of c.args.state.now.labels.entries in
+    let added = c.in_ok-children.ensures.earlier ∙ ap₂ labels_of c.no_labels-earlier.ensures c.in_ok-list.ensures.children in
+    then_ok c.parallel_step.result _ _ c.parallel_step.ensures.labels (λ _ is. is ∙ ap₂ with_labels added c.in_ok-children.ensures.labels)
+
+pub read_parallel-returns-in_err-list-clause-first : goal.read_parallel-returns-in_err-list-clause-first
+read_parallel-returns-in_err-list-clause-first t c =
+    let asks = block_asked (setting_of c.args.declared.now) c.args.levels in
+    let scope = scope_of c.args.state.now.labels.entries in
+    let version = c.args.declared.now.version in
+    let d = view c.args.step.now in
+    let start = c.args.state.now.counts in
+    let e = c.in_err-list.field-0.0 in
+    passed_on c.from_residual.result (IsFirst start (parallel_asked version asks scope d)) e c.from_residual.ensures.1
+    (λ other. parallel_head_failed version asks scope d start e (c.in_err-list.ensures.first other))
+
+pub read_parallel-returns-in_err-children-clause-first : goal.read_parallel-returns-in_err-children-clause-first
+read_parallel-returns-in_err-children-clause-first t c =
+    let asks = block_asked (setting_of c.args.declared.now) c.args.levels in
+    let scope = scope_of c.args.state.now.labels.entries in
+    let version = c.args.declared.now.version in
+    let d = view c.args.step.now in
+    let start = c.args.state.now.counts in
+    let list = c.in_ok-list.ensures in
+    let e = c.in_err-children.field-0.0 in
+    passed_on c.from_residual-in_err-children.result (IsFirst start (parallel_asked version asks scope d)) e
+    c.from_residual-in_err-children.ensures.1
+    (λ other. parallel_child_failed version asks scope d start c.parallel_head.new.counts e list.met
+    (rw (list.children, c.no_labels-earlier.ensures) at (c.in_err-children.ensures.first other)))
+
+pub read_sub_step-returns-in_err-child-clause-first : goal.read_sub_step-returns-in_err-child-clause-first
+read_sub_step-returns-in_err-child-clause-first t c =
+    let asks = block_asked (setting_of c.args.declared.now) c.args.levels in
+    let scope = scope_of c.args.state.now.labels.entries in
+    passed_on c.from_residual.result
+    (IsFirst c.args.state.now.counts (sub_asked c.args.declared.now.version asks scope [] (view c.args.step.now)))
+    c.in_err-child.field-0.0 c.from_residual.ensures.1 c.in_err-child.ensures.first
+
+pub read_sub_step-returns-clause-met : goal.read_sub_step-returns-clause-met
+read_sub_step-returns-clause-met t c = on_ok c.sub_step.result _ c.in_ok-child.ensures.met
+
+pub read_sub_step-returns-clause-first : goal.read_sub_step-returns-clause-first
+read_sub_step-returns-clause-first t c =
+    let asks = block_asked (setting_of c.args.declared.now) c.args.levels in
+    memory_only c.sub_step.result c.args.state.now.counts
+    (sub_asked c.args.declared.now.version asks (scope_of c.args.state.now.labels.entries) [] (view c.args.step.now))
+    c.sub_step.ensures.err
+
+pub read_sub_step-returns-clause-value : goal.read_sub_step-returns-clause-value
+read_sub_step-returns-clause-value t c =
+    then_ok c.sub_step.result _ _ c.sub_step.ensures.value (λ read is.
+    ap (λ (step : tree.Step). (step, numbers_of c.read_sub.new.state.numbering)) is
+    ∙ ap (spelled_map sub_step) c.in_ok-child.ensures.value)
+
+pub read_sub_step-returns-clause-labels : goal.read_sub_step-returns-clause-labels
+read_sub_step-returns-clause-labels t c =
+    then_ok c.sub_step.result _ _ c.sub_step.ensures.labels (λ _ is. is
+    ∙ ap₂ (λ o (s : Scope). with_label o Outcome s) c.text_member.ensures c.in_ok-child.ensures.labels)
 
 pub read_if-returns-in_err-head-clause-first : goal.read_if-returns-in_err-head-clause-first
 read_if-returns-in_err-head-clause-first t c =
@@ -342,9 +420,15 @@ read_if-returns-clause-met t c =
     let scope = scope_of c.args.state.now.labels.entries in
     let head = c.in_ok-head.ensures in
     let done = c.in_ok-then.ensures in
-    if_parts_met asks scope (view c.args.step.now) c.args.state.now.counts c.if_head.new.state.counts c.read_block.new.state.counts
-    c.read_block_if.new.state.counts head.met (rw (head.then, head.labels) at done.met)
-    (rw (done.labels, head.labels, c.get.ensures) at c.in_ok-otherwise.ensures.met)
+    on_ok c.if_step.result _ (if_parts_met asks scope (view c.args.step.now) c.args.state.now.counts c.if_head.new.state.counts
+    c.read_block.new.state.counts c.read_block_if.new.state.counts head.met (rw (head.then, head.labels) at done.met)
+    (rw (done.labels, head.labels, c.get.ensures) at c.in_ok-otherwise.ensures.met))
+
+pub read_if-returns-clause-first : goal.read_if-returns-clause-first
+read_if-returns-clause-first t c =
+    let asks = block_asked (setting_of c.args.declared.now) c.args.levels in
+    memory_only c.if_step.result c.args.state.now.counts
+    (if_asked asks (scope_of c.args.state.now.labels.entries) (view c.args.step.now)) c.if_step.ensures.err
 
 pub read_if-returns-clause-value : goal.read_if-returns-clause-value
 read_if-returns-clause-value t c =
@@ -353,11 +437,15 @@ read_if-returns-clause-value t c =
     let head = c.in_ok-head.ensures in
     let done = c.in_ok-then.ensures in
     let last = numbers_of c.read_block_if.new.state.numbering in
-    ap (λ (step : tree.Step). (step, last)) c.in_ok-read.ensures.value
+    then_ok c.if_step.result _ _ c.if_step.ensures.value (λ read is. ap (λ (step : tree.Step). (step, last)) is
     ∙ if_read block scope (view c.args.step.now) (numbers_of c.args.state.now.numbering) (numbers_of c.if_head.new.state.numbering)
     (numbers_of c.read_block.new.state.numbering) last c.in_ok-head.head.label c.in_ok-head.head.test (block_view c.in_ok-then.then)
     (option_map block_view c.in_ok-otherwise.otherwise) head.label head.test (rw (head.then, head.labels) at done.value)
-    (rw (done.labels, head.labels, c.get.ensures) at c.in_ok-otherwise.ensures.value)
+    (rw (done.labels, head.labels, c.get.ensures) at c.in_ok-otherwise.ensures.value))
+
+pub read_if-returns-clause-labels : goal.read_if-returns-clause-labels
+read_if-returns-clause-labels t c =
+    on_ok c.if_step.result _ (c.in_ok-otherwise.ensures.labels ∙ c.in_ok-then.ensures.labels ∙ c.in_ok-head.ensures.labels)
 
 pub read_sub-returns-in_err-head-clause-first : goal.read_sub-returns-in_err-head-clause-first
 read_sub-returns-in_err-head-clause-first t c =
