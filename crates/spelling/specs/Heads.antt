@@ -1,11 +1,14 @@
--- What is asked of a step before its blocks.
-use Rattle.std.specs.Prelude.{ℕ, List, [], ◌∷◌, ◌++◌, codes}
+-- What is asked of a step before its blocks, and of parts of a start.
+use Rattle.std.specs.Prelude.{ℕ, List, [], ◌∷◌, ◌++◌, codes, is_some, not}
 use Rattle.serde_json.specs.Data.{Data}
+use Rattle.batch.specs.Names.{is_name}
+use Rattle.faults.specs.declared.fault.Wrong.TheVariants.{Name, Start}
+use Rattle.spelling.specs.Look.{text_item}
 use Rattle.spelling.specs.Asked.{if_label, if_shape_asked, label_asked, label_in, parallel_shape_asked, seen_asked}
 use Rattle.spelling.specs.Asked.{sub_shape_asked, subject_of}
-use Rattle.spelling.specs.Asked.{call_named, object_of, operation_shape_asked, part, target_asked, test_asked}
-use Rattle.spelling.specs.Demand.{Demand, one_more_node, one_more_operation}
-use Rattle.spelling.specs.Scope.{Scope, Setting}
+use Rattle.spelling.specs.Asked.{call_named, has_count, key_of, object_of, operation_shape_asked, part, target_asked, test_asked, value_of}
+use Rattle.spelling.specs.Demand.{Demand, holds, one_more_node, one_more_operation, one_more_start}
+use Rattle.spelling.specs.Scope.{Scope, Setting, Table, is_listed}
 
 -- of an operation: its shape, and what it names
 unfoldable pub operation_head_asked : Setting → Data → List Demand
@@ -34,3 +37,13 @@ unfoldable pub parallel_head_asked : Data → List Demand
 parallel_head_asked d =
     parallel_shape_asked d
     ++ one_more_node ∷ []
+
+-- of an item of a set or a key: that it differs from these earlier ones
+unfoldable pub new_start_asked : Table → List ℕ → List Demand
+new_start_asked earlier name = holds (not (is_listed name earlier)) Start ∷ one_more_start ∷ []
+
+-- of a key and its item: their names
+unfoldable pub pair_names_asked : Data → List Demand
+pair_names_asked d =
+    holds (has_count 2 d) Start ∷ holds (is_some (text_item 0 d)) Start ∷ holds (is_some (text_item 1 d)) Start
+    ∷ holds (is_name (key_of d)) Name ∷ holds (is_name (value_of d)) Name ∷ []

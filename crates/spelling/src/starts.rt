@@ -6,6 +6,7 @@ ghost use Rattle.serde_json.specs.View.{items_view, view};
 ghost use Rattle.batch.specs.Names.{texts_of};
 ghost use Rattle.spelling.specs.Answer.{IsFirst, IsMet};
 ghost use Rattle.spelling.specs.Asked.{declared_by, element_asked, elements_asked, entries_asked, entry_asked, key_of, kind_in, names_of, number_start, object_asked, object_kind, object_name, object_name_asked, object_shape_asked, objects_asked, pair_asked, pairs_asked, part, signed_start, start_asked, text_of, value_of};
+ghost use Rattle.spelling.specs.Heads.{new_start_asked, pair_names_asked};
 ghost use Rattle.spelling.specs.Scope.{numbers_of, setting_of, with_item, with_text};
 ghost use Rattle.spelling.specs.Spelled.{bind_all, entries_of, item_of, pair_of, pairs_of, put_all, spelled_map, start_of, starts_of};
 ghost use Rattle.meaning.specs.declared.limits.TheConstants.{MAX_OBJECTS};
@@ -89,8 +90,26 @@ fn read_queue(
     Ok(queue)
 }
 
+/// Adds an item of a set or a key, which differs from the earlier ones, and counts it.
+#[tactic(auto, unfolding(crate::specs::Heads::new_start_asked))]
+fn add_start(
+    alloc: Global,
+    name: &str,
+    earlier: &mut Texts,
+    counts: &mut Counts,
+) -> Result<(), Fault>
+    ensures met { OnOk result (IsMet counts.old (new_start_asked (texts_of earlier.old.keys) name.now) counts.new) }
+    ensures first { IfErr result (IsFirst counts.old (new_start_asked (texts_of earlier.old.keys) name.now)) }
+    ensures earlier { OnOk result (texts_of earlier.new.keys ≡ with_text name.now (texts_of earlier.old.keys)) }
+{
+    let new = add_text(alloc, earlier, name)?;
+    counts.demand(new, Wrong::Start)?;
+    counts.one_more_start()?;
+    Ok(())
+}
+
 /// An item of a set, which differs from the earlier ones and joins them.
-#[tactic(auto, unfolding(crate::specs::Asked::element_asked))]
+#[tactic(auto, unfolding(crate::specs::Asked::element_asked, crate::specs::Heads::new_start_asked))]
 pub fn read_element(
     alloc: Global,
     value: &Value,
@@ -108,10 +127,28 @@ pub fn read_element(
         return Err(counts.fault(Wrong::Start));
     };
     counts.demand(is_name(name), Wrong::Name)?;
-    let new = add_text(alloc, earlier, name)?;
-    counts.demand(new, Wrong::Start)?;
-    counts.one_more_start()?;
+    add_start(alloc, name, earlier, counts)?;
     item_of(alloc, name, numbering)
+}
+
+/// The items of a set, which differ from these earlier ones.
+fn read_elements(
+    alloc: Global,
+    list: &Vec<Value>,
+    earlier: &mut Texts,
+    counts: &mut Counts,
+    numbering: &mut Numbering,
+) -> Result<ItemSet, Fault>
+    ensures met { OnOk result (IsMet counts.old (elements_asked (texts_of earlier.old.keys) (items_view list.now.items)) counts.new) }
+    ensures first { IfErr result (IsFirst counts.old (elements_asked (texts_of earlier.old.keys) (items_view list.now.items))) }
+    ensures value { IfOk result (λ set. (set, numbers_of numbering.new) ≡ spelled_map (put_all finite_set.empty) (entries_of (numbers_of numbering.old) (items_view list.now.items))) }
+{
+    let mut set = ItemSet::new(alloc);
+    for element in list {
+        let item = read_element(alloc, element, earlier, counts, numbering)?;
+        set.insert(item)?;
+    }
+    Ok(set)
 }
 
 fn read_set(
@@ -124,21 +161,36 @@ fn read_set(
     ensures first { IfErr result (IsFirst counts.old (elements_asked [] (items_view list.now.items))) }
     ensures value { IfOk result (λ set. (set, numbers_of numbering.new) ≡ spelled_map (put_all finite_set.empty) (entries_of (numbers_of numbering.old) (items_view list.now.items))) }
 {
-    let mut set = ItemSet::new(alloc);
     let mut earlier = IndexSet::with_capacity_and_hasher(
         alloc,
         list.len(),
         *numbering.items.hasher(),
     )?;
-    for element in list {
-        let item = read_element(alloc, element, &mut earlier, counts, numbering)?;
-        set.insert(item)?;
-    }
-    Ok(set)
+    read_elements(alloc, list, &mut earlier, counts, numbering)
+}
+
+/// The names of a key and its item.
+#[tactic(auto, unfolding(crate::specs::Heads::pair_names_asked))]
+fn pair_names<'v>(value: &'v Value, counts: &Counts) -> Result<(&'v str, &'v str), Fault>
+    ensures met { OnOk result (IsMet counts.now (pair_names_asked (view value.now)) counts.now) }
+    ensures first { IfErr result (IsFirst counts.now (pair_names_asked (view value.now))) }
+    ensures key { IfOk result (λ pair. pair.0.now ≡ key_of (view value.now)) }
+    ensures value { IfOk result (λ pair. pair.1.now ≡ value_of (view value.now)) }
+{
+    counts.demand(count(value) == Some(2), Wrong::Start)?;
+    let Some(key) = text_item(value, 0) else {
+        return Err(counts.fault(Wrong::Start));
+    };
+    let Some(bound) = text_item(value, 1) else {
+        return Err(counts.fault(Wrong::Start));
+    };
+    counts.demand(is_name(key), Wrong::Name)?;
+    counts.demand(is_name(bound), Wrong::Name)?;
+    Ok((key, bound))
 }
 
 /// The names of a key and its item, whose key differs from the earlier ones and joins them.
-#[tactic(auto, unfolding(crate::specs::Asked::pair_asked))]
+#[tactic(auto, using(crate::proofs::Checks::parts), unfolding(crate::specs::Asked::pair_asked, crate::specs::Heads::pair_names_asked, crate::specs::Heads::new_start_asked))]
 fn check_pair<'v>(
     alloc: Global,
     value: &'v Value,
@@ -151,18 +203,8 @@ fn check_pair<'v>(
     ensures value { IfOk result (λ pair. pair.1.now ≡ value_of (view value.now)) }
     ensures earlier { OnOk result (texts_of earlier.new.keys ≡ with_text (key_of (view value.now)) (texts_of earlier.old.keys)) }
 {
-    counts.demand(count(value) == Some(2), Wrong::Start)?;
-    let Some(key) = text_item(value, 0) else {
-        return Err(counts.fault(Wrong::Start));
-    };
-    let Some(bound) = text_item(value, 1) else {
-        return Err(counts.fault(Wrong::Start));
-    };
-    counts.demand(is_name(key), Wrong::Name)?;
-    counts.demand(is_name(bound), Wrong::Name)?;
-    let new = add_text(alloc, earlier, key)?;
-    counts.demand(new, Wrong::Start)?;
-    counts.one_more_start()?;
+    let (key, bound) = pair_names(value, counts)?;
+    add_start(alloc, key, earlier, counts)?;
     Ok((key, bound))
 }
 
@@ -183,6 +225,26 @@ pub fn read_pair(
     items_of(alloc, key_name, name, numbering)
 }
 
+/// The entries of a directory, whose keys differ from these earlier ones.
+fn read_pairs(
+    alloc: Global,
+    list: &Vec<Value>,
+    earlier: &mut Texts,
+    counts: &mut Counts,
+    numbering: &mut Numbering,
+) -> Result<Directory, Fault>
+    ensures met { OnOk result (IsMet counts.old (pairs_asked (texts_of earlier.old.keys) (items_view list.now.items)) counts.new) }
+    ensures first { IfErr result (IsFirst counts.old (pairs_asked (texts_of earlier.old.keys) (items_view list.now.items))) }
+    ensures value { IfOk result (λ directory. (directory, numbers_of numbering.new) ≡ spelled_map (bind_all finite_map.empty) (pairs_of (numbers_of numbering.old) (items_view list.now.items))) }
+{
+    let mut directory = Directory::new(alloc);
+    for pair in list {
+        let (key, item) = read_pair(alloc, pair, earlier, counts, numbering)?;
+        directory.put(key, item)?;
+    }
+    Ok(directory)
+}
+
 fn read_directory(
     alloc: Global,
     list: &Vec<Value>,
@@ -193,17 +255,12 @@ fn read_directory(
     ensures first { IfErr result (IsFirst counts.old (pairs_asked [] (items_view list.now.items))) }
     ensures value { IfOk result (λ directory. (directory, numbers_of numbering.new) ≡ spelled_map (bind_all finite_map.empty) (pairs_of (numbers_of numbering.old) (items_view list.now.items))) }
 {
-    let mut directory = Directory::new(alloc);
     let mut earlier = IndexSet::with_capacity_and_hasher(
         alloc,
         list.len(),
         *numbering.items.hasher(),
     )?;
-    for pair in list {
-        let (key, item) = read_pair(alloc, pair, &mut earlier, counts, numbering)?;
-        directory.put(key, item)?;
-    }
-    Ok(directory)
+    read_pairs(alloc, list, &mut earlier, counts, numbering)
 }
 
 /// What a set starts with.

@@ -1,5 +1,5 @@
 //! Reads the steps of a transaction.
-ghost use Rattle.std.specs.Prelude.{◌≡◌, ◌≢◌, ◌≤◌, [], length, map, codes, option_map, true, false, None, Some, unwrap_or, IfErr, IfOk, MatchResult, OnOk};
+ghost use Rattle.std.specs.Prelude.{◌≡◌, ◌≢◌, ◌≤◌, [], length, map, codes, option_map, true, false, nat_le, None, Some, unwrap_or, IfErr, IfOk, MatchResult, OnOk};
 ghost use Rattle.serde_json.specs.Find.{as_str};
 ghost use Rattle.serde_json.specs.View.{items_view, members_view, view};
 ghost use Rattle.meaning.specs.Trees.{for_reasons, handlers_of};
@@ -65,11 +65,18 @@ pub fn sort_of(step: &Value) -> Option<Sort>
 
 // ---- abort
 
+/// Whether a version has reasons of aborts.
+fn has_reasons(version: u8) -> bool
+    ensures { result ≡ nat_le 3 version }
+{
+    version >= 3
+}
+
 /// Whether the value is `true`, or a reason where the version has them.
 fn is_abort(version: u8, value: &Value) -> bool
     ensures { result ≡ is_abort version (view value.now) }
 {
-    value.as_bool() == Some(true) || version >= 3 && value.is_string()
+    value.as_bool() == Some(true) || has_reasons(version) && value.is_string()
 }
 
 /// The number of a reason, which is a name and joins the others if it is new.
@@ -190,7 +197,7 @@ fn handlers_of<'v>(
     let Some(handlers) = step.get("handlers") else {
         return Ok(None);
     };
-    if version < 3 {
+    if !has_reasons(version) {
         return Err(counts.fault(Wrong::Shape));
     }
     match handlers.as_object() {

@@ -1,5 +1,5 @@
 use Rattle.std.specs.FinSet as finite_set
-use Rattle.std.proofs.Common.{◌+◌, [], drop, sym, ap, ap₂, ◌∙◌, arith}
+use Rattle.std.proofs.Common.{◌+◌, drop, sym, ap, ap₂, ◌∙◌, arith}
 use Rattle.std.proofs.lemmas.List.{drop_all}
 use Rattle.serde_json.specs.View.{items_view, view}
 use Rattle.atoms.specs.declared.item.Item.{Item}
@@ -12,7 +12,7 @@ use Rattle.spelling.specs.Scope.{Numbers, numbers_of, with_text}
 use Rattle.spelling.specs.Spelled.{entries_of, put_all, spelled_map}
 use Rattle.spelling.proofs.Checks.{check_failed, check_met, passed_on}
 use Rattle.spelling.proofs.ListLemmas.{items_from}
-use Rattle.spelling.proofs.starts.read_set.Goals as goal
+use Rattle.spelling.proofs.starts.read_elements.Goals as goal
 
 pub returns-in_err-item-clause-first : goal.returns-in_err-item-clause-first
 returns-in_err-item-clause-first c =
@@ -22,9 +22,9 @@ returns-in_err-item-clause-first c =
     let x = c.element-item.result in
     let rest = items_view (drop (l.element-index + 1) xs) in
     let e = c.in_err-item.field-0.0 in
-    passed_on c.from_residual-in_err-item.result (IsFirst c.args.counts.now (elements_asked [] (items_view c.args.list.now.items))) e
-    c.from_residual-in_err-item.ensures.1
-    (λ other. ap (λ vs. check c.args.counts.now (elements_asked [] (items_view vs))) (sym c.deref-element-items.ensures.value)
+    passed_on c.from_residual.result (IsFirst c.args.counts.now (elements_asked (texts_of c.args.earlier.now.keys) (items_view c.args.list.now.items))) e
+    c.from_residual.ensures.1
+    (λ other. ap (λ vs. check c.args.counts.now (elements_asked (texts_of c.args.earlier.now.keys) (items_view vs))) (sym c.deref-element-items.ensures.value)
     ∙ l.invariant.asked
     ∙ ap (λ ds. check l.counts (elements_asked here ds)) (items_from xs l.element-index x (omega arith) c.element-item.is)
     ∙ check_failed l.counts e (element_asked here (view x)) (elements_asked (with_text (text_of (view x)) here) rest)

@@ -1,5 +1,5 @@
 use Rattle.std.specs.FinMap as finite_map
-use Rattle.std.proofs.Common.{◌+◌, [], drop, sym, ap, ◌∙◌, arith}
+use Rattle.std.proofs.Common.{◌+◌, drop, sym, ap, ◌∙◌, arith}
 use Rattle.std.proofs.lemmas.List.{drop_all}
 use Rattle.serde_json.specs.View.{items_view, view}
 use Rattle.atoms.specs.declared.item.Item.{Item}
@@ -12,7 +12,7 @@ use Rattle.spelling.specs.Scope.{Numbers, numbers_of, with_text}
 use Rattle.spelling.specs.Spelled.{bind_all, pairs_of, spelled_map}
 use Rattle.spelling.proofs.Checks.{check_failed, check_met, passed_on}
 use Rattle.spelling.proofs.ListLemmas.{items_from}
-use Rattle.spelling.proofs.starts.read_directory.Goals as goal
+use Rattle.spelling.proofs.starts.read_pairs.Goals as goal
 
 pub returns-in_err-key-clause-first : goal.returns-in_err-key-clause-first
 returns-in_err-key-clause-first c =
@@ -22,9 +22,9 @@ returns-in_err-key-clause-first c =
     let x = c.pair-item.result in
     let rest = items_view (drop (l.pair-index + 1) xs) in
     let e = c.in_err-key.field-0.0 in
-    passed_on c.from_residual-in_err-key.result (IsFirst c.args.counts.now (pairs_asked [] (items_view c.args.list.now.items))) e
-    c.from_residual-in_err-key.ensures.1
-    (λ other. ap (λ vs. check c.args.counts.now (pairs_asked [] (items_view vs))) (sym c.deref-pair-items.ensures.value) ∙ l.invariant.asked
+    passed_on c.from_residual.result (IsFirst c.args.counts.now (pairs_asked (texts_of c.args.earlier.now.keys) (items_view c.args.list.now.items))) e
+    c.from_residual.ensures.1
+    (λ other. ap (λ vs. check c.args.counts.now (pairs_asked (texts_of c.args.earlier.now.keys) (items_view vs))) (sym c.deref-pair-items.ensures.value) ∙ l.invariant.asked
     ∙ ap (λ ds. check l.counts (pairs_asked here ds)) (items_from xs l.pair-index x (omega arith) c.pair-item.is)
     ∙ check_failed l.counts e (pair_asked here (view x)) (pairs_asked (with_text (key_of (view x)) here) rest)
     (c.in_err-key.ensures.first other))
