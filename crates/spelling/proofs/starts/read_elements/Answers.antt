@@ -22,9 +22,11 @@ returns-in_err-item-clause-first c =
     let x = c.element-item.result in
     let rest = items_view (drop (l.element-index + 1) xs) in
     let e = c.in_err-item.field-0.0 in
-    passed_on c.from_residual.result (IsFirst c.args.counts.now (elements_asked (texts_of c.args.earlier.now.keys) (items_view c.args.list.now.items))) e
+    passed_on c.from_residual.result (IsFirst c.args.counts.now (elements_asked (texts_of c.args.earlier.now.keys)
+    (items_view c.args.list.now.items))) e
     c.from_residual.ensures.1
-    (λ other. ap (λ vs. check c.args.counts.now (elements_asked (texts_of c.args.earlier.now.keys) (items_view vs))) (sym c.deref-element-items.ensures.value)
+    (λ other. ap (λ vs. check c.args.counts.now (elements_asked (texts_of c.args.earlier.now.keys) (items_view vs)))
+    (sym c.deref-element-items.ensures.value)
     ∙ l.invariant.asked
     ∙ ap (λ ds. check l.counts (elements_asked here ds)) (items_from xs l.element-index x (omega arith) c.element-item.is)
     ∙ check_failed l.counts e (element_asked here (view x)) (elements_asked (with_text (text_of (view x)) here) rest)

@@ -22,9 +22,11 @@ returns-in_err-key-clause-first c =
     let x = c.pair-item.result in
     let rest = items_view (drop (l.pair-index + 1) xs) in
     let e = c.in_err-key.field-0.0 in
-    passed_on c.from_residual.result (IsFirst c.args.counts.now (pairs_asked (texts_of c.args.earlier.now.keys) (items_view c.args.list.now.items))) e
+    passed_on c.from_residual.result (IsFirst c.args.counts.now (pairs_asked (texts_of c.args.earlier.now.keys)
+    (items_view c.args.list.now.items))) e
     c.from_residual.ensures.1
-    (λ other. ap (λ vs. check c.args.counts.now (pairs_asked (texts_of c.args.earlier.now.keys) (items_view vs))) (sym c.deref-pair-items.ensures.value) ∙ l.invariant.asked
+    (λ other. ap (λ vs. check c.args.counts.now (pairs_asked (texts_of c.args.earlier.now.keys) (items_view vs)))
+    (sym c.deref-pair-items.ensures.value) ∙ l.invariant.asked
     ∙ ap (λ ds. check l.counts (pairs_asked here ds)) (items_from xs l.pair-index x (omega arith) c.pair-item.is)
     ∙ check_failed l.counts e (pair_asked here (view x)) (pairs_asked (with_text (key_of (view x)) here) rest)
     (c.in_err-key.ensures.first other))
