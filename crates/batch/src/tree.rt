@@ -27,8 +27,8 @@ pub enum Step {
         then: Box<Block>,
         otherwise: Box<Block>,
     },
-    Sub(Box<Subaction>),
     /// Runs a subaction.
+    Sub(Box<Subaction>),
     /// Ends the innermost subaction or the transaction around it, for a reason or without one.
     Abort(Option<u32>),
     /// Subactions that may run at once. They mean the same as one after the other.

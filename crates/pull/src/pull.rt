@@ -157,6 +157,7 @@ fn pull_end_array(reader: &mut Reader<'_>) -> Option<()>
     }
 }
 
+/// The end of an object, as the next token. None where the next token is another.
 pub fn pull_end_object(reader: &mut Reader<'_>) -> Option<()>
     ensures { IfSome result (λ _. reader.old ≡ token.end_object ∷ reader.new) }
 {

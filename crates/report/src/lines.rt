@@ -1,6 +1,6 @@
 //! The lines of a record.
 ghost use Rattle.std.specs.Prelude.{◌≡◌, ◌++◌, IfOk, OnOk, codes, option_copied, string_bytes};
-ghost use Rattle.meaning.specs.Texts.{line, reason_text, outcome_text, choice_text, operation_line, steps_text, step_text, child_text, children_text};
+ghost use Rattle.meaning.specs.Texts.{line, part, reason_text, outcome_text, choice_text, operation_line, steps_text, step_text, child_text, children_text};
 ghost use Rattle.batch.specs.Names.{names_of};
 ghost use Rattle.batch.specs.Views.{block_view, record_view, step_view, taken_view, subaction_view, tried_view, children_view, all_tried_view};
 
@@ -29,26 +29,28 @@ pub(crate) fn write_block(
             return Ok(());
         }
         let step = &block.steps[index];
-        let step_path = part_path(alloc, path, index + 1)?;
-        write_step(alloc, out, names, step_path.as_str(), step, taken)?;
+        write_step(alloc, out, names, path, index + 1, step, taken)?;
     }
     Ok(())
 }
 
+// Writes the lines of the step of this number (from 1) below a path. An operation's own path is part of
+// its line: no text is made for it.
 #[cycle(lines)]
 fn write_step(
     alloc: Global,
     out: &mut String,
     names: &Names,
     path: &str,
+    number: usize,
     step: &Step,
     taken: &Taken,
 ) -> Result<(), NoMemory>
-    ensures { OnOk result (string_bytes out.new ≡ string_bytes out.old ++ step_text (names_of names.now) path.now (step_view step.now) (taken_view taken.now)) }
+    ensures { OnOk result (string_bytes out.new ≡ string_bytes out.old ++ step_text (names_of names.now) (part path.now number) (step_view step.now) (taken_view taken.now)) }
 {
     match (step, taken) {
         (Step::Op { object, call, .. }, Taken::Op(reply)) => {
-            write_operation(out, names, path, *object, call, reply)
+            write_operation(out, names, path, number, *object, call, reply)
         }
         (
             Step::If {
@@ -58,17 +60,31 @@ fn write_step(
             },
             Taken::If(holds, record),
         ) => {
-            write_choice(out, path, *holds)?;
+            let path = part_path(alloc, path, number)?;
+            write_choice(out, path.as_str(), *holds)?;
             let branch = if *holds { then } else { otherwise };
-            let branch_path = branch_path(alloc, path, *holds)?;
+            let branch_path = branch_path(alloc, path.as_str(), *holds)?;
             write_block(alloc, out, names, branch_path.as_str(), branch, record)
         }
         (Step::Sub(child), Taken::Sub(body, handler)) => {
-            write_child(alloc, out, names, path, child, body, handler.as_deref())
+            let path = part_path(alloc, path, number)?;
+            write_child(
+                alloc,
+                out,
+                names,
+                path.as_str(),
+                child,
+                body,
+                handler.as_deref(),
+            )
         }
-        (Step::Abort(reason), Taken::Abort) => write_abort(out, names, path, *reason),
+        (Step::Abort(reason), Taken::Abort) => {
+            let path = part_path(alloc, path, number)?;
+            write_abort(out, names, path.as_str(), *reason)
+        }
         (Step::Parallel(children), Taken::Parallel(tried)) => {
-            write_children(alloc, out, names, path, children, tried)
+            let path = part_path(alloc, path, number)?;
+            write_children(alloc, out, names, path.as_str(), children, tried)
         }
         _ => Ok(()),
     }
@@ -131,22 +147,24 @@ fn write_children(
     Ok(())
 }
 
+// Writes the line of an operation, which is the step of this number (from 1) below a path.
 fn write_operation(
     out: &mut String,
     names: &Names,
     path: &str,
+    number: usize,
     object: u32,
     call: &Call,
     reply: &Reply,
 ) -> Result<(), NoMemory>
-    ensures { OnOk result (string_bytes out.new ≡ string_bytes out.old ++ operation_line (names_of names.now) path.now object call.now reply.now) }
+    ensures { OnOk result (string_bytes out.new ≡ string_bytes out.old ++ operation_line (names_of names.now) (part path.now number) object call.now reply.now) }
 {
     let name = object_name(names, object);
-    write!(out, "O {path} {name} ")?;
+    write!(out, "O {path}.{number} {name} ")?;
     write_call(out, names, call)?;
-    write!(out, " = ")?;
+    out.push_str(" = ")?;
     write_reply(out, names, reply)?;
-    write!(out, "\n")?;
+    out.push_str("\n")?;
     Ok(())
 }
 

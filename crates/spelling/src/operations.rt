@@ -257,6 +257,9 @@ fn head_of<'v>(step: &'v Value, declared: &Declared, counts: &mut Counts) -> Res
     })
 }
 
+/// The operation that a step spells. Its label, where it has one, is seen from then on.
+///
+/// Returns the first demand that isn't met, or that memory was refused.
 #[tactic(auto, using(crate::proofs::HeadLemmas::operations), unfolding(crate::specs::Spelled::operation_of))]
 pub fn read_operation(
     alloc: Global,

@@ -320,6 +320,9 @@ fn read_directory_start(
     Ok(ObjectValue::Directory(start))
 }
 
+/// What an object of this kind starts with.
+///
+/// Returns the first demand that isn't met, or that memory was refused.
 #[tactic(auto, unfolding(crate::specs::Asked::start_asked, crate::specs::Asked::array_start_asked, crate::specs::Spelled::start_of))]
 pub fn read_start(
     alloc: Global,
@@ -361,6 +364,7 @@ pub struct Shape<'v> {
     pub start: &'v Value,
 }
 
+/// The parts of an object. Returns the fault of its shape where it isn't an object of just these parts.
 #[tactic(auto, unfolding(crate::specs::Asked::object_shape_asked))]
 pub fn shape_of<'v>(value: &'v Value, version: u8, counts: &Counts) -> Result<Shape<'v>, Fault>
     ensures met { OnOk result (IsMet counts.now (object_shape_asked version (view value.now)) counts.now) }
@@ -420,6 +424,9 @@ fn read_object(
     read_start(alloc, shape.kind, shape.start, counts, numbering)
 }
 
+/// The objects that a list spells, with their names in order.
+///
+/// Returns the first demand that isn't met, or that memory was refused.
 pub fn read_objects(
     alloc: Global,
     list: &Vec<Value>,

@@ -40,6 +40,7 @@ pub enum Sort {
     Parallel,
 }
 
+/// What a step is. None where no member says so, or more than one.
 #[tactic(auto, using(crate::proofs::Members::operations), unfolding(crate::specs::Asked::sort_of))]
 pub fn sort_of(step: &Value) -> Option<Sort>
     ensures { result ≡ sort_of (view step.now) }
@@ -131,6 +132,9 @@ fn abort_of<'v>(step: &'v Value, version: u8, counts: &mut Counts) -> Result<Opt
     Ok(value.as_str())
 }
 
+/// The abort that a step spells, with its reason where it has one.
+///
+/// Returns the first demand that isn't met, or that memory was refused.
 #[tactic(auto, using(crate::proofs::Checks::parts), unfolding(crate::specs::Asked::abort_asked, crate::specs::Spelled::abort_of))]
 pub fn read_abort(
     alloc: Global,
@@ -417,6 +421,8 @@ fn read_children(
     Ok(children)
 }
 
+/// The children of a parallel step. Returns the fault of its shape where it has no such list, or another
+/// member.
 #[tactic(auto, unfolding(crate::specs::Asked::parallel_shape_asked))]
 pub fn children_of<'v>(step: &'v Value, counts: &Counts) -> Result<&'v Vec<Value>, Fault>
     ensures met { OnOk result (IsMet counts.now (parallel_shape_asked (view step.now)) counts.now) }
@@ -485,6 +491,9 @@ fn read_block_if(
     }
 }
 
+/// The step that a value spells, within so many more levels. Its labels are seen from then on.
+///
+/// Returns the first demand that isn't met, or that memory was refused.
 #[cycle(steps)]
 #[tactic(auto, unfolding(crate::specs::Asked::step_asked, crate::specs::Asked::scope_after, crate::specs::Spelled::step_of))]
 pub fn read_step(
@@ -571,6 +580,9 @@ fn read_block(
 
 // ---- transactions
 
+/// The transaction with this number (from 1) that a value spells. No label is seen before it, and none after.
+///
+/// Returns the first demand that isn't met, or that memory was refused.
 pub fn read_transaction(
     alloc: Global,
     value: &Value,
@@ -589,6 +601,9 @@ pub fn read_transaction(
     read_block(alloc, value, MAX_DEPTH, declared, state)
 }
 
+/// The transactions that a list spells, numbered from 1.
+///
+/// Returns the first demand that isn't met, or that memory was refused.
 pub fn read_transactions(
     alloc: Global,
     list: &Vec<Value>,

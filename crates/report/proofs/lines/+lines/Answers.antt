@@ -20,10 +20,9 @@ write_block-loop-index-preserved t c =
     let lt : c.loop-index.index < length c.args.done.now.taken.items = rw c.deref-taken-items.ensures.value at c.loop-index-test.true in
     let is = rw c.deref-taken-items.ensures.value at c.taken-item.is in
     let lt' : c.loop-index.index < length steps.items = omega (arith, c.if-index-len.false, c.len.ensures, steps.ok.0) in
-    let path : c.as_str.result.now ≡ part c.args.path.now (c.loop-index.index + 1) = c.as_str.ensures.value ∙ c.in_ok-step_path.ensures in
     let splits = rest_text-more _ c.args.path.now c.loop-index.index steps.items _ c.args.done.now.outcome _ _ lt' c.index-step.ensures lt
     is in
-    after_text _ _ _ _ _ _ c.loop-index.invariant (rw path at c.in_ok-write_step.ensures) splits
+    after_text _ _ _ _ _ _ c.loop-index.invariant c.in_ok-write_step.ensures splits
 
 pub write_block-returns-then-index-len : goal.write_block-returns-then-index-len
 write_block-returns-then-index-len t c =
@@ -56,10 +55,12 @@ pub write_children-returns : goal.write_children-returns
 write_children-returns t c =
     sym (append-nil _) ∙ rw (rest_children_text-end _ _ _ _ _ c.loop-index-test.false) at c.loop-index.invariant
 
-pub write_step-returns-in-Parallel-Parallel : goal.write_step-returns-in-Parallel-Parallel
-write_step-returns-in-Parallel-Parallel t c =
+pub write_step-returns-in_ok-path-in-Parallel-Parallel : goal.write_step-returns-in_ok-path-in-Parallel-Parallel
+write_step-returns-in_ok-path-in-Parallel-Parallel t c =
+    let path : c.as_str-in-Parallel-Parallel.result.now ≡ part c.args.path.now c.args.number =
+    c.as_str-in-Parallel-Parallel.ensures.value ∙ c.in_ok-path-in-Parallel-Parallel.ensures in
     rw (c.in-Parallel-Parallel.is-0, c.in-Parallel-Parallel.is-1, step_view-Parallel, taken_view-Parallel)
-    (rw (c.deref-in-Parallel-Parallel.ensures.value, c.deref-in-Parallel-Parallel-2.ensures.value) at c.write_children.ensures)
+    (rw (c.deref-in-Parallel-Parallel.ensures.value, c.deref-in-Parallel-Parallel-2.ensures.value, path) at c.write_children.ensures)
 
 -- ---- a subaction
 
