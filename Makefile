@@ -32,8 +32,10 @@ check:
 # `rt ci` leaves the programs that it proved and built: those are tried.
 test:
 	@echo "Proving every crate from nothing, with its must-fail edits, tests and programs."
+	@mkdir -p bin
+	@date +%s > bin/begun
 	$(RT) ci
-	mkdir -p bin
+	@echo "The proofs, must-fail edits, tests and programs took $$(( ($$(date +%s) - $$(cat bin/begun) + 30) / 60 )) minutes."
 	cp crates/ordtx_cli/out/ordtx_cli bin/ordtx
 	cp crates/refusals/out/refusals bin/refusals
 	$(MAKE) try

@@ -8,7 +8,7 @@ use Rattle.atoms.specs.declared.item.Item.{Item}
 use Rattle.atoms.specs.declared.queue.QueueCall.TheVariants.{Enq}
 use Rattle.atoms.specs.declared.queue.QueueReply.TheVariants.{Ok}
 use Rattle.intentions.specs.Levels.{shown_values}
-use Rattle.list_tests.proofs.intentions_tests.absorb_enq.Goals as goal
+use Rattle.object_tests.proofs.intentions_tests.absorb_enq.Goals as goal
 
 -- an enqueueing on any queue has room and returns ok
 value_enq : (v : Value) (x : Item) → kind_of_value v ≡ kind_of_call (queue_call (Enq x)) → one_value.reply v (queue_call (Enq x)) ≡ Some
