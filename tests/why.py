@@ -16,6 +16,33 @@ EXAMPLES = pathlib.Path(__file__).resolve().parent.parent / "examples"
 TITLES = {kind: title for title, kind, _ in commuting.TABLES}
 PLANS = ([], ["--workers", "1"], ["--workers", "64", "--cut", "1"])
 
+# Transactions on an account of 100, and their lines.
+TRANSACTIONS = (
+    ("a chain takes a round each",
+     '[{"op":["till","withdraw",50]}],[{"op":["till","withdraw",40]}],[{"op":["till","balance"]}]',
+     ("why 1 2.1 till withdraw 40 = ok after 1.1 till withdraw 50 = ok",
+      "why 2 3.1 till balance = 50 after 2.1 till withdraw 40 = ok")),
+    ("deposits commute, and the first withdrawal is the earlier one",
+     '[{"op":["till","deposit",5]}],[{"op":["till","deposit",6]},{"op":["till","withdraw",60]}],'
+     '[{"op":["till","deposit",1]},{"op":["till","withdraw",70]}]',
+     ("why 1 3.2 till withdraw 70 = ok after 2.2 till withdraw 60 = ok",)),
+    ("an aborted body of the later run conflicts",
+     '[{"op":["till","deposit",5]}],[{"sub":[{"op":["till","balance"]},{"abort":true}],'
+     '"handler":[{"op":["till","deposit",1]}]}]',
+     ("why 1 2.1.b.1 till balance = 100 after 1.1 till deposit 5 = ok",)),
+    ("of the earlier run a handler is left, and an aborted body isn't",
+     '[{"sub":[{"op":["till","withdraw",5]},{"abort":"late"}],'
+     '"handlers":{"late":[{"op":["till","withdraw",7]}]}}],[{"op":["till","withdraw",9]}]',
+     ("why 1 2.1 till withdraw 9 = ok after 1.1.h:late.1 till withdraw 7 = ok",)),
+    ("children and branches have paths",
+     '[{"parallel":[{"sub":[{"op":["till","deposit",5]}]},{"sub":[{"op":["till","withdraw",6]}],"as":"two"}]},'
+     '{"if":"two","is":"committed","then":[{"op":["till","deposit",1]}]}],'
+     '[{"op":["till","balance"],"as":"all"},{"if":"all","atleast":1,"then":[],"else":[{"op":["till","deposit",1]}]}]',
+     ("why 1 2.1 till balance = 100 after 1.1.1.b.1 till deposit 5 = ok",)),
+    ("an aborted transaction leaves nothing, and one round has no line",
+     '[{"op":["till","withdraw",5]},{"abort":true}],[{"op":["till","withdraw",9]}]', ()),
+)
+
 
 @functools.cache
 def table_of(kind):
@@ -99,7 +126,16 @@ def try_document(program, name, document):
     program.expect(name, ["run", "--audit", "--why"], given, audit + lines.encode())
 
 
+def try_transactions(program):
+    for name, transactions, lines in TRANSACTIONS:
+        given = ('{"ordtx":4,"objects":[{"name":"till","kind":"account","start":100}],"transactions":[%s]}'
+                 % transactions).encode()
+        report = program.run(["run"], given)[0]
+        program.expect(name, ["run", "--why"], given, report + "".join(line + "\n" for line in lines).encode())
+
+
 def try_all(program, cases):
+    try_transactions(program)
     for file in sorted(cases.glob("*.json")) + sorted(EXAMPLES.glob("*.json")):
         if file.with_suffix(".report").exists():
             document = json.loads(file.read_bytes())

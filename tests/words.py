@@ -12,6 +12,7 @@ REFUSED = (
     ["run", "--workers", "4294967296"],
     ["run", "--cut", "0"],
     ["run", "--cut", "1001"],
+    ["run", "--cut", "x"],
     ["run", "--cut", "1", "--cut", "2"],
     ["run", "--audit", "--audit"],
     ["run", "--fast"],
@@ -20,6 +21,7 @@ REFUSED = (
     ["carry", "--workers", "1"],
     ["carry", "a", "b"],
     ["check", "--cut", "1"],
+    ["check", "--audit"],
     ["locate", "--workers", "1"],
     ["locate", "a", "b"],
     ["place"],
@@ -64,6 +66,8 @@ def try_help(program):
         program.compare("help", words, (out != b"", status, err),
                         (True, 0, b""))
     help_of_help = program.run(["help", "help"])[0]
+    program.compare("help on help has its usage", ["help", "help"],
+                    (b" help [COMMAND]..." in help_of_help,), (True,))
     for flag in ("-h", "--help"):
         program.expect("help on help", ["help", flag], b"", help_of_help)
     for flag in ("-V", "--version"):

@@ -5,7 +5,7 @@ use std::alloc::AllocGlobal;
 use std::process::Abort;
 
 /// A document of a version, of these objects and transactions.
-pub(crate) fn document(
+fn document(
     rt: &(impl Abort + AllocGlobal),
     version: u32,
     objects: &str,
@@ -35,14 +35,14 @@ fn document_in_other_order(
 }
 
 /// Appends a part to a text.
-pub(crate) fn append(rt: &impl Abort, text: &mut String, part: &str) {
+fn append(rt: &impl Abort, text: &mut String, part: &str) {
     let Ok(()) = text.push_str(part) else {
         panic!(rt; "no memory")
     };
 }
 
 /// These parts, with commas between them.
-pub(crate) fn listed(rt: &(impl Abort + AllocGlobal), parts: &[&str]) -> String {
+fn listed(rt: &(impl Abort + AllocGlobal), parts: &[&str]) -> String {
     let mut text = String::new(rt.alloc());
     for part in parts {
         if !text.as_str().is_empty() {
@@ -52,28 +52,6 @@ pub(crate) fn listed(rt: &(impl Abort + AllocGlobal), parts: &[&str]) -> String 
     }
     text
 }
-
-/// Blocks of one step, each in the one before it, the innermost empty.
-pub(crate) fn nested(
-    rt: &(impl Abort + AllocGlobal),
-    levels: u32,
-    open: &str,
-    close: &str,
-) -> String {
-    let mut text = String::new(rt.alloc());
-    for _ in 0..levels {
-        append(rt, &mut text, "[");
-        append(rt, &mut text, open);
-    }
-    append(rt, &mut text, "[]");
-    for _ in 0..levels {
-        append(rt, &mut text, close);
-        append(rt, &mut text, "]");
-    }
-    text
-}
-
-pub(crate) const ACCOUNT: &str = "{\"name\":\"a\",\"kind\":\"account\",\"start\":100}";
 
 const SIX: &str =
     "{\"name\":\"a\",\"kind\":\"account\",\"start\":5},{\"name\":\"c\",\"kind\":\"counter\",\"start\":-3},{\"name\":\"s\",\"kind\":\"set\",\"start\":[\"x\",\"y\"]},{\"name\":\"q\",\"kind\":\"queue\",\"start\":[\"x\",\"x\"]},{\"name\":\"d\",\"kind\":\"directory\",\"start\":[[\"k\",\"v\"],[\"x\",\"k\"]]},{\"name\":\"m\",\"kind\":\"max\",\"start\":7}";

@@ -25,11 +25,7 @@ mod documents;
 #[cfg(test)]
 mod lang_tests;
 #[cfg(test)]
-mod lines_tests;
-#[cfg(test)]
 mod memory;
-#[cfg(test)]
-mod places_tests;
 #[cfg(test)]
 mod plain_tests;
 #[cfg(test)]
@@ -38,7 +34,5 @@ mod rounds_tests;
 mod sibling_tests;
 #[cfg(test)]
 mod streams_tests;
-#[cfg(test)]
-mod why_tests;
 #[cfg(test)]
 mod workers_tests;
