@@ -424,6 +424,28 @@ fn read_object(
     read_start(alloc, shape.kind, shape.start, counts, numbering)
 }
 
+/// The values that objects start with. Their names join these.
+fn read_values(
+    alloc: Global,
+    list: &Vec<Value>,
+    version: u8,
+    names: &mut Texts,
+    counts: &mut Counts,
+    numbering: &mut Numbering,
+) -> Result<Objects, Fault>
+    ensures met { OnOk result (IsMet counts.old (objects_asked version (texts_of names.old.keys) (items_view list.now.items)) counts.new) }
+    ensures first { IfErr result (IsFirst counts.old (objects_asked version (texts_of names.old.keys) (items_view list.now.items))) }
+    ensures names { OnOk result (texts_of names.new.keys ≡ texts_of names.old.keys ++ names_of (items_view list.now.items)) }
+    ensures objects { IfOk result (λ objects. (objects, numbers_of numbering.new) ≡ starts_of version (numbers_of numbering.old) (items_view list.now.items)) }
+{
+    let mut objects = Objects::new(alloc);
+    for object in list {
+        let value = read_object(alloc, object, version, names, counts, numbering)?;
+        objects.push(value)?;
+    }
+    Ok(objects)
+}
+
 /// The objects that a list spells, with their names in order.
 ///
 /// Returns the first demand that isn't met, or that memory was refused.
@@ -446,11 +468,7 @@ pub fn read_objects(
         list.len(),
         *numbering.items.hasher(),
     )?;
-    let mut objects = Objects::new(alloc);
-    for object in list {
-        let value = read_object(alloc, object, version, &mut names, counts, numbering)?;
-        objects.push(value)?;
-    }
+    let objects = read_values(alloc, list, version, &mut names, counts, numbering)?;
     Ok(Declared {
         version,
         names,
