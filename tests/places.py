@@ -104,6 +104,66 @@ IN_OBJECTS = (
 )
 
 
+# Objects, transactions, and the line that is printed, whole.
+ONE = '{"name":"a","kind":"account","start":100}'
+LINES = (
+    (ONE + "," + ONE,
+     '',
+     'fault 4 transaction 0 at /objects/1'),
+    ('{"name":"a","kind":"account","start":-1}',
+     '',
+     'fault 13 transaction 0 at /objects/0/start'),
+    ('{"name":"s","kind":"set","start":7}',
+     '',
+     'fault 13 transaction 0 at /objects/0/start'),
+    ('{"name":"s","kind":"set","start":["x","y","x"]}',
+     '',
+     'fault 13 transaction 0 at /objects/0/start/2'),
+    ('{"name":"q","kind":"queue","start":["x",""]}',
+     '',
+     'fault 3 transaction 0 at /objects/0/start/1'),
+    ('{"name":"d","kind":"directory","start":[["k"]]}',
+     '',
+     'fault 13 transaction 0 at /objects/0/start/0'),
+    (ONE,
+     '[],[{"op":["a","balance"]},{"op":["b","balance"]}]',
+     'fault 5 transaction 2 at /transactions/1/1'),
+    (ONE,
+     '[],7',
+     'fault 2 transaction 2 at /transactions/1'),
+    (ONE,
+     '[{"abort":true},{"abort":""}]',
+     'fault 3 transaction 1 at /transactions/0/1'),
+    (ONE,
+     '[{"op":["a","balance"],"as":"l"},{"if":"l","atleast":1,"then":[{"abort":true}],"else":[{"abort":true},{"abort":false}]}]',
+     'fault 2 transaction 1 at /transactions/0/1/else/1'),
+    (ONE,
+     '[{"op":["a","balance"],"as":"l"},{"if":"l","atleast":1,"then":[{"abort":false}],"else":[{"abort":false}]}]',
+     'fault 2 transaction 1 at /transactions/0/1/then/0'),
+    (ONE,
+     '[{"if":"l","atleast":1,"then":7}]',
+     'fault 8 transaction 1 at /transactions/0/0'),
+    (ONE,
+     '[{"sub":[{"abort":"late"}],"handlers":{"late":[{"parallel":[{"sub":[],"as":"x"},{"sub":[{"if":"x","is":"committed","then":[]}]}]}]},"handler":[{"abort":7}]}]',
+     'fault 8 transaction 1 at /transactions/0/0/handlers/late/0/parallel/1/sub/0'),
+    (ONE,
+     '[{"sub":[],"handlers":{"a/~b":[]}}]',
+     'fault 3 transaction 1 at /transactions/0/0/handlers'),
+    (ONE,
+     '[{"sub":[],"handler":[{"abort":7}]}]',
+     'fault 2 transaction 1 at /transactions/0/0/handler/0'),
+    (ONE,
+     '[{"parallel":[{"sub":[],"as":"x"},{"sub":[],"as":"x"}]}]',
+     'fault 9 transaction 1 at /transactions/0/0/parallel/1'),
+)
+
+# Bytes that are no JSON, and where they go no further.
+NO_JSON = (
+    (b'{\n  "ordtx":1,\n  }', 3, 3),
+    (b"[1,]", 1, 4),
+)
+
+
 def batch(objects, transactions, version=4):
     return {"ordtx": version, "objects": objects, "transactions": transactions}
 
@@ -253,7 +313,17 @@ def try_cases(program):
             program.expect(file.stem, ["locate"], document, file.with_suffix(".check").read_bytes())
 
 
+def try_lines(program):
+    for objects, transactions, line in LINES:
+        given = '{"ordtx":4,"objects":[%s],"transactions":[%s]}' % (objects, transactions)
+        program.expect(line, ["locate"], given.encode(), line.encode() + b"\n")
+    for given, line, column in NO_JSON:
+        program.expect("no JSON", ["locate"], given,
+                       b"fault 1 transaction 0 at line %d column %d\n" % (line, column))
+
+
 def try_all(program):
+    try_lines(program)
     try_blocks(program)
     try_depth(program)
     try_objects(program)

@@ -124,6 +124,17 @@ AROUND = [
     ('{"parallel":[{"sub":', '}]}'),
 ]
 BALANCE = '{"op":["a","balance"],"as":"n"}'
+
+# A limit is reached before anything else is asked of the step beyond it: the version, how many of a step, the step, and
+# the one after them in a second transaction.
+LOOK = '{"op":["a","balance"]}'
+COUNTED = [
+    (1, 100_000, LOOK, '{"op":["b","balance"]}', (12, 2)),
+    (1, 99_999, LOOK, LOOK, None),
+    (4, 100_000, LOOK, LOOK, None),
+    (1, 100_000, '{"abort":true}', '{"if":"n","is":"ok","then":[]}', (12, 2)),
+]
+
 BRANCH = '{"if":"n","atleast":0,"then":'
 
 
@@ -158,6 +169,8 @@ def all_documents():
     for levels, fault in ((22, None), (23, (11, 1))):
         within = nested(levels, BRANCH, "}")
         yield document(1, ACCOUNT, "[%s,%s%s}]" % (BALANCE, BRANCH, within)), fault
+    for version, count, step, last, fault in COUNTED:
+        yield document(version, ACCOUNT, "[%s],[%s]" % (",".join([step] * count), last)), fault
     for levels, fault in ((126, (2, 0)), (127, (1, 0))):
         yield nested(levels, "", ""), fault
 

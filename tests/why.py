@@ -41,6 +41,7 @@ TRANSACTIONS = (
      ("why 1 2.1 till balance = 100 after 1.1.1.b.1 till deposit 5 = ok",)),
     ("an aborted transaction leaves nothing, and one round has no line",
      '[{"op":["till","withdraw",5]},{"abort":true}],[{"op":["till","withdraw",9]}]', ()),
+    ("no transaction has no line", "", ()),
 )
 
 
