@@ -1,10 +1,6 @@
 -- Entries that stand for many: what commutes forward with them.
 use Rattle.std.proofs.Common.{◌≡◌, ℕ, suc, zero, ◌<◌, ◌≤◌, ◌↔◌, arith, List, [], ◌∷◌, ◌++◌, length, set, get_or, sym, ap, ◌∙◌, subst}
 use Rattle.std.proofs.lemmas.List.{get_or-map, get_or-set_other, length-map, length-set, map-append, map-set}
-use Rattle.std.specs.Prelude.{Result, Ok, Err, IfOk}
-use Rattle.std.specs.declared.vec.Vec.{Vec}
-use Rattle.std.specs.declared.alloc.Global.{Global}
-use Rattle.serial.specs.declared.NoMemory.{NoMemory}
 use Rattle.objects.specs.declared.entry.Entry.{Entry}
 use Rattle.committed.specs.declared.marks.MarkedEntry.{MarkedEntry}
 use Rattle.objects.specs.Entries.{CommutesWith, AllCommute, CommuteForward}
@@ -13,7 +9,7 @@ use Rattle.committed.specs.Summaries.{entries_of, IsSummary}
 use Rattle.committed.proofs.StandsLemmas.{commute_turned, one_commutes}
 
 -- what commutes with all of two lists commutes with all of both
-commutes_both : (e : Entry) (xs ys : List Entry) → CommutesWith e xs → CommutesWith e ys → CommutesWith e (xs ++ ys)
+pub commutes_both : (e : Entry) (xs ys : List Entry) → CommutesWith e xs → CommutesWith e ys → CommutesWith e (xs ++ ys)
 commutes_both e [] ys first second = second
 commutes_both e (x ∷ xs) ys first second = (first.0, commutes_both e xs ys first.1 second)
 
@@ -30,7 +26,7 @@ commutes_second e (x ∷ xs) ys both = commutes_second e xs ys both.1
 -- ---- stands
 
 -- every list stands past none
-all_past_none : (qs : List Entry) → AllCommute qs []
+pub all_past_none : (qs : List Entry) → AllCommute qs []
 all_past_none [] = tt
 all_past_none (q ∷ qs) = (tt, all_past_none qs)
 
@@ -66,12 +62,12 @@ stands-summary summary entries listed is = (
 -- ---- summaries of lists
 
 -- each list sums itself up
-pub summary-refl : (es : List Entry) → IsSummary es es
-summary-refl es = record { same = λ other. (λ h. h, λ h. h) }
+pub summary_itself : (es : List Entry) → IsSummary es es
+summary_itself es = record { same = λ other. (λ h. h, λ h. h) }
 
 -- the empty one too
 pub summary-nil : IsSummary [] []
-summary-nil = summary-refl []
+summary-nil = summary_itself []
 
 -- summaries of two lists, one after the other, sum up both
 pub summary-append : (s es t fs : List Entry) → IsSummary s es → IsSummary t fs → IsSummary (s ++ t) (es ++ fs)
@@ -180,16 +176,10 @@ pub summary_pushed : (marked : List MarkedEntry) (next : MarkedEntry) (e : Entry
 summary_pushed marked next e entries own summary =
     subst (λ xs. IsSummary xs (entries ++ e ∷ [])) (sym (map-append (λ (k : MarkedEntry). k.entry) marked (next ∷ [])
     ∙ ap (λ x. entries_of marked ++ x ∷ []) own))
-    (summary-append (entries_of marked) entries (e ∷ []) (e ∷ []) summary (summary-refl (e ∷ [])))
+    (summary-append (entries_of marked) entries (e ∷ []) (e ∷ []) summary (summary_itself (e ∷ [])))
 
 -- ---- a summary that leaves nothing out
 
--- entries sum themselves up
-pub summary_itself : (entries : List Entry) → IsSummary entries entries
-summary_itself entries = record { same = λ other. (λ all. all, λ all. all) }
-
 -- marked entries sum up the entries that were marked
-pub summary_made : (made : Result (Vec MarkedEntry Global) NoMemory) (entries : List Entry)
-    → IfOk made (λ marked. entries_of marked.items ≡ entries) → IfOk made (λ summary. IsSummary (entries_of summary.items) entries)
-summary_made (Ok marked) entries is = subst (IsSummary (entries_of marked.items)) is (summary_itself (entries_of marked.items))
-summary_made (Err refused) entries is = tt
+pub summary_made : (marked : List MarkedEntry) (entries : List Entry) → entries_of marked ≡ entries → IsSummary (entries_of marked) entries
+summary_made marked entries is = subst (IsSummary (entries_of marked)) is (summary_itself (entries_of marked))

@@ -256,6 +256,22 @@ watched_kept old new run e same kept stays watched = record {
   marked = stays watched.marked;
 }
 
+-- and where the watch has the same slots, links and filter
+pub watched_same : (old new : Watch) (run : ℕ) (e : Entry) → new.last ≡ old.last → new.links ≡ old.links → new.filter ≡ old.filter
+    → IsWatched old run e → IsWatched new run e
+watched_same old new run e slots links filter = watched_kept old new run e (ap (λ ls. length ls.items) slots)
+    (λ slot. subst (λ ls. HasLink ls.items run slot) (sym links)) (subst (λ f. IsMarked f e) (sym filter))
+
+-- a run has the link that is read
+pub linked_at : (links : List Link) (at : ℕ) (link : Link) → at < length links → link ≡ get_or links at link
+    → HasLink links link.run link.slot
+linked_at links at link within is = record {
+  at = at;
+  within = within;
+  of_run = read_at (λ l. l.run) links at link within is;
+  in_slot = read_at (λ l. l.slot) links at link within is;
+}
+
 -- ---- the runs that are sought
 
 -- of the runs from one on, with what was found before, some are found

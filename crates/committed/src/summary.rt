@@ -7,6 +7,7 @@ use crate::marks::{Mark, MarkedEntry};
 use crate::strictness::are_as_strict;
 use objects::{Entry, NoMemory};
 use std::alloc::Global;
+use std::mem::replace;
 
 /// How many slots a table has at most.
 const MOST: usize = 4096;
@@ -19,46 +20,48 @@ const FEW: usize = 8;
 pub fn mark_all(alloc: Global, entries: &[Entry]) -> Result<Vec<MarkedEntry>, NoMemory>
     ensures { IfOk result (λ marked. entries_of marked.items ≡ entries.now) }
 {
-    mark_in(entries, Vec::new(alloc))
-}
-
-// The entries with their marks, in the memory of the spare list.
-fn mark_in(entries: &[Entry], spare: Vec<MarkedEntry>) -> Result<Vec<MarkedEntry>, NoMemory>
-    ensures { IfOk result (λ marked. entries_of marked.items ≡ entries.now) }
-{
-    let mut marked = spare;
-    marked.clear();
-    marked.reserve_exact(entries.len())?;
-    for entry in entries {
-        marked.push(MarkedEntry::of(entry))?;
-    }
+    let mut marked = Vec::new(alloc);
+    mark_into(entries, &mut marked)?;
     Ok(marked)
 }
 
-/// A summary of the entries: what commutes forward with all of the summary commutes forward with
-/// all of these, and the other way round.
+// Puts the entries with their marks, in order, into the list, in place of what it had.
+fn mark_into(entries: &[Entry], marked: &mut Vec<MarkedEntry>) -> Result<(), NoMemory>
+    ensures { OnOk result (entries_of marked.new.items ≡ entries.now) }
+{
+    marked.clear();
+    marked.reserve_exact(entries.len())?;
+    for entry in entries {
+        marked.push_reserved(MarkedEntry::of(entry));
+    }
+    Ok(())
+}
+
+/// Puts a summary of the entries into the list, in place of what it had: what commutes forward with
+/// all of the summary commutes forward with all of these, and the other way round.
 ///
 /// It has an entry or two for each different heading (object and item, or object and class where
 /// there is no item), as far as the table distinguishes them. Those are the strictest under the
 /// heading, where one or two of them are. A few entries are all kept. So a run of many operations
-/// on one object is checked and listed by a few entries. It is in the memory of the spare list.
+/// on one object is checked and listed by a few entries.
 ///
-/// Returns `NoMemory` where a request for memory was refused.
-pub fn summary_of(
+/// Returns `NoMemory` where a request for memory was refused. The list is of no further use then.
+pub fn summarize(
     alloc: Global,
     entries: &[Entry],
-    spare: Vec<MarkedEntry>,
-) -> Result<Vec<MarkedEntry>, NoMemory>
-    ensures { IfOk result (λ summary. IsSummary (entries_of summary.items) entries.now) }
+    summary: &mut Vec<MarkedEntry>,
+) -> Result<(), NoMemory>
+    ensures { OnOk result (IsSummary (entries_of summary.new.items) entries.now) }
 {
     if entries.len() <= FEW {
-        return mark_in(entries, spare);
+        return mark_into(entries, summary);
     }
-    let mut table = Table::new(alloc, entries.len(), spare)?;
+    let mut table = Table::new(alloc, entries.len(), replace(summary, Vec::new(alloc)))?;
     for entry in entries {
         table.add(entry)?;
     }
-    Ok(table.summary)
+    *summary = table.summary;
+    Ok(())
 }
 
 /// Where a summary has the two entries that were last put in it at one slot.

@@ -32,12 +32,16 @@ struct Link {
 /// have an entry that may conflict with one of some others, without a look at the rest. A filter
 /// says of most entries that there is no such run.
 ///
-/// Nothing is removed. A run that is put in again is still found by what it had before.
+/// Nothing is removed. A run that is put in again is still found by what it had before. It gets no new
+/// links where its entries are under the same headings as before.
 #[derive(Drop)]
 pub struct Watch {
     /// For each slot, the number of its last link, counted from 1, or 0 where it has none.
     last: Vec<usize>,
     links: Vec<Link>,
+    /// For each run, the place of the first link that it was last given. This only saves links: one
+    /// is left out after the link at its place is compared.
+    firsts: Vec<usize>,
     /// How many runs there are.
     count: usize,
     /// How many links it should have at most. With more, most of them are stale.
@@ -64,10 +68,18 @@ impl Watch {
         Ok(Watch {
             last: vec![in alloc; 0usize; size]?,
             links: Vec::new(alloc),
+            firsts: vec![in alloc; 0usize; count]?,
             count,
             limit: entries.saturating_mul(3).saturating_add(FEWEST),
             filter,
         })
+    }
+
+    /// Whether it has no links, so no run that was put in has entries.
+    pub fn is_empty(&self) -> bool
+        ensures { IsTrue result ↔ length self.now.links.items ≡ 0 }
+    {
+        self.links.is_empty()
     }
 
     /// Whether it has more links than it should. Most are then those of entries that a run no
@@ -102,8 +114,47 @@ impl Watch {
         Ok(())
     }
 
-    /// Adds a link of a run in a slot.
-    pub(crate) fn link(&mut self, slot: usize, run: usize) -> Result<(), NoMemory>
+    /// The place of the first link that the run was last given, if it was given any.
+    pub(crate) fn first(&self, run: usize) -> usize {
+        match self.firsts.get(run) {
+            Some(first) => *first,
+            None => 0,
+        }
+    }
+
+    /// The place of the next link.
+    pub(crate) fn next(&self) -> usize {
+        self.links.len()
+    }
+
+    /// Notes that the links from this place on, if there are any, are those that the run was last
+    /// given.
+    pub(crate) fn note(&mut self, run: usize, first: usize)
+        ensures count { self.new.count ≡ self.old.count }
+        ensures slots { self.new.last ≡ self.old.last }
+        ensures links { self.new.links ≡ self.old.links }
+        ensures filter { self.new.filter ≡ self.old.filter }
+    {
+        if first == self.links.len() {
+            return;
+        }
+        if let Some(known) = self.firsts.get_mut(run) {
+            *known = first;
+        }
+    }
+
+    // Whether the link at this place is one of the run in the slot.
+    fn is_linked(&self, slot: usize, run: usize, place: usize) -> bool
+        ensures { IsTrue result → HasLink self.now.links.items run slot }
+    {
+        match self.links.get(place) {
+            Some(link) => link.slot as usize == slot && link.run as usize == run,
+            None => false,
+        }
+    }
+
+    /// Adds a link of a run in a slot, unless the one at this place is such a link.
+    pub(crate) fn link(&mut self, slot: usize, run: usize, place: usize) -> Result<(), NoMemory>
         requires slot { slot < length self.old.last.items }
         requires run { run < self.old.count }
         ensures count { self.new.count ≡ self.old.count }
@@ -112,6 +163,9 @@ impl Watch {
         ensures own { OnOk result (HasLink self.new.links.items run slot) }
         ensures others { (other place : ℕ) → HasLink self.old.links.items other place → HasLink self.new.links.items other place }
     {
+        if self.is_linked(slot, run, place) {
+            return Ok(());
+        }
         let before = self.last[slot];
         self.links.push(Link {
             slot: slot as u32,

@@ -21,14 +21,18 @@ impl Watch {
         ensures put { OnOk result (Watches self.new run (entries_of entries.now)) }
         ensures others { OnOk result ((other : ℕ) (kept : List OneEntry) → Watches self.old other kept → Watches self.new other kept) }
     {
+        let first = self.next();
+        let mut place = self.first(run);
         for marked in entries {
-            self.put_one(run, marked)?;
+            place = self.put_one(run, marked, place)?;
         }
+        self.note(run, first);
         Ok(())
     }
 
-    // Puts a run in by one of its entries.
-    fn put_one(&mut self, run: usize, marked: &MarkedEntry) -> Result<(), NoMemory>
+    // Puts a run in by one of its entries. It may have the links from this place on. Returns the place
+    // after them.
+    fn put_one(&mut self, run: usize, marked: &MarkedEntry, place: usize) -> Result<usize, NoMemory>
         requires { run < self.old.count }
         ensures count { self.new.count ≡ self.old.count }
         ensures own { OnOk result (IsWatched self.new run marked.now.entry) }
@@ -37,12 +41,14 @@ impl Watch {
         let mark = &marked.mark;
         self.filter.mark(mark);
         let by_object = self.slot(key_of(mark.of_object, mark.class));
-        self.link(by_object, run)?;
+        self.link(by_object, run, place)?;
+        let next = place.saturating_add(1);
         let by_item = self.slot(key_of(mark.of_item, mark.class));
         if by_item != by_object {
-            self.link(by_item, run)?;
+            self.link(by_item, run, next)?;
+            return Ok(next.saturating_add(1));
         }
-        Ok(())
+        Ok(next)
     }
 
     /// Adds to the found runs all runs from the number `from` on that may conflict with these

@@ -10,6 +10,6 @@ mod draft_table;
 mod layers;
 mod view;
 
-pub use committed::{Committed, Mark, MarkedEntry, NumberSet, Watch, mark_all, summary_of};
+pub use committed::{Committed, Mark, MarkedEntry, NumberSet, Watch, mark_all, summarize};
 pub use objects::{Call, Entry, NoMemory, Objects, Reply, Value};
 pub use view::{Lists, View, perform_each};

@@ -8,7 +8,7 @@ use crate::layers::Layers;
 use objects::{Call, Entry, NoMemory, Objects, Reply};
 use std::alloc::Global;
 use std::marker::Model;
-use std::mem::replace;
+use std::mem::swap;
 
 /// What a view recorded: the entries of all calls in their order, and the net, which is those that
 /// no aborted level took back.
@@ -236,29 +236,29 @@ impl<'s> View<'s> {
         }
     }
 
-    /// The entries and the net of the base. The net is a copy in the memory of the spare one, and
-    /// takes no more than it needs. The view is then as if it had just been opened on the same
-    /// snapshot, and has the memory of the spare entries for its next run. On `NoMemory` the view is
-    /// unchanged.
-    pub fn take_run(&mut self, spare: Lists) -> Result<Lists, NoMemory>
+    /// Puts the entries and the net of the base into two lists, in place of what they had. The net is
+    /// a copy, and takes no more memory than it needs. The view is then as if it had just been opened
+    /// on the same snapshot, and has the memory of the first list for its next run. On `NoMemory` the
+    /// view is unchanged.
+    pub fn take_run(
+        &mut self,
+        entries: &mut Vec<Entry>,
+        net: &mut Vec<Entry>,
+    ) -> Result<(), NoMemory>
         requires { length self.old.outer ≡ 0 }
-        ensures entries { IfOk result (λ lists. lists.entries.items ≡ self.old.entries) }
-        ensures net { IfOk result (λ lists. lists.net.items ≡ self.old.net) }
+        ensures entries { OnOk result (entries.new.items ≡ self.old.entries) }
+        ensures net { OnOk result (net.new.items ≡ self.old.net) }
         ensures opened { OnOk result (self.new ≡ opened self.old.snapshot) }
         ensures err { OnErr result (self.new ≡ self.old) }
     {
-        let Lists {
-            mut entries,
-            mut net,
-        } = spare;
         net.clear();
         net.reserve_exact(self.net.len())?;
-        extend_reserved(&mut net, &self.net);
+        extend_reserved(net, &self.net);
         entries.clear();
+        swap(&mut self.entries, entries);
         self.layers.restart(self.snapshot);
         self.net.clear();
-        let entries = replace(&mut self.entries, entries);
-        Ok(Lists { entries, net })
+        Ok(())
     }
 
     /// The entries, and the net of the base.

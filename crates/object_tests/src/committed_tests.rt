@@ -2,7 +2,7 @@
 ghost use Rattle.std.specs.Prelude.{◌≡◌, ◌<◌};
 
 use committed::{
-    Call, Committed, Entry, Mark, MarkedEntry, NumberSet, Reply, Watch, mark_all, summary_of,
+    Call, Committed, Entry, Mark, MarkedEntry, NumberSet, Reply, Watch, mark_all, summarize,
 };
 use objects::{
     AccountCall, AccountReply, Amount, DirectoryCall, DirectoryReply, Item, MaxCall, MaxReply,
@@ -462,6 +462,31 @@ fn a_run_put_in_again_is_found_by_what_it_had(rt: HostRuntime) -> Result<(), Fai
     Ok(())
 }
 
+// A watch for two entries is stale after a thousand more.
+#[test]
+fn a_run_with_the_headings_it_had_takes_no_room(rt: HostRuntime) -> Result<(), Fail> {
+    let insert = |item: u32, reply: SetReply| -> Entry {
+        Entry {
+            object: 2,
+            call: Call::Set(SetCall::Insert(Item(item))),
+            reply: Reply::Set(reply),
+        }
+    };
+    let mut watch = Watch::new(rt.alloc(), 2, 2)?;
+    assert!(rt; watch.is_empty());
+    for _ in 0..2000 {
+        puts(&rt, &mut watch, 0, &[insert(1, SetReply::Added)]);
+        puts(&rt, &mut watch, 1, &[insert(2, SetReply::Added)]);
+    }
+    assert!(rt; !watch.is_empty() && !watch.is_stale());
+    finds(&rt, &watch, 0, &[insert(2, SetReply::Added)], &[1]);
+    for item in 0..2000 {
+        puts(&rt, &mut watch, 0, &[insert(item, SetReply::Added)]);
+    }
+    assert!(rt; watch.is_stale());
+    Ok(())
+}
+
 #[test]
 fn a_cleared_set_has_no_number(rt: HostRuntime) -> Result<(), Fail> {
     let mut numbers = NumberSet::new(rt.alloc());
@@ -506,7 +531,8 @@ fn many_operations_have_a_short_summary(rt: HostRuntime) -> Result<(), Fail> {
         entries.push(account(AccountCall::Deposit(some), AccountReply::Ok))?;
         entries.push(account(AccountCall::Withdraw(some), AccountReply::Ok))?;
     }
-    let summary = summary_of(alloc, &entries, Vec::new(alloc))?;
+    let mut summary = Vec::new(alloc);
+    summarize(alloc, &entries, &mut summary)?;
     assert_eq!(rt; summary.len(), 2);
     let few = amount(&rt, 1);
     let mut others = Vec::new(alloc);
@@ -525,7 +551,8 @@ fn many_operations_have_a_short_summary(rt: HostRuntime) -> Result<(), Fail> {
 /// Stops the test where the summary of some entries has another length.
 fn summary_has(rt: &(impl Abort + AllocGlobal), entries: &[Entry], expected: usize) {
     let alloc = rt.alloc();
-    let summary = summary_of(alloc, entries, Vec::new(alloc))
+    let mut summary = Vec::new(alloc);
+    summarize(alloc, entries, &mut summary)
         .ok()
         .expect(rt, "memory");
     assert_eq!(rt; summary.len(), expected);

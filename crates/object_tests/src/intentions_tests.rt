@@ -106,13 +106,14 @@ fn follow_in(rt: &impl Abort, alloc: Global, snapshot: &Objects, steps: &[Step])
     follow(rt, &mut view, steps);
 }
 
-/// The lists of a view with no level but the base, which is then used again with spare lists.
-/// Stops the test where they have other lengths.
-fn take_run(rt: &impl Abort, view: &mut View<'_>, spare: Lists, expected: (usize, usize)) -> Lists {
+/// Takes the lists of a view with no level but the base, which is then used again. Stops the test
+/// where they have other lengths.
+fn take_run(rt: &impl Abort, view: &mut View<'_>, lists: &mut Lists, expected: (usize, usize)) {
     assert!(rt; view.depth() == 0);
-    let lists = view.take_run(spare).ok().expect(rt, "memory");
+    view.take_run(&mut lists.entries, &mut lists.net)
+        .ok()
+        .expect(rt, "memory");
     assert_eq!(rt; (lists.entries.len(), lists.net.len()), expected);
-    lists
 }
 
 /// Stops the test where the lists at the end of a view have other lengths.
@@ -283,9 +284,10 @@ fn a_view_is_used_again(rt: HostRuntime) {
     let snapshot = objects(&rt, rt.alloc());
     let mut view = open(&rt, rt.alloc(), &snapshot);
     follow(&rt, &mut view, &first);
-    let spare = take_run(&rt, &mut view, Lists::empty(rt.alloc()), (1, 1));
+    let mut lists = Lists::empty(rt.alloc());
+    take_run(&rt, &mut view, &mut lists, (1, 1));
     follow(&rt, &mut view, &second);
-    let _lists = take_run(&rt, &mut view, spare, (3, 3));
+    take_run(&rt, &mut view, &mut lists, (3, 3));
     follow(&rt, &mut view, &[Step::HasLengths(0, 0, 0)]);
 }
 

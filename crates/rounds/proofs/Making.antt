@@ -10,16 +10,17 @@ use Rattle.rounds.specs.Desks.{IsDeskOn}
 use Rattle.rounds.specs.declared.desk.Desk.{Desk}
 use Rattle.rounds.specs.Views.{meaning}
 use Rattle.meaning.specs.Records.{Taken, entries as entries_in}
-use Rattle.meaning.specs.Batch.{net_of}
 use Rattle.meaning.specs.OneThread.{Run as OneRun, record_of}
-use Rattle.batch.specs.Views.{record_view}
 use Rattle.speculate.specs.Runs.{IsRunOf}
 use Rattle.speculate.specs.declared.speculated.Run.{Run}
 use Rattle.rounds.specs.declared.pending_run.PendingRun.{PendingRun}
+use Rattle.rounds.specs.declared.pending_run.Sums.{Sums}
 use Rattle.batch.specs.declared.batch.Batch.{Batch}
 use Rattle.rounds.specs.declared.make.Made.{Made}
-use Rattle.rounds.specs.PendingRuns.{AreSumsOf, IsPendingOf, IsPendingFor, bit, times, numbers_of, IsMade, AreMade}
-use Rattle.rounds.proofs.Times.{times_append, times_one, times_none, times_sum}
+use Rattle.claims.specs.Views.{bit, times}
+use Rattle.rounds.specs.PendingRuns.{AreSumsOf, IsPendingOf, numbers_of, IsMade, AreMade}
+use Rattle.claims.proofs.Lists.{times-append}
+use Rattle.rounds.proofs.Times.{times_one, times_none, times_sum}
 use Rattle.std.specs.Fork.{slice_chunk}
 use Rattle.std.specs.Int.{div_ceil}
 use Rattle.std.proofs.lemmas.Slice.Chunks.{sum_by_chunks}
@@ -30,7 +31,7 @@ use Rattle.workers.proofs.Once.{each_given, sum_given_once}
 
 -- the numbers of two lists of runs
 times_numbers : (i : ℕ) (xs ys : List Made) → times i (numbers_of (xs ++ ys)) ≡ times i (numbers_of xs) + times i (numbers_of ys)
-times_numbers i xs ys = ap (times i) (map-append (λ (m : Made). m.number) xs ys) ∙ times_append i (numbers_of xs) (numbers_of ys)
+times_numbers i xs ys = ap (times i) (map-append (λ (m : Made). m.number) xs ys) ∙ times-append i (numbers_of xs) (numbers_of ys)
 
 -- one run more
 pub made_more : (batch : Batch) (state : State) (numbers : List ℕ) (i : ℕ) (m : Made) (made more : List Made) → i < length numbers
@@ -42,7 +43,7 @@ made_more batch state numbers i m made more lt is pushed so_far here = record {
       let left : times j (numbers_of more) ≡ times j (numbers_of made) + times j (m.number ∷ []) =
       ap (λ ms. times j (numbers_of ms)) pushed ∙ times_numbers j made (m ∷ []) in
       let right : times j (take (i + 1) numbers) ≡ times j (take i numbers) + times j (get_or numbers i 0 ∷ []) =
-      ap (times j) (take_more numbers i 0 lt) ∙ times_append j (take i numbers) (get_or numbers i 0 ∷ []) in
+      ap (times j) (take_more numbers i 0 lt) ∙ times-append j (take i numbers) (get_or numbers i 0 ∷ []) in
       left ∙ (ap (λ n. n + times j (m.number ∷ [])) (so_far.dealt j) ∙ (ap (λ n. times j (take i numbers) + times j (n ∷ [])) is
       ∙ sym right));
 }
@@ -118,16 +119,13 @@ all_front P (x ∷ xs) y all =
     (front P x xs (all 0 x (omega arith)) rest.0, rest.1)
 
 -- a pending run of a run of a meaning
-pub pending_of : (meant : OneRun Taken) (run : Run) (pending : PendingRun) → IsRunOf meant run → IsPendingFor run pending
-    → IsPendingOf meant pending
-pending_of meant run pending is own =
-    let net_is : pending.net.items ≡ net_of meant = ap (λ v. v.items) own.net ∙ is.net in
-    record {
-      tree = ap record_view own.tree ∙ is.tree;
-      net = net_is;
-      sums = subst (AreSumsOf pending.sums (entries_in (record_of meant))) is.net
-          (subst (λ es. AreSumsOf pending.sums es run.net.items) is.entries own.sums);
-    }
+pub pending_of : (meant : OneRun Taken) (run : Run) (sums : Sums) → IsRunOf meant run → AreSumsOf sums run.entries.items run.net.items
+    → IsPendingOf meant (record { tree = run.tree; net = run.net; sums = sums })
+pending_of meant run sums is are = record {
+  tree = is.tree;
+  net = is.net;
+  sums = subst (AreSumsOf sums (entries_in (record_of meant))) is.net (subst (λ es. AreSumsOf sums es run.net.items) is.entries are);
+}
 
 pub put_one : (batch : Batch) (state : State) (numbers : List ℕ) (old runs : List PendingRun) (was counts : List ℕ) (left rest : List Made)
     (m : Made) → length was ≡ length old → m.number < length old → left ≡ rest ++ m ∷ []

@@ -7,8 +7,10 @@ use Rattle.objects.specs.declared.entry.Entry.{Entry}
 use Rattle.rounds.specs.declared.pending_run.PendingRun.{PendingRun}
 use Rattle.workers.specs.Working.{AreGivenOnce}
 use Rattle.workers.proofs.Once.{given_here, given_nowhere}
-use Rattle.rounds.specs.PendingRuns.{times, HoldsPast, Kept, IsDecided, AreRefuted}
-use Rattle.rounds.proofs.Times.{times_append, times_one, times_none}
+use Rattle.claims.specs.Views.{times}
+use Rattle.rounds.specs.PendingRuns.{HoldsPast, Kept, IsDecided, AreRefuted}
+use Rattle.claims.proofs.Lists.{times-append}
+use Rattle.rounds.proofs.Times.{times_one, times_none}
 
 -- of a run that stands nothing is listed
 pub stands_decided : (runs : List PendingRun) (since : List Entry) (place : ℕ) → ((d : PendingRun) → HoldsPast since (get_or runs place d))
@@ -35,14 +37,14 @@ told_at runs since place i own numbers same decided is d = subst (λ n. Kept sin
 pub all_decided : (runs : List PendingRun) (since : List Entry) (from count : ℕ) (numbers : List ℕ) → from + count ≡ length runs
     → AreGivenOnce (λ piece. IsDecided runs since (from + piece)) count numbers → AreRefuted runs since from (length runs) numbers
 all_decided runs since from count numbers all given = record {
-  before = λ i lt. given_nowhere (λ piece. IsDecided runs since (from + piece)) (times i) refl (times_append i) count numbers
+  before = λ i lt. given_nowhere (λ piece. IsDecided runs since (from + piece)) (times i) refl (times-append i) count numbers
       (λ j own below decided. decided.elsewhere i (let apart : i ≢ from + j = omega arith in apart)) given;
-  beyond = λ i le. given_nowhere (λ piece. IsDecided runs since (from + piece)) (times i) refl (times_append i) count numbers
+  beyond = λ i le. given_nowhere (λ piece. IsDecided runs since (from + piece)) (times i) refl (times-append i) count numbers
       (λ j own below decided. decided.elsewhere i (let apart : i ≢ from + j = omega arith in apart)) given;
   each = λ i d low high.
       let piece = i - from in
       let place : from + piece ≡ i = omega arith in
-      let told = given_here (λ k. IsDecided runs since (from + k)) (times i) refl (times_append i) piece count (omega arith)
+      let told = given_here (λ k. IsDecided runs since (from + k)) (times i) refl (times-append i) piece count (omega arith)
       (λ j own other decided. decided.elsewhere i (let apart : i ≢ from + j = omega arith in apart)) numbers given in
       told_at runs since (from + piece) i told.0 numbers place told.1 told.2 d;
 }
@@ -66,7 +68,7 @@ pub told_more : (runs : List PendingRun) (since : List Entry) (from place : ℕ)
     → AreToldUpto runs since from place numbers → IsDecided runs since place own → more ≡ numbers ++ own
     → AreToldUpto runs since from (place + 1) more
 told_more runs since from place numbers own more told decided is =
-    let split : (i : ℕ) → times i more ≡ times i numbers + times i own = λ i. ap (times i) is ∙ times_append i numbers own in
+    let split : (i : ℕ) → times i more ≡ times i numbers + times i own = λ i. ap (times i) is ∙ times-append i numbers own in
     let size : length more ≡ length numbers + length own = ap (λ ns. length ns) is ∙ length-append numbers own in
     let ordered = told.ordered in
     let few = told.few in

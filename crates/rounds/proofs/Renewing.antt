@@ -8,8 +8,10 @@ use Rattle.rounds.specs.declared.desk.Desk.{Desk}
 use Rattle.rounds.specs.Views.{meaning}
 use Rattle.rounds.specs.declared.pending_run.PendingRun.{PendingRun}
 use Rattle.batch.specs.declared.batch.Batch.{Batch}
-use Rattle.rounds.specs.PendingRuns.{IsPendingOf, times, AreRenewed}
-use Rattle.rounds.proofs.Times.{times_append, times_one, times_none}
+use Rattle.claims.specs.Views.{times}
+use Rattle.rounds.specs.PendingRuns.{IsPendingOf, AreRenewed}
+use Rattle.claims.proofs.Lists.{times-append}
+use Rattle.rounds.proofs.Times.{times_one, times_none}
 
 -- the runs of some numbers are in their places, and a desk is ready for the next
 pub record AreInPlace (batch : Batch) (state : State) (numbers : List ℕ) (old runs : List PendingRun) (was counts : List ℕ)
@@ -71,7 +73,7 @@ pub renewed_next : (batch : Batch) (state : State) (numbers : List ℕ) (k n : �
     → AreRenewed batch state (take (k + 1) numbers) old new was more
 renewed_next batch state numbers k n old runs new was counts more lt is so_far one =
     let split : (i : ℕ) → times i (take (k + 1) numbers) ≡ times i (take k numbers) + times i (n ∷ []) = λ i.
-    ap (times i) (take_more numbers k 0 lt) ∙ (times_append i (take k numbers) (get_or numbers k 0 ∷ [])
+    ap (times i) (take_more numbers k 0 lt) ∙ (times-append i (take k numbers) (get_or numbers k 0 ∷ [])
     ∙ ap (λ m. times i (take k numbers) + times i (m ∷ [])) (sym is)) in
     let counted = so_far.counted in
     record {

@@ -22,7 +22,8 @@ use Rattle.speculate.proofs.Room.{kinds_at, nets_have_room}
 use Rattle.rounds.proofs.Room.{made_at}
 use Rattle.rounds.proofs.Times.{times_read}
 use Rattle.rounds.specs.Passes.{CanBeMade}
-use Rattle.rounds.specs.PendingRuns.{IsPendingOf, own_nets, all_left, times, Kept, HoldsPast, AreRefuted, AreRenewed, IsFirstFrom}
+use Rattle.claims.specs.Views.{times}
+use Rattle.rounds.specs.PendingRuns.{IsPendingOf, own_nets, all_left, Kept, HoldsPast, AreRefuted, AreRenewed, IsFirstFrom}
 use Rattle.rounds.specs.Checks.{IsSeen}
 use Rattle.rounds.specs.declared.check.Seen.{Seen}
 use Rattle.rounds.specs.AtOpenings.{AtOpening}

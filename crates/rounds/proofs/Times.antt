@@ -4,11 +4,8 @@ use Rattle.std.proofs.lemmas.Bool.Decides.{nat_tests}
 use native.Mathlib.Decide.{ℕ_discrete}
 use Rattle.std.specs.List.{sum_by}
 use Rattle.std.proofs.lemmas.List.Sums.{sum_by-cons}
-use Rattle.rounds.specs.PendingRuns.{bit, times}
-
-pub times_append : (x : ℕ) (ys zs : List ℕ) → times x (ys ++ zs) ≡ times x ys + times x zs
-times_append x [] zs = omega arith
-times_append x (y ∷ ys) zs = omega (arith, times_append x ys zs)
+use Rattle.claims.specs.Views.{bit, times}
+use Rattle.claims.proofs.Lists.{times-append}
 
 bit_same : (x : ℕ) → bit (x == x) ≡ 1
 bit_same x = grind (arith, nat_tests)
@@ -23,10 +20,10 @@ pub times_none : (x y : ℕ) → y ≢ x → times x (y ∷ []) ≡ 0
 times_none x y h = omega (arith, bit_other x y h)
 
 pub times_push : (x : ℕ) (ys : List ℕ) → times x (ys ++ x ∷ []) ≡ times x ys + 1
-times_push x ys = omega (arith, times_append x ys (x ∷ []), times_one x)
+times_push x ys = omega (arith, times-append x ys (x ∷ []), times_one x)
 
 pub times_push_other : (x y : ℕ) (ys : List ℕ) → y ≢ x → times x (ys ++ y ∷ []) ≡ times x ys
-times_push_other x y ys h = omega (arith, times_append x ys (y ∷ []), times_none x y h)
+times_push_other x y ys h = omega (arith, times-append x ys (y ∷ []), times_none x y h)
 
 -- a number that is read from a list stands in it
 pub times_read : (xs : List ℕ) (k d : ℕ) → k < length xs → 0 < times (get_or xs k d) xs

@@ -3,20 +3,23 @@ use Rattle.std.proofs.Common.{◌≡◌, ◌≢◌, ◌⊎◌, ℕ, zero, suc, �
 use Rattle.std.proofs.Common.{length-append, refl, sym, ap, ◌∙◌, subst, arith}
 use native.Mathlib.Decide.{ℕ_discrete}
 use Rattle.committed.specs.Summaries.{entries_of}
+use Rattle.committed.proofs.SummaryLemmas.{all_past_none, commutes_both}
 use Rattle.committed.specs.Watching.{Watches}
 use Rattle.committed.specs.NumberSets.{Has, AreDistinct}
 use Rattle.committed.specs.declared.watch.Watch.{Watch}
 use Rattle.objects.specs.declared.entry.Entry.{Entry}
 use Rattle.rounds.specs.declared.pending_run.PendingRun.{PendingRun}
 use Rattle.workers.specs.Working.{AreGivenOnce}
-use Rattle.workers.proofs.Once.{given_here, given_nowhere, few_given_once}
-use Rattle.rounds.specs.PendingRuns.{times, all_left, left_by, Kept, IsDecided, AreRefuted, AreRefutedAmong, AreRenewed}
+use Rattle.workers.proofs.Once.{parted, given_here, given_nowhere, few_given_once}
+use Rattle.claims.specs.Views.{times}
+use Rattle.rounds.specs.PendingRuns.{all_left, left_by, Kept, IsDecided, AreRefuted, AreRefutedAmong, AreRenewed}
 use Rattle.rounds.specs.Pending.{WatchesAll, Tells, ArePlaces, AreTouched, IsIn}
 use Rattle.rounds.specs.declared.pending.Pending.{Pending}
 use Rattle.batch.specs.declared.batch.Batch.{Batch}
 use Rattle.objects.specs.Entries.{State, AllCommute, CommutesWith}
 use Rattle.rounds.proofs.Firsts.{next_nets}
-use Rattle.rounds.proofs.Times.{times_append, times_one, times_none, times_read}
+use Rattle.claims.proofs.Lists.{times-append}
+use Rattle.rounds.proofs.Times.{times_one, times_none, times_read}
 
 -- ---- numbers that stand in a list once
 
@@ -65,14 +68,6 @@ times_distinct (n ∷ numbers) distinct i = elim (ℕ_discrete n i) [
       omega (arith, times_none i n other)
 ]
 
--- a list in which a number stands, parted there
-parted : (i : ℕ) (numbers : List ℕ) → 0 < times i numbers → (front : List ℕ) × (back : List ℕ) × (numbers ≡ front ++ i ∷ back)
-parted i [] some = absurd (omega arith)
-parted i (n ∷ numbers) some = elim (ℕ_discrete n i) [
-  | yes same ↦ ([], numbers, ap (λ m. m ∷ numbers) same)
-  | no other ↦ let more = parted i numbers (omega (arith, times_none i n other, some)) in (n ∷ more.0, more.1, ap (λ l. n ∷ l) more.2)
-]
-
 -- numbers below n, each once at most, are n at most
 few_below : (n : ℕ) (numbers : List ℕ) → ((i : ℕ) → times i numbers ≤ 1) → ((i : ℕ) → n ≤ i → times i numbers ≡ 0) → length numbers ≤ n
 few_below zero [] once none = omega arith
@@ -88,7 +83,7 @@ few_below (suc n) numbers once none = elim (ℕ_discrete (times n numbers) 0) [
       let at = parted n numbers (omega arith) in
       let split : (i : ℕ) → times i numbers ≡ times i (at.0 ++ at.1) + times i (n ∷ []) = λ i.
       let is = ap (times i) at.2 in
-      omega (arith, is, times_append i at.0 (n ∷ at.1), times_append i at.0 at.1) in
+      omega (arith, is, times-append i at.0 (n ∷ at.1), times-append i at.0 at.1) in
       let size : length numbers ≡ length (at.0 ++ at.1) + 1 =
       let is = ap (λ l. length l) at.2 in
       omega (arith, is, length-append at.0 (n ∷ at.1), length-append at.0 at.1) in
@@ -128,7 +123,7 @@ module _ (runs : List PendingRun) (since : List Entry) (places : List ℕ) where
       → AreToldOf runs since places upto numbers → IsDecided runs since place own → more ≡ numbers ++ own
       → AreToldOf runs since places (upto + 1) more
   told_of_more distinct upto place numbers own more lt at told decided is =
-      let split : (i : ℕ) → times i more ≡ times i numbers + times i own = λ i. ap (times i) is ∙ times_append i numbers own in
+      let split : (i : ℕ) → times i more ≡ times i numbers + times i own = λ i. ap (times i) is ∙ times-append i numbers own in
       let size : length more ≡ length numbers + length own = ap (λ ns. length ns) is ∙ length-append numbers own in
       let few = told.few in
       let one = decided.few in
@@ -172,13 +167,13 @@ module _ (runs : List PendingRun) (since : List Entry) (places : List ℕ) where
       → AreRefutedAmong runs since places numbers
   given_of_all distinct numbers given = record {
     elsewhere = λ i out.
-        given_nowhere IsToldAt (times i) refl (times_append i) (length places) numbers
+        given_nowhere IsToldAt (times i) refl (times-append i) (length places) numbers
         (λ j own below told. told.1.elsewhere i (λ same. out (record { at = j; within = below; is = sym same }))) given;
     each = λ k d lt.
         let place = get_or places k 0 in
         let apart : (j : ℕ) (own : List ℕ) → j ≢ k → IsToldAt j own → times place own ≡ 0 = λ j own other told.
         told.1.elsewhere place (λ same. other (distinct j k told.0 lt (sym same))) in
-        let told = given_here IsToldAt (times place) refl (times_append place) k (length places) lt apart numbers given in
+        let told = given_here IsToldAt (times place) refl (times-append place) k (length places) lt apart numbers given in
         subst (λ n. Kept since n (get_or runs place d)) (sym told.2) (told.1.1.here d);
     few = few_given_once IsToldAt (λ k own told. told.1.few) (length places) numbers given;
   }
@@ -240,16 +235,6 @@ all_put pending watch runs opened from made le tells count put others = record {
   ];
 }
 
--- every list stands past none
-past_none : (es : List Entry) → AllCommute es []
-past_none [] = tt
-past_none (e ∷ es) = (tt, past_none es)
-
--- what commutes with all of two lists commutes with all of both
-commutes_both : (e : Entry) (xs ys : List Entry) → CommutesWith e xs → CommutesWith e ys → CommutesWith e (xs ++ ys)
-commutes_both e [] ys first second = second
-commutes_both e (x ∷ xs) ys first second = (first.0, commutes_both e xs ys first.1 second)
-
 -- past two lists, one after the other
 past_both : (es xs ys : List Entry) → AllCommute es xs → AllCommute es ys → AllCommute es (xs ++ ys)
 past_both [] xs ys first second = tt
@@ -260,7 +245,7 @@ pub none_touched : (touched : List ℕ) (runs : List PendingRun) (from : ℕ) �
 none_touched touched runs from empty = record {
   low = λ run has. absurd (has_none run (subst (λ l. Has l run) empty has));
   high = λ run has. absurd (has_none run (subst (λ l. Has l run) empty has));
-  hold = λ run d low high out. past_none (entries_of (get_or runs run d).sums.entries.items);
+  hold = λ run d low high out. all_past_none (entries_of (get_or runs run d).sums.entries.items);
 }
 
 -- one run more is committed

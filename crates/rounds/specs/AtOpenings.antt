@@ -6,7 +6,8 @@ use Rattle.meaning.specs.Rounds.{RoundsFrom, Rounds, CountFrom, Count}
 use Rattle.meaning.specs.declared.limits.TheConstants.{MAX_TRANSACTIONS}
 use Rattle.rounds.specs.Views.{start_of, blocks_of}
 use Rattle.rounds.specs.Pending.{Tells}
-use Rattle.rounds.specs.PendingRuns.{IsPendingOf, times}
+use Rattle.claims.specs.Views.{times}
+use Rattle.rounds.specs.PendingRuns.{IsPendingOf}
 use Rattle.rounds.specs.declared.openings.Opening.{Opening}
 use Rattle.rounds.specs.declared.pending_run.PendingRun.{PendingRun}
 use Rattle.batch.specs.declared.batch.Batch.{Batch}

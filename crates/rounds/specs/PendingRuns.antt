@@ -9,6 +9,7 @@ use Rattle.objects.specs.Entries.{State, AllCommute}
 use Rattle.meaning.specs.Records.{Taken, entries}
 use Rattle.meaning.specs.OneThread.{Run as OneRun, record_of}
 use Rattle.meaning.specs.Batch.{net_of, shown_of}
+use Rattle.claims.specs.Views.{times}
 use Rattle.committed.specs.NumberSets.{Has}
 use Rattle.committed.specs.Summaries.{entries_of, IsSummary}
 use Rattle.committed.specs.declared.marks.MarkedEntry.{MarkedEntry}
@@ -39,12 +40,6 @@ pub record IsPendingOf (meant : OneRun Taken) (run : PendingRun) : Type 0 where
   pub tree : record_view run.tree ≡ shown_of meant
   pub net : run.net.items ≡ net_of meant
   pub sums : AreSumsOf run.sums (entries (record_of meant)) (net_of meant)
-
--- a pending run of a run
-pub record IsPendingFor (run : Run) (pending : PendingRun) : Type 0 where
-  pub tree : pending.tree ≡ run.tree
-  pub net : pending.net ≡ run.net
-  pub sums : AreSumsOf pending.sums run.entries.items run.net.items
 
 -- what runs leave, one after the other
 abbrev pub own_nets : List PendingRun → List Entry
@@ -81,14 +76,6 @@ pub record IsFirstFrom (runs : List PendingRun) (from first : ℕ) : Type 0 wher
 pub record AreStarts (runs : List PendingRun) (starts : List ℕ) : Type 0 where
   pub all : length starts ≡ length runs
   pub each : (i : ℕ) → i < length runs → slice_index_or starts i 0 ≡ length (all_left (take i runs))
-
-abbrev pub bit : Bool → ℕ
-bit b = cond b 1 0
-
--- how often x stands in the list
-abbrev pub times : ℕ → List ℕ → ℕ
-times x [] = 0
-times x (y ∷ ys) = bit (y == x) + times x ys
 
 -- a run stands and isn't among the numbers, or doesn't and is there once
 abbrev pub Kept : List Entry → ℕ → PendingRun → Type 0

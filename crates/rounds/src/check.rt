@@ -9,7 +9,7 @@ ghost use Rattle.meaning.specs.declared.limits.TheConstants.{MAX_TRANSACTIONS};
 ghost use Rattle.plan.specs.declared.plan.TheConstants.{MAX_WORKERS};
 
 use crate::crew::Crew;
-use crate::pending_run::{PendingRun, Sums};
+use crate::pending_run::PendingRun;
 use intentions::Committed;
 use plan::Plan;
 use speculate::{Gate, NoMemory, Run};
@@ -187,8 +187,9 @@ fn summed(alloc: Global, runs: &[Run]) -> Result<Vec<PendingRun>, NoMemory>
 {
     let mut pending = Vec::with_capacity(alloc, runs.len())?;
     for run in runs {
-        let sums = Sums::of(alloc, &run.entries, &run.net, Sums::empty(alloc))?;
-        pending.push(PendingRun::of_sums(alloc, sums))?;
+        let mut next = PendingRun::empty(alloc);
+        next.sums.renew(alloc, &run.entries, &run.net)?;
+        pending.push(next)?;
     }
     Ok(pending)
 }

@@ -10,20 +10,17 @@ ghost use Rattle.plan.specs.declared.plan.TheConstants.{MAX_WORKERS};
 
 use crate::pending_run::PendingRun;
 use batch::Batch;
-use intentions::Entry;
 use meaning::Held;
 use speculate::{Gate, NoMemory, Objects, Run, View, run_in};
 use std::alloc::Global;
-use std::mem::replace;
 use std::thread::Threads;
 
-/// A view of the objects, labels and a list of entries, in which one worker makes its runs, one
-/// after the other.
+/// A view of the objects, labels and a run, in which one worker makes its runs, one after the other.
 #[derive(Drop)]
 pub(crate) struct Desk<'s> {
     view: View<'s>,
     labels: Vec<Held>,
-    entries: Vec<Entry>,
+    run: Run,
 }
 
 impl<'s> Desk<'s> {
@@ -35,15 +32,15 @@ impl<'s> Desk<'s> {
         Ok(Desk {
             view: View::open(alloc, objects)?,
             labels: Vec::new(alloc),
-            entries: Vec::new(alloc),
+            run: Run::empty(alloc),
         })
     }
 
-    /// A run of the transaction with this number, counted from 0. It uses the memory of the spare
-    /// run, and leaves the desk ready for the next.
+    /// Makes a run of the transaction with this number, counted from 0, in the memory of the one
+    /// before it. Leaves the desk ready for the next.
     ///
-    /// After it returns `NoMemory`, the desk is of no further use.
-    pub(crate) fn run<R: Threads + Sync, G: Gate>(
+    /// After it returns `NoMemory`, the desk and the run are of no further use.
+    pub(crate) fn renew<R: Threads + Sync, G: Gate>(
         &mut self,
         threads: &R,
         alloc: Global,
@@ -51,25 +48,20 @@ impl<'s> Desk<'s> {
         number: usize,
         width: u32,
         gate: &G,
-        spare: PendingRun,
-    ) -> Result<PendingRun, NoMemory>
+        pending: &mut PendingRun,
+    ) -> Result<(), NoMemory>
         requires few { number ≤ MAX_TRANSACTIONS }
         requires can { CanBeMade batch.now self.old.view.snapshot number }
         requires same_kinds { kinds self.old.view.snapshot ≡ kinds batch.now.objects }
         requires narrow { (1 ≤ width) × (width ≤ MAX_WORKERS) }
         requires opened { self.old.view ≡ opened self.old.view.snapshot }
         requires unlabelled { self.old.labels.items ≡ [] }
-        ensures made { IfOk result (IsPendingOf (meaning batch.now number self.old.view.snapshot)) }
+        ensures made { OnOk result (IsPendingOf (meaning batch.now number self.old.view.snapshot) pending.new) }
         ensures again { OnOk result (self.new.view ≡ self.old.view) }
         ensures unlabelled { OnOk result (self.new.labels.items ≡ []) }
     {
-        let PendingRun { tree, net, sums } = spare;
-        let spare = Run {
-            tree,
-            entries: replace(&mut self.entries, Vec::new(alloc)),
-            net,
-        };
-        let run = run_in(
+        pending.swap(&mut self.run);
+        run_in(
             threads,
             alloc,
             &mut self.view,
@@ -78,10 +70,10 @@ impl<'s> Desk<'s> {
             number as u32 + 1,
             width,
             gate,
-            spare,
+            &mut self.run,
         )?;
-        let (pending, entries) = PendingRun::of(alloc, run, sums)?;
-        self.entries = entries;
-        Ok(pending)
+        pending.sums.renew(alloc, &self.run.entries, &self.run.net)?;
+        pending.swap(&mut self.run);
+        Ok(())
     }
 }

@@ -45,8 +45,8 @@ fn make_group<R: Threads + Sync, G: Gate>(
 {
     for number in group {
         let number = *number;
-        let spare = PendingRun::empty(alloc);
-        let run = desk.run(threads, alloc, batch, number, width, gate, spare)?;
+        let mut run = PendingRun::empty(alloc);
+        desk.renew(threads, alloc, batch, number, width, gate, &mut run)?;
         all.push(Made { number, run })?;
     }
     Ok(())

@@ -76,8 +76,8 @@ impl Pending {
         self.touched.members()
     }
 
-    // Watches the runs from one place on, of which some were made since the last commit. Where those
-    // are as many as are watched, or most links are stale, it begins a new watch.
+    // Watches the runs from one place on, of which some were made since the last commit. Where none is
+    // watched yet, or most links are stale, it begins a new watch.
     fn watch_made(
         &mut self,
         alloc: Global,
@@ -93,7 +93,7 @@ impl Pending {
         requires tells { Tells self.old runs.now opened made.now }
         ensures { OnOk result (WatchesAll self.new.watch runs.now from) }
     {
-        if made.len() < runs.len() - from {
+        if !self.watch.is_empty() {
             put_made(&mut self.watch, runs, made, from)?;
             if !self.watch.is_stale() {
                 return Ok(());

@@ -1,13 +1,14 @@
 //! Pending runs: those that wait to be committed.
-ghost use Rattle.std.specs.Prelude.{◌≡◌, IfOk};
+ghost use Rattle.std.specs.Prelude.{◌≡◌, OnOk};
 ghost use Rattle.committed.specs.Summaries.{entries_of};
-ghost use Rattle.rounds.specs.PendingRuns.{left_by, AreSumsOf, IsPendingFor};
+ghost use Rattle.rounds.specs.PendingRuns.{left_by, AreSumsOf};
 
 use batch::Record;
-use intentions::{Entry, MarkedEntry, summary_of};
+use intentions::{Entry, MarkedEntry, summarize};
 use meaning::End;
 use speculate::{NoMemory, Run};
 use std::alloc::Global;
+use std::mem::swap;
 
 /// Summaries of a run's entries and of its net, by which runs are compared.
 #[derive(Drop)]
@@ -26,31 +27,26 @@ impl Sums {
         }
     }
 
-    /// The summaries of these entries and of this net, in the memory of the spare ones.
+    /// Makes these the summaries of other entries and of their net.
     ///
-    /// Returns `NoMemory` where a request for memory was refused.
-    pub(crate) fn of(
+    /// Returns `NoMemory` where a request for memory was refused. They are of no further use then.
+    pub(crate) fn renew(
+        &mut self,
         alloc: Global,
         entries: &[Entry],
         net: &[Entry],
-        spare: Sums,
-    ) -> Result<Sums, NoMemory>
-        ensures { IfOk result (λ sums. AreSumsOf sums entries.now net.now) }
+    ) -> Result<(), NoMemory>
+        ensures { OnOk result (AreSumsOf self.new entries.now net.now) }
     {
-        let Sums {
-            entries: spare_of_entries,
-            of_net: spare_of_net,
-        } = spare;
-        let of_net = if net == entries {
-            None
-        } else {
-            let spare = spare_of_net.unwrap_or(Vec::new(alloc));
-            Some(summary_of(alloc, net, spare)?)
-        };
-        Ok(Sums {
-            entries: summary_of(alloc, entries, spare_of_entries)?,
-            of_net,
-        })
+        summarize(alloc, entries, &mut self.entries)?;
+        if net == entries {
+            self.of_net = None;
+            return Ok(());
+        }
+        let mut summary = self.of_net.take().unwrap_or(Vec::new(alloc));
+        summarize(alloc, net, &mut summary)?;
+        self.of_net = Some(summary);
+        Ok(())
     }
 
     /// The summary of the net.
@@ -75,36 +71,22 @@ pub(crate) struct PendingRun {
 impl PendingRun {
     /// A run of no steps. This takes no memory.
     pub(crate) fn empty(alloc: Global) -> PendingRun {
-        PendingRun::of_sums(alloc, Sums::empty(alloc))
-    }
-
-    /// A run of no steps with these summaries. This takes no memory.
-    pub(crate) fn of_sums(alloc: Global, sums: Sums) -> PendingRun
-        ensures { result.sums ≡ sums }
-    {
         PendingRun {
             tree: Record {
                 taken: Vec::new(alloc),
                 outcome: End::Ended,
             },
             net: Vec::new(alloc),
-            sums,
+            sums: Sums::empty(alloc),
         }
     }
 
-    /// The pending run of a run, with summaries in the memory of the spare ones, and the entries,
-    /// which nothing needs any more.
-    ///
-    /// Returns `NoMemory` where a request for memory was refused.
-    pub(crate) fn of(
-        alloc: Global,
-        run: Run,
-        spare: Sums,
-    ) -> Result<(PendingRun, Vec<Entry>), NoMemory>
-        ensures { IfOk result (λ made. IsPendingFor run made.0) }
+    /// Exchanges the record and the net with those of a run.
+    pub(crate) fn swap(&mut self, run: &mut Run)
+        ensures own { self.new ≡ record { tree = run.old.tree; net = run.old.net; sums = self.old.sums } }
+        ensures given { run.new ≡ record { tree = self.old.tree; entries = run.old.entries; net = self.old.net } }
     {
-        let Run { tree, entries, net } = run;
-        let sums = Sums::of(alloc, &entries, &net, spare)?;
-        Ok((PendingRun { tree, net, sums }, entries))
+        swap(&mut self.tree, &mut run.tree);
+        swap(&mut self.net, &mut run.net);
     }
 }

@@ -4,7 +4,8 @@ ghost use Rattle.std.specs.List.{All};
 ghost use Rattle.objects.specs.Entries.{kinds};
 ghost use Rattle.rounds.specs.Desks.{IsDeskOn};
 ghost use Rattle.rounds.specs.Passes.{CanBeMade};
-ghost use Rattle.rounds.specs.PendingRuns.{times, AreRenewed};
+ghost use Rattle.claims.specs.Views.{times};
+ghost use Rattle.rounds.specs.PendingRuns.{AreRenewed};
 ghost use Rattle.meaning.specs.declared.limits.TheConstants.{MAX_TRANSACTIONS};
 ghost use Rattle.plan.specs.declared.plan.TheConstants.{MAX_WORKERS};
 
@@ -14,8 +15,16 @@ use crate::make::{Made, make_all};
 use crate::pending_run::PendingRun;
 use batch::Batch;
 use speculate::{Gate, NoMemory, Objects};
-use std::mem::replace;
 use std::thread::Threads;
+
+// Counts a run of the transaction with this number.
+fn count(number: usize, counts: &mut Vec<u32>)
+    requires counted { number < length counts.old.items }
+    requires few { slice_index_or counts.old.items number 0 ≤ MAX_TRANSACTIONS + 1 }
+    ensures { counts.new.items ≡ set counts.old.items number (slice_index_or counts.old.items number 0 + 1) }
+{
+    counts[number] += 1;
+}
 
 // Puts a run into the place of its number, and counts it.
 fn put(run: PendingRun, number: usize, runs: &mut Vec<PendingRun>, counts: &mut Vec<u32>)
@@ -26,7 +35,7 @@ fn put(run: PendingRun, number: usize, runs: &mut Vec<PendingRun>, counts: &mut 
     ensures counts { counts.new.items ≡ set counts.old.items number (slice_index_or counts.old.items number 0 + 1) }
 {
     runs[number] = run;
-    counts[number] += 1;
+    count(number, counts);
 }
 
 // Makes a run at the desk. It takes its place at once, in the memory of the one before it.
@@ -54,9 +63,9 @@ fn renew_at<R: Threads + Sync, G: Gate>(
         gate,
         ..
     } = *crew;
-    let spare = replace(&mut runs[place], PendingRun::empty(alloc));
-    let run = desk.run(threads, alloc, batch, place, width, gate, spare)?;
-    put(run, place, runs, counts);
+    let run = &mut runs[place];
+    desk.renew(threads, alloc, batch, place, width, gate, run)?;
+    count(place, counts);
     Ok(())
 }
 

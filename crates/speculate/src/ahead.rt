@@ -8,7 +8,7 @@ ghost use Rattle.speculate.specs.Ahead.{IsKept};
 
 use crate::worth::is_worth;
 use batch::{Subaction, Tried};
-use intentions::{Committed, Entry, Lists, MarkedEntry, NoMemory, Objects, View, summary_of};
+use intentions::{Committed, Entry, Lists, MarkedEntry, NoMemory, Objects, View, summarize};
 use meaning::Held;
 use std::alloc::Global;
 
@@ -68,7 +68,8 @@ impl Ahead {
         ensures summary { IfOk result (λ run. IsSummary (entries_of run.summary.items) run.entries.items) }
     {
         let Lists { entries, net } = view.into_run();
-        let summary = summary_of(alloc, &entries, Vec::new(alloc))?;
+        let mut summary = Vec::new(alloc);
+        summarize(alloc, &entries, &mut summary)?;
         Ok(Ahead {
             tried,
             entries,

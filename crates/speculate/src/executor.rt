@@ -15,7 +15,7 @@ ghost use Rattle.speculate.specs.Ahead.{CanAllTry, IsRunAhead, AreRunAhead, IsRu
 use crate::ahead::{Ahead, Fork, both_halves, list_since};
 use crate::gate::Gate;
 use crate::reached::Reached;
-use crate::spare::{Spare, boxed, list_of, put_at, record_of, spare_at, with_room};
+use crate::spare::{Spare, boxed, list_of, make_room, put_at, record_of, spare_at};
 use crate::step::{branch_of, forget, perform, undo};
 use batch::{Block, Record, Step, Subaction, Taken, Tried, handled, test_holds};
 use intentions::{Committed, NoMemory, View};
@@ -76,7 +76,8 @@ fn run_steps<T: Threads + Sync, G: Gate>(
         (λ r. ShowsRun in_view (one (steps_view steps.now) labels.old.items (state_of_view view.old)) r view.old view.new) }
     ensures labels { OnOk result (StillSeen labels.old.items labels.new.items) }
 {
-    let mut taken = with_room(spare, steps.len())?;
+    let mut taken = spare;
+    make_room(&mut taken, steps.len())?;
     for (place, step) in steps.iter().enumerate() {
         let mut spare = spare_at(&mut taken, place);
         let (done, end) = run_step(making, step, labels, view, width, &mut spare)?;

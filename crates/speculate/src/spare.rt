@@ -126,10 +126,10 @@ pub(crate) fn put_at(taken: &mut Vec<Taken>, place: usize, done: Taken) -> Resul
     Ok(())
 }
 
-/// The list with room for so many steps.
-pub(crate) fn with_room(mut taken: Vec<Taken>, count: usize) -> Result<Vec<Taken>, NoMemory> {
+/// Makes room in the list for so many steps.
+pub(crate) fn make_room(taken: &mut Vec<Taken>, count: usize) -> Result<(), NoMemory> {
     taken.reserve_exact(count.saturating_sub(taken.len()))?;
-    Ok(taken)
+    Ok(())
 }
 
 /// The record of the first steps of a list. What is left there of the spare ones is dropped.

@@ -12,9 +12,10 @@ use crate::executor::{Making, run_block};
 use crate::gate::Gate;
 use crate::speculated::Run;
 use batch::Batch;
-use intentions::{Lists, NoMemory, Objects, View};
+use intentions::{NoMemory, Objects, View};
 use meaning::{End, Held};
 use std::alloc::Global;
+use std::mem::replace;
 use std::thread::Threads;
 
 /// Runs transaction `number` (from 1) of the batch on these objects, which stay as they are. At
@@ -40,6 +41,7 @@ pub fn run<T: Threads + Sync, G: Gate>(
 {
     let mut view = View::open(alloc, objects)?;
     let mut labels = Vec::new(alloc);
+    let mut run = Run::empty(alloc);
     run_in(
         threads,
         alloc,
@@ -49,15 +51,16 @@ pub fn run<T: Threads + Sync, G: Gate>(
         number,
         width,
         gate,
-        Run::empty(alloc),
-    )
+        &mut run,
+    )?;
+    Ok(run)
 }
 
 /// Runs transaction `number` (from 1) of the batch as [`run`] does, in a view that is as it was
-/// opened on the objects, and with no labels. It leaves both so for the next run. The memory of the
-/// spare run is used again.
+/// opened on the objects, and with no labels. It leaves both so for the next run. The run takes the
+/// place of an earlier one, and uses its memory again.
 ///
-/// After it returns `NoMemory`, the view and the labels are of no further use.
+/// After it returns `NoMemory`, the view, the labels and the run are of no further use.
 pub fn run_in<T: Threads + Sync, G: Gate>(
     threads: &T,
     alloc: Global,
@@ -67,8 +70,8 @@ pub fn run_in<T: Threads + Sync, G: Gate>(
     number: u32,
     width: u32,
     gate: &G,
-    spare: Run,
-) -> Result<Run, NoMemory>
+    run: &mut Run,
+) -> Result<(), NoMemory>
     requires first { 1 ≤ number }
     requires last { number ≤ length batch.now.transactions.items }
     requires narrow { (1 ≤ width) × (width ≤ MAX_WORKERS) }
@@ -76,7 +79,7 @@ pub fn run_in<T: Threads + Sync, G: Gate>(
     requires unlabelled { labels.old.items ≡ [] }
     requires same_kinds { kinds view.old.snapshot ≡ kinds batch.now.objects }
     requires room { IsWithinOthers (map block_view batch.now.transactions.items) (number - 1) view.old.snapshot }
-    ensures run { IfOk result (IsRunOf (one (block_at (map block_view batch.now.transactions.items) (number - 1)) [] view.old.snapshot)) }
+    ensures run { OnOk result (IsRunOf (one (block_at (map block_view batch.now.transactions.items) (number - 1)) [] view.old.snapshot) run.new) }
     ensures again { OnOk result (view.new ≡ view.old) }
     ensures unlabelled { OnOk result (labels.new.items ≡ []) }
 {
@@ -88,15 +91,14 @@ pub fn run_in<T: Threads + Sync, G: Gate>(
         gate,
         number,
     };
-    let Run { tree, entries, net } = spare;
-    let tree = run_block(&making, block, labels, view, width, tree.taken)?;
-    let Lists { entries, mut net } = view.take_run(Lists { entries, net })?;
-    match tree.outcome {
+    let spare = replace(&mut run.tree.taken, Vec::new(alloc));
+    run.tree = run_block(&making, block, labels, view, width, spare)?;
+    view.take_run(&mut run.entries, &mut run.net)?;
+    match run.tree.outcome {
         End::Ended => {}
         // What an aborted transaction did is not in its net.
-        End::Aborted(_) => net.clear(),
+        End::Aborted(_) => run.net.clear(),
     }
-    let run = Run { tree, entries, net };
-    gate.made(number, &run);
-    Ok(run)
+    gate.made(number, run);
+    Ok(())
 }

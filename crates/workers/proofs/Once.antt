@@ -19,7 +19,7 @@ bit_other : (x y : ℕ) → y ≢ x → bit (eqb y x) ≡ 0
 bit_other x y other = grind (arith, nat_tests)
 
 -- a list in which a number stands, parted there
-parted : (x : ℕ) (ks : List ℕ) → 0 < times x ks → (front : List ℕ) × (back : List ℕ) × (ks ≡ front ++ x ∷ back)
+pub parted : (x : ℕ) (ks : List ℕ) → 0 < times x ks → (front : List ℕ) × (back : List ℕ) × (ks ≡ front ++ x ∷ back)
 parted x [] some = absurd (omega arith)
 parted x (k ∷ ks) some = elim (ℕ_discrete k x) [
   | yes same ↦ ([], ks, ap (λ n. n ∷ ks) same)

@@ -16,12 +16,12 @@ loop-number-preserved g c =
     let state = c.args.desk.now.view.snapshot in
     let number = get_or c.args.group.now c.loop-number.number-index 0 in
     let shown : c.loop-number.desk.view.snapshot ≡ state = ap (λ (v : View). v.snapshot) so_far.ready.opened in
-    let run = c.in_ok-run.run' in
+    let run = c.renew.new.pending in
     let is_made : IsMade batch state (record { number = number; run = run }) =
-    subst (λ s. IsPendingOf (meaning batch number s) run) shown c.in_ok-run.ensures.made in
+    subst (λ s. IsPendingOf (meaning batch number s) run) shown c.in_ok-renew.ensures.made in
     let more = c.push.new.self.items in
     record {
-      ready = record { opened = c.in_ok-run.ensures.again ∙ so_far.ready.opened; unlabelled = c.in_ok-run.ensures.unlabelled };
+      ready = record { opened = c.in_ok-renew.ensures.again ∙ so_far.ready.opened; unlabelled = c.in_ok-renew.ensures.unlabelled };
       own = so_far.own ++ record { number = number; run = run } ∷ [];
       is = c.in_ok-push.ensures.items ∙ (ap (λ ms. ms ++ record { number = number; run = run } ∷ []) so_far.is
           ∙ append_assoc c.args.all.now.items so_far.own (record { number = number; run = run } ∷ []));

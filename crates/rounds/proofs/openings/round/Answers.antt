@@ -3,7 +3,8 @@ use Rattle.std.proofs.lemmas.List.{length-map}
 use Rattle.meaning.proofs.Openings.{comes_on}
 use Rattle.rounds.specs.Views.{start_of, blocks_of}
 use Rattle.batch.specs.Views.{block_view}
-use Rattle.rounds.specs.PendingRuns.{times, AreRenewed}
+use Rattle.claims.specs.Views.{times}
+use Rattle.rounds.specs.PendingRuns.{AreRenewed}
 use Rattle.rounds.specs.Pending.{Tells}
 use Rattle.rounds.proofs.Steps.{one_round, round_commits, listed_nets, stale_can_be_made, same_kinds}
 use Rattle.rounds.proofs.Times.{times_read}

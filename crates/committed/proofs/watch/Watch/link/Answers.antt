@@ -26,3 +26,6 @@ returns-clause-others c =
     rw c.in_ok-push.ensures.items (still_longer c.args.self.now.last.items c.args.self.now.links.items c.args.self.now.count c.args.slot
     c.args.run c.index-before.result.now c.len.result
     c.args.self.now.chains c.requires.slot c.requires.run c.index-before.ensures (omega (arith, c.len.ensures, c.in_ok-push.ensures.len)))
+
+pub returns-then-is_linked-clause-own : goal.returns-then-is_linked-clause-own
+returns-then-is_linked-clause-own c = c.is_linked.ensures c.if-is_linked.true

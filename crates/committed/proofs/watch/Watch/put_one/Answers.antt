@@ -6,8 +6,8 @@ use Rattle.committed.specs.Watching.{HasMark}
 use Rattle.committed.proofs.WatchLemmas.{watched_kept}
 use Rattle.committed.proofs.watch.Watch.put_one.Goals as goal
 
-pub returns-in_ok-link-2-clause-own : goal.returns-in_ok-link-2-clause-own
-returns-in_ok-link-2-clause-own c =
+pub returns-then-by_item-by_object-clause-own : goal.returns-then-by_item-by_object-clause-own
+returns-then-by_item-by_object-clause-own c =
     let new = c.link-then-by_item-by_object.new.self in
     let links = new.links.items in
     let size : ℕ = length new.last.items in
@@ -29,19 +29,19 @@ returns-in_ok-link-2-clause-own c =
           (c.mark.ensures.own marked.entry marked.is_marked);
     }
 
-pub returns-in_ok-link-2-clause-others : goal.returns-in_ok-link-2-clause-others
-returns-in_ok-link-2-clause-others c = λ other e.
+pub returns-then-by_item-by_object-clause-others : goal.returns-then-by_item-by_object-clause-others
+returns-then-by_item-by_object-clause-others c = λ other e.
     watched_kept c.args.self.now c.link-then-by_item-by_object.new.self other e (c.in_ok-link-2.ensures.size ∙ c.in_ok-link.ensures.size)
     (λ slot has. c.in_ok-link-2.ensures.others other slot (c.in_ok-link.ensures.others other slot has))
     (λ marked. subst (λ f. IsMarked f e) (sym (c.in_ok-link-2.ensures.filter ∙ c.in_ok-link.ensures.filter)) (c.mark.ensures.kept e marked))
 
-pub returns-else-by_item-by_object-clause-others : goal.returns-else-by_item-by_object-clause-others
-returns-else-by_item-by_object-clause-others c = λ other e.
+pub returns-clause-others : goal.returns-clause-others
+returns-clause-others c = λ other e.
     watched_kept c.args.self.now c.link.new.self other e c.in_ok-link.ensures.size (c.in_ok-link.ensures.others other)
     (λ marked. subst (λ f. IsMarked f e) (sym c.in_ok-link.ensures.filter) (c.mark.ensures.kept e marked))
 
-pub returns-else-by_item-by_object-clause-own : goal.returns-else-by_item-by_object-clause-own
-returns-else-by_item-by_object-clause-own c =
+pub returns-clause-own : goal.returns-clause-own
+returns-clause-own c =
     let new = c.link.new.self in
     let links = new.links.items in
     let size : ℕ = length new.last.items in

@@ -1,6 +1,6 @@
 use Rattle.std.proofs.Common.{take}
 use Rattle.committed.specs.Summaries.{entries_of, IsSummary}
-use Rattle.committed.proofs.summary.summary_of.Given as goal
+use Rattle.committed.proofs.summary.summarize.Given as goal
 
 abbrev pub invariant-loop-entry : goal.invariant-loop-entry
 invariant-loop-entry l = IsSummary (entries_of l.table.summary.items) (take l.entry-index l.entries)

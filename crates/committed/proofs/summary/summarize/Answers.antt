@@ -1,11 +1,13 @@
-use Rattle.std.proofs.Common.{◌+◌, ◌++◌, ◌∷◌, [], arith, take, sym, ap, ◌∙◌, subst}
+use Rattle.std.proofs.Common.{◌++◌, ◌∷◌, [], arith, take, sym, ap, ◌∙◌, subst}
 use Rattle.std.proofs.lemmas.List.{take_more, take_all}
+use Rattle.std.proofs.lemmas.Result.{on_ok_weaker}
 use Rattle.committed.specs.Summaries.{entries_of, IsSummary}
 use Rattle.committed.proofs.SummaryLemmas.{summary_itself, summary_made}
-use Rattle.committed.proofs.summary.summary_of.Goals as goal
+use Rattle.committed.proofs.summary.summarize.Goals as goal
 
 pub returns-then-entries-le-FEW : goal.returns-then-entries-le-FEW
-returns-then-entries-le-FEW c = summary_made _ _ c.mark_in.ensures
+returns-then-entries-le-FEW c =
+    on_ok_weaker c.mark_into.result (summary_made c.mark_into.new.marked.items c.args.entries.now) c.mark_into.ensures
 
 pub loop-entry-init : goal.loop-entry-init
 loop-entry-init c = subst (λ items. IsSummary (entries_of items) []) (sym c.in_ok-table.ensures) (summary_itself [])
