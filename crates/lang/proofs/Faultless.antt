@@ -32,6 +32,7 @@ use Rattle.spelling.specs.Asked.{part, label_in, object_of, call_named, verb_in,
 use Rattle.spelling.specs.Asked.{arguments_asked, amount_asked, item_asked, label_asked}
 use Rattle.spelling.specs.Spelled.{call_of, operation_of}
 use Rattle.spelling.proofs.MetLemmas.{AllMet, What, count, count-append, first_met, rest_met}
+use Rattle.spelling.proofs.LabelLemmas.{is_named-append}
 use Rattle.std.proofs.lemmas.List.{append-nil, map-append, length-append}
 use Rattle.std.proofs.Common.{append_assoc}
 use Rattle.meaning.specs.Trees.{NoStep, Steps}
@@ -189,15 +190,6 @@ grows_by (Some name) subject scope = by (is_named name scope)
     by : (b : Bool) → length (cond b scope (scope ++ (name, subject) ∷ [])) ≤ length scope + 1
     by true = omega arith
     by false = omega (arith, length-append scope ((name, subject) ∷ []))
-
-is_named-append : (name : List ℕ) (xs ys : Scope) → is_named name (xs ++ ys) ≡ (is_named name xs || is_named name ys)
-is_named-append name [] ys = refl
-is_named-append name (x ∷ xs) ys = by (bytes_eq name x.0) (is_named-append name xs ys)
-  where
-    by : (b : Bool) → is_named name (xs ++ ys) ≡ (is_named name xs || is_named name ys)
-        → is_some (cond b (Some x.1) (named name (xs ++ ys))) ≡ (is_some (cond b (Some x.1) (named name xs)) || is_named name ys)
-    by true later = refl
-    by false later = later
 
 with_labels-append : (xs ys scope : Scope) → with_labels (xs ++ ys) scope ≡ with_labels ys (with_labels xs scope)
 with_labels-append [] ys scope = refl
