@@ -3,13 +3,13 @@ use Rattle.std.proofs.Common.{◌≡◌, ℕ, suc, ◌+◌, ◌<◌, ◌≤◌, 
 use Rattle.std.proofs.Common.{sym, ap, subst, ◌∙◌, arith, append-nil, append_assoc, length-append}
 use Rattle.std.specs.List.{position_or_len}
 use Rattle.std.specs.Str.{bytes_eq}
-use Rattle.std.proofs.lemmas.Bool.{lt-ltb}
 use Rattle.std.proofs.lemmas.List.{get_or_append_left, get_or_push}
 use Rattle.std.proofs.lemmas.Slice.Eq.{bytes_eq-Decides}
 use Rattle.batch.specs.Names.{Texts, names_of}
 use Rattle.spelling.specs.Scope.{Numbers, Table, fit, is_listed, number_of, with_text}
 use Rattle.spelling.specs.Spelled.{item_of}
 use Rattle.spelling.proofs.TableLemmas.{unlisted_text}
+use Rattle.lang.proofs.Bound.{fit_same}
 use Rattle.lang.proofs.Tables.{number_below}
 
 -- the table with more texts behind
@@ -55,9 +55,6 @@ listed_at text [] e = cc
 listed_at text (t ∷ table) e = at_first (bytes_eq text t) text t table (position_or_len (bytes_eq text) table) ((bytes_eq-Decides text t).0)
     (λ no. listed_at text table (sym (ap (λ b. b || is_listed text table) no) ∙ e))
 
-fits_in : (n : ℕ) → n < 4294967295 → fit n ≡ n
-fits_in n small = ap (λ b. cond b n 4294967295) (lt-ltb n 4294967295 small)
-
 number_at : (text : List ℕ) (table : Table) → length (with_text text table) ≤ 4294967295
     → get_or (with_text text table) (number_of text table) [] ≡ text
 number_at text table = by (is_listed text table) refl
@@ -67,11 +64,11 @@ number_at text table = by (is_listed text table) refl
     by true e few =
         let at = listed_at text table e in
         let below = at.below in
-        ap (λ n. get_or table n []) (fits_in (position_or_len (bytes_eq text) table) (omega arith)) ∙ at.there
+        ap (λ n. get_or table n []) (fit_same (position_or_len (bytes_eq text) table) (omega arith)) ∙ at.there
     by false e few =
         let last = unlisted_text text table e in
         let size = length-append table (text ∷ []) in
-        ap (λ n. get_or (table ++ text ∷ []) n []) (fits_in (position_or_len (bytes_eq text) table) (omega arith))
+        ap (λ n. get_or (table ++ text ∷ []) n []) (fit_same (position_or_len (bytes_eq text) table) (omega arith))
         ∙ get_or_push table text [] (position_or_len (bytes_eq text) table) (sym last)
 
 -- an item has its name by any later table
