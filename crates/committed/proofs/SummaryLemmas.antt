@@ -4,6 +4,7 @@ use Rattle.std.proofs.lemmas.List.{get_or-map, get_or-set_other, length-map, len
 use Rattle.objects.specs.declared.entry.Entry.{Entry}
 use Rattle.committed.specs.declared.marks.MarkedEntry.{MarkedEntry}
 use Rattle.objects.specs.Entries.{CommutesWith, AllCommute, CommuteForward}
+use Rattle.objects.proofs.ListLemmas.{all_commute_none}
 use Rattle.committed.specs.Strictness.{AreAsStrict}
 use Rattle.committed.specs.Summaries.{entries_of, IsSummary}
 use Rattle.committed.proofs.StandsLemmas.{commute_turned, one_commutes}
@@ -25,11 +26,6 @@ commutes_second e (x ∷ xs) ys both = commutes_second e xs ys both.1
 
 -- ---- stands
 
--- every list stands past none
-pub all_past_none : (qs : List Entry) → AllCommute qs []
-all_past_none [] = tt
-all_past_none (q ∷ qs) = (tt, all_past_none qs)
-
 -- one entry more to stand past
 past_one : (p : Entry) (ps qs : List Entry) → CommutesWith p qs → AllCommute qs ps → AllCommute qs (p ∷ ps)
 past_one p ps [] one all = tt
@@ -37,7 +33,7 @@ past_one p ps (q ∷ qs) one all = ((commute_turned p q one.0, all.0), past_one 
 
 -- where each of one list stands past the other, each of the other stands past it
 turned : (ps qs : List Entry) → AllCommute ps qs → AllCommute qs ps
-turned [] qs all = all_past_none qs
+turned [] qs all = all_commute_none qs
 turned (p ∷ ps) qs all = past_one p ps qs all.0 (turned ps qs all.1)
 
 -- where what stands past one list stands past another
@@ -104,10 +100,10 @@ commutes_unset other (x ∷ xs) zero e old all = (old, all.1)
 commutes_unset other (x ∷ xs) (suc n) e old all = (all.0, commutes_unset other xs n e old all.1)
 
 -- the entry at a place of marked ones
-entry_at : (marked : List MarkedEntry) (at : ℕ) (m : MarkedEntry) (e : Entry) → at < length marked → m ≡ get_or marked at m
-    → get_or (entries_of marked) at e ≡ m.entry
-entry_at marked at m e within is = get_or-map (λ (k : MarkedEntry). k.entry) marked at m e within
-    ∙ sym (ap (λ (k : MarkedEntry). k.entry) is)
+pub entry_at : (marked : List MarkedEntry) (at : ℕ) (m : MarkedEntry) (e : Entry) → at < length marked → m ≡ get_or marked at m
+    → m.entry ≡ get_or (entries_of marked) at e
+entry_at marked at m e within is =
+    ap (λ (k : MarkedEntry). k.entry) is ∙ sym (get_or-map (λ (k : MarkedEntry). k.entry) marked at m e within)
 
 module _ (marked : List MarkedEntry) (before last : ℕ) (earlier later : MarkedEntry) (e : Entry) (entries : List Entry)
     (ordered : before ≤ last) (within : last < length marked) (first : earlier ≡ get_or marked before earlier)
@@ -120,10 +116,10 @@ module _ (marked : List MarkedEntry) (before last : ℕ) (earlier later : Marked
   low = omega (arith, length-map marked (λ (k : MarkedEntry). k.entry), within)
 
   is_earlier : (other : Entry) → get_or (entries_of marked) before other ≡ earlier.entry
-  is_earlier other = entry_at marked before earlier other (omega (arith, within, ordered)) first
+  is_earlier other = sym (entry_at marked before earlier other (omega (arith, within, ordered)) first)
 
   is_later : (other : Entry) → get_or (entries_of marked) last other ≡ later.entry
-  is_later other = entry_at marked last later other within second
+  is_later other = sym (entry_at marked last later other within second)
 
   -- an entry is left out where two in the summary are as strict
   pub summary_left : AreAsStrict earlier.entry later.entry e → IsSummary (entries_of marked) (entries ++ e ∷ [])

@@ -7,7 +7,6 @@ use Rattle.std.proofs.lemmas.List.{get_or_append_left, get_or_default, get_or-se
 use Rattle.std.proofs.lemmas.List.{length-map, map-append}
 use Rattle.std.proofs.Math.Seq.{get_or-append_seam}
 use Rattle.committed.specs.declared.marks.Mark.{Mark}
-use Rattle.committed.specs.declared.marks.MarkedEntry.{MarkedEntry}
 use Rattle.committed.specs.declared.watch.Link.{Link}
 use Rattle.std.specs.Int.{bit_at}
 use Rattle.objects.specs.declared.entry.Entry.{Entry}
@@ -17,7 +16,6 @@ use Rattle.objects.specs.Entries.{AllCommute, CommuteForward}
 use Rattle.committed.specs.Index.{key_of, key_against}
 use Rattle.committed.specs.Items.{is_compared}
 use Rattle.committed.specs.Marks.{mark_of}
-use Rattle.committed.specs.Summaries.{entries_of}
 use Rattle.committed.proofs.ClassesLemmas.{elsewhere}
 use Rattle.committed.proofs.StandsLemmas.{commute_turned, all_commute, key_is}
 use Rattle.committed.specs.NumberSets.{Has}
@@ -230,11 +228,6 @@ all_found links slot from at count before found were done run late has =
     (subst (λ r. from ≤ r) (sym has.of_run) late))
 
 -- ---- the marks of a run
-
--- the entry at a place of a list of marked entries
-pub entry_at : (all : List MarkedEntry) (at : ℕ) (m : MarkedEntry) (e : Entry) → at < length all → m ≡ get_or all at m
-    → m.entry ≡ get_or (entries_of all) at e
-entry_at all at m e within is = ap (λ (k : MarkedEntry). k.entry) is ∙ sym (get_or-map (λ (k : MarkedEntry). k.entry) all at m e within)
 
 -- a run keeps a mark's links where it keeps its links
 pub mark_kept : (size next : ℕ) (links more : List Link) (run : ℕ) (mark : Mark) → next ≡ size

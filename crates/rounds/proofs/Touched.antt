@@ -3,7 +3,8 @@ use Rattle.std.proofs.Common.{◌≡◌, ◌≢◌, ◌⊎◌, ℕ, zero, suc, �
 use Rattle.std.proofs.Common.{length-append, refl, sym, ap, ◌∙◌, subst, arith}
 use native.Mathlib.Decide.{ℕ_discrete}
 use Rattle.committed.specs.Summaries.{entries_of}
-use Rattle.committed.proofs.SummaryLemmas.{all_past_none, commutes_both}
+use Rattle.committed.proofs.SummaryLemmas.{commutes_both}
+use Rattle.objects.proofs.ListLemmas.{all_commute_none}
 use Rattle.committed.specs.Watching.{Watches}
 use Rattle.committed.specs.NumberSets.{Has, AreDistinct}
 use Rattle.committed.specs.declared.watch.Watch.{Watch}
@@ -16,7 +17,7 @@ use Rattle.rounds.specs.PendingRuns.{all_left, left_by, Kept, IsDecided, AreRefu
 use Rattle.rounds.specs.Pending.{WatchesAll, Tells, ArePlaces, AreTouched, IsIn}
 use Rattle.rounds.specs.declared.pending.Pending.{Pending}
 use Rattle.batch.specs.declared.batch.Batch.{Batch}
-use Rattle.objects.specs.Entries.{State, AllCommute, CommutesWith}
+use Rattle.objects.specs.Entries.{State, AllCommute}
 use Rattle.rounds.proofs.Firsts.{next_nets}
 use Rattle.claims.proofs.Lists.{times-append}
 use Rattle.rounds.proofs.Times.{times_one, times_none, times_read}
@@ -245,7 +246,7 @@ pub none_touched : (touched : List ℕ) (runs : List PendingRun) (from : ℕ) �
 none_touched touched runs from empty = record {
   low = λ run has. absurd (has_none run (subst (λ l. Has l run) empty has));
   high = λ run has. absurd (has_none run (subst (λ l. Has l run) empty has));
-  hold = λ run d low high out. all_past_none (entries_of (get_or runs run d).sums.entries.items);
+  hold = λ run d low high out. all_commute_none (entries_of (get_or runs run d).sums.entries.items);
 }
 
 -- one run more is committed

@@ -1,11 +1,11 @@
 -- A batch has one text of lines.
-use Rattle.std.proofs.Common.{◌≡◌, ℕ, ◌+◌, ◌-◌, ◌≤◌, List, [], ◌∷◌, ◌++◌, length, refl, sym, ap, ◌∙◌, subst, arith}
+use Rattle.std.proofs.Common.{◌≡◌, ℕ, ◌+◌, ◌-◌, List, [], ◌∷◌, ◌++◌, length, refl, sym, ap, ◌∙◌, subst, arith}
 use Rattle.std.specs.List.{All}
 use Rattle.std.proofs.lemmas.List.Elements.{All-head, All-tail}
 use Rattle.objects.specs.Entries.{State, CommuteForward}
 use Rattle.meaning.specs.Trees.{Block}
-use Rattle.meaning.specs.Rounds.{IsNextOpening}
 use Rattle.meaning.specs.Words.{Names}
+use Rattle.meaning.proofs.Openings.{one_opening}
 use Rattle.why.specs.Why.{Placed, IsFirstWithout, IsConflict, WhyFrom, IsLast, IsEnded, placed_nets, why_line}
 use Rattle.why.specs.Laws.{DeterminedLaw}
 
@@ -42,12 +42,6 @@ one_first P xs x y one other = same_first P x y one.before one.after other.befor
     one.without other.clear other.without
 
 module _ (names : Names) (start : State) (batch : List Block) where
-  one_opening : (b m n : ℕ) → IsNextOpening start batch b m → IsNextOpening start batch b n → n ≡ m
-  one_opening b m n first second =
-      let below : m ≤ n = second.largest m first.within first.all_keep in
-      let above : n ≤ m = first.largest n second.within second.all_keep in
-      omega arith
-
   same_line : (b m round : ℕ) (late early late_too early_too : Placed) → IsConflict names start batch b m late early
       → IsConflict names start batch b m late_too early_too
       → why_line names round late_too early_too ≡ why_line names round late early
@@ -61,12 +55,12 @@ module _ (names : Names) (start : State) (batch : List Block) where
       → other ≡ text
   one_text b round _ _ (IsLast opens) (IsLast opens_too) = refl
   one_text b round _ _ (IsLast opens) (IsEnded {m = m} opens_too within conflict rest) =
-      absurd (let same = one_opening b (length batch) m opens opens_too in omega (arith, same, within))
+      absurd (let same = one_opening start batch b (length batch) m opens opens_too in omega (arith, same, within))
   one_text b round _ _ (IsEnded {m = m} opens within conflict rest) (IsLast opens_too) =
-      absurd (let same = one_opening b (length batch) m opens_too opens in omega (arith, same, within))
+      absurd (let same = one_opening start batch b (length batch) m opens_too opens in omega (arith, same, within))
   one_text b round _ _ (IsEnded {m = m} {late = late} {early = early} {text = text} opens within conflict rest)
       (IsEnded {m = n} {late = late_too} {early = early_too} {text = other} opens_too within_too conflict_too rest_too) =
-      let same : n ≡ m = one_opening b m n opens opens_too in
+      let same : n ≡ m = one_opening start batch b m n opens opens_too in
       let line_is = same_line b m round late early late_too early_too conflict
       (subst (λ k. IsConflict names start batch b k late_too early_too) same conflict_too) in
       ap (λ line. line ++ other) line_is

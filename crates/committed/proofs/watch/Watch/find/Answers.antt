@@ -5,7 +5,8 @@ use Rattle.objects.specs.Entries.{CommuteForward}
 use Rattle.committed.specs.NumberSets.{Has}
 use Rattle.committed.specs.Summaries.{entries_of}
 use Rattle.committed.specs.Watching.{IsWatched, Watches}
-use Rattle.committed.proofs.WatchLemmas.{IsMore, more_more, all_stand, entry_at}
+use Rattle.committed.proofs.SummaryLemmas.{entry_at}
+use Rattle.committed.proofs.WatchLemmas.{IsMore, more_more, all_stand}
 use Rattle.committed.proofs.watch.Watch.find.Goals as goal
 
 pub loop-marked-preserved : goal.loop-marked-preserved

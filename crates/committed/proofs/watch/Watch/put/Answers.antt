@@ -3,7 +3,8 @@ use Rattle.std.proofs.lemmas.List.{length-map}
 use Rattle.objects.specs.declared.entry.Entry.{Entry}
 use Rattle.committed.specs.Summaries.{entries_of}
 use Rattle.committed.specs.Watching.{IsWatched, Watches}
-use Rattle.committed.proofs.WatchLemmas.{entry_at, watched_same}
+use Rattle.committed.proofs.SummaryLemmas.{entry_at}
+use Rattle.committed.proofs.WatchLemmas.{watched_same}
 use Rattle.committed.proofs.watch.Watch.put.Goals as goal
 
 pub loop-marked-preserved : goal.loop-marked-preserved
