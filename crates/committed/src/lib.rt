@@ -20,5 +20,5 @@ pub use committed::Committed;
 pub use marks::{Mark, MarkedEntry};
 pub use number_set::NumberSet;
 pub use objects::{Call, Entry, NoMemory, Reply};
-pub use summary::{mark_all, summarize};
+pub use summary::{FEW_ENTRIES, mark_all, summarize};
 pub use watch::Watch;

@@ -1,5 +1,5 @@
 //! Entries with their marks: all of them, or a summary.
-ghost use Rattle.std.specs.Prelude.{◌≡◌, ◌<◌, ◌++◌, ◌∷◌, [], List, length, IfOk, OnOk};
+ghost use Rattle.std.specs.Prelude.{◌≡◌, ◌<◌, ◌≤◌, ◌++◌, ◌∷◌, [], List, length, IfOk, OnOk};
 ghost use Rattle.objects.specs.declared.entry.Entry.{Entry as OneEntry};
 ghost use Rattle.committed.specs.Summaries.{entries_of, IsSummary};
 
@@ -12,8 +12,8 @@ use std::mem::replace;
 /// How many slots a table has at most.
 const MOST: usize = 4096;
 
-/// Up to how many entries a table isn't worth its cost.
-const FEW: usize = 8;
+/// Up to how many entries a summary keeps all of them. For so few a table costs more than it saves.
+pub const FEW_ENTRIES: usize = 8;
 
 /// The entries with their marks, in order. Returns `NoMemory` where a request for memory was
 /// refused.
@@ -42,8 +42,8 @@ fn mark_into(entries: &[Entry], marked: &mut Vec<MarkedEntry>) -> Result<(), NoM
 ///
 /// It has an entry or two for each different heading (object and item, or object and class where
 /// there is no item), as far as the table distinguishes them. Those are the strictest under the
-/// heading, where one or two of them are. A few entries are all kept. So a run of many operations
-/// on one object is checked and listed by a few entries.
+/// heading, where one or two of them are. A few entries are all kept, in their order. So a run of
+/// many operations on one object is checked and listed by a few entries.
 ///
 /// Returns `NoMemory` where a request for memory was refused. The list is of no further use then.
 pub fn summarize(
@@ -51,9 +51,10 @@ pub fn summarize(
     entries: &[Entry],
     summary: &mut Vec<MarkedEntry>,
 ) -> Result<(), NoMemory>
-    ensures { OnOk result (IsSummary (entries_of summary.new.items) entries.now) }
+    ensures summary { OnOk result (IsSummary (entries_of summary.new.items) entries.now) }
+    ensures few { OnOk result (length entries.now ≤ FEW_ENTRIES → entries_of summary.new.items ≡ entries.now) }
 {
-    if entries.len() <= FEW {
+    if entries.len() <= FEW_ENTRIES {
         return mark_into(entries, summary);
     }
     let mut table = Table::new(alloc, entries.len(), replace(summary, Vec::new(alloc)))?;

@@ -10,6 +10,8 @@ mod draft_table;
 mod layers;
 mod view;
 
-pub use committed::{Committed, Mark, MarkedEntry, NumberSet, Watch, mark_all, summarize};
+pub use committed::{
+    Committed, FEW_ENTRIES, Mark, MarkedEntry, NumberSet, Watch, mark_all, summarize,
+};
 pub use objects::{Call, Entry, NoMemory, Objects, Reply, Value};
 pub use view::{Lists, View, perform_each};

@@ -14,11 +14,11 @@ use Rattle.meaning.specs.OneThread.{Run as OneRun, record_of}
 use Rattle.speculate.specs.Runs.{IsRunOf}
 use Rattle.speculate.specs.declared.speculated.Run.{Run}
 use Rattle.rounds.specs.declared.pending_run.PendingRun.{PendingRun}
-use Rattle.rounds.specs.declared.pending_run.Sums.{Sums}
+use Rattle.batch.specs.Views.{record_view}
 use Rattle.batch.specs.declared.batch.Batch.{Batch}
 use Rattle.rounds.specs.declared.make.Made.{Made}
 use Rattle.claims.specs.Views.{bit, times}
-use Rattle.rounds.specs.PendingRuns.{AreSumsOf, IsPendingOf, numbers_of, IsMade, AreMade}
+use Rattle.rounds.specs.PendingRuns.{AreSumsOf, IsPendingOf, own_net, numbers_of, IsMade, AreMade}
 use Rattle.claims.proofs.Lists.{times-append}
 use Rattle.rounds.proofs.Times.{times_one, times_none, times_sum}
 use Rattle.std.specs.Fork.{slice_chunk}
@@ -119,12 +119,13 @@ all_front P (x ∷ xs) y all =
     (front P x xs (all 0 x (omega arith)) rest.0, rest.1)
 
 -- a pending run of a run of a meaning
-pub pending_of : (meant : OneRun Taken) (run : Run) (sums : Sums) → IsRunOf meant run → AreSumsOf sums run.entries.items run.net.items
-    → IsPendingOf meant (record { tree = run.tree; net = run.net; sums = sums })
-pending_of meant run sums is are = record {
-  tree = is.tree;
-  net = is.net;
-  sums = subst (AreSumsOf sums (entries_in (record_of meant))) is.net (subst (λ es. AreSumsOf sums es run.net.items) is.entries are);
+pub pending_of : (meant : OneRun Taken) (run : Run) (pending : PendingRun) → IsRunOf meant run → pending.tree ≡ run.tree
+    → own_net pending ≡ run.net.items → AreSumsOf pending.sums run.entries.items run.net.items → IsPendingOf meant pending
+pending_of meant run pending is tree net are = record {
+  tree = ap record_view tree ∙ is.tree;
+  net = net ∙ is.net;
+  sums = subst (AreSumsOf pending.sums (entries_in (record_of meant))) is.net
+      (subst (λ es. AreSumsOf pending.sums es run.net.items) is.entries are);
 }
 
 pub put_one : (batch : Batch) (state : State) (numbers : List ℕ) (old runs : List PendingRun) (was counts : List ℕ) (left rest : List Made)

@@ -1,6 +1,6 @@
 -- Pending runs, and what the passes over them return: which is the first that doesn't hold, which are to be made again,
 -- those that were made.
-use Rattle.std.specs.Prelude.{◌≡◌, ◌≢◌, ℕ, ◌+◌, ◌<◌, ◌≤◌, ◌⊎◌, ◌==◌, Bool, cond, Option, Some, None, List, [], ◌∷◌, ◌++◌, length, map, take}
+use Rattle.std.specs.Prelude.{◌≡◌, ◌≢◌, ℕ, ◌+◌, ◌<◌, ◌≤◌, ◌⊎◌, Option, Some, None, List, [], ◌∷◌, ◌++◌, length, map, take}
 use Rattle.std.specs.Prelude.{slice_index_or}
 use Rattle.std.specs.List.{All}
 use Rattle.std.specs.declared.vec.Vec.{Vec}
@@ -30,6 +30,14 @@ left_or entries (Some net) = entries_of net.items
 abbrev pub left_by : Sums → List Entry
 left_by sums = left_or (entries_of sums.entries.items) sums.of_net
 
+-- the net of a run, which its summary has where there is no other
+abbrev pub net_or : List Entry → Option (Vec Entry Global) → List Entry
+net_or summed None = summed
+net_or summed (Some net) = net.items
+
+abbrev pub own_net : PendingRun → List Entry
+own_net run = net_or (left_by run.sums) run.net
+
 -- summaries of these entries and of this net
 pub record AreSumsOf (sums : Sums) (entries net : List Entry) : Type 0 where
   pub entries_are : IsSummary (entries_of sums.entries.items) entries
@@ -38,13 +46,13 @@ pub record AreSumsOf (sums : Sums) (entries net : List Entry) : Type 0 where
 -- a pending run of a meaning: its record and its net, with summaries of its entries and its net
 pub record IsPendingOf (meant : OneRun Taken) (run : PendingRun) : Type 0 where
   pub tree : record_view run.tree ≡ shown_of meant
-  pub net : run.net.items ≡ net_of meant
+  pub net : own_net run ≡ net_of meant
   pub sums : AreSumsOf run.sums (entries (record_of meant)) (net_of meant)
 
 -- what runs leave, one after the other
 abbrev pub own_nets : List PendingRun → List Entry
 own_nets [] = []
-own_nets (run ∷ runs) = run.net.items ++ own_nets runs
+own_nets (run ∷ runs) = own_net run ++ own_nets runs
 
 -- its summaries
 abbrev pub all_left : List PendingRun → List Entry

@@ -13,6 +13,7 @@ use batch::Batch;
 use meaning::Held;
 use speculate::{Gate, NoMemory, Objects, Run, View, run_in};
 use std::alloc::Global;
+use std::mem::swap;
 use std::thread::Threads;
 
 /// A view of the objects, labels and a run, in which one worker makes its runs, one after the other.
@@ -60,7 +61,7 @@ impl<'s> Desk<'s> {
         ensures again { OnOk result (self.new.view ≡ self.old.view) }
         ensures unlabelled { OnOk result (self.new.labels.items ≡ []) }
     {
-        pending.swap(&mut self.run);
+        swap(&mut pending.tree, &mut self.run.tree);
         run_in(
             threads,
             alloc,
@@ -72,8 +73,7 @@ impl<'s> Desk<'s> {
             gate,
             &mut self.run,
         )?;
-        pending.sums.renew(alloc, &self.run.entries, &self.run.net)?;
-        pending.swap(&mut self.run);
+        pending.put(alloc, &mut self.run)?;
         Ok(())
     }
 }

@@ -3,6 +3,7 @@
 #![tactic(auto)]
 
 mod check;
+mod committing;
 mod crew;
 mod desk;
 mod keep;

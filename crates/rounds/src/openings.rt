@@ -1,42 +1,28 @@
 //! The loop of openings. Each round makes the runs that are needed, seeks the first that doesn't
 //! stand, commits those before it, and decides which of the others are kept.
 ghost use Rattle.std.specs.Prelude.{◌≡◌, ◌<◌, ◌≤◌, ℕ, length, IfOk, OnOk, map, slice_index_or};
-ghost use Rattle.objects.specs.Entries.{after, AreLegal};
+ghost use Rattle.objects.specs.Entries.{after};
 ghost use Rattle.meaning.specs.Batch.{all_shown, final_state, nets};
 ghost use Rattle.meaning.specs.Rounds.{Rounds};
 ghost use Rattle.batch.specs.Views.{record_view};
-ghost use Rattle.intentions.specs.Levels.{AllHaveRoom};
 ghost use Rattle.rounds.specs.Views.{start_of, blocks_of};
 ghost use Rattle.claims.specs.Views.{times};
-ghost use Rattle.rounds.specs.PendingRuns.{own_nets};
 ghost use Rattle.rounds.specs.Openings.{AreCounts};
 ghost use Rattle.rounds.specs.AtOpenings.{IsOpening};
 ghost use Rattle.meaning.specs.declared.limits.TheConstants.{MAX_OBJECTS};
 
 use crate::check::seek_conflict;
+use crate::committing::commit;
 use crate::crew::Crew;
 use crate::keep::keep_all;
 use crate::pending::Pending;
 use crate::pending_run::PendingRun;
 use crate::renew::renew;
 use batch::{Batch, Outcome, Record};
-use intentions::perform_each;
 use plan::Plan;
 use speculate::{Gate, NoMemory, Objects, Progress};
 use std::alloc::Global;
 use std::thread::Threads;
-
-// Commits runs in order: performs their nets on the objects.
-fn commit(runs: &[PendingRun], objects: &mut Objects) -> Result<(), NoMemory>
-    requires legal { AreLegal objects.old (own_nets runs.now) }
-    requires room { AllHaveRoom objects.old (own_nets runs.now) }
-    ensures { OnOk result (objects.new ≡ after objects.old (own_nets runs.now)) }
-{
-    for run in runs {
-        perform_each(objects, &run.net)?;
-    }
-    Ok(())
-}
 
 // A place for each transaction, with no run yet.
 fn blank_runs(alloc: Global, count: usize) -> Result<Vec<PendingRun>, NoMemory>
@@ -79,8 +65,8 @@ fn records_of(alloc: Global, runs: Vec<PendingRun>) -> Result<Vec<Record>, NoMem
     for made in runs {
         let PendingRun {
             tree,
-            net: _,
             sums: _,
+            net: _,
         } = made;
         records.push(tree)?;
     }

@@ -1,14 +1,15 @@
 //! Pending runs: those that wait to be committed.
-ghost use Rattle.std.specs.Prelude.{◌≡◌, OnOk};
+ghost use Rattle.std.specs.Prelude.{◌≡◌, ◌≤◌, length, OnOk};
 ghost use Rattle.committed.specs.Summaries.{entries_of};
-ghost use Rattle.rounds.specs.PendingRuns.{left_by, AreSumsOf};
+ghost use Rattle.committed.specs.declared.summary.TheConstants.{FEW_ENTRIES};
+ghost use Rattle.rounds.specs.PendingRuns.{left_by, own_net, AreSumsOf};
 
 use batch::Record;
-use intentions::{Entry, MarkedEntry, summarize};
+use intentions::{Entry, FEW_ENTRIES, MarkedEntry, summarize};
 use meaning::End;
 use speculate::{NoMemory, Run};
 use std::alloc::Global;
-use std::mem::swap;
+use std::mem::{replace, swap};
 
 /// Summaries of a run's entries and of its net, by which runs are compared.
 #[derive(Drop)]
@@ -36,7 +37,8 @@ impl Sums {
         entries: &[Entry],
         net: &[Entry],
     ) -> Result<(), NoMemory>
-        ensures { OnOk result (AreSumsOf self.new entries.now net.now) }
+        ensures sums { OnOk result (AreSumsOf self.new entries.now net.now) }
+        ensures few { OnOk result (length net.now ≤ FEW_ENTRIES → left_by self.new ≡ net.now) }
     {
         summarize(alloc, entries, &mut self.entries)?;
         if net == entries {
@@ -60,12 +62,13 @@ impl Sums {
     }
 }
 
-/// A run that waits to be committed: its record, its net, and summaries in place of its entries.
+/// A run that waits to be committed: its record, summaries in place of its entries, and its net.
 #[derive(Drop)]
 pub(crate) struct PendingRun {
     pub(crate) tree: Record,
-    pub(crate) net: Vec<Entry>,
     pub(crate) sums: Sums,
+    /// The net. None where it has few entries: its summary has all of them then.
+    pub(crate) net: Option<Vec<Entry>>,
 }
 
 impl PendingRun {
@@ -76,17 +79,27 @@ impl PendingRun {
                 taken: Vec::new(alloc),
                 outcome: End::Ended,
             },
-            net: Vec::new(alloc),
             sums: Sums::empty(alloc),
+            net: None,
         }
     }
 
-    /// Exchanges the record and the net with those of a run.
-    pub(crate) fn swap(&mut self, run: &mut Run)
-        ensures own { self.new ≡ record { tree = run.old.tree; net = run.old.net; sums = self.old.sums } }
-        ensures given { run.new ≡ record { tree = self.old.tree; entries = run.old.entries; net = self.old.net } }
+    /// Puts this run in the place of the one before it, whose memory it leaves in its own.
+    ///
+    /// Returns `NoMemory` where a request for memory was refused. Both are of no further use then.
+    pub(crate) fn put(&mut self, alloc: Global, run: &mut Run) -> Result<(), NoMemory>
+        ensures tree { OnOk result (self.new.tree ≡ run.old.tree) }
+        ensures sums { OnOk result (AreSumsOf self.new.sums run.old.entries.items run.old.net.items) }
+        ensures net { OnOk result (own_net self.new ≡ run.old.net.items) }
     {
+        self.sums.renew(alloc, &run.entries, &run.net)?;
+        self.net = if run.net.len() <= FEW_ENTRIES {
+            None
+        } else {
+            let spare = self.net.take().unwrap_or(Vec::new(alloc));
+            Some(replace(&mut run.net, spare))
+        };
         swap(&mut self.tree, &mut run.tree);
-        swap(&mut self.net, &mut run.net);
+        Ok(())
     }
 }

@@ -5,9 +5,12 @@ use Rattle.committed.specs.Summaries.{entries_of, IsSummary}
 use Rattle.committed.proofs.SummaryLemmas.{summary_itself, summary_made}
 use Rattle.committed.proofs.summary.summarize.Goals as goal
 
-pub returns-then-entries-le-FEW : goal.returns-then-entries-le-FEW
-returns-then-entries-le-FEW c =
+pub returns-then-entries-le-FEW_ENTRIES-clause-summary : goal.returns-then-entries-le-FEW_ENTRIES-clause-summary
+returns-then-entries-le-FEW_ENTRIES-clause-summary c =
     on_ok_weaker c.mark_into.result (summary_made c.mark_into.new.marked.items c.args.entries.now) c.mark_into.ensures
+
+pub returns-then-entries-le-FEW_ENTRIES-clause-few : goal.returns-then-entries-le-FEW_ENTRIES-clause-few
+returns-then-entries-le-FEW_ENTRIES-clause-few c = on_ok_weaker c.mark_into.result (λ same _. same) c.mark_into.ensures
 
 pub loop-entry-init : goal.loop-entry-init
 loop-entry-init c = subst (λ items. IsSummary (entries_of items) []) (sym c.in_ok-table.ensures) (summary_itself [])
@@ -21,8 +24,11 @@ loop-entry-preserved c =
     (ap (λ e. take at entries ++ e ∷ []) c.entry-item.is ∙ sym (take_more entries at entry c.loop-entry-test.true))
     (c.in_ok-add.ensures (take at entries) c.loop-entry.invariant)
 
-pub returns : goal.returns
-returns c =
+pub returns-clause-summary : goal.returns-clause-summary
+returns-clause-summary c =
     let entries = c.args.entries.now in
     subst (IsSummary (entries_of c.loop-entry.table.summary.items)) (take_all c.loop-entry.entry-index entries (omega arith))
     c.loop-entry.invariant
+
+pub returns-clause-few : goal.returns-clause-few
+returns-clause-few c few = absurd (omega (arith, few, c.if-entries-le-FEW_ENTRIES.false))

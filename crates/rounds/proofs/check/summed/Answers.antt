@@ -11,4 +11,4 @@ loop-run-preserved c =
     summed_more c.args.runs.now c.loop-run.pending.items c.push.new.self.items c.loop-run.run-index next run c.loop-run-test.true
     c.in_ok-push.ensures.items c.run-item.is
     (subst (λ es. AreSumsOf sums es run.net.items) c.deref.ensures.value
-    (subst (AreSumsOf sums c.deref.result.now) c.deref-in-loop-run.ensures.value c.in_ok-renew.ensures)) c.loop-run.invariant
+    (subst (AreSumsOf sums c.deref.result.now) c.deref-in-loop-run.ensures.value c.in_ok-renew.ensures.sums)) c.loop-run.invariant

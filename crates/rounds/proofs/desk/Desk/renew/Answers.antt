@@ -1,7 +1,6 @@
-use Rattle.std.proofs.Common.{◌≡◌, ℕ, ◌+◌, ◌-◌, sym, subst, arith}
+use Rattle.std.proofs.Common.{◌≡◌, ℕ, ◌+◌, ◌-◌, subst, arith}
 use Rattle.speculate.specs.Runs.{IsRunOf}
 use Rattle.rounds.specs.Views.{meaning}
-use Rattle.rounds.specs.PendingRuns.{AreSumsOf, IsPendingOf}
 use Rattle.rounds.proofs.Making.{pending_of}
 use Rattle.rounds.proofs.desk.Desk.renew.Goals as goal
 
@@ -14,7 +13,4 @@ returns-clause-made g c =
     let meant : ℕ → _ = λ n. meaning c.args.batch.now n c.args.self.now.view.snapshot in
     let run = c.run_in.new.run in
     let made = subst (λ n. IsRunOf (meant n) run) (same_number c.args.number) c.in_ok-run_in.ensures.run in
-    let sums = c.renew.new.self in
-    let summed = subst (AreSumsOf sums run.entries.items) c.deref-2.ensures.value
-    (subst (λ es. AreSumsOf sums es c.deref-2.result.now) c.deref.ensures.value c.in_ok-renew.ensures) in
-    subst (IsPendingOf (meant c.args.number)) (sym c.swap-2.ensures.own) (pending_of (meant c.args.number) run sums made summed)
+    pending_of (meant c.args.number) run c.put.new.self made c.in_ok-put.ensures.tree c.in_ok-put.ensures.net c.in_ok-put.ensures.sums
