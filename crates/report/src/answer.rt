@@ -1,5 +1,5 @@
 //! The texts of results: the whole reports that the program prints.
-ghost use Rattle.std.specs.Prelude.{◌≡◌, ◌++◌, ◌^◌, ◌<◌, OnOk, IfOk, codes, length, map, string_bytes};
+ghost use Rattle.std.specs.Prelude.{◌≡◌, ◌++◌, ◌^◌, ◌<◌, [], OnOk, IfOk, codes, length, map, string_bytes};
 ghost use Rattle.std.specs.Fmt.{decimal};
 ghost use Rattle.objects.specs.Objects.{kind_of_value};
 ghost use Rattle.meaning.specs.Running.{all_operations};
@@ -74,6 +74,21 @@ pub fn render_check(alloc: Global, batch: &Batch) -> Result<String, NoMemory>
     Ok(text)
 }
 
+/// About how many bytes a line has.
+const LINE: usize = 32;
+
+// An empty text, with room for a line for each outermost step of the records where that is to be had.
+// A text without room is copied as it grows.
+fn text_for(alloc: Global, records: &[Record]) -> String
+    ensures { string_bytes result ≡ [] }
+{
+    let steps = records.iter().fold(0usize, |sum, record| sum.saturating_add(record.taken.len()));
+    let mut text = String::new(alloc);
+    // Where this is refused, the text grows as it is written.
+    let _ = text.reserve(steps.saturating_mul(LINE));
+    text
+}
+
 fn render_parts(
     alloc: Global,
     batch: &Batch,
@@ -83,7 +98,7 @@ fn render_parts(
     requires { length objects.now < 2 ^ 32 }
     ensures { IfOk result (λ t. string_bytes t ≡ plain_text (names_of batch.now.names) (map block_view batch.now.transactions.items) (map record_view records.now) objects.now) }
 {
-    let mut out = String::new(alloc);
+    let mut out = text_for(alloc, records);
     write_transactions(alloc, &mut out, &batch.names, &batch.transactions, records)?;
     write_objects(&mut out, &batch.names, objects)?;
     Ok(out)
