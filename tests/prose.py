@@ -1,5 +1,6 @@
 #!/usr/bin/env python3
-"""The texts themselves: how long their sentences are, which words they use, and whether what they name is there.
+"""The texts themselves: how long their sentences are, which words they use, and whether what they name is there. Of the
+crates' sources it looks at the words of the comments.
 
 Alone, `tests/prose.py [TREE]` prints what it finds; the names are looked up in TREE, which is this tree if left out.
 """
@@ -41,6 +42,7 @@ ANY = re.compile(r"\b(?:NAME|CRATE|MODULE|FUNCTION)\b")
 
 FENCE = re.compile(r"^\s*```")
 ITEM = re.compile(r"^\s*(?:[-*]|\d+\.)\s+")
+COMMENT = re.compile(r"\s*(?://[/!]?|--)\s?(.*)")
 SPAN = re.compile(r"(`+)(.+?)\1")
 LINK = re.compile(r"\]\(([^)\s]+)\)")
 LIST_OF_NAMES = re.compile(r"NAME(?:,? (?:and |or )?NAME)+")
@@ -50,6 +52,11 @@ WORD = re.compile(r"[A-Za-z_][A-Za-z0-9_]*")
 def pages(tree):
     names = ("README.md", "CONTRIBUTING.md", "examples/README.md", "tests/README.md")
     return [tree / name for name in names] + sorted((tree / "docs").glob("*.md"))
+
+
+def sources_of(crate):
+    return sorted(source for part in ("src", "specs", "proofs") for ending in ("rt", "antt")
+                  for source in (crate / part).glob("**/*." + ending))
 
 
 def blocks(page):
@@ -79,6 +86,19 @@ def blocks(page):
             text.append(ITEM.sub("", line).strip())
 
 
+def comments(source):
+    """The comments of a source with their first lines. Lines that follow one another are one text."""
+    text, start = [], 0
+    for number, line in enumerate(source.read_text().splitlines() + [""], 1):
+        comment = COMMENT.match(line)
+        if comment:
+            start = start if text else number
+            text.append(comment[1].strip())
+        elif text:
+            yield start, " ".join(text)
+            text = []
+
+
 def sentences(text):
     """A name in backticks is one word, and so is a list of them."""
     plain = LINK.sub("]", SPAN.sub("NAME", text))
@@ -98,8 +118,8 @@ def long_sentences(page):
                 yield number, "%d words: %s" % (count, sentence)
 
 
-def avoided_words(page):
-    for number, text in blocks(page):
+def avoided_words(texts):
+    for number, text in texts:
         plain = " ".join(SPAN.sub("NAME", text).split())
         for phrase in EXCEPTIONS:
             plain = re.sub(r"\b%s\b" % phrase, "", plain, flags=re.I)
@@ -204,9 +224,13 @@ def findings(tree=ROOT):
     """For each page its name and a list of what is wrong with it."""
     sources = Sources(tree)
     for page in pages(ROOT):
-        found = [*long_sentences(page), *avoided_words(page), *missing_names(page, sources), *broken_links(page)]
+        found = [*long_sentences(page), *avoided_words(blocks(page)), *missing_names(page, sources), *broken_links(page)]
         name = page.relative_to(ROOT)
         yield name, ["%s:%d: %s" % (name, number, what) for number, what in sorted(found)]
+    for crate in sorted((ROOT / "crates").iterdir()):
+        found = [(source.relative_to(ROOT), *avoided) for source in sources_of(crate)
+                 for avoided in avoided_words(comments(source))]
+        yield crate.relative_to(ROOT), ["%s:%d: %s" % where for where in found]
 
 
 def try_all(program):

@@ -6,7 +6,7 @@ use Rattle.batch.specs.declared.tree.Handler.{Handler, size-Handler, size_is-Han
 use Rattle.batch.specs.declared.tree.Otherwise.{Run, size-Otherwise, size_is-Otherwise, the_lemmas}
 use Rattle.batch.specs.declared.tree.Subaction.{Subaction, out-Subaction, size-Subaction, size_is-Subaction}
 
--- What stands in a list is no larger than its largest.
+-- What is in a list is no larger than its largest.
 pub among-most : {X : Type 0} (size : X → ℕ) (xs : List X) (i : ℕ) (x : X) → i < length xs → x ≡ get_or xs i x → size x ≤ most size xs
 among-most size xs i x lt read = subst (λ y. size y ≤ most size xs) (sym read) (at_most size xs i x lt)
 

@@ -16,7 +16,7 @@ use Rattle.meaning.specs.declared.limits.TheConstants.{MAX_DEPTH, MAX_ENTRIES, M
 use Rattle.meaning.specs.declared.limits.TheConstants.{MAX_START, MAX_TRANSACTIONS}
 
 abbrev mutual
-  -- how deep blocks stand in one another: 1 for a block whose steps have no blocks
+  -- how deep blocks are nested: 1 for a block whose steps have no blocks
   pub depth : Block → ℕ
   depth NoStep = 1
   depth (Steps step rest) = max (suc (depth_of_step step)) (depth rest)

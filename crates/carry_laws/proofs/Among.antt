@@ -43,7 +43,7 @@ module _ {A B : Type 0} (f : A → B) where
   each_apart x [] one all = tt
   each_apart x (y ∷ ys) one all = (λ e. all.0 (one y (inl refl) e), each_apart x ys (λ z at. one z (inr at)) all.1)
 
-  -- where f tells the elements apart
+  -- where f distinguishes the elements
   pub apart_map : (xs : List A) → ((x y : A) → Among x xs → Among y xs → f x ≡ f y → x ≡ y) → Apart xs → Apart (map f xs)
   apart_map [] one apart = tt
   apart_map (x ∷ xs) one apart = (

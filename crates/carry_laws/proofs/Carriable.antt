@@ -20,7 +20,7 @@ use Rattle.carry_laws.proofs.Among.{Among, Apart, apart_map, among_from_map, con
 use Rattle.carry_laws.proofs.ItemsOf.{among_bound, among_contained, keys_apart, members_apart}
 use Rattle.carry_laws.proofs.Listed.{AreNamedBoth, AreWritable, IsNamed, IsWritable}
 
--- the first object can start, and so can the others behind it
+-- the first object can start, and so can the others after it
 pub record Fits (entries : ℕ) (v : Value) (values : State) : Type 0 where
   pub small : size_of v ≤ 1_000_000_000_000_000
   pub few : entries + entries_in v ≤ 100_000

@@ -6,7 +6,7 @@ use Rattle.json.specs.Lex.{Lexeme, token, comma, colon, Place, fresh, after_valu
 use Rattle.json.specs.Lex.{between, lex, tokens}
 use Rattle.json.specs.Tree.{json_tokens, items_tokens, members_tokens}
 
--- a comma, where something stands before
+-- a comma, where something comes before
 abbrev comma_if : Bool → List Lexeme
 comma_if later = cond later (comma ∷ []) []
 
@@ -28,11 +28,11 @@ abbrev mutual
   members_lexemes later no_members = token Token.end_object ∷ []
   members_lexemes later (member k j ms) = comma_if later ++ (token (Token.string k) ∷ colon ∷ (json_lexemes j ++ members_lexemes true ms))
 
--- a value stands before the items or members that are left, or a bracket
+-- a value comes before the items or members that are left, or a bracket
 abbrev place : Bool → Place
 place later = cond later after_value fresh
 
--- a comma or a bracket stands before a value
+-- a comma or a bracket comes before a value
 abbrev begin : Bool → Place
 begin later = cond later after_comma fresh
 

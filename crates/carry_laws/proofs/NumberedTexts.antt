@@ -12,7 +12,7 @@ use Rattle.spelling.proofs.TableLemmas.{unlisted_text}
 use Rattle.lang.proofs.Bound.{fit_same}
 use Rattle.lang.proofs.Tables.{number_below}
 
--- the table with more texts behind
+-- the table with more texts after it
 abbrev pub Grows : Table → Table → Type 0
 Grows old new = (more : Table) × (new ≡ old ++ more)
 

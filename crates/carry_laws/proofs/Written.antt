@@ -13,7 +13,7 @@ use Rattle.meaning.specs.Words.{joined}
 use Rattle.carry.specs.Carried.{list_text, quoted}
 use Rattle.carry_laws.proofs.Lexemes.{json_lexemes, items_lexemes}
 
--- the text of a JSON value: the lexer passes it where a word may end behind it
+-- the text of a JSON value: the lexer passes it where a word may end after it
 abbrev pub Writes : List ℕ → json.Json → Type 0
 Writes text j = (rest : List ℕ) → ends_word rest ≡ true → lex between (text ++ rest) ≡ json_lexemes j ++ lex between rest
 

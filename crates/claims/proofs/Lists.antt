@@ -1,4 +1,4 @@
--- How often a number stands in a list of pieces.
+-- How often a number is in a list of pieces.
 use Rattle.std.proofs.Common.{◌≡◌, ℕ, zero, suc, ◌+◌, ◌<◌, eqb, false, List, [], ◌∷◌, ◌++◌, arith}
 use Rattle.std.proofs.lemmas.Bool.Decides.{nat_tests}
 use Rattle.std.specs.List.{All}
@@ -10,17 +10,17 @@ pub times-append : (x : ℕ) (ys zs : List ℕ) → times x (ys ++ zs) ≡ times
 times-append x [] zs = omega arith
 times-append x (y ∷ ys) zs = omega (arith, times-append x ys zs)
 
--- a number that stands at the head stands there once
+-- a number at the head is there once
 pub same_once : (x : ℕ) → bit (eqb x x) ≡ 1
 same_once x = grind (arith, nat_tests)
 
--- a fact of each number that stands in the list
+-- a fact of each number in the list
 pub all_of_times : (n : ℕ) (xs : List ℕ) → ((x : ℕ) → 0 < times x xs → x < n) → All (λ x. x < n) xs
 all_of_times n [] below k d lt = absurd (omega arith)
 all_of_times n (x ∷ xs) below zero d lt = below x (omega (arith, same_once x))
 all_of_times n (x ∷ xs) below (suc k) d lt = all_of_times n xs (λ y h. below y (omega arith)) k d (omega arith)
 
--- a number that stands once below n is below n
+-- a number that is counted once below n is below n
 pub below_of_once : (x n : ℕ) → 0 < once_below x n → x < n
 below_of_once x n h = grind (arith, nat_tests)
 

@@ -23,7 +23,7 @@ fresh shares pieces = record {
   told = pieces;
 }
 
--- the view that a join leaves. It has drawn nothing and done nothing, and its low and told are below no number
+-- the view that a join leaves. It has drawn nothing and done nothing, and its `low` and `told` are below no number
 -- of pieces, so it counts in nothing
 abbrev pub spent : View
 spent = record { shares = 0; pieces = 0; drawn = []; done = 0; stopped = false; raised = false; low = most_pieces; told = most_pieces }
@@ -61,7 +61,7 @@ claims_left pieces v = (pieces - past v.drawn) + (if is_over v then 0 else 1)
 abbrev pub bit : Bool → ℕ
 bit b = if b then 1 else 0
 
--- how often x stands in the list
+-- how often x is in the list
 abbrev pub times : ℕ → List ℕ → ℕ
 times x [] = 0
 times x (y ∷ ys) = bit (y == x) + times x ys

@@ -177,7 +177,7 @@ apart (call.Counter c) (reply.Counter r) (call.Counter d) (reply.Counter s) x y 
 apart (call.Max c) (reply.Max r) (call.Max d) (reply.Max s) x y of_c of_d h = absurd cc
 apart c r d s x y of_c of_d h = refl
 
--- of a class whose entries stand by item, a set's operation without one is impossible
+-- of a class that is compared by item, a set's operation without one is impossible
 set_itemless : (e f : SetEffect) → set_item f ≡ None → is_by_item (set_class f) ≡ true → set_effects_commute e f ≡ true
 set_itemless (set.WasAdded x) set.Impossible of_f h = refl
 set_itemless (set.WasRemoved x) set.Impossible of_f h = refl
@@ -196,7 +196,7 @@ queue_itemless (queue.Counted n) queue.Impossible of_f h = refl
 queue_itemless queue.Impossible queue.Impossible of_f h = refl
 queue_itemless e f of_f h = absurd cc
 
--- of a class whose entries stand by item, an entry without one
+-- of a class that is compared by item, an entry without one
 no_item : (c : Call) (r : Reply) (d : Call) (s : Reply) (x : Item) → operation_item c r ≡ Some x → operation_item d s ≡ None
     → is_by_item (class_of d s) ≡ true
     → operations_commute c r d s ≡ true
@@ -209,7 +209,7 @@ no_item (call.Counter c) (reply.Counter r) (call.Counter d) (reply.Counter s) x 
 no_item (call.Max c) (reply.Max r) (call.Max d) (reply.Max s) x of_c of_d h = absurd cc
 no_item c r d s x of_c of_d h = refl
 
--- two entries where the second is of a class that stands by item, and hasn't the first one's item
+-- two entries where the second is of a class that is compared by item, and hasn't the first one's item
 other_item : (c : Call) (r : Reply) (d : Call) (s : Reply) (b : Bool) (i j : Option Item) → is_by_item (class_of d s) ≡ b
     → operation_item c r ≡ i → operation_item d s ≡ j
     → is_same_item (if b then i else None) j ≡ false → operations_commute c r d s ≡ true

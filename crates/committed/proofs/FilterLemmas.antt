@@ -22,7 +22,7 @@ use Rattle.committed.proofs.ListsLemmas.{class_at, number-bound}
 
 -- ---- classes put into a set
 
--- where a set stands is not changed by what the sets are
+-- the place of a set is not changed by what the sets are
 same_slot : (sets : List ℕ) (slot value hash : ℕ) → slot_of (length (set sets slot value)) hash ≡ slot_of (length sets) hash
 same_slot sets slot value hash = ap (λ n. slot_of n hash) (length-set sets slot value)
 

@@ -5,7 +5,7 @@ use Rattle.committed.specs.declared.classes.Class.TheVariants.{Deposit, Withdraw
 use Rattle.committed.specs.declared.classes.Class.TheVariants.{Dequeue, Size, Look, Taken}
 use Rattle.committed.specs.Classes.{class_number, classes}
 
--- a class stands at its number among all
+-- a class is at its number among all
 pub class_at : (c : Class) → get_or classes (class_number c) Deposit ≡ c
 class_at Deposit = refl
 class_at Withdrawal = refl

@@ -42,7 +42,7 @@ all_first e es upto within h = all_commute e (take upto es) (λ n l.
     let before : n < upto = omega (arith, length-take upto es) in
     subst (CommuteForward e) (sym (get_or-take upto es n e before)) (h n before))
 
--- one that stands commutes with each of them
+-- an entry that commutes with the first ones commutes with each of them
 pub each_first : (e : Entry) (es : List Entry) (upto : ℕ) → upto ≤ length es → CommutesWith e (take upto es) → (k : ℕ) → k < upto
     → CommuteForward e (get_or es k e)
 each_first e es upto within h k before =

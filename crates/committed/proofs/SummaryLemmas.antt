@@ -24,7 +24,7 @@ commutes_second : (e : Entry) (xs ys : List Entry) → CommutesWith e (xs ++ ys)
 commutes_second e [] ys both = both
 commutes_second e (x ∷ xs) ys both = commutes_second e xs ys both.1
 
--- ---- stands
+-- ---- what stands past entries
 
 -- one entry more to stand past
 past_one : (p : Entry) (ps qs : List Entry) → CommutesWith p qs → AllCommute qs ps → AllCommute qs (p ∷ ps)
@@ -92,7 +92,7 @@ commutes_own other [] n e low all = absurd (omega arith)
 commutes_own other (x ∷ xs) zero e low all = all.0
 commutes_own other (x ∷ xs) (suc n) e low all = commutes_own other xs n e (omega arith) all.1
 
--- and with the list as it was, where it commutes with what stood there
+-- and with the list as it was, where it commutes with what was there
 commutes_unset : (other : Entry) (xs : List Entry) (n : ℕ) (e : Entry) → CommuteForward other (get_or xs n other)
     → CommutesWith other (set xs n e) → CommutesWith other xs
 commutes_unset other [] n e old all = tt

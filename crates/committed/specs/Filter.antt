@@ -7,7 +7,7 @@ use Rattle.committed.specs.Classes.{class_of, class_number}
 use Rattle.committed.specs.Marks.{mark_of}
 use Rattle.objects.specs.Entries.{CommuteForward}
 
--- where the set of a hash stands among so many
+-- the place of the set of a hash among so many
 abbrev pub slot_of : ℕ → ℕ → ℕ
 slot_of size hash = bit_and hash (size - 1)
 

@@ -1,13 +1,13 @@
--- Lists of numbers, each of which stands there once.
+-- Lists of numbers, each of which is there once.
 use Rattle.std.specs.Prelude.{◌≡◌, List, ℕ, ◌<◌, length, slice_index_or}
 
--- the number stands in the list
+-- the number is in the list
 pub record Has (numbers : List ℕ) (number : ℕ) : Type 0 where
   pub at : ℕ
   pub within : at < length numbers
   pub is : slice_index_or numbers at 0 ≡ number
 
--- no number stands there twice
+-- no number is there twice
 abbrev pub AreDistinct : List ℕ → Type 0
 AreDistinct numbers =
     (i j : ℕ) → i < length numbers → j < length numbers → slice_index_or numbers i 0 ≡ slice_index_or numbers j 0 → i ≡ j

@@ -11,7 +11,7 @@ use thiserror::Error;
 pub enum Wrong {
     /// The bytes are no JSON.
     NotJson = 1,
-    /// A part has not the form that its place asks for.
+    /// A part doesn't have the form that its place asks for.
     Shape = 2,
     /// A text is no name.
     Name = 3,
@@ -27,13 +27,13 @@ pub enum Wrong {
     UnknownLabel = 8,
     /// A label of the name is seen already.
     DuplicateLabel = 9,
-    /// A test does not fit its label.
+    /// A test doesn't fit its label.
     Condition = 10,
-    /// Blocks stand too deep in one another.
+    /// Blocks are nested too deep.
     Depth = 11,
     /// There are more of something than a document may have.
     TooMany = 12,
-    /// An object cannot start so.
+    /// An object can't start with this value.
     Start = 13,
 }
 

@@ -7,7 +7,7 @@ pub nested_more : (starts : List ℕ) (m n : ℕ) → IsNested starts m → m �
 nested_more [] m n h le = tt
 nested_more (start ∷ starts) m n h le = (omega (arith, h.0), h.1)
 
--- only what stands before the innermost start counts
+-- only what comes before the innermost start counts
 pub at_starts-append : {A B : Type 0} (show : List A → B) (starts : List ℕ) (xs ys : List A) → IsNested starts (length xs)
     → at_starts show starts (xs ++ ys) ≡ at_starts show starts xs
 at_starts-append show [] xs ys h = refl

@@ -20,7 +20,7 @@ drafts_in places drafts object = option_and_then (draft_of object) (option_and_t
 abbrev pub drafts_of : DraftTable → Drafts
 drafts_of table = drafts_in table.places.items table.drafts.items
 
--- the draft of the object stands at this place
+-- the draft of the object is at this place
 pub record IsPlaceOf (table : DraftTable) (object place : ℕ) : Type 0 where
   pub placed : slice_get table.places.items object ≡ Some place
   pub named : IsSomeAnd (slice_get table.drafts.items place) (λ drafted. drafted.object ≡ object)

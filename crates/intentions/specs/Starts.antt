@@ -6,7 +6,7 @@ abbrev pub IsNested : List ℕ → ℕ → Type 0
 IsNested [] n = Unit {0}
 IsNested (start ∷ starts) n = (start ≤ n) × IsNested starts start
 
--- what stands in a list from the innermost start on
+-- the part of a list from the innermost start on
 abbrev pub innermost : {A : Type 0} → List ℕ → List A → List A
 innermost [] xs = xs
 innermost (start ∷ starts) xs = drop start xs

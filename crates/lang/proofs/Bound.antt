@@ -29,7 +29,7 @@ use Rattle.spelling.proofs.MetLemmas.{AllMet}
 
 -- ---- places
 
--- a listed text stands at some place within the table
+-- a listed text is at some place within the table
 pub within : (text : List ℕ) (table : Table) → is_listed text table ≡ true → position_or_len (bytes_eq text) table + 1 ≤ length table
 within text [] listed = cc
 within text (t ∷ table) listed = by (bytes_eq text t) (λ h. within text table h) listed
@@ -118,7 +118,7 @@ test_fits_label (IsItem i) OfSubaction = refl
 suc_is : (n : ℕ) → suc n ≡ 1 + n
 suc_is n = omega arith
 
--- what a label is of stands at its place
+-- what a label is of is at its place
 named_at : (name : List ℕ) (scope : Scope) (subject : Subject) → named name scope ≡ Some subject
     → slice_get (subjects scope) (position_or_len (bytes_eq name) (keys_of scope)) ≡ Some subject
 named_at name [] subject e = cc

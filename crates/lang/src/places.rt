@@ -1,4 +1,4 @@
-//! Where a document's first fault stands.
+//! Where a document's first fault is.
 ghost use Rattle.std.specs.Prelude.{◌≡◌, ◌≢◌, ◌++◌, [], codes, string_bytes, Ok, Err, IfErr, IfOk, OnOk};
 ghost use Rattle.serde_json.specs.View.{view};
 ghost use Rattle.spelling.specs.declared.counts.Counts.{Counts};
@@ -19,7 +19,7 @@ use spelling::starts::read_objects;
 use spelling::state::State;
 use std::alloc::{AllocError, Global};
 
-/// Where a document's first fault stands.
+/// Where a document's first fault is.
 #[derive(Debug, Drop)]
 pub enum Place {
     /// It is of the whole document.

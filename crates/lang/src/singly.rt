@@ -1,6 +1,6 @@
 //! Reads a document with a tree of one transaction at a time.
 //!
-//! `None` says that the document's members stand in another order, or that memory was refused; the
+//! `None` says that the document's members come in another order, or that memory was refused; the
 //! whole document is then read as one tree (`document`).
 ghost use Rattle.std.specs.Prelude.{◌≡◌, [], ◌∷◌, map, Some, IfSome, MatchResult, ◌≤◌};
 ghost use Rattle.serde_json.specs.Data.{Data, Items};
@@ -83,7 +83,7 @@ fn each_transaction(
     Some(Ok(blocks))
 }
 
-/// The parts of a document whose members stand in the common order, or its first fault, once its
+/// The parts of a document whose members come in the common order, or its first fault, once its
 /// shape is known to have none.
 pub(crate) fn each_part(
     alloc: Global,

@@ -76,7 +76,7 @@ BatchLaw =
     → AreLegal (state_at start batch b) (nets start batch b count)
     × (state_at start batch (b + count) ≡ after (state_at start batch b) (nets start batch b count))
 
--- A run on the state of an earlier opening still stands at a later one where each of its entries commutes forward with what was left in
+-- A run on the state of an earlier opening is still valid at a later one where each of its entries commutes forward with what was left in
 -- between.
 -- Then the run on the later state has the same record and outcome, and ends where what was left leads from the first one's end.
 abbrev pub StandingRunLaw : Type 0

@@ -16,7 +16,7 @@ pub const MAX_NODES: usize = 100_000;
 /// How many bytes a name has at most.
 pub const MAX_NAME: usize = 32;
 
-/// How deep blocks stand in one another at most.
+/// How deep blocks are nested at most.
 pub const MAX_DEPTH: usize = 24;
 
 /// How many members, items and bindings all objects start with at most.

@@ -106,7 +106,7 @@ pub record IsUnfitOf (bytes : List ℕ) (fault : Fault) : Type 0 where
 abbrev pub IsCarryFaultOf : List ℕ → Fault → Type 0
 IsCarryFaultOf bytes fault = IsFaultOf bytes fault ⊎ IsUnfitOf bytes fault
 
--- where a fault stands, as it is written after `at`
+-- where a fault is, as it is written after `at`
 abbrev pub place_text : Place → List ℕ
 place_text Whole = []
 place_text (Pointer text) = codes " " ++ string_bytes text
@@ -125,6 +125,6 @@ pub record IsPlacedFaultOf (bytes text : List ℕ) : Type 0 where
   pub at : IsPlaceOf bytes fault place
   pub is : text ≡ place_line fault place
 
--- The text says where the first fault of the bytes stands, or how much they hold.
+-- The text says where the first fault of the bytes is, or how much they hold.
 abbrev pub IsLocationOf : List ℕ → List ℕ → Type 0
 IsLocationOf bytes text = IsCheckOf bytes text ⊎ IsPlacedFaultOf bytes text

@@ -1,4 +1,4 @@
-//! Where a document's first fault stands, as a line.
+//! Where a document's first fault is, as a line.
 ghost use Rattle.std.specs.Prelude.{◌≡◌, IfErr, IfOk, string_bytes};
 ghost use Rattle.faults.specs.Faults.{memory_fault};
 ghost use Rattle.ordtx.specs.Answers.{IsFaultOf, IsLocationOf, IsPlacedFaultOf, place_line, place_text};

@@ -55,7 +55,7 @@ without_member k j old e None = refl
 without_member k j old e (Some p) = rw e refl
 
 module _ (p : Parse json.Json) where
-  -- an item that is read stands before the others
+  -- an item that is read comes before the others
   pub item_read : (n : ℕ) (ts r : List Token) (d : Data) → 0 < n → after_end_array ts ≡ None → converted of_json (p ts) ≡ Some (d, r)
       → converted of_items (items p n ts) ≡ parse_map (item d) (converted of_items (items p (n - 1) r))
   item_read n ts r d some going e =

@@ -110,7 +110,7 @@ abort_step (Some reason) = object (member (codes "abort") (string reason) no_mem
 
 -- ---- the document
 
--- a document by its version, its objects and its transactions, where its members stand in this order
+-- a document by its version, its objects and its transactions, where its members come in this order
 abbrev pub in_order : ℕ → Items → Items → Data
 in_order version os ts = object
     (put (codes "transactions") (array ts) (put (codes "objects") (array os) (put (codes "ordtx") (number (unsigned version)) no_members)))

@@ -7,7 +7,7 @@
 //!
 //! Of a step whose first member is another, a small tree is made and read as in any other document. So
 //! texts are numbered in the same order. Handlers by reason are read in the order of the reasons' bytes:
-//! straight, where they stand in this order, and where some don't, by a small tree of each step's.
+//! straight, where they come in this order, and where some don't, by a small tree of each step's.
 ghost use Rattle.std.specs.Prelude.{◌≡◌, ℕ, List, [], ◌∷◌, codes, map, Option, option_map, true, Some, None, IfSome, ◌<◌, ◌+◌, ◌*◌, ◌≤◌};
 ghost use Rattle.json.specs.Json.{read_key};
 ghost use Rattle.json.specs.Token as token;
@@ -333,7 +333,7 @@ fn pull_parallel(
 
 // ---- conditions and aborts
 
-/// The test of an `if` against what its label is of, where the test stands next.
+/// The test of an `if` against what its label is of, where the test comes next.
 pub(crate) fn pull_test(
     alloc: Global,
     subject: Subject,

@@ -1,4 +1,4 @@
--- The first run of a round that doesn't stand is where the next opening is.
+-- The first run of a round that conflicts is where the next opening is.
 use Rattle.std.proofs.Common.{◌≡◌, ℕ, zero, suc, ◌+◌, ◌-◌, ◌<◌, ◌≤◌, ◌↔◌, List, [], ◌∷◌, ◌++◌, length, get_or, take, refl, sym, ap, ◌∙◌}
 use Rattle.std.proofs.Common.{subst, arith}
 use native.Mathlib.Decide.{dec_le}
@@ -31,7 +31,7 @@ moved r s made is taken outcome =
           (subst (λ es. AreSumsOf made.sums es (net (record_of r) (outcome_of r))) (ap entries (sym taken)) is.sums);
     }
 
--- where a run stands there is one
+-- where a run doesn't conflict there is one
 pub some_run : (P : Type 0) (runs : List PendingRun) (i : ℕ) → i < length runs → (PendingRun → P) → P
 some_run P [] i lt use_run = absurd (omega arith)
 some_run P (run ∷ runs) i lt use_run = use_run run

@@ -1,4 +1,4 @@
--- What stands once every transaction is committed.
+-- What holds once every transaction is committed.
 use Rattle.std.proofs.Common.{◌≡◌, ℕ, zero, suc, ◌+◌, ◌<◌, ◌≤◌, List, [], ◌∷◌, map, length, get_or, refl, sym, ap, ◌∙◌, subst, arith}
 use Rattle.std.proofs.lemmas.List.{get_or-map, length-map}
 use Rattle.objects.specs.Objects.{kind_of_value}

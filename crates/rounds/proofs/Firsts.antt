@@ -1,4 +1,4 @@
--- The first run that does not stand, and the nets that runs are checked against.
+-- The first run that conflicts, and the nets that runs are checked against.
 use Rattle.std.proofs.Common.{◌≡◌, ℕ, ◌+◌, ◌<◌, ◌≤◌, List, [], ◌∷◌, ◌++◌, length, get_or, take, drop, ◌-◌, arith, refl, sym, ap, ◌∙◌, subst}
 use Rattle.std.proofs.Common.{append_assoc, append-nil}
 use Rattle.std.specs.Prelude.{IsTrue, ◌↔◌, Bool}
@@ -66,7 +66,7 @@ front_within runs i n nets are size = omega (
       (all_left (drop i runs)),
 )
 
--- the test against the nets before a run is whether it stands
+-- the test against the nets before a run is whether it stands past them
 pub stands_here : (runs : List PendingRun) (i : ℕ) (before : List Entry) (told : Bool) → before ≡ all_left (take i runs)
     → (IsTrue told ↔ ((d : PendingRun) → HoldsPast before (get_or runs i d))) → IsTrue told ↔ HoldsAt runs i
 stands_here runs i before told so_far test = (
@@ -92,7 +92,7 @@ module _ (runs : List PendingRun) (n i : ℕ) (lt : i < n) where
   pub before_front : all_left (take i (take n runs)) ≡ all_left (take i runs)
   before_front = ap all_left (take-take i n runs (omega arith))
 
-  -- what stands among them stands among all, and the other way round
+  -- what holds of a run among them holds of it among all, and the other way round
   pub front_stands : HoldsAt (take n runs) i → HoldsAt runs i
   front_stands stands d = subst (λ ns. HoldsPast ns (get_or runs i d)) before_front (subst (HoldsPast (all_left (take i (take n runs))))
       (get_or-take n runs i d lt) (stands d))
@@ -127,7 +127,7 @@ module _ (runs : List PendingRun) (from i : ℕ) where
 
 -- ---- a block of runs, which ends at place n
 
--- what stands before it and in it
+-- what holds before it and in it
 pub block_clear : (runs : List PendingRun) (n from first : ℕ) → ((k : ℕ) → k < from → HoldsAt runs k)
     → IsFirstFrom (take n runs) from first → (k : ℕ) → k < n → k < first → HoldsAt runs k
 block_clear runs n from first before told k inside low = elim (dec_le from k) [
@@ -152,7 +152,7 @@ block_seen runs n from first upto nets starts within inside listed are is before
 
 -- ---- run by run
 
--- one run more stands
+-- one run more stands past those before it
 pub clear_more : (runs : List PendingRun) (i : ℕ) → ((k : ℕ) → k < i → HoldsAt runs k) → HoldsAt runs i → (k : ℕ) → k < i + 1
     → HoldsAt runs k
 clear_more runs i clear here k lt = elim (dec_le i k) [

@@ -65,7 +65,7 @@ none_made batch state numbers desk before ready = record {
   all_made = record { each = All-nil (IsMade batch state); dealt = λ i. refl };
 }
 
--- a number stands in the chunks of a list, put together, as often as in the list
+-- a number is in the chunks of a list, put together, as often as in the list
 times_chunks : (i size count : ℕ) (numbers : List ℕ) → 0 < size → count ≡ div_ceil (length numbers) size
     → sum_by (λ k. times i (slice_chunk numbers size k)) (range_with_len 0 count) ≡ times i numbers
 times_chunks i size count numbers some are =

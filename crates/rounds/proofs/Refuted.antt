@@ -1,4 +1,4 @@
--- The runs that don't stand are listed, each once.
+-- The runs that conflict are listed, each once.
 use Rattle.std.proofs.Common.{◌≡◌, ◌≢◌, ℕ, ◌+◌, ◌-◌, ◌<◌, ◌≤◌, inl, inr, List, [], ◌∷◌, ◌++◌, length, get_or, length-append, refl, sym, ap}
 use Rattle.std.proofs.Common.{◌∙◌, subst, arith}
 use Rattle.std.proofs.lemmas.List.{get_or_default}
@@ -12,12 +12,12 @@ use Rattle.rounds.specs.PendingRuns.{HoldsPast, Kept, IsDecided, AreRefuted}
 use Rattle.claims.proofs.Lists.{times-append}
 use Rattle.rounds.proofs.Times.{times_one, times_none}
 
--- of a run that stands nothing is listed
+-- of a run that doesn't conflict nothing is listed
 pub stands_decided : (runs : List PendingRun) (since : List Entry) (place : ℕ) → ((d : PendingRun) → HoldsPast since (get_or runs place d))
     → IsDecided runs since place []
 stands_decided runs since place stands = record { here = λ d. inl (stands d, refl); elsewhere = λ i other. refl; few = omega arith }
 
--- of one that doesn't stand its number
+-- of one that conflicts its number
 pub fails_decided : (runs : List PendingRun) (since : List Entry) (place : ℕ) → place < length runs
     → ¬ ((d : PendingRun) → HoldsPast since (get_or runs place d))
     → IsDecided runs since place (place ∷ [])

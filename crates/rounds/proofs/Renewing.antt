@@ -19,7 +19,7 @@ pub record AreInPlace (batch : Batch) (state : State) (numbers : List ℕ) (old 
   pub renewed : AreRenewed batch state numbers old runs was counts
   pub ready : IsDeskOn state desk
 
--- a number stands in the first of a list no more often than in all
+-- a number is in the first of a list no more often than in all
 pub times_take : (x k : ℕ) (ys : List ℕ) → times x (take k ys) ≤ times x ys
 times_take x zero ys = omega arith
 times_take x (suc k) [] = omega arith

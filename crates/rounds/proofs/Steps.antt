@@ -286,7 +286,7 @@ pub same_kinds : (batch : Batch) (b rounds : ℕ) (state : State) (runs : List P
     → AtOpening batch b rounds state runs counts stale → kinds state ≡ kinds (start_of batch)
 same_kinds batch b rounds state runs counts stale at = ap kinds at.reached ∙ kinds_at batch b at.within
 
--- one round: runs are made, the first that doesn't stand is sought, those before it are committed, and the kept are found
+-- one round: runs are made, the first that conflicts is sought, those before it are committed, and the kept are found
 pub one_round : (batch : Batch) (b rounds : ℕ) (seen : Seen) (state next : State) (old new first_of prefix_of kept_of : List PendingRun)
     (was counts given stale later : List ℕ)
     → AtOpening batch b rounds state old was stale

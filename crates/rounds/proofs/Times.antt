@@ -1,4 +1,4 @@
--- How often a number stands in a list.
+-- How often a number is in a list.
 use Rattle.std.proofs.Common.{◌≡◌, ◌≢◌, ℕ, zero, suc, ◌+◌, ◌<◌, ◌≤◌, ◌==◌, List, [], ◌∷◌, ◌++◌, length, get_or, refl, ap, ◌∙◌, arith}
 use Rattle.std.proofs.lemmas.Bool.Decides.{nat_tests}
 use native.Mathlib.Decide.{ℕ_discrete}
@@ -25,7 +25,7 @@ times_push x ys = omega (arith, times-append x ys (x ∷ []), times_one x)
 pub times_push_other : (x y : ℕ) (ys : List ℕ) → y ≢ x → times x (ys ++ y ∷ []) ≡ times x ys
 times_push_other x y ys h = omega (arith, times-append x ys (y ∷ []), times_none x y h)
 
--- a number that is read from a list stands in it
+-- a number that is read from a list is in it
 pub times_read : (xs : List ℕ) (k d : ℕ) → k < length xs → 0 < times (get_or xs k d) xs
 times_read [] k d lt = absurd (omega arith)
 times_read (x ∷ xs) zero d lt = omega (arith, bit_same x)

@@ -1,4 +1,4 @@
--- Numbers that stand in a list once, and what is listed of the runs of these numbers.
+-- Numbers that are in a list once, and what is listed of the runs of these numbers.
 use Rattle.std.proofs.Common.{◌≡◌, ◌≢◌, ◌⊎◌, ℕ, zero, suc, ◌+◌, ◌<◌, ◌≤◌, inl, inr, List, [], ◌∷◌, ◌++◌, length, get_or, take}
 use Rattle.std.proofs.Common.{length-append, refl, sym, ap, ◌∙◌, subst, arith}
 use native.Mathlib.Decide.{ℕ_discrete}
@@ -22,9 +22,9 @@ use Rattle.rounds.proofs.Firsts.{next_nets}
 use Rattle.claims.proofs.Lists.{times-append}
 use Rattle.rounds.proofs.Times.{times_one, times_none, times_read}
 
--- ---- numbers that stand in a list once
+-- ---- numbers that are in a list once
 
--- a number that is counted stands in the list
+-- a number that is counted is in the list
 pub has_of_times : (numbers : List ℕ) (i : ℕ) → 0 < times i numbers → Has numbers i
 has_of_times [] i some = absurd (omega arith)
 has_of_times (n ∷ numbers) i some = elim (ℕ_discrete n i) [
@@ -34,22 +34,22 @@ has_of_times (n ∷ numbers) i some = elim (ℕ_discrete n i) [
       record { at = suc more.at; within = let w = more.within in omega arith; is = more.is }
 ]
 
--- one that stands there is counted
+-- one that is there is counted
 pub times_of_has : (numbers : List ℕ) (i : ℕ) → Has numbers i → 0 < times i numbers
 times_of_has numbers i has = subst (λ n. 0 < times n numbers) has.is (times_read numbers has.at 0 has.within)
 
--- no number stands in no list
+-- no number is in an empty list
 pub has_none : (i : ℕ) → ¬ Has [] i
 has_none i has = let w = has.within in absurd (omega arith)
 
--- a number stands in a list or doesn't
+-- a number is in a list or isn't
 pub has_or_not : (numbers : List ℕ) (i : ℕ) → Has numbers i ⊎ (¬ Has numbers i)
 has_or_not numbers i = elim (ℕ_discrete (times i numbers) 0) [
   | yes none ↦ inr (λ has. let some = times_of_has numbers i has in absurd (omega arith))
   | no some ↦ inl (has_of_times numbers i (omega arith))
 ]
 
--- a number of a distinct list stands there once at most
+-- a number of a distinct list is there once at most
 times_distinct : (numbers : List ℕ) → AreDistinct numbers → (i : ℕ) → times i numbers ≤ 1
 times_distinct [] distinct i = omega arith
 times_distinct (n ∷ numbers) distinct i = elim (ℕ_discrete n i) [

@@ -25,7 +25,7 @@ StandsPast since run = AllCommute run.entries.items since
 abbrev pub StandsAt : List Run → ℕ → Type 0
 StandsAt runs i = (d : Run) → StandsPast (nets_of (take i runs)) (slice_index_or runs i d)
 
--- the first run that doesn't stand, or their number
+-- the first run that doesn't stand past those before it, or their number
 pub record IsFirstConflict (runs : List Run) (first : ℕ) : Type 0 where
   pub within : first ≤ length runs
   pub clear : (i : ℕ) → i < first → StandsAt runs i

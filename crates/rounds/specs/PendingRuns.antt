@@ -73,7 +73,7 @@ pub record AreSummed (runs : List Run) (pending : List PendingRun) : Type 0 wher
   pub each : (i : ℕ) (d : PendingRun) (r : Run) → i < length runs
       → AreSumsOf (slice_index_or pending i d).sums (slice_index_or runs i r).entries.items (slice_index_or runs i r).net.items
 
--- the first run from one place on that doesn't stand, or their number
+-- the first run from one place on that doesn't stand past those before it, or their number
 pub record IsFirstFrom (runs : List PendingRun) (from first : ℕ) : Type 0 where
   pub beyond : from ≤ first
   pub within : first ≤ length runs
@@ -85,7 +85,7 @@ pub record AreStarts (runs : List PendingRun) (starts : List ℕ) : Type 0 where
   pub all : length starts ≡ length runs
   pub each : (i : ℕ) → i < length runs → slice_index_or starts i 0 ≡ length (all_left (take i runs))
 
--- a run stands and isn't among the numbers, or doesn't and is there once
+-- a run stands past these entries and isn't among the numbers, or it doesn't and is there once
 abbrev pub Kept : List Entry → ℕ → PendingRun → Type 0
 Kept since told run = (HoldsPast since run × (told ≡ 0)) ⊎ ((¬ HoldsPast since run) × (told ≡ 1))
 

@@ -26,7 +26,7 @@ pub(crate) struct Seen {
     pub(crate) upto: usize,
 }
 
-/// How many more runs the first block has than are expected to stand.
+/// How many more runs the first block has than are expected to be committed.
 const SPARE: usize = 2;
 
 // Lists the nets of the runs from one place on, after those of the runs before it. Adds for each
@@ -98,7 +98,7 @@ fn first_from<R: Threads + Sync, G: Gate>(
 }
 
 // The first conflict, sought in blocks of runs, until one has a conflict. Each block is twice as
-// long as the one before it. The first block has a few more runs than are expected to stand.
+// long as the one before it. The first block has a few more runs than are expected to be committed.
 fn seek_in_blocks<R: Threads + Sync, G: Gate>(
     crew: &Crew<R, G>,
     runs: &[PendingRun],
@@ -129,8 +129,8 @@ fn seek_in_blocks<R: Threads + Sync, G: Gate>(
     })
 }
 
-// The first conflict, sought run by run. The net of a run that stands is listed before the next run
-// is checked.
+// The first conflict, sought run by run. The net of a run without a conflict is listed before the
+// next run is checked.
 fn seek_in_turn<G: Gate>(alloc: Global, runs: &[PendingRun], gate: &G) -> Result<Seen, NoMemory>
     requires few { length runs.now ≤ MAX_TRANSACTIONS }
     ensures { IfOk result (λ seen. IsSeen runs.now seen) }
@@ -161,7 +161,7 @@ fn seek_in_turn<G: Gate>(alloc: Global, runs: &[PendingRun], gate: &G) -> Result
 /// Where each run is a piece of work of its own and there are several workers, the runs are looked
 /// at in blocks, and the workers check the runs of a block side by side. Each block is twice as
 /// long as the one before it, until one has a conflict. The first has a few more runs than are
-/// expected to stand.
+/// expected to be committed.
 ///
 /// Otherwise one worker checks each run and lists its net, run by run, up to the first conflict.
 /// Listing a net costs as much as checking it, and only one worker can list.

@@ -106,8 +106,8 @@ fn refuted_of<R: Threads + Sync, G: Gate>(
 
 /// The numbers of the runs, from one place on, that don't stand past what was committed, in any
 /// order. What was committed is the first `upto` entries of the nets. Only the runs that the commit
-/// may touch are decided, since the others stand. The workers decide them side by side, a run as a
-/// piece.
+/// may touch are decided, since the others are still valid. The workers decide them side by side, a
+/// run as a piece.
 ///
 /// Returns `NoMemory` where a request for memory was refused.
 pub(crate) fn keep_all<R: Threads + Sync, G: Gate>(

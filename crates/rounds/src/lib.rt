@@ -1,5 +1,5 @@
 //! Running a batch in rounds. Transactions are run speculatively on the objects of an opening, and
-//! those that stand are committed in order of number.
+//! those before the first conflict are committed in order of number.
 #![tactic(auto)]
 
 mod check;

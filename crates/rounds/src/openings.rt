@@ -1,5 +1,5 @@
-//! The loop of openings. Each round makes the runs that are needed, seeks the first that doesn't
-//! stand, commits those before it, and decides which of the others are kept.
+//! The loop of openings. Each round makes the runs that are needed, seeks the first that
+//! conflicts, commits those before it, and decides which of the others are kept.
 ghost use Rattle.std.specs.Prelude.{◌≡◌, ◌<◌, ◌≤◌, ℕ, length, IfOk, OnOk, map, slice_index_or};
 ghost use Rattle.objects.specs.Entries.{after};
 ghost use Rattle.meaning.specs.Batch.{all_shown, final_state, nets};
@@ -125,7 +125,7 @@ fn round<R: Threads + Sync, G: Gate>(
         &mut at.counts,
     )?;
     let opened = at.opened;
-    // As many runs are expected to stand as in the round before.
+    // As many runs are expected to be committed as in the round before.
     let seen = seek_conflict(crew, &at.runs[opened..], at.passed)?;
     let passed = seen.first;
     commit(&at.runs[opened..opened + passed], &mut at.objects)?;

@@ -235,7 +235,7 @@ fn document_of_step(rt: &(impl Abort + AllocGlobal), members: &[&str]) -> String
     document(rt, 4, SIX, steps.as_str())
 }
 
-/// Stops the test where a step of these members is not read as the one whose `sub` stands last.
+/// Stops the test where a step of these members is not read as the one whose `sub` comes last.
 fn step_reads_alike(rt: &(impl Abort + AllocGlobal), members: &[&str]) {
     let text = document_of_step(rt, members);
     let by_tree = document_of_step(rt, &[HANDLERS, HANDLER, LABEL, SUB]);

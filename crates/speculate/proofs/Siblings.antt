@@ -104,7 +104,7 @@ stand run sums since summary count stands exact so is all =
     (exact.0 so)) in
     (stands-summary (entries_of run.summary.items) run.entries.items since sums).0 summed
 
--- where its entries stand, a child that was run before is run the same here
+-- where its entries are still valid, a child that was run before is run the same here
 module _ (child : Tried) (held : List Held) (since : List Entry) (state : State) (run : Ahead)
     (before : IsRunBefore child held since state run) (stand : AllCommute run.entries.items since) where
   same_here : IsSameRun (acted child held before.from) (acted child held state)

@@ -62,7 +62,7 @@ pub check_met : (c next : Counts) (xs ys : List Demand) → check c xs ≡ Ok ne
 unfolding and_check
 check_met c next xs ys met = check-append c xs ys ∙ ap (λ r. and_check r ys) met
 
--- where the first part is met, what a call answers of the rest it answers of the whole
+-- where the first part is met, what a call returns of the rest it returns of the whole
 module _ {T : Type 0} (r : Result T Fault) (c next : Counts) (xs ys : List Demand) (met : check c xs ≡ Ok next) where
   pub rest_met : (last : Counts) → OnOk r (IsMet next ys last) → OnOk r (IsMet c (xs ++ ys) last)
   rest_met last h = then_ok r (λ _. IsMet next ys last) (λ _. IsMet c (xs ++ ys) last) h (λ _ rest. check_met c next xs ys met ∙ rest)

@@ -36,7 +36,7 @@ place_view : (name : List ℕ) (es : List (String Global × Subject)) → positi
 place_view name [] = refl
 place_view name (e ∷ es) = simp (place_view name es)
 
--- how many labels stand before a label, from the entries of a map
+-- how many labels come before a label, from the entries of a map
 pub number_view : (name : List ℕ) (es : List (String Global × Subject)) → label_number name (scope_of es) ≡ fit
     (position_or_len (λ k. bytes_eq name (string_bytes k)) (keys_of es))
 number_view name es = ap fit (place_view name es)

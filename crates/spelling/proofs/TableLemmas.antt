@@ -76,7 +76,7 @@ listed_there text (t ∷ table) h = by (bytes_eq text t) (listed_there text tabl
     by true later h = refl
     by false later h = later (omega arith)
 
--- a text that stands in the table adds nothing, and has its place
+-- a text that is in the table adds nothing, and has its place
 pub listed_text : (text : List ℕ) (table : Table) (i : ℕ) → place_of text table ≡ Some i → (i ≡ position_or_len (bytes_eq text) table)
     × (is_listed text table ≡ true)
 listed_text text table i at = by (nat_lt (position_or_len (bytes_eq text) table) (length table)) refl at

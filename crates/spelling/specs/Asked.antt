@@ -1,4 +1,4 @@
--- What is asked of a document, in reading order. Behind a demand that fails the list says nothing of use.
+-- What is asked of a document, in reading order. After a demand that fails the list says nothing of use.
 use Rattle.std.specs.Prelude.{ℕ, ℤ, nat_abs, zero, suc, ◌+◌, ◌==◌, ◌&&◌, ◌||◌, Bool, true, false, not, List, [], ◌∷◌, ◌++◌, codes, Option}
 use Rattle.std.specs.Prelude.{Some, None, is_some, unwrap_or, option_and_then, nat_le, if◌then◌else◌}
 use Rattle.std.specs.Option.{option_map_or}
@@ -403,7 +403,7 @@ object_asked version names d =
     ++ object_name_asked names (object_name d)
     ++ start_asked (kind_in version d) (part (codes "start") d)
 
--- the objects, where these names stand before them
+-- the objects, where these names come before them
 abbrev pub objects_asked : ℕ → Table → Items → List Demand
 objects_asked version names no_items = []
 objects_asked version names (item d ds) = object_asked version names d ++ objects_asked version (names ++ object_name d ∷ []) ds

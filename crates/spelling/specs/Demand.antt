@@ -9,7 +9,7 @@ use Rattle.meaning.specs.declared.limits.TheConstants.{MAX_ENTRIES, MAX_NODES, M
 use Rattle.spelling.specs.declared.counts.TheConstants.{MAX_OPERATIONS_BEFORE_4}
 
 -- A test with what is wrong where it fails, or one more of what is counted towards a limit.
--- Behind `in_transaction n` stands what is asked of transaction n.
+-- After `in_transaction n` comes what is asked of transaction n.
 pub data Demand : Type 0 where
   holds : Bool → Wrong → Demand
   one_more_start : Demand

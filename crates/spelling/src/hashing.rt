@@ -6,7 +6,7 @@ use crate::subject::Subject;
 use indexmap::{IndexMap, IndexSet};
 use std::hash::{BuildHasher, DefaultHasher, Hasher};
 
-/// Hashes each name as what stands after the whole document.
+/// Hashes each name as what follows the whole document.
 ///
 /// The author of a document picks its names, and with a hash that is known beforehand he could pick
 /// names that all fall on one place of a table, so that each look-up walks through all of them. Here

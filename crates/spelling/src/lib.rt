@@ -1,5 +1,5 @@
 //! What the text of a document spells, member by member: what is asked of its objects and steps,
-//! in the order of the faults, and the batch's values that they spell. `pull` and `lang` stand on it.
+//! in the order of the faults, and the batch's values that they spell. `pull` and `lang` rest on it.
 #![tactic(auto)]
 
 mod conditions;

@@ -24,7 +24,7 @@ pub struct State {
     pub counts: Counts,
     pub numbering: Numbering,
     pub labels: Labels,
-    /// Whether the reasons of handlers may stand in any order, as some don't ascend.
+    /// Whether the reasons of handlers may come in any order, as some don't ascend.
     pub any_order: bool,
 }
 

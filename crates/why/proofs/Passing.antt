@@ -70,7 +70,7 @@ with_all es fs left n same size =
     )
 
 module _ (batch : Batch) (b place : ℕ) (passed : List Run) (left : List Entry) (at : HavePassed batch b place passed left) where
-  -- what they leave is what the answers do
+  -- what they leave is what the one-thread runs leave
   pub left_is : left ≡ nets (start_of batch) (blocks_of batch) b (length passed)
   left_is = at.nets ∙ run_nets_law (start_of batch) (blocks_of batch) b (length passed)
       (subst (AllKeep (start_of batch) (blocks_of batch) b) (sym at.size) at.keep)

@@ -34,7 +34,7 @@ all_pieces pieces drawn stopped (u ∷ unused) seats some over quiet done told =
     (All-tail (λ s. 0 < s.view.done → drawn ≡ pieces) u (unused ++ seats) done)
     (All-tail (λ s. s.view.stopped ≡ true → stopped ≡ true) u (unused ++ seats) told)
 
--- what holds of each number of a list holds of one that stands in it
+-- what holds of each number of a list holds of one in it
 pub in_list : (Q : ℕ → Type 0) (xs : List ℕ) (k : ℕ) → All Q xs → 0 < times k xs → Q k
 in_list Q [] k each some = absurd (omega arith)
 in_list Q (x ∷ xs) k each some = elim (ℕ_discrete x k) [

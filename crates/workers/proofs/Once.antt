@@ -18,7 +18,7 @@ use Rattle.workers.proofs.Boards.{once_some, once_here}
 bit_other : (x y : ℕ) → y ≢ x → bit (eqb y x) ≡ 0
 bit_other x y other = grind (arith, nat_tests)
 
--- a list in which a number stands, parted there
+-- a list with a number in it, parted there
 pub parted : (x : ℕ) (ks : List ℕ) → 0 < times x ks → (front : List ℕ) × (back : List ℕ) × (ks ≡ front ++ x ∷ back)
 parted x [] some = absurd (omega arith)
 parted x (k ∷ ks) some = elim (ℕ_discrete k x) [
@@ -26,7 +26,7 @@ parted x (k ∷ ks) some = elim (ℕ_discrete k x) [
   | no other ↦ let more = parted x ks (omega (arith, bit_other x k other)) in (k ∷ more.0, more.1, ap (λ l. k ∷ l) more.2)
 ]
 
--- the number that was parted stands there once more than in the rest
+-- the number that was parted is there once more than in the rest
 parted_times : (x y : ℕ) (front back : List ℕ) → times y (front ++ x ∷ back) ≡ times y (front ++ back) + bit (eqb x y)
 parted_times x y front back = omega (arith, times-append y front (x ∷ back), times-append y front back)
 
@@ -36,7 +36,7 @@ range_next a zero = let same : a ≡ a + 0 = omega arith in ap (λ m. m ∷ []) 
 range_next a (suc n) = let same : (a + 1) + n ≡ a + suc n = omega arith in
     ap (λ l. a ∷ l) (range_next (a + 1) n ∙ ap (λ m. range_with_len (a + 1) n ++ m ∷ []) same)
 
--- a list in which no number stands
+-- a list that doesn't have a number
 no_number : (ks : List ℕ) → ((x : ℕ) → times x ks ≡ 0) → ks ≡ []
 no_number [] none = refl
 no_number (k ∷ ks) none = absurd (omega (arith, none k, same_once k))

@@ -11,7 +11,7 @@ use Rattle.spelling.specs.Spelled.{blocks_of}
 use Rattle.spelling.proofs.ListLemmas.{in_front}
 use Rattle.lang.proofs.singly.each_transaction.Given as goal
 
--- what was read stands in front of any items that follow
+-- what was read comes before any items that follow
 abbrev pub invariant-loop-alloc : goal.invariant-loop-alloc
 invariant-loop-alloc l =
     (before : Items → Items)

@@ -20,7 +20,7 @@ decreases-pass_items l = 3 * l.depth + 2
 abbrev pub decreases-pass_members : goal.decreases-pass_members
 decreases-pass_members l = 3 * l.depth + 2
 
--- what was passed stands in front of any items that follow
+-- what was passed comes before any items that follow
 abbrev pub invariant-pass_items-items : goal.invariant-pass_items-items
 invariant-pass_items-items l =
     (n : ℕ) × (k : ℕ) × (before : Items → Items) × (length l.reader ≤ n)

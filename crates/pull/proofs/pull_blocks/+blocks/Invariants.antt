@@ -10,7 +10,7 @@ use Rattle.spelling.specs.Spelled.{block_of, children_spelled, members_of, steps
 use Rattle.spelling.proofs.ListLemmas.{in_front}
 use Rattle.pull.proofs.pull_blocks.+blocks.Given as goal
 
--- what was read stands in front of any items that follow
+-- what was read comes before any items that follow
 abbrev pub invariant-pull_steps-loop-alloc : goal.invariant-pull_steps-loop-alloc
 invariant-pull_steps-loop-alloc l =
     (before : Items → Items)
@@ -69,7 +69,7 @@ decreases-pull_parallel l = 10 * l.levels + 7
 abbrev pub decreases-pull_children : goal.decreases-pull_children
 decreases-pull_children l = 10 * l.levels + 6
 
--- what was read stands in front of any children that follow, where none of all their labels is seen before them
+-- what was read comes before any children that follow, where none of all their labels is seen before them
 abbrev pub invariant-pull_children-loop-alloc : goal.invariant-pull_children-loop-alloc
 invariant-pull_children-loop-alloc l =
     (before : Items → Items)
@@ -107,7 +107,7 @@ decreases-pull_ascending l = 10 * l.levels + 2
 abbrev pub decreases-pull_handler : goal.decreases-pull_handler
 decreases-pull_handler l = 10 * l.levels + 1
 
--- what was read stands in front of any members that follow, and so does what is put among them after its last reason
+-- what was read comes before any members that follow, and so does what is put among them after its last reason
 abbrev pub invariant-pull_ascending-loop-handlers : goal.invariant-pull_ascending-loop-handlers
 invariant-pull_ascending-loop-handlers l =
     (front : Members → Members)
