@@ -1,4 +1,4 @@
--- The operations of a subaction.
+-- The operations of a subaction. No public contract names it.
 use Rattle.std.specs.Prelude.{ℕ, ◌+◌}
 use Rattle.meaning.specs.WellFormed.{operations, operations_of_handlers}
 use Rattle.batch.specs.Views.{Tried}

@@ -1,4 +1,4 @@
--- What a block is run on.
+-- What a block is run on. No public contract names it.
 use Rattle.std.specs.Prelude.{◌≡◌, List, [], ◌++◌}
 use Rattle.objects.specs.declared.entry.Entry.{Entry}
 use Rattle.objects.specs.Entries.{State, after}

@@ -1,4 +1,4 @@
--- What an executor shows of what it did, whatever it runs on.
+-- What an executor shows of what it did, whatever it runs on. No public contract names it.
 use Rattle.std.specs.Prelude.{◌≡◌, List, ◌++◌, Option, option_map}
 use Rattle.meaning.specs.declared.end.End.{End}
 use Rattle.meaning.specs.declared.end.End.TheVariants.{Ended}

@@ -1,4 +1,5 @@
 -- The rule of a board: what holds of its three words and of the views of all seats between any two steps, in every interleaving.
+-- No public contract names it.
 use Rattle.std.specs.Prelude.{◌≡◌, ℕ, ◌+◌, ◌<◌, ◌≤◌, min, true, List, [], ◌∷◌, length, sum_by}
 use Rattle.std.specs.List.{All, list_any}
 use Rattle.atomic_table.specs.Table.{State}

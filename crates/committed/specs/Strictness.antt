@@ -1,4 +1,4 @@
--- Which of two entries commutes forward with less.
+-- Which of two entries commutes forward with less. No public contract names it.
 use Rattle.std.specs.Prelude.{Bool, true, false, nat_le, IsTrue}
 use Rattle.atoms.specs.Account.{account_effect}
 use Rattle.atoms.specs.Counter.{counter_effect}

@@ -1,4 +1,4 @@
--- The value that a draft is, with those that it was, by what is kept of it.
+-- The value that a draft is, with those that it was, by what is kept of it. No public contract names it.
 use Rattle.objects.specs.declared.value.Value.{Value}
 use Rattle.objects.specs.declared.value.Value.TheVariants as value
 use Rattle.drafts.specs.declared.draft.Kept.{Kept}

@@ -1,4 +1,4 @@
--- Numbers with what they were.
+-- Numbers with what they were. No public contract names it.
 use Rattle.std.specs.Prelude.{reverse}
 use Rattle.drafts.specs.declared.number_draft.NumberDraft.{NumberDraft}
 use Rattle.drafts.specs.History.{History}

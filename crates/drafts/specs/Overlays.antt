@@ -1,4 +1,4 @@
--- Sets and directories that differ from a borrowed one at the items that were touched.
+-- Sets and directories that differ from a borrowed one at the items that were touched. No public contract names it.
 use Rattle.std.specs.Prelude.{◌≡◌, ◌<◌, ◌^◌, ℕ, Bool, true, false, List, [], ◌∷◌, Option, IsSome}
 use Rattle.std.specs.BTreeMap.{is_at}
 use Rattle.std.specs.Map.{lookup}

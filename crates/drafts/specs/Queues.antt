@@ -1,4 +1,4 @@
--- Queues that differ from a borrowed one at their ends.
+-- Queues that differ from a borrowed one at their ends. No public contract names it.
 use Rattle.std.specs.Prelude.{ℕ, ◌-◌, ◌≤◌, ◌+◌, List, [], ◌∷◌, ◌++◌, length, take, drop}
 use Rattle.atoms.specs.declared.item.Item.{Item}
 use Rattle.drafts.specs.declared.queue_draft.QueueChange.{QueueChange}

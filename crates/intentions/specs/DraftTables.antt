@@ -1,4 +1,4 @@
--- Drafts by their objects, in a table whose places may be stale.
+-- Drafts by their objects, in a table whose places may be stale. No public contract names it.
 use Rattle.std.specs.Prelude.{◌≡◌, ℕ, nat_eq, List, Option, Some, None, option_and_then, slice_get, if◌then◌else◌, IsSomeAnd}
 use Rattle.objects.specs.declared.value.Value.{Value}
 use Rattle.drafts.specs.History.{History}

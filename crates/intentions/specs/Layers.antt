@@ -1,4 +1,4 @@
--- Drafts of changed values over a snapshot, with one journal of their changes.
+-- Drafts of changed values over a snapshot, with one journal of their changes. No public contract names it.
 use Rattle.std.specs.Prelude.{◌≡◌, ℕ, zero, suc, List, [], ◌∷◌, length, map, take, drop, reverse, unwrap_or}
 use Rattle.objects.specs.declared.value.Value.{Value}
 use Rattle.objects.specs.declared.entry.Entry.{Entry}

@@ -1,4 +1,4 @@
--- Levels kept in one list: the places at which they start.
+-- Levels kept in one list: the places at which they start. No public contract names it.
 use Rattle.std.specs.Prelude.{ℕ, ◌≤◌, List, [], ◌∷◌, take, drop}
 
 -- starts of levels in one list, from the innermost, each within the part before the one inside it

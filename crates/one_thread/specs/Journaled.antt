@@ -1,4 +1,4 @@
--- Objects that are changed in place, with a journal of the changes.
+-- Objects that are changed in place, with a journal of the changes. No public contract names it.
 use Rattle.std.specs.Prelude.{ℕ}
 use Rattle.atoms.specs.Undo as undo
 use Rattle.objects.specs.Objects.{objects}

@@ -1,4 +1,4 @@
--- The objects and their journal as what a block is run on.
+-- The objects and their journal as what a block is run on. No public contract names it.
 use Rattle.std.specs.Prelude.{◌≡◌}
 use Rattle.objects.specs.Entries.{after}
 use Rattle.batch.specs.Grounds.{Ground}

@@ -1,4 +1,4 @@
--- What a check of pending runs returns.
+-- What a check of pending runs returns. No public contract names it.
 use Rattle.std.specs.Prelude.{◌≡◌, ◌≤◌, List, length, take}
 use Rattle.rounds.specs.PendingRuns.{all_left, IsFirstFrom}
 use Rattle.rounds.specs.declared.pending_run.PendingRun.{PendingRun}

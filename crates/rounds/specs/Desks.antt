@@ -1,4 +1,4 @@
--- When a desk is ready for the next run.
+-- When a desk is ready for the next run. No public contract names it.
 use Rattle.std.specs.Prelude.{◌≡◌, []}
 use Rattle.objects.specs.Entries.{State}
 use Rattle.intentions.specs.Levels.{opened}

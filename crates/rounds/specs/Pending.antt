@@ -1,4 +1,4 @@
--- What is known of the pending runs, which are watched.
+-- What is known of the pending runs, which are watched. No public contract names it.
 use Rattle.std.specs.Prelude.{◌≡◌, ◌<◌, ◌≤◌, ℕ, List, length, slice_index_or}
 use Rattle.committed.specs.NumberSets.{Has, AreDistinct}
 use Rattle.committed.specs.Summaries.{entries_of}

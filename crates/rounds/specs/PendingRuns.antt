@@ -1,5 +1,5 @@
 -- Pending runs, and what the passes over them return: which is the first that doesn't hold, which are to be made again,
--- those that were made.
+-- those that were made. No public contract names it.
 use Rattle.std.specs.Prelude.{◌≡◌, ◌≢◌, ℕ, ◌+◌, ◌<◌, ◌≤◌, ◌⊎◌, Option, Some, None, List, [], ◌∷◌, ◌++◌, length, map, take}
 use Rattle.std.specs.Prelude.{slice_index_or}
 use Rattle.std.specs.List.{All}

@@ -1,3 +1,4 @@
+pub mod Lifting
 pub mod Effects
 pub mod Places
 pub mod Embedded

@@ -1,4 +1,4 @@
--- Runs of parallel children that were made ahead, on the state at their step's entry.
+-- Runs of parallel children that were made ahead, on the state at their step's entry. No public contract names it.
 use Rattle.std.specs.Prelude.{◌≡◌, List, [], ◌∷◌, ◌++◌, ⊤}
 use Rattle.std.specs.List.{All}
 use Rattle.objects.specs.declared.entry.Entry.{Entry}

@@ -1,4 +1,4 @@
--- A view as what a block is run on.
+-- A view as what a block is run on. No public contract names it.
 use Rattle.std.specs.Prelude.{◌≡◌}
 use Rattle.batch.specs.Grounds.{Ground}
 use Rattle.intentions.specs.Levels.{Intentions as View, shown_values, absorbed}

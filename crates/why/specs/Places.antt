@@ -1,4 +1,4 @@
--- The operations of a run in memory.
+-- The operations of a run in memory. No public contract names it.
 use Rattle.std.specs.Prelude.{List, map, string_bytes}
 use Rattle.why.specs.Why.{Placed}
 use Rattle.why.specs.declared.places.Place.{Place}

@@ -1,4 +1,4 @@
--- What is known of the runs of a round.
+-- What is known of the runs of a round. No public contract names it.
 use Rattle.std.specs.Prelude.{◌≡◌, ℕ, ◌+◌, ◌<◌, ◌≤◌, Bool, true, false, List, ◌++◌, length, Option, Some, None, slice_index_or}
 use Rattle.std.specs.List.{All, filter}
 use Rattle.objects.specs.Entries.{State, AllCommute, CommuteForward}

@@ -1,4 +1,4 @@
--- Seats before and after their first claim, and what is given of them.
+-- Seats before and after their first claim, and what is given of them. No public contract names it.
 use Rattle.std.specs.Prelude.{◌≡◌, ℕ, ◌+◌, ◌≤◌, List, length}
 use Rattle.std.specs.List.{All}
 use Rattle.claims.specs.declared.claim.Claim.{Claim}

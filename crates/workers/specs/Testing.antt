@@ -1,4 +1,4 @@
--- What a seat that seeks the least failing piece knows.
+-- What a seat that seeks the least failing piece knows. No public contract names it.
 use Rattle.std.specs.Prelude.{◌≡◌, ℕ, ◌<◌, ◌≤◌, ◌⊎◌, Bool, true, false, List}
 use Rattle.std.specs.List.{All}
 use Rattle.claims.specs.declared.view.View.{View}
