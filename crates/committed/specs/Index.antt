@@ -1,4 +1,4 @@
--- An index of a list of entries: for each slot of a table, a chain of entries. No public contract names it.
+-- An index of a list of entries: for each slot of a table, a chain of entries.
 use Rattle.std.specs.Prelude.{◌≡◌, ◌≢◌, List, ℕ, ◌+◌, ◌-◌, ◌*◌, ◌/◌, ◌%◌, ◌^◌, ◌<◌, ◌≤◌, length, min, slice_index_or, vec_len, vec_capacity}
 use Rattle.std.specs.Prelude.{bit_and, if◌then◌else◌}
 use Rattle.objects.specs.declared.entry.Entry.{Entry}
