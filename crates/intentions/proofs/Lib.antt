@@ -3,3 +3,4 @@ pub mod EntriesLemmas
 pub mod DraftTableLemmas
 pub mod LayersLemmas
 pub mod ViewLemmas
+pub mod TrialLemmas

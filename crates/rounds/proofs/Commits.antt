@@ -15,7 +15,8 @@ use Rattle.rounds.specs.declared.pending_run.PendingRun.{PendingRun}
 use Rattle.rounds.specs.PendingRuns.{own_net, own_nets}
 
 -- two lists, one after the other
-split_legal : (values : List Value) (xs ys : List Entry) → AreLegal values (xs ++ ys) → AreLegal values xs × AreLegal (after values xs) ys
+pub split_legal : (values : List Value) (xs ys : List Entry) → AreLegal values (xs ++ ys) → AreLegal values xs
+    × AreLegal (after values xs) ys
 split_legal values [] ys h = (tt, h)
 split_legal values (x ∷ xs) ys h = let rest = split_legal (objects.after values (x.object, x.call)) xs ys h.1 in ((h.0, rest.0), rest.1)
 

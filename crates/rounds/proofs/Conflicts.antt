@@ -19,7 +19,7 @@ use Rattle.rounds.specs.declared.pending_run.PendingRun.{PendingRun}
 use Rattle.rounds.specs.PendingRuns.{left_by, AreSumsOf, IsPendingOf, own_nets, all_left, HoldsPast, HoldsAt, IsFirstFrom}
 
 -- a pending run is that of another state where both have the same record and outcome
-moved : (r s : one_thread.Run Taken) (made : PendingRun) → IsPendingOf r made → record_of s ≡ record_of r → outcome_of s ≡ outcome_of r
+pub moved : (r s : one_thread.Run Taken) (made : PendingRun) → IsPendingOf r made → record_of s ≡ record_of r → outcome_of s ≡ outcome_of r
     → IsPendingOf s made
 moved r s made is taken outcome =
     let nets_are : net (record_of r) (outcome_of r) ≡ net (record_of s) (outcome_of s) =

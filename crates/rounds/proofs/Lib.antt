@@ -11,3 +11,7 @@ pub mod Summed
 pub mod Steps
 pub mod Ends
 pub mod Touched
+pub mod Repeating
+pub mod Wholes
+pub mod Trials
+pub mod Blanks

@@ -1,15 +1,15 @@
 -- Runs take their places one after the other.
-use Rattle.std.proofs.Common.{◌≡◌, ℕ, zero, suc, ◌+◌, ◌<◌, ◌≤◌, List, [], ◌∷◌, length, get_or, set, take, refl, sym, ap, ◌∙◌, subst, arith}
+use Rattle.std.proofs.Common.{◌≡◌, inr, ℕ, zero, suc, ◌+◌, ◌<◌, ◌≤◌, List, [], ◌∷◌, length, get_or, set, take, refl, sym, ap, ◌∙◌, subst, arith}
 use Rattle.std.proofs.lemmas.List.{take_more, get_or-set_same, get_or-set_other, length-set}
 use native.Mathlib.Decide.{ℕ_discrete}
-use Rattle.objects.specs.Entries.{State}
+use Rattle.objects.specs.Entries.{State, kinds}
 use Rattle.rounds.specs.Desks.{IsDeskOn}
 use Rattle.rounds.specs.declared.desk.Desk.{Desk}
 use Rattle.rounds.specs.Views.{meaning}
 use Rattle.rounds.specs.declared.pending_run.PendingRun.{PendingRun}
 use Rattle.batch.specs.declared.batch.Batch.{Batch}
 use Rattle.claims.specs.Views.{times}
-use Rattle.rounds.specs.PendingRuns.{IsPendingOf, AreRenewed}
+use Rattle.rounds.specs.PendingRuns.{IsPendingOf, WasMade, AreRenewed}
 use Rattle.claims.proofs.Lists.{times-append}
 use Rattle.rounds.proofs.Times.{times_one, times_none}
 
@@ -87,3 +87,12 @@ renewed_next batch state numbers k n old runs new was counts more lt is so_far o
       ];
       told = λ i below. let s = split i in let before = so_far.told i below in let now = one.told i (omega arith) in omega arith;
     }
+
+-- a run that is still to be made again is an earlier one, and so is one that was
+pub still_earlier : (batch : Batch) (state : State) (numbers : List ℕ) (old runs : List PendingRun) (was counts : List ℕ) (n : ℕ)
+    → kinds state ≡ kinds batch.objects → AreRenewed batch state numbers old runs was counts
+    → ((d : PendingRun) → WasMade batch n (get_or old n d)) → (d : PendingRun) → WasMade batch n (get_or runs n d)
+still_earlier batch state numbers old runs was counts n same renewed earlier d = elim (ℕ_discrete (times n numbers) 0) [
+  | yes none ↦ subst (WasMade batch n) (sym (renewed.same n d none)) (earlier d)
+  | no some ↦ inr (state, same, renewed.made n d (omega arith))
+]

@@ -21,6 +21,7 @@ use Rattle.batch.specs.declared.batch.Batch.{Batch}
 use Rattle.speculate.proofs.Room.{kinds_at, nets_have_room}
 use Rattle.rounds.proofs.Room.{made_at}
 use Rattle.rounds.proofs.Times.{times_read}
+use Rattle.rounds.proofs.Renewing.{still_earlier}
 use Rattle.rounds.specs.Passes.{CanBeMade}
 use Rattle.claims.specs.Views.{times}
 use Rattle.rounds.specs.PendingRuns.{IsPendingOf, own_nets, all_left, Kept, HoldsPast, AreRefuted, AreRenewed, IsFirstFrom}
@@ -36,16 +37,18 @@ none_or_some (suc n) = inr (omega arith)
 -- before the first round every number is stale
 pub starts : (batch : Batch) (state : State) (runs : List PendingRun) (counts stale : List ℕ) → state ≡ start_of batch
     → length runs ≡ length (blocks_of batch) → length counts ≡ length (blocks_of batch) → ((i : ℕ) → get_or counts i 0 ≡ 0)
+    → ((i : ℕ) (d : PendingRun) → i < length (blocks_of batch) → (get_or runs i d).sums.entries.items ≡ [])
     → ((i : ℕ) → i < length (blocks_of batch) → times i stale ≡ 1) → ((i : ℕ) → length (blocks_of batch) ≤ i → times i stale ≡ 0)
     → AtOpening batch 0 0 state runs counts stale
 unfolding state_at
-starts batch state runs counts stale is all counted none once past = record {
+starts batch state runs counts stale is all counted none blank once past = record {
   within = omega arith;
   all = all;
   counted = counted;
   reached = is;
   committed = λ i d lt. absurd (omega arith);
   pending = λ i d low lt fresh. let o = once i lt in absurd (omega arith);
+  earlier = λ i d low lt. inl (blank i d lt);
   numbers = λ i some. (
     omega arith,
     elim (dec_le (length (blocks_of batch)) i) [
@@ -75,6 +78,11 @@ old_fresh batch b rounds state runs counts stale at i lt = ⊎_elim
     (λ (some : 0 < times i stale). let from = (at.numbers i some).0 in absurd (omega arith))
     (none_or_some (times i stale))
 
+-- the objects are of the kinds that they were of at the start
+pub same_kinds : (batch : Batch) (b rounds : ℕ) (state : State) (runs : List PendingRun) (counts stale : List ℕ)
+    → AtOpening batch b rounds state runs counts stale → kinds state ≡ kinds (start_of batch)
+same_kinds batch b rounds state runs counts stale at = ap kinds at.reached ∙ kinds_at batch b at.within
+
 -- the stale runs are made again, so none is stale
 pub renewed : (batch : Batch) (b rounds : ℕ) (state : State) (runs new : List PendingRun) (was counts stale : List ℕ)
     → AtOpening batch b rounds state runs was stale → AreRenewed batch state stale runs new was counts
@@ -92,6 +100,8 @@ renewed batch b rounds state runs new was counts stale at put = record {
       (λ (some : 0 < times i stale). subst (λ s. IsPendingOf (one (block_at (blocks_of batch) i) [] s) (get_or new i d)) at.reached
       (put.made i d some))
       (none_or_some (times i stale));
+  earlier = λ i d low lt. still_earlier batch state stale runs new was counts i (same_kinds batch b rounds state runs was stale at) put
+      (λ e. at.earlier i e low lt) d;
   numbers = λ i some. absurd (omega arith);
   few_rounds = at.few_rounds;
   few_runs = λ i. elim (dec_le (length counts) i) [
@@ -215,6 +225,7 @@ module _ (batch : Batch) (b m : ℕ) (rounds : ℕ) (state next : State) (runs :
           | no less ↦ at.committed i d (omega arith)
         ];
         pending = kept_pending at left (omega arith) told;
+        earlier = λ i d low lt. at.earlier i d (omega arith) lt;
         numbers = λ i some. let there = stale_within told i some in (there.0, omega arith);
         few_rounds = omega arith;
         few_runs = λ i. let few_runs = at.few_runs i in let once = few_stale told i in omega arith;
@@ -281,10 +292,6 @@ stale_can_be_made batch b rounds state runs counts stale given at is k d lt =
     let stands : 0 < times number given = times_read given k d lt in
     let there = at.numbers number (subst (λ ns. 0 < times number ns) is stands) in
     subst (λ s. CanBeMade batch s number) (sym at.reached) (made_at batch b at.within number there.0 there.1)
-
-pub same_kinds : (batch : Batch) (b rounds : ℕ) (state : State) (runs : List PendingRun) (counts stale : List ℕ)
-    → AtOpening batch b rounds state runs counts stale → kinds state ≡ kinds (start_of batch)
-same_kinds batch b rounds state runs counts stale at = ap kinds at.reached ∙ kinds_at batch b at.within
 
 -- one round: runs are made, the first that conflicts is sought, those before it are committed, and the kept are found
 pub one_round : (batch : Batch) (b rounds : ℕ) (seen : Seen) (state next : State) (old new first_of prefix_of kept_of : List PendingRun)

@@ -7,13 +7,13 @@ use Rattle.meaning.specs.declared.limits.TheConstants.{MAX_TRANSACTIONS}
 use Rattle.rounds.specs.Views.{start_of, blocks_of}
 use Rattle.rounds.specs.Pending.{Tells}
 use Rattle.claims.specs.Views.{times}
-use Rattle.rounds.specs.PendingRuns.{IsPendingOf}
+use Rattle.rounds.specs.PendingRuns.{IsPendingOf, WasMade}
 use Rattle.rounds.specs.declared.openings.Opening.{Opening}
 use Rattle.rounds.specs.declared.pending_run.PendingRun.{PendingRun}
 use Rattle.batch.specs.declared.batch.Batch.{Batch}
 
 -- At opening b, after so many rounds: the objects are those after the first b transactions, which have their results,
--- and each later one has a run on this state, or its number is among the stale ones.
+-- and each later one has a run on this state, or its number is among the stale ones and its run is of an earlier state.
 pub record AtOpening (batch : Batch) (b rounds : ℕ) (state : State) (runs : List PendingRun) (counts stale : List ℕ) : Type 0 where
   pub within : b ≤ length (blocks_of batch)
   pub all : length runs ≡ length (blocks_of batch)
@@ -22,6 +22,7 @@ pub record AtOpening (batch : Batch) (b rounds : ℕ) (state : State) (runs : Li
   pub committed : (i : ℕ) (d : PendingRun) → i < b → IsPendingOf (answer (start_of batch) (blocks_of batch) i) (slice_index_or runs i d)
   pub pending : (i : ℕ) (d : PendingRun) → b ≤ i → i < length (blocks_of batch) → times i stale ≡ 0
       → IsPendingOf (alone (start_of batch) (blocks_of batch) i b) (slice_index_or runs i d)
+  pub earlier : (i : ℕ) (d : PendingRun) → b ≤ i → i < length (blocks_of batch) → WasMade batch i (slice_index_or runs i d)
   pub numbers : (i : ℕ) → 0 < times i stale → (b ≤ i) × (i < length (blocks_of batch))
   pub few_rounds : rounds ≤ b
   pub few_runs : (i : ℕ) → slice_index_or counts i 0 + times i stale ≤ rounds + 1

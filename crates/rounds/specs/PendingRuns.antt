@@ -1,11 +1,11 @@
 -- Pending runs, and what the passes over them return: which is the first that doesn't hold, which are to be made again,
 -- those that were made. No public contract names it.
-use Rattle.std.specs.Prelude.{◌≡◌, ◌≢◌, ℕ, ◌+◌, ◌<◌, ◌≤◌, ◌⊎◌, Option, Some, None, List, [], ◌∷◌, ◌++◌, length, map, take}
+use Rattle.std.specs.Prelude.{◌≡◌, ◌≢◌, ℕ, ◌+◌, ◌<◌, ◌≤◌, ◌⊎◌, Option, Some, None, List, [], ◌∷◌, ◌++◌, length, map, take, set}
 use Rattle.std.specs.Prelude.{slice_index_or}
 use Rattle.std.specs.List.{All}
 use Rattle.std.specs.declared.vec.Vec.{Vec}
 use Rattle.std.specs.declared.alloc.Global.{Global}
-use Rattle.objects.specs.Entries.{State, AllCommute}
+use Rattle.objects.specs.Entries.{State, AllCommute, kinds}
 use Rattle.meaning.specs.Records.{Taken, entries}
 use Rattle.meaning.specs.OneThread.{Run as OneRun, record_of}
 use Rattle.meaning.specs.Batch.{net_of, shown_of}
@@ -38,16 +38,22 @@ net_or summed (Some net) = net.items
 abbrev pub own_net : PendingRun → List Entry
 own_net run = net_or (left_by run.sums) run.net
 
--- summaries of these entries and of this net
+-- summaries of these entries and of this net, which has a summary of its own where it isn't all of the entries
 pub record AreSumsOf (sums : Sums) (entries net : List Entry) : Type 0 where
   pub entries_are : IsSummary (entries_of sums.entries.items) entries
   pub net_is : IsSummary (left_by sums) net
+  pub whole : sums.of_net ≡ None → net ≡ entries
 
 -- a pending run of a meaning: its record and its net, with summaries of its entries and its net
 pub record IsPendingOf (meant : OneRun Taken) (run : PendingRun) : Type 0 where
   pub tree : record_view run.tree ≡ shown_of meant
   pub net : own_net run ≡ net_of meant
   pub sums : AreSumsOf run.sums (entries (record_of meant)) (net_of meant)
+
+-- a run without entries, or one of this number that was made on some state of the batch's objects
+abbrev pub WasMade : Batch → ℕ → PendingRun → Type 0
+WasMade batch number run = (run.sums.entries.items ≡ [])
+    ⊎ ((state : State) × (kinds state ≡ kinds batch.objects) × IsPendingOf (meaning batch number state) run)
 
 -- what runs leave, one after the other
 abbrev pub own_nets : List PendingRun → List Entry
@@ -115,18 +121,28 @@ pub record AreRefutedAmong (runs : List PendingRun) (since : List Entry) (places
 abbrev pub numbers_of : List Made → List ℕ
 numbers_of = map (λ m. m.number)
 
--- a run of its number on this state
-abbrev pub IsMade : Batch → State → Made → Type 0
-IsMade batch state made = IsPendingOf (meaning batch made.number state) made.run
+-- a pending run of a meaning: the one that was made or, where there is none, the earlier one
+abbrev pub IsThisOrThat : OneRun Taken → PendingRun → Option PendingRun → Type 0
+IsThisOrThat meant earlier (Some run) = IsPendingOf meant run
+IsThisOrThat meant earlier None = IsPendingOf meant earlier
+
+-- a run of its number on this state, where these are the earlier ones
+abbrev pub IsMade : Batch → State → List PendingRun → Made → Type 0
+IsMade batch state runs made = (d : PendingRun) → IsThisOrThat (meaning batch made.number state) (slice_index_or runs made.number d) made.run
+
+-- runs with one more in its place, where one was made
+abbrev pub with_run : List PendingRun → ℕ → Option PendingRun → List PendingRun
+with_run runs number None = runs
+with_run runs number (Some run) = set runs number run
 
 -- a run for each of the numbers, in any order, made on this state
-pub record AreMade (batch : Batch) (state : State) (numbers : List ℕ) (made : List Made) : Type 0 where
-  pub each : All (IsMade batch state) made
+pub record AreMade (batch : Batch) (state : State) (runs : List PendingRun) (numbers : List ℕ) (made : List Made) : Type 0 where
+  pub each : All (IsMade batch state runs) made
   pub dealt : (i : ℕ) → times i (numbers_of made) ≡ times i numbers
 
 -- a run for each of the numbers was added to a list, in any order, made on this state
-abbrev pub AreAdded : Batch → State → List ℕ → List Made → List Made → Type 0
-AreAdded batch state numbers before after = (own : List Made) × (after ≡ before ++ own) × AreMade batch state numbers own
+abbrev pub AreAdded : Batch → State → List PendingRun → List ℕ → List Made → List Made → Type 0
+AreAdded batch state runs numbers before after = (own : List Made) × (after ≡ before ++ own) × AreMade batch state runs numbers own
 
 -- the numbered runs were made on this state and put in their places, and counted. The others stay
 pub record AreRenewed (batch : Batch) (state : State) (numbers : List ℕ) (old new : List PendingRun) (was counts : List ℕ) : Type 0 where

@@ -188,7 +188,8 @@ fn summed(alloc: Global, runs: &[Run]) -> Result<Vec<PendingRun>, NoMemory>
     let mut pending = Vec::with_capacity(alloc, runs.len())?;
     for run in runs {
         let mut next = PendingRun::empty(alloc);
-        next.sums.renew(alloc, &run.entries, &run.net)?;
+        let whole = run.net == run.entries;
+        next.sums.renew(alloc, &run.entries, &run.net, whole)?;
         pending.push(next)?;
     }
     Ok(pending)

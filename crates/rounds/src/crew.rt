@@ -33,7 +33,11 @@ impl<'a, R, G> Crew<'a, R, G> {
             alloc,
             plan,
             gate,
-            operations_each: operations_each(batch),
+            operations_each: if plan.workers > 1 {
+                operations_each(batch)
+            } else {
+                1
+            },
         }
     }
 }

@@ -1,6 +1,7 @@
 //! The loop of openings. Each round makes the runs that are needed, seeks the first that
 //! conflicts, commits those before it, and decides which of the others are kept.
-ghost use Rattle.std.specs.Prelude.{◌≡◌, ◌<◌, ◌≤◌, ℕ, length, IfOk, OnOk, map, slice_index_or};
+ghost use Rattle.std.specs.Prelude.{◌≡◌, ◌<◌, ◌≤◌, ℕ, [], length, IfOk, OnOk, map, slice_index_or};
+ghost use Rattle.rounds.specs.declared.pending_run.PendingRun.{PendingRun as OnePending};
 ghost use Rattle.objects.specs.Entries.{after};
 ghost use Rattle.meaning.specs.Batch.{all_shown, final_state, nets};
 ghost use Rattle.meaning.specs.Rounds.{Rounds};
@@ -26,7 +27,8 @@ use std::thread::Threads;
 
 // A place for each transaction, with no run yet.
 fn blank_runs(alloc: Global, count: usize) -> Result<Vec<PendingRun>, NoMemory>
-    ensures { IfOk result (λ runs. length runs.items ≡ count) }
+    ensures all { IfOk result (λ runs. length runs.items ≡ count) }
+    ensures blank { IfOk result (λ runs. (i : ℕ) (d : OnePending) → i < count → (slice_index_or runs.items i d).sums.entries.items ≡ []) }
 {
     let mut runs = Vec::with_capacity(alloc, count)?;
     for _ in 0..count {
@@ -67,6 +69,7 @@ fn records_of(alloc: Global, runs: Vec<PendingRun>) -> Result<Vec<Record>, NoMem
             tree,
             sums: _,
             net: _,
+            wait: _,
         } = made;
         records.push(tree)?;
     }

@@ -5,7 +5,8 @@ ghost use Rattle.objects.specs.Entries.{kinds};
 ghost use Rattle.rounds.specs.Desks.{IsDeskOn};
 ghost use Rattle.rounds.specs.Passes.{CanBeMade};
 ghost use Rattle.claims.specs.Views.{times};
-ghost use Rattle.rounds.specs.PendingRuns.{AreRenewed};
+ghost use Rattle.rounds.specs.PendingRuns.{AreRenewed, WasMade, with_run};
+ghost use Rattle.rounds.specs.declared.pending_run.PendingRun.{PendingRun as OnePending};
 ghost use Rattle.meaning.specs.declared.limits.TheConstants.{MAX_TRANSACTIONS};
 ghost use Rattle.plan.specs.declared.plan.TheConstants.{MAX_WORKERS};
 
@@ -26,19 +27,23 @@ fn count(number: usize, counts: &mut Vec<u32>)
     counts[number] += 1;
 }
 
-// Puts a run into the place of its number, and counts it.
-fn put(run: PendingRun, number: usize, runs: &mut Vec<PendingRun>, counts: &mut Vec<u32>)
-    requires within { number < length runs.old.items }
-    requires counted { number < length counts.old.items }
-    requires few { slice_index_or counts.old.items number 0 ≤ MAX_TRANSACTIONS + 1 }
-    ensures runs { runs.new.items ≡ set runs.old.items number run }
-    ensures counts { counts.new.items ≡ set counts.old.items number (slice_index_or counts.old.items number 0 + 1) }
+// Puts a run into the place of its number, where one was made, and counts it.
+fn put(made: Made, runs: &mut Vec<PendingRun>, counts: &mut Vec<u32>)
+    requires within { made.number < length runs.old.items }
+    requires counted { made.number < length counts.old.items }
+    requires few { slice_index_or counts.old.items made.number 0 ≤ MAX_TRANSACTIONS + 1 }
+    ensures runs { runs.new.items ≡ with_run runs.old.items made.number made.run }
+    ensures counts { counts.new.items ≡ set counts.old.items made.number (slice_index_or counts.old.items made.number 0 + 1) }
 {
-    runs[number] = run;
+    let Made { number, run } = made;
+    if let Some(run) = run {
+        runs[number] = run;
+    }
     count(number, counts);
 }
 
-// Makes a run at the desk. It takes its place at once, in the memory of the one before it.
+// Makes a run at the desk. It takes its place at once, in the memory of the one before it, unless that
+// one gets the same replies.
 fn renew_at<R: Threads + Sync, G: Gate>(
     crew: &Crew<R, G>,
     batch: &Batch,
@@ -51,6 +56,7 @@ fn renew_at<R: Threads + Sync, G: Gate>(
     requires within { (place < length runs.old.items) × (place < length counts.old.items) × (place ≤ MAX_TRANSACTIONS) }
     requires few { slice_index_or counts.old.items place 0 ≤ MAX_TRANSACTIONS + 1 }
     requires can { CanBeMade batch.now desk.old.view.snapshot place }
+    requires earlier { (d : OnePending) → WasMade batch.now place (slice_index_or runs.old.items place d) }
     requires same_kinds { kinds desk.old.view.snapshot ≡ kinds batch.now.objects }
     requires narrow { (1 ≤ width) × (width ≤ MAX_WORKERS) }
     requires ready { IsDeskOn desk.old.view.snapshot desk.old }
@@ -83,6 +89,7 @@ fn renew_in_turn<R: Threads + Sync, G: Gate>(
     requires few { (length batch.now.transactions.items ≤ MAX_TRANSACTIONS) × (length stale.now ≤ MAX_TRANSACTIONS) }
     requires numbers { (i : ℕ) → 0 < times i stale.now → i < length batch.now.transactions.items }
     requires made { All (λ n. CanBeMade batch.now objects.now n) stale.now }
+    requires earlier { (i : ℕ) (d : OnePending) → 0 < times i stale.now → WasMade batch.now i (slice_index_or runs.old.items i d) }
     requires same_kinds { kinds objects.now ≡ kinds batch.now.objects }
     requires room { (i : ℕ) → slice_index_or counts.old.items i 0 + times i stale.now ≤ MAX_TRANSACTIONS + 1 }
     ensures renewed { IfOk result (λ _. AreRenewed batch.now objects.now stale.now runs.old.items runs.new.items counts.old.items counts.new.items) }
@@ -111,6 +118,7 @@ pub(crate) fn renew<R: Threads + Sync, G: Gate>(
     requires few { (length batch.now.transactions.items ≤ MAX_TRANSACTIONS) × (length stale.now ≤ MAX_TRANSACTIONS) }
     requires numbers { (i : ℕ) → 0 < times i stale.now → i < length batch.now.transactions.items }
     requires made { All (λ n. CanBeMade batch.now objects.now n) stale.now }
+    requires earlier { (i : ℕ) (d : OnePending) → 0 < times i stale.now → WasMade batch.now i (slice_index_or runs.old.items i d) }
     requires same_kinds { kinds objects.now ≡ kinds batch.now.objects }
     requires room { (i : ℕ) → slice_index_or counts.old.items i 0 + times i stale.now ≤ MAX_TRANSACTIONS + 1 }
     ensures renewed { IfOk result (λ _. AreRenewed batch.now objects.now stale.now runs.old.items runs.new.items counts.old.items counts.new.items) }
@@ -118,10 +126,9 @@ pub(crate) fn renew<R: Threads + Sync, G: Gate>(
     if makers(crew, stale.len()) == 1 {
         return renew_in_turn(crew, batch, objects, stale, runs, counts);
     }
-    let mut made = make_all(crew, batch, objects, stale)?;
+    let mut made = make_all(crew, batch, objects, stale, runs)?;
     'putting: while let Some(next) = made.pop() {
-        let Made { number, run } = next;
-        put(run, number, runs, counts);
+        put(next, runs, counts);
     }
     Ok(())
 }

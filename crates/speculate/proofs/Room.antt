@@ -30,7 +30,7 @@ use Rattle.batch.proofs.CanRun.{operations_before}
 
 -- ---- legal entries have room where there is room for as many operations
 
-legal_call_fits : (state : State) (object : ℕ) (call : Call) (reply : Reply) → reply_at state object call ≡ Some reply
+pub legal_call_fits : (state : State) (object : ℕ) (call : Call) (reply : Reply) → reply_at state object call ≡ Some reply
     → CallFits (kinds state) object call
 legal_call_fits [] object call reply h = absurd cc
 legal_call_fits (v ∷ vs) zero call reply h = ap Some (legal-fits (v ∷ vs) zero call reply h)
@@ -58,14 +58,14 @@ mutual
     length-append (entries_of_step step) (entries rest),
   )
 
-  kept_of_step-le : (step : TakenStep) → length (kept_of_step step) ≤ length (entries_of_step step)
+  pub kept_of_step-le : (step : TakenStep) → length (kept_of_step step) ≤ length (entries_of_step step)
   kept_of_step-le (Performed entry) = omega arith
   kept_of_step-le (Branched then branch outcome) = kept-le branch
   kept_of_step-le (Acted subaction) = kept_of_child-le subaction
   kept_of_step-le TakenStep.Abort = omega arith
   kept_of_step-le (InParallel children) = kept_of_children-le children
 
-  kept_of_child-le : (child : TakenChild) → length (kept_of_child child) ≤ length (entries_of_child child)
+  pub kept_of_child-le : (child : TakenChild) → length (kept_of_child child) ≤ length (entries_of_child child)
   kept_of_child-le (Committed body) = kept-le body
   kept_of_child-le (Undone body reason handler) = omega (
     arith,
@@ -74,11 +74,11 @@ mutual
         (entries_of_handler handler),
   )
 
-  kept_of_handler-le : (handler : TakenHandler) → length (kept_of_handler handler) ≤ length (entries_of_handler handler)
+  pub kept_of_handler-le : (handler : TakenHandler) → length (kept_of_handler handler) ≤ length (entries_of_handler handler)
   kept_of_handler-le NoHandler = omega arith
   kept_of_handler-le (Handled handler outcome) = kept-le handler
 
-  kept_of_children-le : (children : TakenChildren) → length (kept_of_children children) ≤ length (entries_of_children children)
+  pub kept_of_children-le : (children : TakenChildren) → length (kept_of_children children) ≤ length (entries_of_children children)
   kept_of_children-le NoChild = omega arith
   kept_of_children-le (Child child younger) =
       omega (

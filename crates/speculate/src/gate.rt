@@ -29,6 +29,11 @@ pub trait Gate: Sync {
     /// Called when a run of the transaction has been made.
     fn made(&self, transaction: u32, run: &Run);
 
+    /// Called in place of `made` where a transaction was run again and its calls got the replies of
+    /// the run before it. The run is then the same one. It does nothing where a gate has no body for
+    /// it.
+    fn repeated(&self, _transaction: u32) {}
+
     /// Called as a round ends, from the thread that runs the batch.
     fn ended(&self, progress: &Progress);
 }

@@ -1,7 +1,13 @@
-use Rattle.std.proofs.Common.{subst}
+use Rattle.std.proofs.Common.{sym, ◌∙◌, subst}
 use Rattle.rounds.specs.PendingRuns.{AreSumsOf}
-use Rattle.rounds.proofs.Summed.{summed_more}
+use Rattle.rounds.proofs.Summed.{same_entries, summed_more}
 use Rattle.rounds.proofs.check.summed.Goals as goal
+
+pub renew-requires : goal.renew-requires
+renew-requires c = record {
+  whole = λ whole. c.deref-in-loop-run.ensures.value
+      ∙ (same_entries c.run-item.result.net.items c.run-item.result.entries.items (sym c.eq-whole.ensures ∙ whole) ∙ sym c.deref.ensures.value);
+}
 
 pub loop-run-preserved : goal.loop-run-preserved
 loop-run-preserved c =

@@ -16,13 +16,14 @@ returns c =
     let stale = c.in_ok-all_numbers in
     record {
       here = starts batch c.in_ok-copy.field-0 runs.field-0.items counts.field-0.items stale.field-0.items c.in_ok-copy.ensures
-          (omega (arith, runs.ensures)) (omega (arith, counts.ensures.0)) counts.ensures.1
+          (omega (arith, runs.ensures.all)) (omega (arith, counts.ensures.0)) counts.ensures.1
+          (λ i d lt. runs.ensures.blank i d (omega (arith, lt)))
           (λ i lt. stale.ensures.below i (omega (arith, lt))) (λ i le. stale.ensures.beyond i (omega (arith, le)));
       few = omega (arith, stale.ensures.all);
       tells = record {
-        all = omega (arith, c.in_ok-new.ensures, runs.ensures);
+        all = omega (arith, c.in_ok-new.ensures, runs.ensures.all);
         watched = λ run d low high out.
-            let once = stale.ensures.below run (omega (arith, high, runs.ensures)) in
+            let once = stale.ensures.below run (omega (arith, high, runs.ensures.all)) in
             absurd (out (has_of_times stale.field-0.items run (omega (arith, once))));
       };
     }

@@ -23,6 +23,12 @@ renew-requires-clause-made g c κs lives = stale_can_be_made c.args.batch.now c.
     c.args.at.now.runs.items c.args.at.now.counts.items c.args.at.now.stale.items c.deref.result.now c.requires.at.here
     c.deref.ensures.value
 
+pub renew-requires-clause-earlier : goal.renew-requires-clause-earlier
+renew-requires-clause-earlier g c κs lives = λ i d some.
+    let stale : 0 < times i c.args.at.now.stale.items = subst (λ l. 0 < times i l) c.deref.ensures.value some in
+    let there = c.requires.at.here.numbers i stale in
+    c.requires.at.here.earlier i d there.0 there.1
+
 pub renew-requires-clause-same_kinds : goal.renew-requires-clause-same_kinds
 renew-requires-clause-same_kinds g c κs lives = same_kinds c.args.batch.now c.args.at.now.opened c.args.at.now.rounds c.args.at.now.objects
     c.args.at.now.runs.items c.args.at.now.counts.items c.args.at.now.stale.items c.requires.at.here

@@ -1,6 +1,24 @@
-use Rattle.std.proofs.Common.{◌<◌, length, set, sym, ◌∙◌, subst, arith}
-use Rattle.rounds.proofs.Making.{ArePut, put_inside, put_one}
+use Rattle.std.proofs.Common.{◌≡◌, ◌<◌, length, get_or, sym, ◌∙◌, subst, arith}
+use Rattle.std.proofs.lemmas.List.{get_or_default}
+use Rattle.rounds.specs.PendingRuns.{WasMade, AreMade, with_run}
+use Rattle.rounds.proofs.Times.{times_read}
+use Rattle.rounds.proofs.Making.{nothing_put, ArePut, put_inside, put_one}
 use Rattle.rounds.proofs.renew.renew.Goals as goal
+
+pub make_all-requires-clause-earlier : goal.make_all-requires-clause-earlier
+make_all-requires-clause-earlier g c κs lives k d lt e =
+    let stale = c.args.stale.now in
+    let same : get_or stale k 0 ≡ get_or stale k d = get_or_default stale k 0 d lt in
+    subst (λ rs. WasMade c.args.batch.now (get_or stale k d) (get_or rs (get_or stale k d) e)) (sym c.deref.ensures.value)
+    (subst (λ n. WasMade c.args.batch.now n (get_or c.args.runs.now.items n e)) same
+    (c.requires.earlier (get_or stale k 0) e (times_read stale k 0 lt)))
+
+pub putting-init : goal.putting-init
+putting-init g c =
+    let batch = c.args.batch.now in
+    let objects = c.args.objects.now in
+    nothing_put batch objects c.args.stale.now c.args.runs.now.items c.args.counts.now.items c.in_ok-made.made.items
+    (subst (λ rs. AreMade batch objects rs c.args.stale.now c.in_ok-made.made.items) c.deref.ensures.value c.in_ok-made.ensures)
 
 pub put-requires-clause-within : goal.put-requires-clause-within
 put-requires-clause-within g c =
@@ -46,7 +64,7 @@ putting-preserved g c =
     c.in-Some.ensures.items c.putting.invariant) in
     let place : next.number < length old = subst (λ n. next.number < n) (sym c.requires.every) within in
     subst (λ rs. ArePut batch objects stale old rs was c.put.new.counts.items c.pop.new.self.items) (sym c.put.ensures.runs)
-    (subst (λ cs. ArePut batch objects stale old (set c.putting.runs.items next.number next.run) was cs c.pop.new.self.items)
+    (subst (λ cs. ArePut batch objects stale old (with_run c.putting.runs.items next.number next.run) was cs c.pop.new.self.items)
     (sym c.put.ensures.counts)
     (put_one batch objects stale old c.putting.runs.items was c.putting.counts.items c.putting.made.items c.pop.new.self.items next
     (c.requires.counted ∙ sym c.requires.every) place c.in-Some.ensures.items c.putting.invariant))

@@ -1,10 +1,10 @@
-use Rattle.std.proofs.Common.{[], ◌∷◌, get_or, refl, ap, subst, arith}
+use Rattle.std.proofs.Common.{[], ◌∷◌, get_or, take, refl, ap, subst, arith}
 use Rattle.std.proofs.lemmas.List.{take_all}
 use Rattle.intentions.specs.Levels.{Intentions as View}
 use Rattle.rounds.specs.Desks.{IsDeskOn}
 use Rattle.rounds.specs.PendingRuns.{AreRenewed}
 use Rattle.rounds.proofs.Times.{times_read}
-use Rattle.rounds.proofs.Renewing.{renewed_next, times_take}
+use Rattle.rounds.proofs.Renewing.{renewed_next, still_earlier, times_take}
 use Rattle.rounds.proofs.renew.renew_in_turn.Goals as goal
 
 pub renew_at-requires-clause-few : goal.renew_at-requires-clause-few
@@ -16,6 +16,14 @@ renew_at-requires-clause-few g c κs within =
     let few = times_take place c.loop-number.number-index c.args.stale.now in
     let room = c.requires.room place in
     omega arith
+
+pub renew_at-requires-clause-earlier : goal.renew_at-requires-clause-earlier
+renew_at-requires-clause-earlier g c κs within =
+    let at = c.loop-number.number-index in
+    let place = get_or c.args.stale.now at 0 in
+    still_earlier c.args.batch.now c.args.objects.now (take at c.args.stale.now) c.args.runs.now.items c.loop-number.runs.items
+    c.args.counts.now.items c.loop-number.counts.items place c.requires.same_kinds c.loop-number.invariant.renewed
+    (λ d. c.requires.earlier place d (times_read c.args.stale.now at 0 c.loop-number-test.true))
 
 pub loop-number-preserved : goal.loop-number-preserved
 loop-number-preserved g c =

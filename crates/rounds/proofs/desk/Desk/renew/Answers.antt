@@ -1,16 +1,20 @@
-use Rattle.std.proofs.Common.{◌≡◌, ℕ, ◌+◌, ◌-◌, subst, arith}
-use Rattle.speculate.specs.Runs.{IsRunOf}
-use Rattle.rounds.specs.Views.{meaning}
-use Rattle.rounds.proofs.Making.{pending_of}
+use Rattle.std.proofs.Common.{sym, subst}
+use Rattle.objects.specs.Entries.{AreLegal}
+use Rattle.intentions.specs.Trials.{CanRepeat}
+use Rattle.rounds.specs.PendingRuns.{own_net}
+use Rattle.rounds.proofs.Trials.{can_try, tried}
 use Rattle.rounds.proofs.desk.Desk.renew.Goals as goal
 
--- numbers are counted from 1 where a transaction is run
-same_number : (n : ℕ) → (n + 1) - 1 ≡ n
-same_number n = omega arith
+pub repeats-requires-clause-can : goal.repeats-requires-clause-can
+repeats-requires-clause-can g c κs lives some whole =
+    let run = c.args.pending.now in
+    subst (λ s. CanRepeat s (own_net run)) (sym c.requires.ready.trial)
+    (can_try c.args.batch.now c.args.number c.args.self.now.view.snapshot run c.requires.same_kinds c.requires.earlier some whole
+    c.requires.can)
 
-pub returns-clause-made : goal.returns-clause-made
-returns-clause-made g c =
-    let meant : ℕ → _ = λ n. meaning c.args.batch.now n c.args.self.now.view.snapshot in
-    let run = c.run_in.new.run in
-    let made = subst (λ n. IsRunOf (meant n) run) (same_number c.args.number) c.in_ok-run_in.ensures.run in
-    pending_of (meant c.args.number) run c.put.new.self made c.in_ok-put.ensures.tree c.in_ok-put.ensures.net c.in_ok-put.ensures.sums
+pub returns-then-branch-clause-made : goal.returns-then-branch-clause-made
+returns-then-branch-clause-made g c =
+    let run = c.args.pending.now in
+    tried c.args.batch.now c.args.number c.args.self.now.view.snapshot run c.requires.same_kinds c.requires.earlier
+    (c.in_ok-repeats.ensures.entries c.if-branch.true) (c.in_ok-repeats.ensures.whole c.if-branch.true)
+    (subst (λ s. AreLegal s (own_net run)) c.requires.ready.trial (c.in_ok-repeats.ensures.legal c.if-branch.true))
