@@ -1,11 +1,15 @@
 -- Texts by number, as the keys of a set.
 use Rattle.std.proofs.Common.{◌≡◌, ◌<◌, ◌+◌, ◌||◌, ℕ, suc, Bool, true, false, not, cond, List, [], ◌∷◌, ◌++◌, Some, None, String, Global}
-use Rattle.std.proofs.Common.{string_bytes, refl, ap, ap₂, sym, ◌∙◌, arith}
-use Rattle.std.proofs.lemmas.Bool.{ltb-true}
+use Rattle.std.proofs.Common.{string_bytes, get_or, refl, ap, ap₂, sym, ◌∙◌, arith}
+use Rattle.std.proofs.lemmas.Bool.{false_from_ne_true, ltb-true}
 use Rattle.std.specs.Prelude.{nat_lt, position, length, slice_get, option_map}
-use Rattle.std.specs.List.{list_any, position_or_len}
+use Rattle.std.specs.List.{IsDistinct, list_any, position_or_len}
 use Rattle.std.specs.Str.{bytes_eq}
+use Rattle.std.specs.String.{string_eq}
+use Rattle.std.proofs.lemmas.List.Sums.{position_or_len_is}
+use Rattle.std.proofs.lemmas.Map.Keys.{apart_from_distinct}
 use Rattle.std.proofs.lemmas.Option.{slice_get-map}
+use Rattle.std.proofs.lemmas.Slice.Eq.{bytes_eq-Decides}
 use Rattle.objects.specs.Objects.{kind_of_value}
 use Rattle.objects.specs.Entries.{State, kinds}
 use Rattle.batch.specs.Names.{texts_of}
@@ -96,11 +100,23 @@ unlisted_text text (t ∷ table) h = by (bytes_eq text t) (unlisted_text text ta
     by true later h = cc
     by false later h = omega (arith, later h)
 
--- for attributes to cite
-pub ruleset places = (place_of-keys, is_listed-keys)
+other_key : (text : List ℕ) (k l : String Global) → bytes_eq (string_bytes k) text ≡ true → string_eq l k ≡ false
+    → bytes_eq text (string_bytes l) ≡ false
+other_key text k l is other = false_from_ne_true _ (λ same.
+    let alike : string_eq l k ≡ true = (bytes_eq-Decides (string_bytes l) (string_bytes k)).1
+    (sym ((bytes_eq-Decides (string_bytes k) text).0 is ∙ (bytes_eq-Decides text (string_bytes l)).0 same)) in cc)
+
+-- the place of a key is that of its text, as keys differ
+pub place_of_key : (text : List ℕ) (keys : List (String Global)) (i : ℕ) (k : String Global) → IsDistinct string_eq keys
+    → nat_lt i (length keys) ≡ true → get_or keys i k ≡ k → bytes_eq (string_bytes k) text ≡ true → place_of text (texts_of keys) ≡ Some i
+place_of_key text keys i k distinct within here is =
+    let test = λ (l : String Global). bytes_eq text (string_bytes l) in
+    let lt : i < length keys = ltb-true _ _ within in
+    let first : position_or_len test keys ≡ i = position_or_len_is test keys i k (omega arith)
+    (λ j before. other_key text k (get_or keys j k) is (rw here at (apart_from_distinct string_eq keys j i k distinct before lt)))
+    (λ _. ap test here ∙ (bytes_eq-Decides text (string_bytes k)).1 (sym ((bytes_eq-Decides (string_bytes k) text).0 is))) in
+    place_of-keys text keys ∙ ap (λ n. cond (nat_lt n (length keys)) (Some n) None) first ∙ ap (λ b. cond b (Some i) None) within
 
 -- the kind of the object at a place
 pub kind_at : (objects : State) (i : ℕ) → slice_get (kinds objects) i ≡ option_map kind_of_value (slice_get objects i)
 kind_at objects i = slice_get-map kind_of_value objects i
-
-pub ruleset targets = (place_of-keys, is_listed-keys, kind_at)

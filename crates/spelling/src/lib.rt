@@ -7,6 +7,7 @@ pub mod counts;
 pub mod declared;
 pub mod hashing;
 pub mod heads;
+mod hints;
 pub mod labels;
 pub mod look;
 pub mod numbers;

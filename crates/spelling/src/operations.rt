@@ -1,5 +1,5 @@
 //! Reads an operation.
-ghost use Rattle.std.specs.Prelude.{◌≡◌, codes, is_some, option_map, None, Some, IfErr, IfOk, OnOk};
+ghost use Rattle.std.specs.Prelude.{◌≡◌, ◌<◌, codes, is_some, length, option_map, None, Some, IfErr, IfOk, IfSome, OnOk};
 ghost use Rattle.serde_json.specs.View.{view};
 ghost use Rattle.batch.specs.Names.{texts_of};
 ghost use Rattle.batch.specs.Views.{step_view};
@@ -193,14 +193,27 @@ fn read_call(
 
 // ---- the operation
 
+/// The place of the object of that name. Where the hint is right, the name isn't hashed.
+fn place_of(name: &str, declared: &Declared) -> Option<usize>
+    ensures place { result ≡ place_of name.now (texts_of declared.now.names.keys) }
+    ensures listed { is_some result ≡ is_listed name.now (texts_of declared.now.names.keys) }
+    ensures within { IfSome result (λ place. place < length declared.now.names.keys) }
+{
+    let place = declared.hints.place(name);
+    match declared.names.as_slice().get(place) {
+        Some(known) if known.as_str() == name => Some(place),
+        _ => declared.names.get_index_of(name),
+    }
+}
+
 /// The place and the kind of the object of that name.
-#[tactic(auto, using(crate::proofs::TableLemmas::targets))]
+#[tactic(auto, using(crate::proofs::TableLemmas::kind_at))]
 fn find(name: &str, declared: &Declared) -> Option<(u32, Kind)>
     ensures place { option_map (λ found. found.0) result ≡ place_of name.now (texts_of declared.now.names.keys) }
     ensures kind { option_map (λ found. found.1) result ≡ kind_named name.now (setting_of declared.now) }
     ensures listed { is_some result ≡ is_listed name.now (texts_of declared.now.names.keys) }
 {
-    let place = declared.names.get_index_of(name)?;
+    let place = place_of(name, declared)?;
     let value = declared.objects.value(place as u32)?;
     Some((place as u32, value.kind()))
 }

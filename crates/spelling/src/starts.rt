@@ -14,6 +14,7 @@ ghost use Rattle.meaning.specs.declared.limits.TheConstants.{MAX_OBJECTS};
 use crate::counts::Counts;
 use crate::declared::Declared;
 use crate::hashing::Texts;
+use crate::hints::Hints;
 use crate::look::{count, has_only, text_item, text_member};
 use crate::operations::{item_of, items_of};
 use crate::state::{Numbering, add_text};
@@ -469,9 +470,11 @@ pub fn read_objects(
         *numbering.items.hasher(),
     )?;
     let objects = read_values(alloc, list, version, &mut names, counts, numbering)?;
+    let hints = Hints::of(alloc, &names)?;
     Ok(Declared {
         version,
         names,
         objects,
+        hints,
     })
 }
