@@ -22,7 +22,7 @@ pub fn is_as_strict(first: &Entry, second: &Entry) -> bool
     ensures equal { first.now ≡ second.now → IsTrue result }
     ensures numbers { first.now.object ≡ second.now.object → IsTrue (is_strict_by_number first.now.call first.now.reply second.now.call second.now.reply) → IsTrue result }
 {
-    first == second || first.object == second.object && is_strict_by_number(first, second)
+    first.object == second.object && (is_strict_by_number(first, second) || first == second)
 }
 
 fn is_strict_by_number(first: &Entry, second: &Entry) -> bool

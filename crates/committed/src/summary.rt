@@ -101,8 +101,8 @@ impl Table {
     fn add(&mut self, entry: &Entry) -> Result<(), NoMemory>
         ensures { OnOk result ((entries : List OneEntry) → IsSummary (entries_of self.old.summary.items) entries → IsSummary (entries_of self.new.summary.items) (entries ++ entry.now ∷ [])) }
     {
-        let next = MarkedEntry::of(entry);
-        let slot = self.slot(&next.mark);
+        let mark = Mark::of(entry);
+        let slot = self.slot(&mark);
         let Places { last, before } = self.slots[slot];
         if before <= last && last < self.summary.len() {
             let later = self.summary[last].entry;
@@ -111,7 +111,7 @@ impl Table {
                 return Ok(());
             }
             if before < last && are_as_strict(&earlier, entry, &later) {
-                self.summary[last] = next;
+                self.summary[last] = MarkedEntry::with(entry, mark);
                 return Ok(());
             }
         }
@@ -119,7 +119,7 @@ impl Table {
             last: self.summary.len(),
             before: last,
         };
-        self.summary.push(next)?;
+        self.summary.push(MarkedEntry::with(entry, mark))?;
         Ok(())
     }
 

@@ -129,11 +129,7 @@ impl PendingRun {
             None
         } else {
             let spare = self.net.take().unwrap_or(Vec::new(alloc));
-            Some(if whole {
-                replace(&mut run.entries, spare)
-            } else {
-                replace(&mut run.net, spare)
-            })
+            Some(replace(&mut run.net, spare))
         };
         swap(&mut self.tree, &mut run.tree);
         Ok(())
