@@ -1,6 +1,6 @@
 -- Runs are made one after the other, and put in their places in any order.
-use Rattle.std.proofs.Common.{◌≡◌, ◌≢◌, Option, Some, None, ℕ, zero, suc, ◌+◌, ◌<◌, ◌≤◌, List, [], ◌∷◌, ◌++◌, ◌==◌, map, length, get_or, set, take, refl, sym, ap}
-use Rattle.std.proofs.Common.{◌∙◌, subst, append-nil, arith}
+use Rattle.std.proofs.Common.{◌≡◌, ◌≢◌, ◌⊎◌, inl, inr, Option, Some, None, ℕ, zero, suc, ◌+◌, ◌<◌, ◌≤◌, List, [], ◌∷◌, ◌++◌, ◌==◌}
+use Rattle.std.proofs.Common.{map, length, get_or, set, take, refl, sym, ap, ◌∙◌, subst, append-nil, arith}
 use Rattle.std.proofs.lemmas.List.{take_more, map-append, get_or-set_same, get_or-set_other, length-set}
 use Rattle.std.proofs.lemmas.List.Elements.{All-nil, All-push, All-same}
 use Rattle.std.specs.List.{All, sum_by, range_with_len}
@@ -18,9 +18,12 @@ use Rattle.batch.specs.Views.{record_view}
 use Rattle.batch.specs.declared.batch.Batch.{Batch}
 use Rattle.rounds.specs.declared.make.Made.{Made}
 use Rattle.claims.specs.Views.{bit, times}
-use Rattle.rounds.specs.PendingRuns.{AreSumsOf, IsPendingOf, IsThisOrThat, own_net, numbers_of, with_run, IsMade, AreMade}
+use Rattle.committed.specs.NumberSets.{Has}
+use Rattle.committed.proofs.NumberSetLemmas.{has_of_longer}
+use Rattle.rounds.specs.PendingRuns.{AreSumsOf, IsPendingOf, IsThisOrThat, own_net, numbers_of, with_run, with_changed, IsMade, AreMade}
 use Rattle.claims.proofs.Lists.{times-append}
 use Rattle.rounds.proofs.Times.{times_one, times_none, times_sum}
+use Rattle.rounds.proofs.Touched.{has_none, has_front, has_back}
 use Rattle.std.specs.Fork.{slice_chunk}
 use Rattle.std.specs.Int.{div_ceil}
 use Rattle.std.proofs.lemmas.Slice.Chunks.{sum_by_chunks}
@@ -89,34 +92,37 @@ all_groups batch state runs numbers cut count made some are given =
     }
 
 -- Some of the runs are in their places, and these are left.
-pub record ArePut (batch : Batch) (state : State) (numbers : List ℕ) (old runs : List PendingRun) (was counts : List ℕ)
+pub record ArePut (batch : Batch) (state : State) (numbers : List ℕ) (old runs : List PendingRun) (was counts changed : List ℕ)
     (left : List Made) : Type 0 where
   pub each : All (IsMade batch state old) left
   pub runs_all : length runs ≡ length old
   pub counts_all : length counts ≡ length was
   pub few : (i : ℕ) → times i (numbers_of left) ≤ times i numbers
-  pub same : (i : ℕ) (d : PendingRun) → times i (numbers_of left) ≡ times i numbers → get_or runs i d ≡ get_or old i d
+  pub among : (i : ℕ) → Has changed i → times i (numbers_of left) < times i numbers
+  pub same : (i : ℕ) (d : PendingRun) → ¬ Has changed i → get_or runs i d ≡ get_or old i d
   pub made : (i : ℕ) (d : PendingRun) → times i (numbers_of left) < times i numbers → IsPendingOf (meaning batch i state) (get_or runs i d)
   pub told : (i : ℕ) → i < length was → get_or counts i 0 + times i (numbers_of left) ≡ get_or was i 0 + times i numbers
 
 -- none is in its place yet
-pub nothing_put : (batch : Batch) (state : State) (numbers : List ℕ) (runs : List PendingRun) (counts : List ℕ) (made : List Made)
-    → AreMade batch state runs numbers made → ArePut batch state numbers runs runs counts counts made
-nothing_put batch state numbers runs counts made are = record {
+pub nothing_put : (batch : Batch) (state : State) (numbers : List ℕ) (runs : List PendingRun) (counts changed : List ℕ)
+    (made : List Made) → changed ≡ [] → AreMade batch state runs numbers made
+    → ArePut batch state numbers runs runs counts counts changed made
+nothing_put batch state numbers runs counts changed made empty are = record {
   each = are.each;
   runs_all = refl;
   counts_all = refl;
   few = λ i. omega (arith, are.dealt i);
-  same = λ i d e. refl;
+  among = λ i has. absurd (has_none i (subst (λ l. Has l i) empty has));
+  same = λ i d out. refl;
   made = λ i d lt. absurd (omega (arith, are.dealt i));
   told = λ i lt. ap (λ n. get_or counts i 0 + n) (are.dealt i);
 }
 
 -- one that is left is one of the numbers
-pub put_inside : (batch : Batch) (state : State) (numbers : List ℕ) (old runs : List PendingRun) (was counts : List ℕ)
-    (left rest : List Made) (m : Made) → left ≡ rest ++ m ∷ [] → ArePut batch state numbers old runs was counts left
+pub put_inside : (batch : Batch) (state : State) (numbers : List ℕ) (old runs : List PendingRun) (was counts changed : List ℕ)
+    (left rest : List Made) (m : Made) → left ≡ rest ++ m ∷ [] → ArePut batch state numbers old runs was counts changed left
     → 0 < times m.number numbers
-put_inside batch state numbers old runs was counts left rest m popped put =
+put_inside batch state numbers old runs was counts changed left rest m popped put =
     let split : times m.number (numbers_of left) ≡ times m.number (numbers_of rest) + times m.number (m.number ∷ []) =
     ap (λ ms. times m.number (numbers_of ms)) popped ∙ times_numbers m.number rest (m ∷ []) in
     let once = times_one m.number in
@@ -143,41 +149,54 @@ pending_of meant run pending is tree net are = record {
       (subst (λ es. AreSumsOf pending.sums es run.net.items) is.entries are);
 }
 
--- a run that was made is in its place, and the others stay
-record IsIn (batch : Batch) (state : State) (runs new : List PendingRun) (number : ℕ) : Type 0 where
+-- a run that was made is in its place, and its number is then one of the changed ones. The others stay
+record IsIn (batch : Batch) (state : State) (runs new : List PendingRun) (changed more : List ℕ) (number : ℕ) : Type 0 where
   size : length new ≡ length runs
   others : (i : ℕ) (d : PendingRun) → i ≢ number → get_or new i d ≡ get_or runs i d
   here : (d : PendingRun) → IsPendingOf (meaning batch number state) (get_or new number d)
+  among : (i : ℕ) → Has more i → Has changed i ⊎ (i ≡ number)
+  same : (i : ℕ) (d : PendingRun) → ¬ Has more i → (get_or new i d ≡ get_or runs i d) × (¬ Has changed i)
 
 -- so it is where the run before it gets the same replies
-put_in : (batch : Batch) (state : State) (numbers : List ℕ) (old runs : List PendingRun) (was counts : List ℕ) (left : List Made)
+put_in : (batch : Batch) (state : State) (numbers : List ℕ) (old runs : List PendingRun) (was counts changed : List ℕ) (left : List Made)
     (number : ℕ) (run : Option PendingRun) → number < length old
-    → ((d : PendingRun) → IsThisOrThat (meaning batch number state) (get_or old number d) run) → times number (numbers_of left) ≤ times number numbers
-    → ArePut batch state numbers old runs was counts left → IsIn batch state runs (with_run runs number run) number
-put_in batch state numbers old runs was counts left number (Some run) inside is few put =
+    → ((d : PendingRun) → IsThisOrThat (meaning batch number state) (get_or old number d) run)
+    → times number (numbers_of left) ≤ times number numbers
+    → ArePut batch state numbers old runs was counts changed left
+    → IsIn batch state runs (with_run runs number run) changed (with_changed changed number run) number
+put_in batch state numbers old runs was counts changed left number (Some run) inside is few put =
     let at : number < length runs = let all = put.runs_all in omega arith in record {
       size = length-set runs number run;
       others = λ i d other. get_or-set_other runs number i run d other;
       here = λ d. subst (IsPendingOf (meaning batch number state)) (sym (get_or-set_same runs number run d at)) (is d);
+      among = λ i has. has_of_longer changed (changed ++ number ∷ []) number i refl has;
+      same = λ i d out. (
+        get_or-set_other runs number i run d (λ same. out (has_back changed (number ∷ []) i
+            (record { at = 0; within = omega arith; is = sym same }))),
+        λ has. out (has_front changed (number ∷ []) i has),
+      );
     }
-put_in batch state numbers old runs was counts left number None inside is few put = record {
+put_in batch state numbers old runs was counts changed left number None inside is few put = record {
   size = refl;
   others = λ i d other. refl;
+  among = λ i has. inl has;
+  same = λ i d out. (refl, out);
   here = λ d. elim (ℕ_discrete (times number (numbers_of left)) (times number numbers)) [
-    | yes all ↦ subst (IsPendingOf (meaning batch number state)) (sym (put.same number d all)) (is d)
+    | yes all ↦ subst (IsPendingOf (meaning batch number state))
+        (sym (put.same number d (λ has. let some = put.among number has in absurd (omega arith)))) (is d)
     | no some ↦ put.made number d (omega arith)
   ];
 }
 
 -- one more is in its place
-pub put_one : (batch : Batch) (state : State) (numbers : List ℕ) (old runs : List PendingRun) (was counts : List ℕ) (left rest : List Made)
-    (m : Made) → length was ≡ length old → m.number < length old → left ≡ rest ++ m ∷ []
-    → ArePut batch state numbers old runs was counts left → ArePut batch state numbers old (with_run runs m.number m.run) was
-    (set counts m.number (get_or counts m.number 0 + 1)) rest
-put_one batch state numbers old runs was counts left rest m sizes inside popped put =
+pub put_one : (batch : Batch) (state : State) (numbers : List ℕ) (old runs : List PendingRun) (was counts changed : List ℕ)
+    (left rest : List Made) (m : Made) → length was ≡ length old → m.number < length old → left ≡ rest ++ m ∷ []
+    → ArePut batch state numbers old runs was counts changed left → ArePut batch state numbers old (with_run runs m.number m.run) was
+    (set counts m.number (get_or counts m.number 0 + 1)) (with_changed changed m.number m.run) rest
+put_one batch state numbers old runs was counts changed left rest m sizes inside popped put =
     let made = all_front (IsMade batch state old) rest m (subst (All (IsMade batch state old)) popped put.each) in
     let new = with_run runs m.number m.run in
-    let put_here = put_in batch state numbers old runs was counts left m.number m.run inside made.1 (put.few m.number) put in
+    let put_here = put_in batch state numbers old runs was counts changed left m.number m.run inside made.1 (put.few m.number) put in
     let split : (i : ℕ) → times i (numbers_of left) ≡ times i (numbers_of rest) + times i (m.number ∷ []) =
     λ i. ap (λ ms. times i (numbers_of ms)) popped ∙ times_numbers i rest (m ∷ []) in
     let runs_all = put.runs_all in
@@ -187,12 +206,11 @@ put_one batch state numbers old runs was counts left rest m sizes inside popped 
       runs_all = put_here.size ∙ put.runs_all;
       counts_all = length-set counts m.number (get_or counts m.number 0 + 1) ∙ put.counts_all;
       few = λ i. let s = split i in let f = put.few i in omega arith;
-      same = λ i d e. elim (ℕ_discrete i m.number) [
-        | yes here ↦ let s = split i in let f = put.few i in let once : times i (m.number ∷ []) ≡ 1 = ap (λ n. times i (n ∷ [])) (sym here)
-            ∙ times_one i in absurd (omega arith)
-        | no other ↦ let s = split i in let none = times_none i m.number (λ h. other (sym h)) in
-            put_here.others i d other ∙ put.same i d (omega arith)
+      among = λ i has. let s = split i in let f = put.few i in elim (put_here.among i has) [
+        | inl before ↦ let some = put.among i before in omega arith
+        | inr here ↦ let once : times i (m.number ∷ []) ≡ 1 = ap (λ n. times i (n ∷ [])) (sym here) ∙ times_one i in omega arith
       ];
+      same = λ i d out. let unchanged = put_here.same i d out in unchanged.0 ∙ put.same i d unchanged.1;
       made = λ i d lt. elim (ℕ_discrete i m.number) [
         | yes here ↦ subst (λ n. IsPendingOf (meaning batch n state) (get_or new n d)) (sym here) (put_here.here d)
         | no other ↦ let s = split i in let none = times_none i m.number (λ h. other (sym h)) in

@@ -21,7 +21,7 @@ use Rattle.batch.specs.declared.batch.Batch.{Batch}
 use Rattle.speculate.proofs.Room.{kinds_at, nets_have_room}
 use Rattle.rounds.proofs.Room.{made_at}
 use Rattle.rounds.proofs.Times.{times_read}
-use Rattle.rounds.proofs.Renewing.{still_earlier}
+use Rattle.rounds.proofs.Renewing.{still_earlier, stays}
 use Rattle.rounds.specs.Passes.{CanBeMade}
 use Rattle.claims.specs.Views.{times}
 use Rattle.rounds.specs.PendingRuns.{IsPendingOf, own_nets, all_left, Kept, HoldsPast, AreRefuted, AreRenewed, IsFirstFrom}
@@ -84,24 +84,25 @@ pub same_kinds : (batch : Batch) (b rounds : ℕ) (state : State) (runs : List P
 same_kinds batch b rounds state runs counts stale at = ap kinds at.reached ∙ kinds_at batch b at.within
 
 -- the stale runs are made again, so none is stale
-pub renewed : (batch : Batch) (b rounds : ℕ) (state : State) (runs new : List PendingRun) (was counts stale : List ℕ)
-    → AtOpening batch b rounds state runs was stale → AreRenewed batch state stale runs new was counts
+pub renewed : (batch : Batch) (b rounds : ℕ) (state : State) (runs new : List PendingRun) (was counts stale changed : List ℕ)
+    → AtOpening batch b rounds state runs was stale → AreRenewed batch state stale runs new was counts changed
     → AtOpening batch b rounds state new counts []
-renewed batch b rounds state runs new was counts stale at put = record {
+renewed batch b rounds state runs new was counts stale changed at put = record {
   within = at.within;
   all = put.runs ∙ at.all;
   counted = put.counted ∙ at.counted;
   reached = at.reached;
   committed = λ i d lt. subst (IsPendingOf (answer (start_of batch) (blocks_of batch) i))
-      (sym (put.same i d (old_fresh batch b rounds state runs was stale at i lt))) (at.committed i d lt);
+      (sym (stays batch state stale runs new was counts changed put i d (old_fresh batch b rounds state runs was stale at i lt)))
+      (at.committed i d lt);
   pending = λ i d low lt fresh. ⊎_elim
-      (λ (none : times i stale ≡ 0). subst (IsPendingOf (alone (start_of batch) (blocks_of batch) i b)) (sym (put.same i d none))
-      (at.pending i d low lt none))
+      (λ (none : times i stale ≡ 0). subst (IsPendingOf (alone (start_of batch) (blocks_of batch) i b))
+      (sym (stays batch state stale runs new was counts changed put i d none)) (at.pending i d low lt none))
       (λ (some : 0 < times i stale). subst (λ s. IsPendingOf (one (block_at (blocks_of batch) i) [] s) (get_or new i d)) at.reached
       (put.made i d some))
       (none_or_some (times i stale));
-  earlier = λ i d low lt. still_earlier batch state stale runs new was counts i (same_kinds batch b rounds state runs was stale at) put
-      (λ e. at.earlier i e low lt) d;
+  earlier = λ i d low lt. still_earlier batch state stale runs new was counts changed i (same_kinds batch b rounds state runs was stale at)
+      put (λ e. at.earlier i e low lt) d;
   numbers = λ i some. absurd (omega arith);
   few_rounds = at.few_rounds;
   few_runs = λ i. elim (dec_le (length counts) i) [
@@ -257,18 +258,19 @@ listed_nets b seen new first_of kept_of first_is saw kept_is =
 
 -- what a round commits is legal on the objects of its opening, and has room
 pub round_commits : (batch : Batch) (b rounds passed : ℕ) (state : State) (old new first_of prefix_of : List PendingRun)
-    (was counts given stale : List ℕ)
+    (was counts given stale changed : List ℕ)
     → AtOpening batch b rounds state old was stale
     → given ≡ stale
-    → AreRenewed batch state given old new was counts
+    → AreRenewed batch state given old new was counts changed
     → first_of ≡ new
     → IsFirstFrom (take (length first_of - b) (drop b first_of)) 0 passed
     → prefix_of ≡ new
     → AreLegal state (own_nets (take ((b + passed) - b) (drop b prefix_of)))
     × AllHaveRoom state (own_nets (take ((b + passed) - b) (drop b prefix_of)))
-round_commits batch b rounds passed state old new first_of prefix_of was counts given stale at stale_is put first_is first prefix_is =
-    let fresh = renewed batch b rounds state old new was counts stale at
-    (subst (λ ns. AreRenewed batch state ns old new was counts) stale_is put) in
+round_commits batch b rounds passed state old new first_of prefix_of was counts given stale changed at stale_is put first_is first
+    prefix_is =
+    let fresh = renewed batch b rounds state old new was counts stale changed at
+    (subst (λ ns. AreRenewed batch state ns old new was counts changed) stale_is put) in
     let conflict = subst (λ rs. IsFirstFrom rs 0 passed) (rest_of new b)
     (subst (λ rs. IsFirstFrom (take (length rs - b) (drop b rs)) 0 passed) first_is first) in
     let count : (b + passed) - b ≡ passed = omega arith in
@@ -295,10 +297,10 @@ stale_can_be_made batch b rounds state runs counts stale given at is k d lt =
 
 -- one round: runs are made, the first that conflicts is sought, those before it are committed, and the kept are found
 pub one_round : (batch : Batch) (b rounds : ℕ) (seen : Seen) (state next : State) (old new first_of prefix_of kept_of : List PendingRun)
-    (was counts given stale later : List ℕ)
+    (was counts given stale changed later : List ℕ)
     → AtOpening batch b rounds state old was stale
     → given ≡ stale
-    → AreRenewed batch state given old new was counts
+    → AreRenewed batch state given old new was counts changed
     → first_of ≡ new
     → IsSeen (take (length first_of - b) (drop b first_of)) seen
     → prefix_of ≡ new
@@ -308,10 +310,10 @@ pub one_round : (batch : Batch) (b rounds : ℕ) (seen : Seen) (state next : Sta
     → b < length (blocks_of batch)
     → IsNextOpening (start_of batch) (blocks_of batch) b (b + seen.first) × AtOpening batch (b + seen.first)
     (rounds + 1) next new counts later
-one_round batch b rounds seen state next old new first_of prefix_of kept_of was counts given stale later at stale_is put first_is saw
-    prefix_is moved kept_is told going =
-    let fresh = renewed batch b rounds state old new was counts stale at
-    (subst (λ ns. AreRenewed batch state ns old new was counts) stale_is put) in
+one_round batch b rounds seen state next old new first_of prefix_of kept_of was counts given stale changed later at stale_is put first_is
+    saw prefix_is moved kept_is told going =
+    let fresh = renewed batch b rounds state old new was counts stale changed at
+    (subst (λ ns. AreRenewed batch state ns old new was counts changed) stale_is put) in
     let here = subst (λ rs. IsSeen rs seen) (rest_of new b) (subst (λ rs. IsSeen (take (length rs - b) (drop b rs)) seen) first_is saw) in
     let opening = opens batch b rounds seen.first state new counts fresh here.first in
     let count : (b + seen.first) - b ≡ seen.first = omega arith in

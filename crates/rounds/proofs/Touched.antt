@@ -42,6 +42,20 @@ times_of_has numbers i has = subst (λ n. 0 < times n numbers) has.is (times_rea
 pub has_none : (i : ℕ) → ¬ Has [] i
 has_none i has = let w = has.within in absurd (omega arith)
 
+-- a number of one of two lists is in both together
+pub has_front : (xs ys : List ℕ) (i : ℕ) → Has xs i → Has (xs ++ ys) i
+has_front xs ys i has = has_of_times (xs ++ ys) i (omega (arith, times_of_has xs i has, times-append i xs ys))
+
+pub has_back : (xs ys : List ℕ) (i : ℕ) → Has ys i → Has (xs ++ ys) i
+has_back xs ys i has = has_of_times (xs ++ ys) i (omega (arith, times_of_has ys i has, times-append i xs ys))
+
+-- a number of two lists is in one of them
+pub has_either : (xs ys : List ℕ) (i : ℕ) → Has (xs ++ ys) i → Has xs i ⊎ Has ys i
+has_either xs ys i has = elim (ℕ_discrete (times i xs) 0) [
+  | yes none ↦ inr (has_of_times ys i (omega (arith, times_of_has (xs ++ ys) i has, times-append i xs ys)))
+  | no some ↦ inl (has_of_times xs i (omega arith))
+]
+
 -- a number is in a list or isn't
 pub has_or_not : (numbers : List ℕ) (i : ℕ) → Has numbers i ⊎ (¬ Has numbers i)
 has_or_not numbers i = elim (ℕ_discrete (times i numbers) 0) [
@@ -203,23 +217,25 @@ touched_places shown touched from upto is distinct within low = record {
 
 -- ---- what is watched
 
--- where all are watched, so are all but some
-pub tells_all : (pending : Pending) (runs : List PendingRun) (from : ℕ) (made : List ℕ) → WatchesAll pending.watch runs from
-    → Tells pending runs from made
-tells_all pending runs from made watches = record { all = watches.all; watched = λ run d low high out. watches.each run d low high }
+-- runs without entries are watched
+pub all_blank : (watch : Watch) (runs : List PendingRun) → watch.count ≡ length runs
+    → ((i : ℕ) (d : PendingRun) → i < length runs → (get_or runs i d).sums.entries.items ≡ []) → WatchesAll watch runs 0
+unfolding Watches
+all_blank watch runs count blank = record {
+  all = count;
+  each = λ run d low high. subst (λ es. Watches watch run (entries_of es)) (sym (blank run d high)) (λ k e lt. absurd (omega arith));
+}
 
 -- those that weren't made anew are watched as before
-pub tells_renewed : (batch : Batch) (state : State) (pending : Pending) (runs new : List PendingRun) (made : List ℕ) (was counts : List ℕ)
+pub tells_renewed : (batch : Batch) (state : State) (pending : Pending) (runs new : List PendingRun) (numbers was counts changed : List ℕ)
     (from : ℕ)
-    → Tells pending runs from made → AreRenewed batch state made runs new was counts → Tells pending new from made
-tells_renewed batch state pending runs new made was counts from tells put =
+    → WatchesAll pending.watch runs from → AreRenewed batch state numbers runs new was counts changed → Tells pending new from changed
+tells_renewed batch state pending runs new numbers was counts changed from watches put =
     let sizes = put.runs in
     record {
-      all = tells.all ∙ sym put.runs;
-      watched = λ run d low high out.
-          let none : ¬ (0 < times run made) = λ some. out (has_of_times made run some) in
-          subst (λ r. Watches pending.watch run (entries_of r.sums.entries.items)) (sym (put.same run d (omega arith)))
-          (tells.watched run d low (omega arith) out);
+      all = watches.all ∙ sym put.runs;
+      watched = λ run d low high out. subst (λ r. Watches pending.watch run (entries_of r.sums.entries.items))
+          (sym (put.same run d out)) (watches.each run d low (omega arith));
     }
 
 -- once those that were made anew are put in, all are watched

@@ -5,7 +5,7 @@ use Rattle.meaning.specs.Batch.{state_at, alone, answer}
 use Rattle.meaning.specs.Rounds.{RoundsFrom, Rounds, CountFrom, Count}
 use Rattle.meaning.specs.declared.limits.TheConstants.{MAX_TRANSACTIONS}
 use Rattle.rounds.specs.Views.{start_of, blocks_of}
-use Rattle.rounds.specs.Pending.{Tells}
+use Rattle.rounds.specs.Pending.{WatchesAll}
 use Rattle.claims.specs.Views.{times}
 use Rattle.rounds.specs.PendingRuns.{IsPendingOf, WasMade}
 use Rattle.rounds.specs.declared.openings.Opening.{Opening}
@@ -36,4 +36,4 @@ pub record AtOpening (batch : Batch) (b rounds : ℕ) (state : State) (runs : Li
 pub record IsOpening (batch : Batch) (at : Opening) : Type 0 where
   pub here : AtOpening batch at.opened at.rounds at.objects at.runs.items at.counts.items at.stale.items
   pub few : length at.stale.items ≤ MAX_TRANSACTIONS
-  pub tells : Tells at.pending at.runs.items at.opened at.stale.items
+  pub watched : WatchesAll at.pending.watch at.runs.items at.opened

@@ -135,6 +135,11 @@ abbrev pub with_run : List PendingRun → ℕ → Option PendingRun → List Pen
 with_run runs number None = runs
 with_run runs number (Some run) = set runs number run
 
+-- numbers with one more, where its run was made
+abbrev pub with_changed : List ℕ → ℕ → Option PendingRun → List ℕ
+with_changed changed number None = changed
+with_changed changed number (Some run) = changed ++ number ∷ []
+
 -- a run for each of the numbers, in any order, made on this state
 pub record AreMade (batch : Batch) (state : State) (runs : List PendingRun) (numbers : List ℕ) (made : List Made) : Type 0 where
   pub each : All (IsMade batch state runs) made
@@ -144,10 +149,17 @@ pub record AreMade (batch : Batch) (state : State) (runs : List PendingRun) (num
 abbrev pub AreAdded : Batch → State → List PendingRun → List ℕ → List Made → List Made → Type 0
 AreAdded batch state runs numbers before after = (own : List Made) × (after ≡ before ++ own) × AreMade batch state runs numbers own
 
--- the numbered runs were made on this state and put in their places, and counted. The others stay
-pub record AreRenewed (batch : Batch) (state : State) (numbers : List ℕ) (old new : List PendingRun) (was counts : List ℕ) : Type 0 where
+-- the numbered runs are now those of this state, and were counted. Some of them changed, and all others stayed as they were
+pub record AreRenewed (batch : Batch) (state : State) (numbers : List ℕ) (old new : List PendingRun) (was counts changed : List ℕ)
+    : Type 0 where
   pub runs : length new ≡ length old
   pub counted : length counts ≡ length was
-  pub same : (i : ℕ) (d : PendingRun) → times i numbers ≡ 0 → slice_index_or new i d ≡ slice_index_or old i d
+  pub among : (i : ℕ) → Has changed i → 0 < times i numbers
+  pub same : (i : ℕ) (d : PendingRun) → ¬ Has changed i → slice_index_or new i d ≡ slice_index_or old i d
   pub made : (i : ℕ) (d : PendingRun) → 0 < times i numbers → IsPendingOf (meaning batch i state) (slice_index_or new i d)
   pub told : (i : ℕ) → i < length was → slice_index_or counts i 0 ≡ slice_index_or was i 0 + times i numbers
+
+-- the same, where the changed numbers were added to a list
+abbrev pub AreRenewedAndAdded : Batch → State → List ℕ → List PendingRun → List PendingRun → List ℕ → List ℕ → List ℕ → List ℕ → Type 0
+AreRenewedAndAdded batch state numbers old new was counts before after = (own : List ℕ) × (after ≡ before ++ own)
+    × AreRenewed batch state numbers old new was counts own

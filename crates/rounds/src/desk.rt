@@ -119,7 +119,7 @@ impl<'s> Desk<'s> {
     }
 
     /// Makes a run as [`make`](Desk::make) does, unless the one before it gets the same replies on the
-    /// desk's objects.
+    /// desk's objects. Returns whether it was made: the one before it stays where not.
     ///
     /// After it returns `NoMemory`, the desk and the run are of no further use.
     pub(crate) fn renew<R: Threads + Sync, G: Gate>(
@@ -131,7 +131,7 @@ impl<'s> Desk<'s> {
         width: u32,
         gate: &G,
         pending: &mut PendingRun,
-    ) -> Result<(), NoMemory>
+    ) -> Result<bool, NoMemory>
         requires few { number ≤ MAX_TRANSACTIONS }
         requires can { CanBeMade batch.now self.old.view.snapshot number }
         requires earlier { WasMade batch.now number pending.old }
@@ -139,11 +139,13 @@ impl<'s> Desk<'s> {
         requires narrow { (1 ≤ width) × (width ≤ MAX_WORKERS) }
         requires ready { IsDeskOn self.old.view.snapshot self.old }
         ensures made { OnOk result (IsPendingOf (meaning batch.now number self.old.view.snapshot) pending.new) }
+        ensures stays { IfOk result (λ anew. ¬ IsTrue anew → pending.new ≡ pending.old) }
         ensures ready { OnOk result (IsDeskOn self.old.view.snapshot self.new) }
     {
         if self.repeats(number, gate, pending)? {
-            return Ok(());
+            return Ok(false);
         }
-        self.make(threads, alloc, batch, number, width, gate, pending)
+        self.make(threads, alloc, batch, number, width, gate, pending)?;
+        Ok(true)
     }
 }

@@ -1,7 +1,7 @@
 //! The check after a commit: which pending runs conflict with what was committed.
 ghost use Rattle.std.specs.Prelude.{◌≡◌, ◌<◌, ◌≤◌, ℕ, IfOk, OnOk, length, take, slice_index_or, slice_range};
 ghost use Rattle.rounds.specs.PendingRuns.{all_left, AreRefuted, AreRefutedAmong, IsTold};
-ghost use Rattle.rounds.specs.Pending.{ArePlaces, Tells};
+ghost use Rattle.rounds.specs.Pending.{ArePlaces, Tells, WatchesAll};
 ghost use Rattle.meaning.specs.declared.limits.TheConstants.{MAX_TRANSACTIONS};
 
 use crate::check::stands_past;
@@ -129,7 +129,7 @@ pub(crate) fn keep_all<R: Threads + Sync, G: Gate>(
     requires nets { take upto nets.now ≡ all_left (slice_range runs.now opened from) }
     ensures refuted { IfOk result (λ numbers. AreRefuted runs.now (take upto nets.now) from (length runs.now) numbers.items) }
     ensures few { IfOk result (λ numbers. length numbers.items ≤ MAX_TRANSACTIONS) }
-    ensures tells { IfOk result (λ numbers. Tells pending.new runs.now from numbers.items) }
+    ensures watched { OnOk result (WatchesAll pending.new.watch runs.now from) }
 {
     pending.touch(crew.alloc, runs, made, opened, from)?;
     refuted_of(crew, runs, from, pending.touched(), nets, upto)

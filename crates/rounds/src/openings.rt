@@ -84,6 +84,8 @@ struct Opening {
     runs: Vec<PendingRun>,
     counts: Vec<u32>,
     stale: Vec<usize>,
+    // Those that were made anew in the last pass.
+    changed: Vec<usize>,
     pending: Pending,
     opened: usize,
     // How many transactions the round before committed.
@@ -101,6 +103,7 @@ fn begin(alloc: Global, batch: &Batch) -> Result<Opening, NoMemory>
         runs: blank_runs(alloc, count)?,
         counts: no_counts(alloc, count)?,
         stale: all_numbers(alloc, count)?,
+        changed: Vec::new(alloc),
         pending: Pending::new(alloc, count)?,
         opened: 0,
         passed: 0,
@@ -126,6 +129,7 @@ fn round<R: Threads + Sync, G: Gate>(
         &at.stale,
         &mut at.runs,
         &mut at.counts,
+        &mut at.changed,
     )?;
     let opened = at.opened;
     // As many runs are expected to be committed as in the round before.
@@ -145,7 +149,7 @@ fn round<R: Threads + Sync, G: Gate>(
         crew,
         &at.runs,
         &mut at.pending,
-        &at.stale,
+        &at.changed,
         opened,
         at.opened,
         &seen.nets,

@@ -1,7 +1,7 @@
 use Rattle.std.proofs.Common.{length, take, sym, subst, arith}
 use Rattle.std.proofs.lemmas.Result.{IfOk-weaker}
 use Rattle.rounds.specs.Pending.{ArePlaces, AreTouched}
-use Rattle.rounds.proofs.Touched.{touched_places, few_places, refuted_among_all, tells_all}
+use Rattle.rounds.proofs.Touched.{touched_places, few_places, refuted_among_all}
 use Rattle.rounds.proofs.keep.keep_all.Goals as goal
 
 pub refuted_of-requires-clause-places : goal.refuted_of-requires-clause-places
@@ -28,8 +28,6 @@ returns-clause-few g c =
     let some = few_places c.touched.result.now c.args.from (length c.args.runs.now) places in
     IfOk-weaker c.refuted_of.result _ _ (λ numbers among. omega (arith, among.few, some, c.requires.few)) c.refuted_of.ensures
 
-pub returns-clause-tells : goal.returns-clause-tells
-returns-clause-tells g c =
-    IfOk-weaker c.refuted_of.result _ _
-    (λ numbers among. tells_all c.touch.new.self c.args.runs.now c.args.from numbers.items c.in_ok-touch.ensures.watches)
-    c.refuted_of.ensures
+pub returns-clause-watched : goal.returns-clause-watched
+returns-clause-watched g c =
+    IfOk-weaker c.refuted_of.result _ _ (λ numbers among. c.in_ok-touch.ensures.watches) c.refuted_of.ensures

@@ -3,7 +3,7 @@ use Rattle.std.proofs.lemmas.List.{length-map}
 use Rattle.rounds.specs.Views.{blocks_of}
 use Rattle.batch.specs.Views.{block_view}
 use Rattle.rounds.proofs.Steps.{starts}
-use Rattle.rounds.proofs.Touched.{has_of_times}
+use Rattle.rounds.proofs.Touched.{all_blank}
 use Rattle.rounds.proofs.openings.begin.Goals as goal
 
 pub returns : goal.returns
@@ -20,10 +20,6 @@ returns c =
           (λ i d lt. runs.ensures.blank i d (omega (arith, lt)))
           (λ i lt. stale.ensures.below i (omega (arith, lt))) (λ i le. stale.ensures.beyond i (omega (arith, le)));
       few = omega (arith, stale.ensures.all);
-      tells = record {
-        all = omega (arith, c.in_ok-new.ensures, runs.ensures.all);
-        watched = λ run d low high out.
-            let once = stale.ensures.below run (omega (arith, high, runs.ensures.all)) in
-            absurd (out (has_of_times stale.field-0.items run (omega (arith, once))));
-      };
+      watched = all_blank c.in_ok-new.field-0.watch runs.field-0.items (omega (arith, c.in_ok-new.ensures, runs.ensures.all))
+          (λ i d lt. runs.ensures.blank i d (omega (arith, runs.ensures.all, lt)));
     }

@@ -1,13 +1,12 @@
-use Rattle.std.proofs.Common.{◌≡◌, ◌+◌, ◌<◌, ◌≤◌, length, get_or, ap, sym, subst, arith, rules}
+use Rattle.std.proofs.Common.{◌≡◌, ◌+◌, ◌<◌, ◌≤◌, length, get_or, refl, ap, sym, subst, arith, rules}
 use Rattle.std.proofs.lemmas.List.{length-map}
 use Rattle.meaning.proofs.Openings.{comes_on}
 use Rattle.rounds.specs.Views.{start_of, blocks_of}
 use Rattle.batch.specs.Views.{block_view}
 use Rattle.claims.specs.Views.{times}
-use Rattle.rounds.specs.PendingRuns.{AreRenewed}
-use Rattle.rounds.specs.Pending.{Tells}
+use Rattle.committed.specs.NumberSets.{Has}
+use Rattle.rounds.specs.Pending.{Tells, WatchesAll}
 use Rattle.rounds.proofs.Steps.{one_round, round_commits, listed_nets, stale_can_be_made, same_kinds}
-use Rattle.rounds.proofs.Times.{times_read}
 use Rattle.rounds.proofs.Touched.{tells_renewed}
 use Rattle.rounds.proofs.openings.round.Goals as goal
 
@@ -53,7 +52,7 @@ commit-requires-clause-legal g c =
     (round_commits c.args.batch.now c.args.at.now.opened c.args.at.now.rounds c.in_ok-seen.seen.first c.args.at.now.objects
     c.args.at.now.runs.items
     c.renew.new.runs.items c.deref-2.result.now c.deref-3.result.now c.args.at.now.counts.items
-    c.renew.new.counts.items c.deref.result.now c.args.at.now.stale.items c.requires.at.here c.deref.ensures.value
+    c.renew.new.counts.items c.deref.result.now c.args.at.now.stale.items c.renew.new.changed.items c.requires.at.here c.deref.ensures.value
     c.in_ok-renew.ensures.renewed c.deref-2.ensures.value c.in_ok-seen.ensures.first c.deref-3.ensures.value).0
 
 pub commit-requires-clause-room : goal.commit-requires-clause-room
@@ -61,20 +60,20 @@ commit-requires-clause-room g c =
     (round_commits c.args.batch.now c.args.at.now.opened c.args.at.now.rounds c.in_ok-seen.seen.first c.args.at.now.objects
     c.args.at.now.runs.items
     c.renew.new.runs.items c.deref-2.result.now c.deref-3.result.now c.args.at.now.counts.items
-    c.renew.new.counts.items c.deref.result.now c.args.at.now.stale.items c.requires.at.here c.deref.ensures.value
+    c.renew.new.counts.items c.deref.result.now c.args.at.now.stale.items c.renew.new.changed.items c.requires.at.here c.deref.ensures.value
     c.in_ok-renew.ensures.renewed c.deref-2.ensures.value c.in_ok-seen.ensures.first c.deref-3.ensures.value).1
 
 pub keep_all-requires-clause-made : goal.keep_all-requires-clause-made
 keep_all-requires-clause-made g c κs lives = λ k lt.
     let blocks : length (blocks_of c.args.batch.now) ≡ length c.args.batch.now.transactions.items =
     length-map c.args.batch.now.transactions.items block_view in
-    let stale = c.args.at.now.stale.items in
-    let within : k < length stale = omega (arith, ap length c.deref-5.ensures.value, lt) in
-    let inside = (c.requires.at.here.numbers (get_or stale k 0) (times_read stale k 0 within)).1 in
-    let same : get_or c.deref-5.result.now k 0 ≡ get_or stale k 0 =
-    ap (λ ns. get_or ns k 0) c.deref-5.ensures.value in
+    let changed = c.deref-5.result.now in
+    let number = get_or changed k 0 in
+    let renewed = c.in_ok-renew.ensures.renewed in
+    let given = renewed.among number (subst (λ ns. Has ns number) c.deref-5.ensures.value (record { at = k; within = lt; is = refl })) in
+    let inside = (c.requires.at.here.numbers number (subst (λ ns. 0 < times number ns) c.deref.ensures.value given)).1 in
     let all = c.requires.at.here.all in
-    let runs = c.in_ok-renew.ensures.renewed.runs in
+    let runs = renewed.runs in
     omega (arith, ap length c.deref-4.ensures.value)
 
 pub keep_all-requires-clause-tells : goal.keep_all-requires-clause-tells
@@ -83,12 +82,8 @@ keep_all-requires-clause-tells g c κs lives =
     subst (λ rs. Tells c.args.at.now.pending rs c.args.at.now.opened made) (sym c.deref-4.ensures.value)
     (subst (Tells c.args.at.now.pending c.renew.new.runs.items c.args.at.now.opened) (sym c.deref-5.ensures.value)
     (tells_renewed c.args.batch.now c.args.at.now.objects c.args.at.now.pending c.args.at.now.runs.items c.renew.new.runs.items
-    c.args.at.now.stale.items
-    c.args.at.now.counts.items c.renew.new.counts.items c.args.at.now.opened c.requires.at.tells
-    (subst (λ ns. AreRenewed c.args.batch.now c.args.at.now.objects ns c.args.at.now.runs.items c.renew.new.runs.items
-    c.args.at.now.counts.items
-    c.renew.new.counts.items)
-    c.deref.ensures.value c.in_ok-renew.ensures.renewed)))
+    c.deref.result.now c.args.at.now.counts.items c.renew.new.counts.items c.renew.new.changed.items c.args.at.now.opened
+    c.requires.at.watched c.in_ok-renew.ensures.renewed))
 
 pub keep_all-requires-clause-nets : goal.keep_all-requires-clause-nets
 keep_all-requires-clause-nets g c κs lives =
@@ -104,12 +99,11 @@ returns-clause-at g c =
       here = (one_round c.args.batch.now c.args.at.now.opened c.args.at.now.rounds c.in_ok-seen.seen c.args.at.now.objects
           c.commit.new.objects c.args.at.now.runs.items c.renew.new.runs.items c.deref-2.result.now c.deref-3.result.now
           c.deref-4.result.now c.args.at.now.counts.items c.renew.new.counts.items c.deref.result.now c.args.at.now.stale.items
-          c.in_ok-at.field-0.items c.requires.at.here c.deref.ensures.value c.in_ok-renew.ensures.renewed
+          c.renew.new.changed.items c.in_ok-at.field-0.items c.requires.at.here c.deref.ensures.value c.in_ok-renew.ensures.renewed
           c.deref-2.ensures.value c.in_ok-seen.ensures c.deref-3.ensures.value c.in_ok-commit.ensures
           c.deref-4.ensures.value c.in_ok-at.ensures.refuted (omega (arith, blocks, c.requires.going))).1;
       few = c.in_ok-at.ensures.few;
-      tells = subst (λ rs. Tells c.keep_all.new.pending rs later c.in_ok-at.field-0.items) c.deref-4.ensures.value
-          c.in_ok-at.ensures.tells;
+      watched = subst (λ rs. WatchesAll c.keep_all.new.pending.watch rs later) c.deref-4.ensures.value c.in_ok-at.ensures.watched;
     }
 
 pub returns-clause-on : goal.returns-clause-on
@@ -119,7 +113,7 @@ returns-clause-on g c =
     let opening = (one_round c.args.batch.now c.args.at.now.opened c.args.at.now.rounds c.in_ok-seen.seen c.args.at.now.objects
     c.commit.new.objects c.args.at.now.runs.items c.renew.new.runs.items c.deref-2.result.now c.deref-3.result.now
     c.deref-4.result.now c.args.at.now.counts.items c.renew.new.counts.items c.deref.result.now c.args.at.now.stale.items
-    c.in_ok-at.field-0.items c.requires.at.here c.deref.ensures.value c.in_ok-renew.ensures.renewed
+    c.renew.new.changed.items c.in_ok-at.field-0.items c.requires.at.here c.deref.ensures.value c.in_ok-renew.ensures.renewed
     c.deref-2.ensures.value c.in_ok-seen.ensures c.deref-3.ensures.value c.in_ok-commit.ensures
     c.deref-4.ensures.value c.in_ok-at.ensures.refuted (omega (arith, blocks, c.requires.going))).0 in
     comes_on (start_of c.args.batch.now) (blocks_of c.args.batch.now) c.args.at.now.opened
