@@ -101,7 +101,6 @@ impl<'s> Desk<'s> {
         ensures trial { self.new.trial ≡ self.old.trial }
         ensures unlabelled { OnOk result (self.new.labels.items ≡ []) }
     {
-        pending.wait = pending.next_wait();
         swap(&mut pending.tree, &mut self.run.tree);
         run_in(
             threads,
@@ -145,6 +144,7 @@ impl<'s> Desk<'s> {
         if self.repeats(number, gate, pending)? {
             return Ok(false);
         }
+        pending.wait = pending.next_wait();
         self.make(threads, alloc, batch, number, width, gate, pending)?;
         Ok(true)
     }

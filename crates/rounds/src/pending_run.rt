@@ -97,8 +97,8 @@ impl PendingRun {
         }
     }
 
-    /// Whether it is worth while to try if the run gets the same replies on other objects. It has
-    /// entries then, and its net is all of them.
+    /// Whether the replies of the run are to be tried on other objects. It has entries then, and its
+    /// net is all of them.
     pub(crate) fn is_to_be_tried(&self) -> bool
         ensures entries { IsTrue result → ¬ (self.now.sums.entries.items ≡ []) }
         ensures whole { IsTrue result → self.now.sums.of_net ≡ None }
@@ -106,7 +106,7 @@ impl PendingRun {
         self.wait == 0 && self.sums.of_net.is_none() && !self.sums.entries.is_empty()
     }
 
-    /// How long the run waits for a trial that takes the place of this one.
+    /// The wait of the run that is made in place of this one.
     pub(crate) fn next_wait(&self) -> u8 {
         if self.is_to_be_tried() {
             return WAIT;
