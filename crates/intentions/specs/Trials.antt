@@ -8,4 +8,5 @@ use Rattle.objects.specs.declared.entry.Entry.{Entry}
 abbrev pub CanRepeat : List Value → List Entry → Type 0
 CanRepeat values [] = Unit {0}
 CanRepeat values (entry ∷ entries) = Fits values entry.object entry.call × ObjectHasRoom values entry.object entry.call
-    × (objects.reply values (entry.object, entry.call) ≡ Some entry.reply → CanRepeat (objects.after values (entry.object, entry.call)) entries)
+    × (objects.reply values (entry.object, entry.call) ≡ Some entry.reply
+    → CanRepeat (objects.after values (entry.object, entry.call)) entries)

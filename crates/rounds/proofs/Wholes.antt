@@ -14,7 +14,8 @@ mutual
   kept_whole : (taken : Taken) → length (entries taken) ≤ length (kept taken) → kept taken ≡ entries taken
   kept_whole Nothing all = refl
   kept_whole (Took step rest) all =
-      let parts = each_kept (entries_of_step step) (entries rest) (kept_of_step step) (kept rest) (kept_of_step-le step) (kept-le rest) all in
+      let parts = each_kept (entries_of_step step) (entries rest) (kept_of_step step) (kept rest) (kept_of_step-le step)
+      (kept-le rest) all in
       ap₂ (λ xs ys. xs ++ ys) (step_whole step parts.0) (kept_whole rest parts.1)
 
   step_whole : (step : TakenStep) → length (entries_of_step step) ≤ length (kept_of_step step) → kept_of_step step ≡ entries_of_step step

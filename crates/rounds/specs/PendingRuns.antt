@@ -128,7 +128,8 @@ IsThisOrThat meant earlier None = IsPendingOf meant earlier
 
 -- a run of its number on this state, where these are the earlier ones
 abbrev pub IsMade : Batch → State → List PendingRun → Made → Type 0
-IsMade batch state runs made = (d : PendingRun) → IsThisOrThat (meaning batch made.number state) (slice_index_or runs made.number d) made.run
+IsMade batch state runs made = (d : PendingRun)
+    → IsThisOrThat (meaning batch made.number state) (slice_index_or runs made.number d) made.run
 
 -- runs with one more in its place, where one was made
 abbrev pub with_run : List PendingRun → ℕ → Option PendingRun → List PendingRun

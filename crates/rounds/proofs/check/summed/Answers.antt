@@ -6,7 +6,8 @@ use Rattle.rounds.proofs.check.summed.Goals as goal
 pub renew-requires : goal.renew-requires
 renew-requires c = record {
   whole = λ whole. c.deref-in-loop-run.ensures.value
-      ∙ (same_entries c.run-item.result.net.items c.run-item.result.entries.items (sym c.eq-whole.ensures ∙ whole) ∙ sym c.deref.ensures.value);
+      ∙ (same_entries c.run-item.result.net.items c.run-item.result.entries.items (sym c.eq-whole.ensures ∙ whole)
+      ∙ sym c.deref.ensures.value);
 }
 
 pub loop-run-preserved : goal.loop-run-preserved

@@ -8,8 +8,12 @@ use Rattle.rounds.proofs.make.make_all.Goals as goal
 
 pub returns : goal.returns
 returns g c =
+    let batch = c.args.batch.now in
+    let objects = c.args.objects.now in
+    let runs = c.args.runs.now in
     let numbers = c.args.numbers.now in
-    let groups = given_by _ _ (λ piece. AreMade c.args.batch.now c.args.objects.now c.args.runs.now (slice_chunk numbers c.args.crew.now.plan.cut piece))
+    let cut = c.args.crew.now.plan.cut in
+    let groups = given_by _ _ (λ piece. AreMade batch objects runs (slice_chunk numbers cut piece))
     c.give_all.result c.give_all.ensures (λ k before after done. search rules) in
-    IfOk-weaker c.give_all.result _ _ (λ made given. all_groups c.args.batch.now c.args.objects.now c.args.runs.now numbers c.args.crew.now.plan.cut
+    IfOk-weaker c.give_all.result _ _ (λ made given. all_groups batch objects runs numbers cut
     c.div_ceil.result made.items (omega (arith, c.args.crew.now.plan.is_plan)) c.div_ceil.ensures given) groups

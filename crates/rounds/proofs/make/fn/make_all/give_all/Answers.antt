@@ -41,5 +41,6 @@ returns g c =
     let after = c.make_group.new.all.items in
     let shown : c.in_ok-desk.desk.view.snapshot ≡ objects = ap (λ (v : View). v.snapshot) c.in_ok-desk.ensures.opened in
     let ready = subst (λ s. IsDeskOn s c.make_group.new.desk) shown c.in_ok-make_group.ensures.ready in
-    let added = subst (λ s. AreAdded batch s c.captures.runs.now c.group_at-group.result.now before after) shown c.in_ok-make_group.ensures.added in
+    let added = subst (λ s. AreAdded batch s c.captures.runs.now c.group_at-group.result.now before after) shown
+    c.in_ok-make_group.ensures.added in
     (ready, subst (λ ns. AreAdded batch objects c.captures.runs.now ns before after) c.group_at-group.ensures added)
