@@ -1,5 +1,5 @@
 -- Entries are tried one after the other.
-use Rattle.std.proofs.Common.{◌≡◌, ◌↔◌, ℕ, ◌+◌, ◌<◌, List, ◌∷◌, length, drop, get_or, Some, sym, ap, ◌∙◌, subst}
+use Rattle.std.proofs.Common.{◌≡◌, ◌↔◌, ℕ, ◌+◌, ◌<◌, List, ◌∷◌, ◌++◌, length, drop, get_or, Some, sym, ap, ◌∙◌, subst}
 use Rattle.std.proofs.lemmas.List.{drop_more, length-map}
 use Rattle.objects.specs.Objects.{objects, Fits, ObjectHasRoom}
 use Rattle.objects.specs.declared.value.Value.{Value}
@@ -36,17 +36,17 @@ next_of start now entries e more left = record {
   off = λ other all. other (left.legal.0 all).0;
 }
 
--- the next entry is tried
-pub next_tried : (start now : List Value) (entries : List Entry) (i : ℕ) (e : Entry) → i < length entries → e ≡ get_or entries i e
-    → AreLeft start now entries (drop i entries) → IsNext start now entries e (drop (i + 1) entries)
-next_tried start now entries i e lt at left =
-    let is : drop i entries ≡ e ∷ drop (i + 1) entries = drop_more entries i e lt ∙ ap (λ x. x ∷ drop (i + 1) entries) (sym at) in
-    next_of start now entries e (drop (i + 1) entries) (subst (AreLeft start now entries) is left)
+-- the next entry of these is tried, before the rest
+next_tried : (start now : List Value) (entries earlier rest : List Entry) (i : ℕ) (e : Entry) → i < length earlier → e ≡ get_or earlier i e
+    → AreLeft start now entries (drop i earlier ++ rest) → IsNext start now entries e (drop (i + 1) earlier ++ rest)
+next_tried start now entries earlier rest i e lt at left =
+    let is : drop i earlier ≡ e ∷ drop (i + 1) earlier = drop_more earlier i e lt ∙ ap (λ x. x ∷ drop (i + 1) earlier) (sym at) in
+    next_of start now entries e (drop (i + 1) earlier ++ rest) (subst (λ es. AreLeft start now entries (es ++ rest)) is left)
 
 -- the next entry with its mark is tried
-pub next_marked_tried : (start now : List Value) (marked : List MarkedEntry) (i : ℕ) (m : MarkedEntry) → i < length marked
-    → m ≡ get_or marked i m → AreLeft start now (entries_of marked) (drop i (entries_of marked))
-    → IsNext start now (entries_of marked) m.entry (drop (i + 1) (entries_of marked))
-next_marked_tried start now marked i m lt is left =
-    next_tried start now (entries_of marked) i m.entry (subst (λ n. i < n) (sym (length-map marked (λ (k : MarkedEntry). k.entry))) lt)
-    (entry_at marked i m m.entry lt is) left
+pub next_marked_tried : (start now : List Value) (entries : List Entry) (marked : List MarkedEntry) (rest : List Entry) (i : ℕ)
+    (m : MarkedEntry) → i < length marked → m ≡ get_or marked i m → AreLeft start now entries (drop i (entries_of marked) ++ rest)
+    → IsNext start now entries m.entry (drop (i + 1) (entries_of marked) ++ rest)
+next_marked_tried start now entries marked rest i m lt is left =
+    next_tried start now entries (entries_of marked) rest i m.entry
+    (subst (λ n. i < n) (sym (length-map marked (λ (k : MarkedEntry). k.entry))) lt) (entry_at marked i m m.entry lt is) left

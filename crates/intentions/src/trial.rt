@@ -81,26 +81,42 @@ fn is_repeated(layers: &mut Layers<'_>, entry: &Entry) -> Result<bool, NoMemory>
     Ok(reply == entry.reply)
 }
 
+// The same of an entry that is the last of a list: what the layers show afterwards is of no use.
+fn is_last_repeated(layers: &mut Layers<'_>, entry: &Entry) -> Result<bool, NoMemory>
+    requires fits { Fits layers.old.shown entry.now.object entry.now.call }
+    requires room { ObjectHasRoom layers.old.shown entry.now.object entry.now.call }
+    ensures { IfOk result (λ same. IsTrue same ↔ (objects.reply layers.old.shown (entry.now.object, entry.now.call) ≡ Some entry.now.reply)) }
+{
+    let reply = layers.reply(entry.object, &entry.call)?;
+    Ok(reply == entry.reply)
+}
+
 fn are_repeated(layers: &mut Layers<'_>, entries: &[Entry]) -> Result<bool, NoMemory>
     requires { CanRepeat layers.old.shown entries.now }
     ensures { IfOk result (λ same. IsTrue same ↔ AreLegal layers.old.shown entries.now) }
 {
-    for entry in entries {
+    let Some((last, earlier)) = entries.split_last() else {
+        return Ok(true);
+    };
+    for entry in earlier {
         if !is_repeated(layers, entry)? {
             return Ok(false);
         }
     }
-    Ok(true)
+    is_last_repeated(layers, last)
 }
 
 fn are_marked_repeated(layers: &mut Layers<'_>, entries: &[MarkedEntry]) -> Result<bool, NoMemory>
     requires { CanRepeat layers.old.shown (entries_of entries.now) }
     ensures { IfOk result (λ same. IsTrue same ↔ AreLegal layers.old.shown (entries_of entries.now)) }
 {
-    for marked in entries {
+    let Some((last, earlier)) = entries.split_last() else {
+        return Ok(true);
+    };
+    for marked in earlier {
         if !is_repeated(layers, &marked.entry)? {
             return Ok(false);
         }
     }
-    Ok(true)
+    is_last_repeated(layers, &last.entry)
 }
