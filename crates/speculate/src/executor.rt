@@ -1,6 +1,6 @@
 //! Running a block depth first in a view of the objects. Where there is width for it, children of a
 //! parallel step are run ahead, at once, and are then kept in order.
-ghost use Rattle.std.specs.Prelude.{◌≡◌, ◌++◌, ◌-◌, ◌≤◌, IfOk, OnOk, length, slice_range};
+ghost use Rattle.std.specs.Prelude.{◌≡◌, ◌++◌, ◌-◌, ◌≤◌, IfOk, OnOk, length, take, slice_range};
 ghost use Rattle.std.specs.Option.{ForSome};
 ghost use Rattle.std.specs.Thread.{IsSync};
 ghost use Rattle.intentions.specs.Levels.{shown_values as state_of_view};
@@ -79,8 +79,7 @@ fn run_steps<T: Threads + Sync, G: Gate>(
     let mut taken = spare;
     make_room(&mut taken, steps.len())?;
     for (place, step) in steps.iter().enumerate() {
-        let mut spare = spare_at(&mut taken, place);
-        let (done, end) = run_step(making, step, labels, view, width, &mut spare)?;
+        let (done, end) = run_step(making, step, labels, view, width, &mut taken, place)?;
         put_at(&mut taken, place, done)?;
         match end {
             End::Ended => {}
@@ -90,7 +89,8 @@ fn run_steps<T: Threads + Sync, G: Gate>(
     Ok(record_of(taken, steps.len(), End::Ended))
 }
 
-// Runs a step, and returns how the block goes on. Its labels are added to those that are seen.
+// Runs a step, and returns how the block goes on. Its labels are added to those that are seen. What
+// is at its place of the list is spare: a step with blocks takes the boxes that are there.
 #[cycle(run)]
 fn run_step<T: Threads + Sync, G: Gate>(
     making: &Making<'_, T, G>,
@@ -98,12 +98,15 @@ fn run_step<T: Threads + Sync, G: Gate>(
     labels: &mut Vec<Held>,
     view: &mut View<'_>,
     width: u32,
-    spare: &mut Spare,
+    taken: &mut Vec<Taken>,
+    place: usize,
 ) -> Result<(Taken, End), NoMemory>
     requires { CanStepHere (step_view step.now) labels.old.items (state_of_view view.old) }
     ensures shows { IfOk result
         (λ r. ShowsStep in_view (one_step (step_view step.now) labels.old.items (state_of_view view.old)) r.0 r.1 labels.old.items labels.new.items view.old view.new) }
     ensures labels { OnOk result (StillSeen labels.old.items labels.new.items) }
+    ensures length { length taken.new.items ≡ length taken.old.items }
+    ensures before { take place taken.new.items ≡ take place taken.old.items }
 {
     match step {
         Step::Op {
@@ -122,6 +125,7 @@ fn run_step<T: Threads + Sync, G: Gate>(
         } => {
             let holds = test_holds(test, &labels[*label as usize]);
             let branch = branch_of(holds, then, otherwise);
+            let mut spare = spare_at(taken, place);
             let list = list_of(making.alloc, &mut spare.body);
             let record = run_block(making, branch, labels, view, width, list)?;
             let end = record.outcome;
@@ -131,7 +135,8 @@ fn run_step<T: Threads + Sync, G: Gate>(
             ))
         }
         Step::Sub(child) => {
-            let tried = run_subaction(making, child, labels, view, width, spare)?;
+            let mut spare = spare_at(taken, place);
+            let tried = run_subaction(making, child, labels, view, width, &mut spare)?;
             let (done, end) = spare.into_step(making.alloc, labels, child.labelled, tried)?;
             Ok((done, end))
         }

@@ -37,13 +37,13 @@ run_steps-returns-in-Aborted-clause-shows g t c =
     (take c.loop-place.place c.loop-place.taken.items) c.loop-place.labels.items c.loop-place.view
     c.index-steps-place.result c.in_ok-done.done c.in_ok-done.end c.run_step.new.labels.items c.run_step.new.view c.in-Aborted.field-0
     c.record_of.result c.loop-place.invariant.part c.loop-place-test.true c.index-steps-place.is c.in_ok-done.ensures.shows c.in-Aborted.is
-    (c.record_of.ensures.taken ∙ c.in_ok-put_at.ensures.put ∙ ap (λ ts. ts ++ c.in_ok-done.done ∷ []) c.spare_at-spare.ensures.before)
+    (c.record_of.ensures.taken ∙ c.in_ok-put_at.ensures.put ∙ ap (λ ts. ts ++ c.in_ok-done.done ∷ []) c.in_ok-done.ensures.before)
     c.record_of.ensures.outcome
 
 pub run_steps-loop-place-preserved : goal.run_steps-loop-place-preserved
 run_steps-loop-place-preserved g t c = record {
   long = c.in_ok-put_at.ensures.long;
-  part = rw (c.in_ok-put_at.ensures.put, c.spare_at-spare.ensures.before)
+  part = rw (c.in_ok-put_at.ensures.put, c.in_ok-done.ensures.before)
       (part_run-more ground c.args.steps.now c.args.labels.now.items c.args.view.now c.loop-place.place
       (take c.loop-place.place c.loop-place.taken.items) c.loop-place.labels.items c.loop-place.view
       c.index-steps-place.result c.in_ok-done.done c.in_ok-done.end c.run_step.new.labels.items c.run_step.new.view
