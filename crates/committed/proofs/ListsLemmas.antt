@@ -1,5 +1,7 @@
 -- What lists are of.
-use Rattle.std.proofs.Common.{◌≡◌, ◌<◌, ◌∙◌, arith, get_or, Result, Ok, Err, OnErr, refl, sym, ap}
+use Rattle.std.proofs.Common.{◌≡◌, ◌<◌, ◌∙◌, arith, ℕ, get_or, Result, Ok, Err, OnErr, refl, sym, ap}
+use Rattle.std.proofs.lemmas.List.{get_or-map}
+use Rattle.std.proofs.lemmas.List.FromFn.{get_or-range_with_len}
 use Rattle.committed.specs.declared.classes.Class.{Class}
 use Rattle.committed.specs.declared.classes.Class.TheVariants.{Deposit, Withdrawal, Refusal, Balance, Count, Raise, Change, Put, Enqueue}
 use Rattle.committed.specs.declared.classes.Class.TheVariants.{Dequeue, Size, Look, Taken}
@@ -36,6 +38,10 @@ number-bound Size = omega arith
 number-bound Look = omega arith
 number-bound Put = omega arith
 number-bound Taken = omega arith
+
+-- each at its own
+pub number_at : (n : ℕ) → n < 13 → class_number (get_or classes n Deposit) ≡ n
+number_at n low = omega (arith, get_or-map class_number classes n Deposit 0 low, get_or-range_with_len 0 13 n 0 low)
 
 -- classes of one number are one
 pub one_class : (c d : Class) → class_number c ≡ class_number d → c ≡ d

@@ -1,10 +1,8 @@
 -- Which entries stand past a part of a list.
-use Rattle.std.proofs.Common.{◌≡◌, ◌≢◌, ℕ, suc, zero, ◌-◌, ◌<◌, ◌≤◌, ◌^◌, arith, Bool, true, false, None, List, [], ◌∷◌, length, drop, take}
-use Rattle.std.proofs.Common.{get_or, refl, sym, ap, ◌∙◌, subst, bit_and, inl, inr}
+use Rattle.std.proofs.Common.{◌≡◌, ℕ, suc, zero, ◌-◌, ◌<◌, ◌≤◌, ◌^◌, arith, Bool, true, false, None, List, [], ◌∷◌, length, drop, take}
+use Rattle.std.proofs.Common.{get_or, refl, sym, subst, inl, inr}
 use Rattle.std.proofs.lemmas.List.{get_or-take, length-take, length-drop}
 use Rattle.std.specs.Prelude.{slice_range, if◌then◌else◌}
-use Rattle.std.specs.Int.{bit_at}
-use Rattle.std.proofs.lemmas.Nat.Bits.{bit_at_and, bit_at-pow_same, bit_at-zero}
 use Rattle.objects.specs.declared.entry.Entry.{Entry}
 use Rattle.objects.specs.Entries.{CommutesWith, CommuteForward}
 use Rattle.committed.specs.declared.classes.Class.{Class}
@@ -68,9 +66,3 @@ key_is P p q compared by_object by_item = by_class (is_by_item class) refl
 pub linked_against : (links : List Link) (p q : Entry) (k : ℕ) → is_compared p q ≡ true → IsListed links k q
     → IsLinked links k (key_against (mark_of p) (class_of q.call q.reply))
 linked_against links p q k compared listed = key_is (IsLinked links k) p q compared listed.0 listed.1
-
--- a set with a class meets that class
-pub is_met : (set n : ℕ) → bit_at set n ≡ 1 → bit_and set (2 ^ n) ≢ 0
-is_met set n has none =
-    let nothing : bit_at (bit_and set (2 ^ n)) n ≡ 0 = ap (λ s. bit_at s n) none ∙ bit_at-zero n in
-    absurd (omega (arith, nothing, bit_at_and set (2 ^ n) n, has, bit_at-pow_same n))

@@ -1,5 +1,7 @@
 //! Classes of operations that always commute forward, whatever their arguments and replies are.
-ghost use Rattle.std.specs.Prelude.{◌≡◌, ◌^◌};
+ghost use Rattle.std.specs.Prelude.{◌≡◌, ◌<◌, ◌^◌, ◌⊎◌, IfSome, IsNone};
+ghost use Rattle.std.specs.Int.{bit_at};
+ghost use Rattle.committed.specs.declared.classes.Class.{Class as OneClass};
 ghost use Rattle.committed.specs.Classes.{account_class, counter_class, set_class, queue_class, key_class, max_class, class_of, class_number, conflicts_of, is_by_item};
 
 use objects::{
@@ -105,6 +107,28 @@ impl Class {
         ensures { result ≡ 2 ^ class_number self }
     {
         1u16 << self.number()
+    }
+
+    /// The first class of a set, in the order of the numbers. A bit that is for no class is passed
+    /// over.
+    pub fn first_of(set: u16) -> Option<Class>
+        ensures some { IfSome result (λ class. bit_at set (class_number class) ≡ 1) }
+        ensures none { IsNone result → (class : OneClass) → bit_at set (class_number class) ≡ 0 }
+    {
+        let number = set.trailing_zeros() as usize;
+        if number < Class::ALL.len() {
+            return Some(Class::ALL[number]);
+        }
+        None
+    }
+
+    /// The set without this class, which it has.
+    pub fn taken_from(self, set: u16) -> u16
+        requires { bit_at set (class_number self) ≡ 1 }
+        ensures less { result < set }
+        ensures others { (class : OneClass) → bit_at result (class_number class) ≡ 0 → (class ≡ self) ⊎ (bit_at set (class_number class) ≡ 0) }
+    {
+        set & !self.bit()
     }
 
     /// The set of the classes with which it doesn't always commute.

@@ -135,13 +135,13 @@ impl Committed {
         requires met { (k : ℕ) → k < upto → Meets met entry.now (slice_index_or self.now k entry.now) }
         ensures { IsTrue result ↔ CommutesWith entry.now (take upto self.now) }
     {
-        for class in &Class::ALL {
-            if met & class.bit() != 0 {
-                let key = key_against(mark, *class);
-                if !self.index.commutes(entry, &self.entries, key, upto) {
-                    return false;
-                }
+        let mut rest = met;
+        while let Some(class) = Class::first_of(rest) {
+            let key = key_against(mark, class);
+            if !self.index.commutes(entry, &self.entries, key, upto) {
+                return false;
             }
+            rest = class.taken_from(rest);
         }
         commutes_past(entry, &self.entries, self.index.listed(), upto)
     }

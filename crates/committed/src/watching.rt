@@ -82,12 +82,11 @@ impl Watch {
         ensures only { OnOk result ((run : ℕ) → Has found.new run → Has found.old run ⊎ ((from ≤ run) × (run < self.now.count))) }
         ensures stand { OnOk result ((run : ℕ) (other : OneEntry) → from ≤ run → ¬ Has found.new run → IsWatched self.now run other → CommuteForward other marked.now.entry) }
     {
-        let met = self.filter.met(&marked.mark);
-        for class in &Class::ALL {
-            if met & class.bit() != 0 {
-                let slot = self.slot(key_against(&marked.mark, *class));
-                self.find_in(slot, from, found)?;
-            }
+        let mut rest = self.filter.met(&marked.mark);
+        while let Some(class) = Class::first_of(rest) {
+            let slot = self.slot(key_against(&marked.mark, class));
+            self.find_in(slot, from, found)?;
+            rest = class.taken_from(rest);
         }
         Ok(())
     }
