@@ -2,6 +2,7 @@ pub mod ListsLemmas
 pub mod SameLemmas
 pub mod ClassesLemmas
 pub mod StrictnessLemmas
+pub mod StrengthLemmas
 pub mod FilterLemmas
 pub mod StandsLemmas
 pub mod IndexLemmas

@@ -8,6 +8,12 @@ use Rattle.atoms.specs.ItemSet.{set_effect, set_effects_commute}
 use Rattle.atoms.specs.Queue.{queue_effect, queue_effects_commute}
 use Rattle.atoms.specs.Directory.{directory_effect, directory_effects_commute}
 use Rattle.atoms.specs.MaxRegister.{max_effect, max_effects_commute}
+use Rattle.atoms.specs.declared.account.AccountCall.{AccountCall}
+use Rattle.atoms.specs.declared.account.AccountReply.{AccountReply}
+use Rattle.atoms.specs.declared.counter.CounterCall.{CounterCall}
+use Rattle.atoms.specs.declared.counter.CounterReply.{CounterReply}
+use Rattle.atoms.specs.declared.max_register.MaxCall.{MaxCall}
+use Rattle.atoms.specs.declared.max_register.MaxReply.{MaxReply}
 use Rattle.atoms.specs.declared.item_set.SetCall.{SetCall}
 use Rattle.atoms.specs.declared.item_set.SetReply.{SetReply}
 use Rattle.atoms.specs.declared.queue.QueueCall.{QueueCall}
@@ -28,11 +34,11 @@ use Rattle.objects.specs.declared.call.Reply.TheVariants as reply
 use Rattle.objects.specs.declared.entry.Entry.{Entry}
 use Rattle.objects.specs.Entries.{CommuteForward}
 use Rattle.objects.proofs.CommuteLemmas.{entries_exact}
-use Rattle.committed.specs.Strictness.{IsAsStrict, AreAsStrict, EffectsAreAsStrict, is_strict_by_number, account_is_as_strict}
+use Rattle.committed.specs.Strictness.{AreAsStrict, EffectsAreAsStrict, account_is_as_strict}
 use Rattle.committed.specs.Strictness.{counter_is_as_strict, max_is_as_strict}
 
 -- a smaller withdrawal commutes with fewer balances, a larger balance with fewer withdrawals; other amounts make no difference
-account_strict : (e p q : AccountEffect) → account_is_as_strict p q ≡ true → account_effects_commute e p ≡ true
+pub account_strict : (e p q : AccountEffect) → account_is_as_strict p q ≡ true → account_effects_commute e p ≡ true
     → account_effects_commute e q ≡ true
 account_strict (account.Counted n) (account.Withdrew a) (account.Withdrew b) h commutes =
     lt-ltb n b.value (omega (arith, leb-true a.value b.value h, ltb-true n a.value commutes))
@@ -59,7 +65,7 @@ account_strict account.Impossible (account.Counted m) (account.Counted n) h comm
 account_strict e p q h commutes = absurd cc
 
 -- numbers make no difference to a counter's operations, nor whether a change adds or subtracts
-counter_strict : (e p q : CounterEffect) → counter_is_as_strict p q ≡ true → counter_effects_commute e p ≡ true
+pub counter_strict : (e p q : CounterEffect) → counter_is_as_strict p q ≡ true → counter_effects_commute e p ≡ true
     → counter_effects_commute e q ≡ true
 counter_strict (counter.Added c) (counter.Added a) (counter.Added b) h commutes = commutes
 counter_strict (counter.Added c) (counter.Added a) (counter.Subtracted b) h commutes = commutes
@@ -84,7 +90,7 @@ counter_strict counter.Impossible (counter.Counted m) (counter.Counted n) h comm
 counter_strict e p q h commutes = absurd cc
 
 -- a larger raise commutes with fewer tops, a smaller top with fewer raises
-max_strict : (e p q : MaxEffect) → max_is_as_strict p q ≡ true → max_effects_commute e p ≡ true → max_effects_commute e q ≡ true
+pub max_strict : (e p q : MaxEffect) → max_is_as_strict p q ≡ true → max_effects_commute e p ≡ true → max_effects_commute e q ≡ true
 max_strict (max.Counted n) (max.Raised a) (max.Raised b) h commutes = le-leb b.value n
     (omega (arith, leb-true b.value a.value h, leb-true a.value n commutes))
 max_strict (max.Raised a) (max.Counted m) (max.Counted n) h commutes = le-leb a.value n
@@ -95,39 +101,46 @@ max_strict (max.Counted c) (max.Counted m) (max.Counted n) h commutes = commutes
 max_strict max.Impossible (max.Counted m) (max.Counted n) h commutes = commutes
 max_strict e p q h commutes = absurd cc
 
--- operations of one kind go by their effects; those of different kinds commute
-operations : (k : Call) (t : Reply) (c : Call) (r : Reply) (d : Call) (s : Reply) → is_strict_by_number c r d s ≡ true
-    → operations_commute k t c r ≡ true → operations_commute k t d s ≡ true
-operations (call.Account k) (reply.Account t) (call.Account c) (reply.Account r) (call.Account d) (reply.Account s) h commutes =
-    account_strict (account_effect (k, t)) (account_effect (c, r)) (account_effect (d, s)) h commutes
-operations (call.Counter k) (reply.Counter t) (call.Counter c) (reply.Counter r) (call.Counter d) (reply.Counter s) h commutes =
-    counter_strict (counter_effect (k, t)) (counter_effect (c, r)) (counter_effect (d, s)) h commutes
-operations (call.Max k) (reply.Max t) (call.Max c) (reply.Max r) (call.Max d) (reply.Max s) h commutes = max_strict (max_effect (k, t))
-    (max_effect (c, r)) (max_effect (d, s)) h commutes
-operations (call.Counter k) (reply.Counter t) (call.Account c) (reply.Account r) (call.Account d) (reply.Account s) h commutes = refl
-operations (call.Set k) (reply.Set t) (call.Account c) (reply.Account r) (call.Account d) (reply.Account s) h commutes = refl
-operations (call.Queue k) (reply.Queue t) (call.Account c) (reply.Account r) (call.Account d) (reply.Account s) h commutes = refl
-operations (call.Directory k) (reply.Directory t) (call.Account c) (reply.Account r) (call.Account d) (reply.Account s) h commutes = refl
-operations (call.Max k) (reply.Max t) (call.Account c) (reply.Account r) (call.Account d) (reply.Account s) h commutes = refl
-operations k t (call.Account c) (reply.Account r) (call.Account d) (reply.Account s) h commutes = refl
-operations (call.Account k) (reply.Account t) (call.Counter c) (reply.Counter r) (call.Counter d) (reply.Counter s) h commutes = refl
-operations (call.Set k) (reply.Set t) (call.Counter c) (reply.Counter r) (call.Counter d) (reply.Counter s) h commutes = refl
-operations (call.Queue k) (reply.Queue t) (call.Counter c) (reply.Counter r) (call.Counter d) (reply.Counter s) h commutes = refl
-operations (call.Directory k) (reply.Directory t) (call.Counter c) (reply.Counter r) (call.Counter d) (reply.Counter s) h commutes = refl
-operations (call.Max k) (reply.Max t) (call.Counter c) (reply.Counter r) (call.Counter d) (reply.Counter s) h commutes = refl
-operations k t (call.Counter c) (reply.Counter r) (call.Counter d) (reply.Counter s) h commutes = refl
-operations (call.Account k) (reply.Account t) (call.Max c) (reply.Max r) (call.Max d) (reply.Max s) h commutes = refl
-operations (call.Counter k) (reply.Counter t) (call.Max c) (reply.Max r) (call.Max d) (reply.Max s) h commutes = refl
-operations (call.Set k) (reply.Set t) (call.Max c) (reply.Max r) (call.Max d) (reply.Max s) h commutes = refl
-operations (call.Queue k) (reply.Queue t) (call.Max c) (reply.Max r) (call.Max d) (reply.Max s) h commutes = refl
-operations (call.Directory k) (reply.Directory t) (call.Max c) (reply.Max r) (call.Max d) (reply.Max s) h commutes = refl
-operations k t (call.Max c) (reply.Max r) (call.Max d) (reply.Max s) h commutes = refl
-operations k t c r d s h commutes = absurd cc
-
 -- what commutes with two operations commutes with a third
 abbrev pub OperationsAreAsStrict : Call → Reply → Call → Reply → Call → Reply → Type 0
 OperationsAreAsStrict c r d s f t = (k : Call) (u : Reply) → operations_commute k u c r ≡ true → operations_commute k u d s ≡ true
     → operations_commute k u f t ≡ true
+
+-- three operations of an account
+pub accounts_strict : (c : AccountCall) (r : AccountReply) (d : AccountCall) (s : AccountReply) (f : AccountCall) (t : AccountReply)
+    → EffectsAreAsStrict account_effects_commute (account_effect (c, r)) (account_effect (d, s)) (account_effect (f, t))
+    → OperationsAreAsStrict (call.Account c) (reply.Account r) (call.Account d) (reply.Account s) (call.Account f) (reply.Account t)
+accounts_strict c r d s f t strict (call.Account k) (reply.Account u) first second = strict (account_effect (k, u)) first second
+accounts_strict c r d s f t strict (call.Counter k) (reply.Counter u) first second = refl
+accounts_strict c r d s f t strict (call.Set k) (reply.Set u) first second = refl
+accounts_strict c r d s f t strict (call.Queue k) (reply.Queue u) first second = refl
+accounts_strict c r d s f t strict (call.Directory k) (reply.Directory u) first second = refl
+accounts_strict c r d s f t strict (call.Max k) (reply.Max u) first second = refl
+accounts_strict c r d s f t strict k u first second = refl
+
+-- three operations of a counter
+pub counters_strict : (c : CounterCall) (r : CounterReply) (d : CounterCall) (s : CounterReply) (f : CounterCall) (t : CounterReply)
+    → EffectsAreAsStrict counter_effects_commute (counter_effect (c, r)) (counter_effect (d, s)) (counter_effect (f, t))
+    → OperationsAreAsStrict (call.Counter c) (reply.Counter r) (call.Counter d) (reply.Counter s) (call.Counter f) (reply.Counter t)
+counters_strict c r d s f t strict (call.Counter k) (reply.Counter u) first second = strict (counter_effect (k, u)) first second
+counters_strict c r d s f t strict (call.Account k) (reply.Account u) first second = refl
+counters_strict c r d s f t strict (call.Set k) (reply.Set u) first second = refl
+counters_strict c r d s f t strict (call.Queue k) (reply.Queue u) first second = refl
+counters_strict c r d s f t strict (call.Directory k) (reply.Directory u) first second = refl
+counters_strict c r d s f t strict (call.Max k) (reply.Max u) first second = refl
+counters_strict c r d s f t strict k u first second = refl
+
+-- three operations of a maximum register
+pub registers_strict : (c : MaxCall) (r : MaxReply) (d : MaxCall) (s : MaxReply) (f : MaxCall) (t : MaxReply)
+    → EffectsAreAsStrict max_effects_commute (max_effect (c, r)) (max_effect (d, s)) (max_effect (f, t))
+    → OperationsAreAsStrict (call.Max c) (reply.Max r) (call.Max d) (reply.Max s) (call.Max f) (reply.Max t)
+registers_strict c r d s f t strict (call.Max k) (reply.Max u) first second = strict (max_effect (k, u)) first second
+registers_strict c r d s f t strict (call.Account k) (reply.Account u) first second = refl
+registers_strict c r d s f t strict (call.Counter k) (reply.Counter u) first second = refl
+registers_strict c r d s f t strict (call.Set k) (reply.Set u) first second = refl
+registers_strict c r d s f t strict (call.Queue k) (reply.Queue u) first second = refl
+registers_strict c r d s f t strict (call.Directory k) (reply.Directory u) first second = refl
+registers_strict c r d s f t strict k u first second = refl
 
 -- three operations of a set
 pub sets_strict : (c : SetCall) (r : SetReply) (d : SetCall) (s : SetReply) (f : SetCall) (t : SetReply)
@@ -187,16 +200,6 @@ as_effects commute e-is f-is g-is strict x first second = sym (ap (commute x) g-
 as_told : (here told : Bool) → here ≡ true → IsTrue (if here then told else true) → told ≡ true
 as_told true told is commutes = commutes
 as_told false told is commutes = absurd cc
-
--- entries on one object of which the numbers show it
-pub strict_by_number : (p q : Entry) → p.object ≡ q.object → is_strict_by_number p.call p.reply q.call q.reply ≡ true → IsAsStrict p q
-strict_by_number p q same h e commutes = (entries_exact e q).0 (at_object (nat_eq e.object q.object) refl)
-  where
-    at_object : (b : Bool) → nat_eq e.object q.object ≡ b → IsTrue (if b then operations_commute e.call e.reply q.call q.reply else true)
-    at_object true is = operations e.call e.reply p.call p.reply q.call q.reply h
-        (as_told (nat_eq e.object p.object) (operations_commute e.call e.reply p.call p.reply) (ap (nat_eq e.object) same ∙ is)
-        ((entries_exact e p).1 commutes))
-    at_object false is = refl
 
 -- entries on one object whose operations are
 pub strict_together : (p q t : Entry) → p.object ≡ t.object → q.object ≡ t.object

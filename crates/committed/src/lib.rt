@@ -11,6 +11,7 @@ mod index;
 mod items;
 mod marks;
 mod number_set;
+mod strength;
 mod strictness;
 mod summary;
 mod watch;

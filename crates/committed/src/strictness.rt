@@ -3,12 +3,13 @@ ghost use Rattle.std.specs.Prelude.{◌≡◌, IsTrue};
 ghost use Rattle.atoms.specs.ItemSet.{set_effects_commute};
 ghost use Rattle.atoms.specs.Queue.{queue_effects_commute};
 ghost use Rattle.atoms.specs.Directory.{key_effects_commute, directory_effects_commute};
-ghost use Rattle.committed.specs.Strictness.{IsAsStrict, AreAsStrict, is_strict_by_number, account_is_as_strict, counter_is_as_strict, max_is_as_strict, EffectsAreAsStrict};
+ghost use Rattle.committed.specs.Strictness.{IsAsStrict, AreAsStrict, EffectsAreAsStrict, is_strict_by_number, strength_of};
 
 use crate::items::set_item;
+use crate::strength::Strength;
 use objects::{
-    Account, AccountEffect, Call, Counter, CounterEffect, Directory, DirectoryEffect, Entry,
-    ItemSet, KeyEffect, MaxEffect, MaxRegister, Queue, QueueEffect, Reply, SetEffect,
+    Call, Directory, DirectoryEffect, Entry, ItemSet, KeyEffect, Queue, QueueEffect, Reply,
+    SetEffect,
 };
 
 /// Whether the first entry is known to commute forward with no more than the second does. It is
@@ -22,73 +23,29 @@ pub fn is_as_strict(first: &Entry, second: &Entry) -> bool
     ensures equal { first.now ≡ second.now → IsTrue result }
     ensures numbers { first.now.object ≡ second.now.object → IsTrue (is_strict_by_number first.now.call first.now.reply second.now.call second.now.reply) → IsTrue result }
 {
-    first.object == second.object && (is_strict_by_number(first, second) || first == second)
-}
-
-fn is_strict_by_number(first: &Entry, second: &Entry) -> bool
-    ensures { result ≡ is_strict_by_number first.now.call first.now.reply second.now.call second.now.reply }
-{
-    match (&first.call, &first.reply, &second.call, &second.reply) {
-        (Call::Account(p), Reply::Account(r), Call::Account(q), Reply::Account(s)) => {
-            account_is_as_strict(Account::effect(p, r), Account::effect(q, s))
-        }
-        (Call::Counter(p), Reply::Counter(r), Call::Counter(q), Reply::Counter(s)) => {
-            counter_is_as_strict(Counter::effect(p, r), Counter::effect(q, s))
-        }
-        (Call::Max(p), Reply::Max(r), Call::Max(q), Reply::Max(s)) => {
-            max_is_as_strict(MaxRegister::effect(p, r), MaxRegister::effect(q, s))
-        }
-        _ => false,
-    }
-}
-
-/// Whether an operation of the first effect is as strict as one of the second.
-fn account_is_as_strict(first: AccountEffect, second: AccountEffect) -> bool
-    ensures { result ≡ account_is_as_strict first second }
-{
-    match (first, second) {
-        (AccountEffect::Deposited(_), AccountEffect::Deposited(_))
-        | (AccountEffect::Refused(_), AccountEffect::Refused(_)) => true,
-        (AccountEffect::Withdrew(amount), AccountEffect::Withdrew(other)) => {
-            amount.get() <= other.get()
-        }
-        (AccountEffect::Counted(number), AccountEffect::Counted(other)) => other <= number,
-        _ => false,
-    }
-}
-
-/// Whether an operation of the first effect is as strict as one of the second.
-fn counter_is_as_strict(first: CounterEffect, second: CounterEffect) -> bool
-    ensures { result ≡ counter_is_as_strict first second }
-{
-    matches!(
-        (first, second),
-        (
-            CounterEffect::Added(_) | CounterEffect::Subtracted(_),
-            CounterEffect::Added(_) | CounterEffect::Subtracted(_),
-        ) | (CounterEffect::Counted(_), CounterEffect::Counted(_))
-    )
-}
-
-/// Whether an operation of the first effect is as strict as one of the second.
-fn max_is_as_strict(first: MaxEffect, second: MaxEffect) -> bool
-    ensures { result ≡ max_is_as_strict first second }
-{
-    match (first, second) {
-        (MaxEffect::Raised(amount), MaxEffect::Raised(other)) => other.get() <= amount.get(),
-        (MaxEffect::Counted(number), MaxEffect::Counted(other)) => number <= other,
-        _ => false,
-    }
+    Strength::of(first).covers(&Strength::of(second))
 }
 
 /// Whether the first two entries are known to be as strict as the third: whatever commutes forward
-/// with both commutes with it. It is where one of them is alone, or where the two together are.
-pub fn are_as_strict(first: &Entry, second: &Entry, third: &Entry) -> bool
+/// with both commutes with it. It is where one of them is alone, or where the two together are. Each
+/// entry is given with its strength.
+pub fn are_as_strict(
+    first: &Entry,
+    second: &Entry,
+    third: &Entry,
+    of_first: &Strength,
+    of_second: &Strength,
+    of_third: &Strength,
+) -> bool
+    requires first { of_first.now ≡ strength_of first.now }
+    requires second { of_second.now ≡ strength_of second.now }
+    requires third { of_third.now ≡ strength_of third.now }
     ensures { IsTrue result → AreAsStrict first.now second.now third.now }
 {
-    is_as_strict(first, third)
-        || is_as_strict(second, third)
-        || first.object == third.object
+    of_first.covers(of_third)
+        || of_second.covers(of_third)
+        || of_third.is_paired()
+            && first.object == third.object
             && second.object == third.object
             && together_as_strict(first, second, third)
 }

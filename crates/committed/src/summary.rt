@@ -1,9 +1,10 @@
 //! Entries with their marks: all of them, or a summary.
 ghost use Rattle.std.specs.Prelude.{◌≡◌, ◌<◌, ◌≤◌, ◌++◌, ◌∷◌, [], List, length, IfOk, OnOk};
 ghost use Rattle.objects.specs.declared.entry.Entry.{Entry as OneEntry};
-ghost use Rattle.committed.specs.Summaries.{entries_of, IsSummary};
+ghost use Rattle.committed.specs.Summaries.{entries_of, strengths_of, IsSummary};
 
-use crate::marks::{Mark, MarkedEntry};
+use crate::marks::MarkedEntry;
+use crate::strength::Strength;
 use crate::strictness::are_as_strict;
 use objects::{Entry, NoMemory};
 use std::alloc::Global;
@@ -78,7 +79,10 @@ struct Places {
 struct Table {
     slots: Vec<Places>,
     summary: Vec<MarkedEntry>,
+    /// The strengths of the entries of the summary.
+    strengths: Vec<Strength>,
     ghost some: { 0 < length slots.items },
+    ghost told: { strengths.items ≡ strengths_of summary.items },
 }
 
 impl Table {
@@ -93,7 +97,12 @@ impl Table {
         let slots = vec![in alloc; Places { last: 0, before: 0 }; size]?;
         let mut summary = spare;
         summary.clear();
-        Ok(Table { slots, summary })
+        let strengths = Vec::new(alloc);
+        Ok(Table {
+            slots,
+            summary,
+            strengths,
+        })
     }
 
     /// Adds an entry, unless the two at its slot are as strict. Where the earlier of them is as strict
@@ -101,39 +110,41 @@ impl Table {
     fn add(&mut self, entry: &Entry) -> Result<(), NoMemory>
         ensures { OnOk result ((entries : List OneEntry) → IsSummary (entries_of self.old.summary.items) entries → IsSummary (entries_of self.new.summary.items) (entries ++ entry.now ∷ [])) }
     {
-        let mark = Mark::of(entry);
-        let slot = self.slot(&mark);
+        let strength = Strength::of(entry);
+        let slot = self.slot(&strength);
         let Places { last, before } = self.slots[slot];
         if before <= last && last < self.summary.len() {
-            let later = self.summary[last].entry;
-            let earlier = self.summary[before].entry;
-            if are_as_strict(&earlier, &later, entry) {
+            let later = &self.summary[last].entry;
+            let earlier = &self.summary[before].entry;
+            let of_later = &self.strengths[last];
+            let of_earlier = &self.strengths[before];
+            if are_as_strict(earlier, later, entry, of_earlier, of_later, &strength) {
                 return Ok(());
             }
-            if before < last && are_as_strict(&earlier, entry, &later) {
-                self.summary[last] = MarkedEntry::with(entry, mark);
+            if before < last
+                && are_as_strict(earlier, entry, later, of_earlier, &strength, of_later)
+            {
+                self.summary[last] = MarkedEntry::of(entry);
+                self.strengths[last] = strength;
                 return Ok(());
             }
         }
+        self.summary.reserve(1)?;
+        self.strengths.reserve(1)?;
         self.slots[slot] = Places {
             last: self.summary.len(),
             before: last,
         };
-        self.summary.push(MarkedEntry::with(entry, mark))?;
+        self.summary.push_reserved(MarkedEntry::of(entry));
+        self.strengths.push_reserved(strength);
         Ok(())
     }
 
-    /// The slot of a mark: one for all entries about an item, and for those about none one for each
-    /// class.
-    fn slot(&self, mark: &Mark) -> usize
+    /// The slot of a strength: one for all entries about an item, and for those about none one for
+    /// each effect.
+    fn slot(&self, strength: &Strength) -> usize
         ensures { result < length self.now.slots.items }
     {
-        let class = if mark.of_item == mark.of_object {
-            (mark.class as u32).wrapping_mul(0x9E37_79B9)
-        } else {
-            0
-        };
-        let hash = mark.of_item.wrapping_add(class);
-        (hash ^ hash >> 15) as usize & (self.slots.len() - 1)
+        strength.hash() as usize & (self.slots.len() - 1)
     }
 }

@@ -1,19 +1,25 @@
-use Rattle.std.proofs.Common.{sym, ◌∙◌, arith}
-use Rattle.std.proofs.lemmas.Bool.Decides.{nat_tests}
-use Rattle.std.proofs.lemmas.Bool.{eqb-true}
+use Rattle.std.proofs.Common.{sym, ◌∙◌}
+use Rattle.std.proofs.lemmas.Bool.{eqb-true, false≢true}
+use Rattle.committed.proofs.StrengthLemmas.{given_strict}
 use Rattle.committed.proofs.strictness.are_as_strict.Goals as goal
-use Rattle.committed.proofs.strictness.are_as_strict.Goals.{then-is_as_strict, else-is_as_strict, then-first-third, else-first-third}
+use Rattle.committed.proofs.strictness.are_as_strict.Goals.{then-covers, else-covers, then-is_paired, else-is_paired}
+use Rattle.committed.proofs.strictness.are_as_strict.Goals.{then-first-third, else-first-third}
 
-pub returns-then-is_as_strict-2 : goal.returns-then-is_as_strict-2
-returns-then-is_as_strict-2 c = elim c.if-is_as_strict.branch [
-  | then-is_as_strict w ↦ λ h e with_first with_second. c.is_as_strict.ensures.strict w.if-is_as_strict.true e with_first
-  | else-is_as_strict w ↦ λ h e with_first with_second. w.is_as_strict-else-is_as_strict.ensures.strict (sym w.value-is ∙ h) e with_second
+pub returns-then-covers-2 : goal.returns-then-covers-2
+returns-then-covers-2 c = elim c.if-covers.branch [
+  | then-covers w ↦ λ h e with_first with_second. given_strict c.args.first.now c.args.third.now c.args.of_first.now c.args.of_third.now
+      c.requires.first c.requires.third (sym c.covers.ensures ∙ w.if-covers.true) e with_first
+  | else-covers w ↦ λ h e with_first with_second. given_strict c.args.second.now c.args.third.now c.args.of_second.now c.args.of_third.now
+      c.requires.second c.requires.third (sym w.covers-else-covers.ensures ∙ sym w.value-is ∙ h) e with_second
 ]
 
 pub returns-then-second-third : goal.returns-then-second-third
 returns-then-second-third c = elim c.if-first-third.branch [
-  | then-first-third w ↦ λ h. c.together_as_strict.ensures w.if-first-third.true (let same = w.value-is in
-      let is = c.if-second-third.true in grind (arith, nat_tests)) h
-  | else-first-third w ↦ λ h. absurd
-      (w.if-first-third.false (eqb-true c.args.first.now.object c.args.third.now.object (sym w.value-is ∙ c.if-second-third.true)))
+  | then-first-third w ↦ (elim c.if-is_paired.branch [
+    | then-is_paired v ↦ λ h. c.together_as_strict.ensures
+        (eqb-true c.args.first.now.object c.args.third.now.object (sym v.value-is ∙ w.if-first-third.true))
+        (eqb-true c.args.second.now.object c.args.third.now.object (sym w.value-is ∙ c.if-second-third.true)) h
+    | else-is_paired v ↦ λ h. absurd (false≢true (sym v.if-is_paired.false ∙ sym v.value-is ∙ w.if-first-third.true))
+  ])
+  | else-first-third w ↦ λ h. absurd (false≢true (sym w.if-first-third.false ∙ sym w.value-is ∙ c.if-second-third.true))
 ]
