@@ -11,3 +11,6 @@ pub mod StepShows
 pub mod HandlerShows
 pub mod PartRuns
 pub mod PartTried
+pub mod LeftParts
+pub mod LeftRest
+pub mod LeftNets

@@ -11,3 +11,5 @@ pub mod Soundness
 pub mod Grounds
 pub mod Shows
 pub mod Taking
+pub mod Left
+pub mod Performing

@@ -15,10 +15,7 @@ use Rattle.objects.specs.declared.call.Reply.{Reply}
 use Rattle.objects.specs.declared.entry.Entry.{Entry}
 use Rattle.objects.specs.Entries.{after, AreLegal}
 use Rattle.intentions.specs.Levels.{AllHaveRoom}
-
-pub after-append : (values : List Value) (xs ys : List Entry) → after values (xs ++ ys) ≡ after (after values xs) ys
-after-append values [] ys = refl
-after-append values (x ∷ xs) ys = after-append (objects.after values (x.object, x.call)) xs ys
+pub use Rattle.objects.proofs.ListLemmas.{after-append}
 
 pub legal-append : (values : List Value) (xs ys : List Entry) → AreLegal values xs → AreLegal (after values xs) ys
     → AreLegal values (xs ++ ys)

@@ -1,7 +1,7 @@
 -- Intentions: what a view shows, by the lists of the levels that are open.
 use Rattle.std.specs.Prelude.{List, [], ◌∷◌, ◌++◌}
-use Rattle.objects.specs.Objects.{objects, ObjectHasRoom}
 use Rattle.objects.specs.Entries.{after}
+pub use Rattle.objects.specs.Entries.{AllHaveRoom}
 use Rattle.objects.specs.declared.value.Value.{Value}
 use Rattle.objects.specs.declared.entry.Entry.{Entry}
 
@@ -54,9 +54,3 @@ aborted v = record v { net = parent v.outer; outer = parents v.outer }
 -- two more lists
 abbrev pub absorbed : Intentions → List Entry → List Entry → Intentions
 absorbed v entries net = record v { entries = v.entries ++ entries; net = v.net ++ net }
-
--- each entry finds room at the values that those before it leave
-abbrev pub AllHaveRoom : List Value → List Entry → Type 0
-AllHaveRoom values [] = Unit {0}
-AllHaveRoom values (entry ∷ entries) = ObjectHasRoom values entry.object entry.call
-    × AllHaveRoom (objects.after values (entry.object, entry.call)) entries
