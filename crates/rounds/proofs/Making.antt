@@ -1,9 +1,10 @@
 -- Runs are made one after the other, and put in their places in any order.
 use Rattle.std.proofs.Common.{◌≡◌, ◌≢◌, ◌⊎◌, inl, inr, Option, Some, None, ℕ, zero, suc, ◌+◌, ◌<◌, ◌≤◌, List, [], ◌∷◌, ◌++◌, ◌==◌}
-use Rattle.std.proofs.Common.{map, length, get_or, set, take, refl, sym, ap, ◌∙◌, subst, append-nil, arith}
+use Rattle.std.proofs.Common.{map, length, get_or, set, take, option_map, refl, sym, ap, ◌∙◌, subst, append-nil, arith}
 use Rattle.std.proofs.lemmas.List.{take_more, map-append, get_or-set_same, get_or-set_other, length-set}
 use Rattle.std.proofs.lemmas.List.Elements.{All-nil, All-push, All-same}
 use Rattle.std.specs.List.{All, sum_by, range_with_len}
+use Rattle.std.specs.Prelude.{box_value}
 use native.Mathlib.Decide.{ℕ_discrete}
 use Rattle.objects.specs.Entries.{State}
 use Rattle.rounds.specs.Desks.{IsDeskOn}
@@ -191,12 +192,12 @@ put_in batch state numbers old runs was counts changed left number None inside i
 -- one more is in its place
 pub put_one : (batch : Batch) (state : State) (numbers : List ℕ) (old runs : List PendingRun) (was counts changed : List ℕ)
     (left rest : List Made) (m : Made) → length was ≡ length old → m.number < length old → left ≡ rest ++ m ∷ []
-    → ArePut batch state numbers old runs was counts changed left → ArePut batch state numbers old (with_run runs m.number m.run) was
-    (set counts m.number (get_or counts m.number 0 + 1)) (with_changed changed m.number m.run) rest
+    → ArePut batch state numbers old runs was counts changed left → ArePut batch state numbers old (with_run runs m.number (option_map box_value m.run)) was
+    (set counts m.number (get_or counts m.number 0 + 1)) (with_changed changed m.number (option_map box_value m.run)) rest
 put_one batch state numbers old runs was counts changed left rest m sizes inside popped put =
     let made = all_front (IsMade batch state old) rest m (subst (All (IsMade batch state old)) popped put.each) in
-    let new = with_run runs m.number m.run in
-    let put_here = put_in batch state numbers old runs was counts changed left m.number m.run inside made.1 (put.few m.number) put in
+    let new = with_run runs m.number (option_map box_value m.run) in
+    let put_here = put_in batch state numbers old runs was counts changed left m.number (option_map box_value m.run) inside made.1 (put.few m.number) put in
     let split : (i : ℕ) → times i (numbers_of left) ≡ times i (numbers_of rest) + times i (m.number ∷ []) =
     λ i. ap (λ ms. times i (numbers_of ms)) popped ∙ times_numbers i rest (m ∷ []) in
     let runs_all = put.runs_all in

@@ -1,7 +1,7 @@
 -- Pending runs, and what the passes over them return: which is the first that doesn't hold, which are to be made again,
 -- those that were made. No public contract names it.
 use Rattle.std.specs.Prelude.{◌≡◌, ◌≢◌, ℕ, ◌+◌, ◌<◌, ◌≤◌, ◌⊎◌, Option, Some, None, List, [], ◌∷◌, ◌++◌, length, map, take, set}
-use Rattle.std.specs.Prelude.{slice_index_or}
+use Rattle.std.specs.Prelude.{slice_index_or, option_map, box_value}
 use Rattle.std.specs.List.{All}
 use Rattle.std.specs.declared.vec.Vec.{Vec}
 use Rattle.std.specs.declared.alloc.Global.{Global}
@@ -129,7 +129,7 @@ IsThisOrThat meant earlier None = IsPendingOf meant earlier
 -- a run of its number on this state, where these are the earlier ones
 abbrev pub IsMade : Batch → State → List PendingRun → Made → Type 0
 IsMade batch state runs made = (d : PendingRun)
-    → IsThisOrThat (meaning batch made.number state) (slice_index_or runs made.number d) made.run
+    → IsThisOrThat (meaning batch made.number state) (slice_index_or runs made.number d) (option_map box_value made.run)
 
 -- runs with one more in its place, where one was made
 abbrev pub with_run : List PendingRun → ℕ → Option PendingRun → List PendingRun

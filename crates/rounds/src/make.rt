@@ -1,5 +1,5 @@
 //! Making the runs of the transactions that need one.
-ghost use Rattle.std.specs.Prelude.{◌≡◌, ◌*◌, ◌<◌, ◌≤◌, IfOk, IfSome, OnOk, length, slice_index_or};
+ghost use Rattle.std.specs.Prelude.{◌≡◌, ◌*◌, ◌<◌, ◌≤◌, IfOk, IfSome, OnOk, length, slice_index_or, option_map, box_value};
 ghost use Rattle.std.specs.Fork.{slice_chunk};
 ghost use Rattle.std.specs.List.{All};
 ghost use Rattle.objects.specs.Entries.{kinds};
@@ -21,11 +21,11 @@ use std::thread::Threads;
 use workers::{Bench, give_all};
 
 /// A run of the transaction with this number, counted from 0, or None where the run at its place gets
-/// the same replies.
+/// the same replies. It is in a box, since a worker hands it on twice.
 #[derive(Drop)]
 pub(crate) struct Made {
     pub(crate) number: usize,
-    pub(crate) run: Option<PendingRun>,
+    pub(crate) run: Option<Box<PendingRun>>,
 }
 
 // Makes a run at the desk, unless the one before it gets the same replies.
@@ -38,7 +38,7 @@ fn make_one<R: Threads + Sync, G: Gate>(
     gate: &G,
     desk: &mut Desk<'_>,
     earlier: &PendingRun,
-) -> Result<Option<PendingRun>, NoMemory>
+) -> Result<Option<Box<PendingRun>>, NoMemory>
     requires few { number ≤ MAX_TRANSACTIONS }
     requires can { CanBeMade batch.now desk.old.view.snapshot number }
     requires earlier { WasMade batch.now number earlier.now }
@@ -46,7 +46,7 @@ fn make_one<R: Threads + Sync, G: Gate>(
     requires narrow { (1 ≤ width) × (width ≤ MAX_WORKERS) }
     requires ready { IsDeskOn desk.old.view.snapshot desk.old }
     ensures ready { OnOk result (IsDeskOn desk.old.view.snapshot desk.new) }
-    ensures made { IfOk result (λ made. IsThisOrThat (meaning batch.now number desk.old.view.snapshot) earlier.now made) }
+    ensures made { IfOk result (λ made. IsThisOrThat (meaning batch.now number desk.old.view.snapshot) earlier.now (option_map box_value made)) }
 {
     if desk.repeats(number, gate, earlier)? {
         return Ok(None);
@@ -54,7 +54,7 @@ fn make_one<R: Threads + Sync, G: Gate>(
     let mut run = PendingRun::empty(alloc);
     run.wait = earlier.next_wait();
     desk.make(threads, alloc, batch, number, width, gate, &mut run)?;
-    Ok(Some(run))
+    Ok(Some(Box::new(alloc, run)?))
 }
 
 // Adds a run for each number of a group, one after the other, made at one desk.
@@ -92,14 +92,14 @@ fn make_group<R: Threads + Sync, G: Gate>(
 fn desk_or_new<'s>(
     alloc: Global,
     objects: &'s Objects,
-    desk: Option<Desk<'s>>,
-) -> Result<Desk<'s>, NoMemory>
-    requires { IfSome desk (IsDeskOn objects.now) }
-    ensures { IfOk result (IsDeskOn objects.now) }
+    desk: Option<Box<Desk<'s>>>,
+) -> Result<Box<Desk<'s>>, NoMemory>
+    requires { IfSome desk (λ desk. IsDeskOn objects.now desk.value) }
+    ensures { IfOk result (λ desk. IsDeskOn objects.now desk.value) }
 {
     match desk {
         Some(desk) => Ok(desk),
-        None => Desk::open(alloc, objects),
+        None => Ok(Box::new(alloc, Desk::open(alloc, objects)?)?),
     }
 }
 
@@ -149,15 +149,15 @@ pub(crate) fn make_all<R: Threads + Sync, G: Gate>(
         alloc,
         numbers.len().div_ceil(cut) as u32,
         makers(crew, numbers.len()),
-        &|piece: u32, bench: Bench<Desk<'_>, Made>| -> Result<Bench<Desk<'_>, Made>, NoMemory>
-            requires { (cut ≤ MAX_CUT) × (piece * cut < length numbers.now) × (1 ≤ width) × (width ≤ MAX_WORKERS) × (kinds objects.now ≡ kinds batch.now.objects) × (length runs.now ≡ length batch.now.transactions.items) × (length runs.now ≤ MAX_TRANSACTIONS) × All (λ n. CanBeMade batch.now objects.now n) numbers.now × All (λ n. (d : OnePending) → WasMade batch.now n (slice_index_or runs.now n d)) numbers.now × IfSome bench.desk (IsDeskOn objects.now) }
-            ensures { IfOk result (λ after. IfSome after.desk (IsDeskOn objects.entry.now) × AreAdded batch.entry.now objects.entry.now runs.entry.now (slice_chunk numbers.entry.now cut piece) bench.entry.items.items after.items.items) }
+        &|piece: u32, bench: Bench<Box<Desk<'_>>, Made>| -> Result<Bench<Box<Desk<'_>>, Made>, NoMemory>
+            requires { (cut ≤ MAX_CUT) × (piece * cut < length numbers.now) × (1 ≤ width) × (width ≤ MAX_WORKERS) × (kinds objects.now ≡ kinds batch.now.objects) × (length runs.now ≡ length batch.now.transactions.items) × (length runs.now ≤ MAX_TRANSACTIONS) × All (λ n. CanBeMade batch.now objects.now n) numbers.now × All (λ n. (d : OnePending) → WasMade batch.now n (slice_index_or runs.now n d)) numbers.now × IfSome bench.desk (λ desk. IsDeskOn objects.now desk.value) }
+            ensures { IfOk result (λ after. IfSome after.desk (λ desk. IsDeskOn objects.entry.now desk.value) × AreAdded batch.entry.now objects.entry.now runs.entry.now (slice_chunk numbers.entry.now cut piece) bench.entry.items.items after.items.items) }
         {
             let Bench { desk, mut items } = bench;
             let mut desk = desk_or_new(alloc, objects, desk)?;
             let group = group_at(numbers, cut, piece);
             make_group(
-                threads, alloc, batch, group, width, gate, &mut desk, runs, &mut items,
+                threads, alloc, batch, group, width, gate, desk.as_mut(), runs, &mut items,
             )?;
             Ok(Bench {
                 desk: Some(desk),

@@ -1,5 +1,5 @@
 //! Runs that are made again, each in the place of the one before it.
-ghost use Rattle.std.specs.Prelude.{◌≡◌, ◌+◌, ◌<◌, ◌≤◌, ℕ, [], ◌∷◌, length, set, OnOk, slice_index_or};
+ghost use Rattle.std.specs.Prelude.{◌≡◌, ◌+◌, ◌<◌, ◌≤◌, ℕ, [], ◌∷◌, length, set, OnOk, slice_index_or, option_map, box_value};
 ghost use Rattle.std.specs.List.{All};
 ghost use Rattle.objects.specs.Entries.{kinds};
 ghost use Rattle.rounds.specs.Desks.{IsDeskOn};
@@ -38,14 +38,14 @@ fn put(
     requires within { made.number < length runs.old.items }
     requires counted { made.number < length counts.old.items }
     requires few { slice_index_or counts.old.items made.number 0 ≤ MAX_TRANSACTIONS + 1 }
-    ensures runs { runs.new.items ≡ with_run runs.old.items made.number made.run }
+    ensures runs { runs.new.items ≡ with_run runs.old.items made.number (option_map box_value made.run) }
     ensures counts { counts.new.items ≡ set counts.old.items made.number (slice_index_or counts.old.items made.number 0 + 1) }
-    ensures changed { OnOk result (changed.new.items ≡ with_changed changed.old.items made.number made.run) }
+    ensures changed { OnOk result (changed.new.items ≡ with_changed changed.old.items made.number (option_map box_value made.run)) }
 {
     let Made { number, run } = made;
     count(number, counts);
     if let Some(run) = run {
-        runs[number] = run;
+        runs[number] = Box::into_inner(run);
         changed.push(number)?;
     }
     Ok(())

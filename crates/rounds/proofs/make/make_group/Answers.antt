@@ -1,4 +1,5 @@
-use Rattle.std.proofs.Common.{◌≡◌, ◌<◌, length, get_or, refl, ap, ◌∙◌, subst, ◌++◌, ◌∷◌, [], append_assoc, arith}
+use Rattle.std.proofs.Common.{◌≡◌, ◌<◌, length, get_or, refl, ap, ◌∙◌, subst, ◌++◌, ◌∷◌, [], append_assoc, arith, option_map}
+use Rattle.std.specs.Prelude.{box_value}
 use Rattle.std.proofs.lemmas.List.{get_or_default}
 use Rattle.intentions.specs.Levels.{Intentions as View}
 use Rattle.rounds.specs.Views.{meaning}
@@ -25,9 +26,9 @@ loop-number-preserved g c =
     let earlier = c.index-runs-number.result in
     let within = (c.requires.within c.loop-number.number-index 0 c.loop-number-test.true).within in
     let there : number < length runs = omega (arith, within, c.requires.every) in
-    let is_made : IsMade batch state runs made = λ d. subst (λ r. IsThisOrThat (meaning batch number state) r run)
+    let is_made : IsMade batch state runs made = λ d. subst (λ r. IsThisOrThat (meaning batch number state) r (option_map box_value run))
     (c.index-runs-number.is ∙ get_or_default runs number earlier d there)
-    (subst (λ s. IsThisOrThat (meaning batch number s) earlier run) shown c.in_ok-run.ensures.made) in
+    (subst (λ s. IsThisOrThat (meaning batch number s) earlier (option_map box_value run)) shown c.in_ok-run.ensures.made) in
     record {
       ready = subst (λ s. IsDeskOn s c.make_one.new.desk) shown c.in_ok-run.ensures.ready;
       own = so_far.own ++ made ∷ [];

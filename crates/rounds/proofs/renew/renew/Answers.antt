@@ -1,4 +1,5 @@
-use Rattle.std.proofs.Common.{◌≡◌, ◌<◌, length, get_or, set, ◌+◌, sym, ◌∙◌, subst, arith}
+use Rattle.std.proofs.Common.{◌≡◌, ◌<◌, length, get_or, set, ◌+◌, option_map, sym, ◌∙◌, subst, arith}
+use Rattle.std.specs.Prelude.{box_value}
 use Rattle.std.proofs.lemmas.List.{get_or_default}
 use Rattle.rounds.specs.PendingRuns.{WasMade, AreMade, with_run}
 use Rattle.rounds.proofs.Times.{times_read}
@@ -66,9 +67,9 @@ putting-preserved g c =
     let place : next.number < length old = subst (λ n. next.number < n) (sym c.requires.every) within in
     let changed = c.put.new.changed.items in
     subst (λ rs. ArePut batch objects stale old rs was c.put.new.counts.items changed c.pop.new.self.items) (sym c.put.ensures.runs)
-    (subst (λ cs. ArePut batch objects stale old (with_run c.putting.runs.items next.number next.run) was cs changed c.pop.new.self.items)
+    (subst (λ cs. ArePut batch objects stale old (with_run c.putting.runs.items next.number (option_map box_value next.run)) was cs changed c.pop.new.self.items)
     (sym c.put.ensures.counts)
-    (subst (λ ns. ArePut batch objects stale old (with_run c.putting.runs.items next.number next.run) was
+    (subst (λ ns. ArePut batch objects stale old (with_run c.putting.runs.items next.number (option_map box_value next.run)) was
     (set c.putting.counts.items next.number (get_or c.putting.counts.items next.number 0 + 1)) ns c.pop.new.self.items)
     (sym c.in_ok-put.ensures.changed)
     (put_one batch objects stale old c.putting.runs.items was c.putting.counts.items c.putting.changed.items c.putting.made.items

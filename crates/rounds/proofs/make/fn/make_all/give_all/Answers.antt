@@ -1,9 +1,10 @@
-use Rattle.std.proofs.Common.{◌≡◌, ℕ, ◌*◌, get_or, slice_index_or, drop, ap, sym, subst, rules}
+use Rattle.std.proofs.Common.{◌≡◌, ℕ, ◌*◌, get_or, slice_index_or, drop, ap, sym, subst, ◌∙◌, rules}
 use Rattle.std.proofs.lemmas.List.Elements.{All-drop, All-take, All-same}
 use Rattle.std.specs.Fork.{slice_chunk}
 use Rattle.std.specs.List.{All}
 use Rattle.intentions.specs.Levels.{Intentions as View}
 use Rattle.rounds.specs.Desks.{IsDeskOn}
+use Rattle.rounds.specs.declared.desk.Desk.{Desk}
 use Rattle.rounds.specs.Passes.{CanBeMade}
 use Rattle.rounds.specs.PendingRuns.{AreAdded, WasMade}
 use Rattle.rounds.specs.declared.pending_run.PendingRun.{PendingRun as OnePending}
@@ -19,7 +20,8 @@ make_group-requires-clause-within g c κs within k d lt =
     (slice_chunk numbers c.captures.cut c.args.piece) c.group_at-group.ensures
     (All-take Can c.captures.cut (drop (c.args.piece * c.captures.cut) numbers)
     (All-drop Can (c.args.piece * c.captures.cut) numbers each)) in
-    let shown : c.in_ok-desk.desk.view.snapshot ≡ c.captures.objects.now = ap (λ (v : View). v.snapshot) c.in_ok-desk.ensures.opened in
+    let shown : c.as_mut.result.now.view.snapshot ≡ c.captures.objects.now =
+    ap (λ (d : Desk). d.view.snapshot) c.as_mut.ensures.value ∙ ap (λ (v : View). v.snapshot) c.in_ok-desk.ensures.opened in
     subst (λ s. CanBeMade batch s (get_or c.group_at-group.result.now k d)) (sym shown) (each_of k d lt)
 
 pub make_group-requires-clause-earlier : goal.make_group-requires-clause-earlier
@@ -39,7 +41,8 @@ returns g c =
     let objects = c.captures.objects.now in
     let before = c.args.bench.items.items in
     let after = c.make_group.new.all.items in
-    let shown : c.in_ok-desk.desk.view.snapshot ≡ objects = ap (λ (v : View). v.snapshot) c.in_ok-desk.ensures.opened in
+    let shown : c.as_mut.result.now.view.snapshot ≡ objects =
+    ap (λ (d : Desk). d.view.snapshot) c.as_mut.ensures.value ∙ ap (λ (v : View). v.snapshot) c.in_ok-desk.ensures.opened in
     let ready = subst (λ s. IsDeskOn s c.make_group.new.desk) shown c.in_ok-make_group.ensures.ready in
     let added = subst (λ s. AreAdded batch s c.captures.runs.now c.group_at-group.result.now before after) shown
     c.in_ok-make_group.ensures.added in
