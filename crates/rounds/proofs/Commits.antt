@@ -1,7 +1,7 @@
 -- Runs are committed one after the other.
-use Rattle.std.proofs.Common.{◌≡◌, ℕ, suc, ◌+◌, ◌<◌, List, [], ◌∷◌, ◌++◌, length, get_or, drop, refl, sym, ap, subst, ◌∙◌, add-one}
+use Rattle.std.proofs.Common.{◌≡◌, ℕ, suc, ◌+◌, ◌<◌, List, [], ◌∷◌, ◌++◌, length, get_or, drop, refl, sym, ap, subst, ◌∙◌, add-one, arith}
 use Rattle.std.proofs.Common.{drop-cons}
-use Rattle.std.proofs.lemmas.List.{length-map}
+use Rattle.std.proofs.lemmas.List.{length-map, get_or-map}
 use Rattle.objects.specs.declared.value.Value.{Value}
 use Rattle.objects.specs.declared.entry.Entry.{Entry}
 use Rattle.objects.specs.Entries.{after, AreLegal}
@@ -12,6 +12,12 @@ use Rattle.committed.proofs.SummaryLemmas.{entry_at}
 use Rattle.committed.specs.declared.marks.MarkedEntry.{MarkedEntry}
 use Rattle.objects.specs.Objects.{objects}
 use Rattle.rounds.specs.declared.pending_run.PendingRun.{PendingRun}
+use Rattle.meaning.specs.Batch.{block_at}
+use Rattle.meaning.specs.Trees.{Block, NoStep}
+use Rattle.batch.specs.Views.{block_view}
+use Rattle.batch.specs.declared.batch.Batch.{Batch}
+use Rattle.batch.specs.declared.tree.Block.{Block as OneBlock}
+use Rattle.rounds.specs.Views.{blocks_of}
 use Rattle.rounds.specs.PendingRuns.{own_net, own_nets}
 
 -- two lists, one after the other
@@ -33,39 +39,51 @@ next_marked values marked i m lt is legal room =
     next_entry values (entries_of marked) i m.entry (subst (λ n. i < n) (sym (length-map marked (λ (k : MarkedEntry). k.entry))) lt)
     (entry_at marked i m m.entry lt is) legal room
 
--- of these runs the first i are committed
-pub record ArePartCommitted (runs : List PendingRun) (start : List Value) (i : ℕ) (now : List Value) : Type 0 where
-  pub legal : AreLegal now (own_nets (drop i runs))
-  pub room : AllHaveRoom now (own_nets (drop i runs))
-  pub leads : after now (own_nets (drop i runs)) ≡ after start (own_nets runs)
+-- of these runs, which are of the blocks from this number on, the first i are committed
+pub record ArePartCommitted (blocks : List Block) (number : ℕ) (runs : List PendingRun) (start : List Value) (i : ℕ) (now : List Value)
+    : Type 0 where
+  pub legal : AreLegal now (own_nets blocks (number + i) (drop i runs))
+  pub room : AllHaveRoom now (own_nets blocks (number + i) (drop i runs))
+  pub leads : after now (own_nets blocks (number + i) (drop i runs)) ≡ after start (own_nets blocks number runs)
 
--- the runs from the next one on
-next_run : (runs : List PendingRun) (i : ℕ) (x : PendingRun) → i < length runs → x ≡ get_or runs i x
-    → own_nets (drop i runs) ≡ own_net x ++ own_nets (drop (i + 1) runs)
-next_run runs i x lt is =
-    ap own_nets (drop-cons runs i x lt) ∙ ap (λ (y : PendingRun). own_net y ++ own_nets (drop (suc i) runs)) (sym is) ∙ rw add-one refl
+module _ (blocks : List Block) (number : ℕ) (runs : List PendingRun) (start : List Value) (i : ℕ) (now : List Value) (x : PendingRun)
+    (part : ArePartCommitted blocks number runs start i now) (lt : i < length runs) (is : x ≡ get_or runs i x) where
+  -- what the next one leaves, and what those after it leave
+  abbrev pub here : List Entry
+  here = own_net (block_at blocks (number + i)) x
 
-module _ (runs : List PendingRun) (start : List Value) (i : ℕ) (now : List Value) (x : PendingRun)
-    (part : ArePartCommitted runs start i now) (lt : i < length runs) (is : x ≡ get_or runs i x) where
-  rest : own_nets (drop i runs) ≡ own_net x ++ own_nets (drop (i + 1) runs)
-  rest = next_run runs i x lt is
+  abbrev later : List Entry
+  later = own_nets blocks (number + (i + 1)) (drop (i + 1) runs)
 
-  both_legal : AreLegal now (own_net x) × AreLegal (after now (own_net x)) (own_nets (drop (i + 1) runs))
-  both_legal = split_legal now (own_net x) (own_nets (drop (i + 1) runs)) (subst (AreLegal now) rest part.legal)
+  -- the runs from the next one on
+  rest : own_nets blocks (number + i) (drop i runs) ≡ here ++ later
+  rest =
+      let next : suc (number + i) ≡ number + (i + 1) = omega arith in
+      ap (own_nets blocks (number + i)) (drop-cons runs i x lt)
+      ∙ (ap (λ (y : PendingRun). own_net (block_at blocks (number + i)) y ++ own_nets blocks (suc (number + i)) (drop (suc i) runs)) (sym is)
+      ∙ (ap (λ n. here ++ own_nets blocks n (drop (suc i) runs)) next ∙ rw add-one refl))
 
-  both_have_room : AllHaveRoom now (own_net x) × AllHaveRoom (after now (own_net x)) (own_nets (drop (i + 1) runs))
-  both_have_room = split_room now (own_net x) (own_nets (drop (i + 1) runs)) (subst (AllHaveRoom now) rest part.room)
+  both_legal : AreLegal now here × AreLegal (after now here) later
+  both_legal = split_legal now here later (subst (AreLegal now) rest part.legal)
 
-  pub next_legal : AreLegal now (own_net x)
+  both_have_room : AllHaveRoom now here × AllHaveRoom (after now here) later
+  both_have_room = split_room now here later (subst (AllHaveRoom now) rest part.room)
+
+  pub next_legal : AreLegal now here
   next_legal = both_legal.0
 
-  pub next_room : AllHaveRoom now (own_net x)
+  pub next_room : AllHaveRoom now here
   next_room = both_have_room.0
 
-  pub part_committed-more : (next : List Value) → next ≡ after now (own_net x) → ArePartCommitted runs start (i + 1) next
+  pub part_committed-more : (next : List Value) → next ≡ after now here → ArePartCommitted blocks number runs start (i + 1) next
   part_committed-more next on = record {
-    legal = subst (λ v. AreLegal v (own_nets (drop (i + 1) runs))) (sym on) both_legal.1;
-    room = subst (λ v. AllHaveRoom v (own_nets (drop (i + 1) runs))) (sym on) both_have_room.1;
-    leads = ap (λ v. after v (own_nets (drop (i + 1) runs))) on
-        ∙ sym (after-append now (own_net x) (own_nets (drop (i + 1) runs))) ∙ ap (after now) (sym rest) ∙ part.leads;
+    legal = subst (λ v. AreLegal v later) (sym on) both_legal.1;
+    room = subst (λ v. AllHaveRoom v later) (sym on) both_have_room.1;
+    leads = ap (λ v. after v later) on ∙ sym (after-append now here later) ∙ ap (after now) (sym rest) ∙ part.leads;
   }
+
+-- the block of a transaction, as the meaning sees it
+pub block_is : (batch : Batch) (number : ℕ) (block : OneBlock) → number < length batch.transactions.items
+    → block ≡ get_or batch.transactions.items number block → block_at (blocks_of batch) number ≡ block_view block
+block_is batch number block inside is =
+    get_or-map block_view batch.transactions.items number block NoStep inside ∙ ap block_view (sym is)

@@ -9,14 +9,20 @@ use Rattle.meaning.specs.Shown.{shown}
 use Rattle.meaning.specs.Trees.{Block}
 use Rattle.meaning.specs.Records.{Taken, entries, net}
 use Rattle.meaning.specs.OneThread as one_thread
-use Rattle.meaning.specs.OneThread.{record_of, outcome_of}
-use Rattle.meaning.specs.Batch.{net_of, alone, answer, nets}
+use Rattle.meaning.specs.OneThread.{record_of, outcome_of, one}
+use Rattle.meaning.specs.Batch.{net_of, block_at, state_at, alone, answer, nets}
 use Rattle.meaning.specs.Rounds.{Keeps, AllKeep, IsNextOpening}
 use Rattle.meaning.proofs.Batches.{standing_run}
 use Rattle.committed.specs.Summaries.{entries_of, IsSummary}
 use Rattle.committed.proofs.SummaryLemmas.{stands-summary, past-summary, summary-append, summary-nil}
 use Rattle.rounds.specs.declared.pending_run.PendingRun.{PendingRun}
-use Rattle.rounds.specs.PendingRuns.{left_by, AreSumsOf, IsPendingOf, own_nets, all_left, HoldsPast, HoldsAt, IsFirstFrom}
+use Rattle.rounds.specs.PendingRuns.{left_by, AreSumsOf, IsPendingOf, net_in, IsListed, own_net, own_nets, all_left, HoldsPast, HoldsAt}
+use Rattle.rounds.specs.PendingRuns.{IsFirstFrom}
+use Rattle.rounds.specs.declared.pending_run.Net.{Net}
+use Rattle.rounds.specs.declared.pending_run.Net.TheVariants.{Summed, Listed, Recorded}
+use Rattle.batch.specs.Views.{record_view}
+use Rattle.batch.specs.Left.{left_by_transaction}
+use Rattle.batch.proofs.LeftNets.{left_is_net}
 
 -- a pending run is that of another state where both have the same record and outcome
 pub moved : (r s : one_thread.Run Taken) (made : PendingRun) → IsPendingOf r made → record_of s ≡ record_of r → outcome_of s ≡ outcome_of r
@@ -26,7 +32,7 @@ moved r s made is taken outcome =
     ap (λ t. net t (outcome_of r)) (sym taken) ∙ ap (λ o. net (record_of s) o) (sym outcome) in
     record {
       tree = is.tree ∙ (ap (λ t. shown t (outcome_of r)) (sym taken) ∙ ap (λ o. shown (record_of s) o) (sym outcome));
-      net = is.net ∙ nets_are;
+      net = λ listed. is.net listed ∙ nets_are;
       sums = subst (λ ns. AreSumsOf made.sums (entries (record_of s)) ns) nets_are
           (subst (λ es. AreSumsOf made.sums es (net (record_of r) (outcome_of r))) (ap entries (sym taken)) is.sums);
     }
@@ -35,6 +41,20 @@ moved r s made is taken outcome =
 pub some_run : (P : Type 0) (runs : List PendingRun) (i : ℕ) → i < length runs → (PendingRun → P) → P
 some_run P [] i lt use_run = absurd (omega arith)
 some_run P (run ∷ runs) i lt use_run = use_run run
+
+-- a net is in its place, where the record tells it too
+net_at : (place : Net) (summed recorded net : List Entry) → (IsListed place → net_in summed [] place ≡ net) → recorded ≡ net
+    → net_in summed recorded place ≡ net
+net_at Summed summed recorded net listed told = listed tt
+net_at (Listed entries) summed recorded net listed told = listed tt
+net_at Recorded summed recorded net listed told = told
+
+-- the net of a pending run is that of its meaning
+own_net_is : (block : Block) (state : State) (run : PendingRun) → IsPendingOf (one block [] state) run
+    → own_net block run ≡ net_of (one block [] state)
+own_net_is block state run is =
+    net_at run.net (left_by run.sums) (left_by_transaction block (record_view run.tree)) (net_of (one block [] state)) is.net
+    (ap (left_by_transaction block) is.tree ∙ left_is_net block [] state)
 
 module _ (start : State) (blocks : List Block) where
   -- where a summary holds past one of the entries, the entries commute with these
@@ -65,7 +85,7 @@ module _ (start : State) (blocks : List Block) where
   -- the first j runs leave what one thread leaves
   nets_agree : (b j : ℕ) (runs : List PendingRun) → j ≤ length runs
       → ((k : ℕ) (d : PendingRun) → k < j → IsPendingOf (answer start blocks (b + k)) (get_or runs k d))
-      → (own_nets (take j runs) ≡ nets start blocks b j) × IsSummary (all_left (take j runs)) (nets start blocks b j)
+      → (own_nets blocks b (take j runs) ≡ nets start blocks b j) × IsSummary (all_left (take j runs)) (nets start blocks b j)
   unfolding nets
   nets_agree b zero runs le answers = (refl, summary-nil)
   nets_agree b (suc j) [] le answers = absurd (omega arith)
@@ -75,7 +95,7 @@ module _ (start : State) (blocks : List Block) where
       (answers 0 run (omega arith)) in
       let rest = nets_agree (suc b) j runs (omega arith) (λ k d lt. let there : b + suc k ≡ suc b + k = omega arith in
       subst (λ i. IsPendingOf (answer start blocks i) (get_or runs k d)) there (answers (suc k) d (omega arith))) in (
-        ap (λ ns. ns ++ own_nets (take j runs)) is.net ∙ ap (λ ns. net_of (answer start blocks b) ++ ns) rest.0,
+        ap (λ ns. ns ++ own_nets blocks (suc b) (take j runs)) (own_net_is (block_at blocks b) (state_at start blocks b) run is) ∙ ap (λ ns. net_of (answer start blocks b) ++ ns) rest.0,
         summary-append (left_by run.sums) (net_of (answer start blocks b)) (all_left (take j runs))
             (nets start blocks (suc b) j) is.sums.net_is rest.1,
       )
@@ -112,7 +132,7 @@ module _ (start : State) (blocks : List Block) where
 
   -- the runs before the first conflict leave what one thread leaves
   pub left : (b : ℕ) (runs : List PendingRun) (first : ℕ) → AreAlone b runs → IsFirstFrom runs 0 first
-      → (own_nets (take first runs) ≡ nets start blocks b first) × IsSummary (all_left (take first runs)) (nets start blocks b first)
+      → (own_nets blocks b (take first runs) ≡ nets start blocks b first) × IsSummary (all_left (take first runs)) (nets start blocks b first)
   left b runs first are conflict =
       nets_agree b first runs conflict.within
       (λ k d lt. (clear b first runs are conflict.within (λ k low. conflict.clear k (omega arith) low) k d lt).1)

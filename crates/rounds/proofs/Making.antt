@@ -21,7 +21,7 @@ use Rattle.rounds.specs.declared.make.Made.{Made}
 use Rattle.claims.specs.Views.{bit, times}
 use Rattle.committed.specs.NumberSets.{Has}
 use Rattle.committed.proofs.NumberSetLemmas.{has_of_longer}
-use Rattle.rounds.specs.PendingRuns.{AreSumsOf, IsPendingOf, IsThisOrThat, own_net, numbers_of, with_run, with_changed, IsMade, AreMade}
+use Rattle.rounds.specs.PendingRuns.{AreSumsOf, IsPendingOf, IsThisOrThat, IsListed, listed_net, numbers_of, with_run, with_changed, IsMade, AreMade}
 use Rattle.claims.proofs.Lists.{times-append}
 use Rattle.rounds.proofs.Times.{times_one, times_none, times_sum}
 use Rattle.rounds.proofs.Touched.{has_none, has_front, has_back}
@@ -142,10 +142,10 @@ all_front P (x ∷ xs) y all =
 
 -- a pending run of a run of a meaning
 pub pending_of : (meant : OneRun Taken) (run : Run) (pending : PendingRun) → IsRunOf meant run → pending.tree ≡ run.tree
-    → own_net pending ≡ run.net.items → AreSumsOf pending.sums run.entries.items run.net.items → IsPendingOf meant pending
+    → (IsListed pending.net → listed_net pending ≡ run.net.items) → AreSumsOf pending.sums run.entries.items run.net.items → IsPendingOf meant pending
 pending_of meant run pending is tree net are = record {
   tree = ap record_view tree ∙ is.tree;
-  net = net ∙ is.net;
+  net = λ listed. net listed ∙ is.net;
   sums = subst (AreSumsOf pending.sums (entries_in (record_of meant))) is.net
       (subst (λ es. AreSumsOf pending.sums es run.net.items) is.entries are);
 }

@@ -36,7 +36,7 @@ use Rattle.intentions.proofs.EntriesLemmas.{after-append}
 use Rattle.speculate.proofs.Room.{legal_call_fits, kept-le, kept_of_step-le, kept_of_child-le, kept_of_handler-le, kept_of_children-le}
 use Rattle.rounds.specs.Views.{meaning, blocks_of}
 use Rattle.rounds.specs.Passes.{CanBeMade}
-use Rattle.rounds.specs.PendingRuns.{IsPendingOf, own_net}
+use Rattle.rounds.specs.PendingRuns.{IsPendingOf, IsListed, listed_net}
 use Rattle.rounds.specs.declared.pending_run.PendingRun.{PendingRun}
 use Rattle.rounds.proofs.Commits.{split_legal}
 use Rattle.rounds.proofs.Conflicts.{moved}
@@ -244,12 +244,13 @@ net-le_kept taken (Aborted reason) = omega arith
 
 -- a pending run that leaves all its entries is that of another state where they are legal
 pub repeats_run : (batch : Batch) (i : ℕ) (here there : State) (run : PendingRun) → kinds here ≡ kinds there
-    → IsPendingOf (meaning batch i here) run → own_net run ≡ entries (record_of (meaning batch i here)) → AreLegal there (own_net run)
+    → IsPendingOf (meaning batch i here) run → IsListed run.net → listed_net run ≡ entries (record_of (meaning batch i here))
+    → AreLegal there (listed_net run)
     → IsPendingOf (meaning batch i there) run
-repeats_run batch i here there run same pending all legal =
+repeats_run batch i here there run same pending listed all legal =
     let meant = meaning batch i here in
     let few = net-le_kept (record_of meant) (outcome_of meant) in
-    let made = block_repeats (block_at (blocks_of batch) i) [] here there same (omega (arith, ap length all, ap length pending.net, few))
+    let made = block_repeats (block_at (blocks_of batch) i) [] here there same (omega (arith, ap length all, ap length (pending.net listed), few))
     (subst (AreLegal there) all legal) in
     moved meant (meaning batch i there) run pending (ap record_of made.0) (ap outcome_of made.0)
 

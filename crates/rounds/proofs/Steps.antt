@@ -265,8 +265,8 @@ pub round_commits : (batch : Batch) (b rounds passed : ℕ) (state : State) (old
     → first_of ≡ new
     → IsFirstFrom (take (length first_of - b) (drop b first_of)) 0 passed
     → prefix_of ≡ new
-    → AreLegal state (own_nets (take ((b + passed) - b) (drop b prefix_of)))
-    × AllHaveRoom state (own_nets (take ((b + passed) - b) (drop b prefix_of)))
+    → AreLegal state (own_nets (blocks_of batch) b (take ((b + passed) - b) (drop b prefix_of)))
+    × AllHaveRoom state (own_nets (blocks_of batch) b (take ((b + passed) - b) (drop b prefix_of)))
 round_commits batch b rounds passed state old new first_of prefix_of was counts given stale changed at stale_is put first_is first
     prefix_is =
     let fresh = renewed batch b rounds state old new was counts stale changed at
@@ -274,15 +274,15 @@ round_commits batch b rounds passed state old new first_of prefix_of was counts 
     let conflict = subst (λ rs. IsFirstFrom rs 0 passed) (rest_of new b)
     (subst (λ rs. IsFirstFrom (take (length rs - b) (drop b rs)) 0 passed) first_is first) in
     let count : (b + passed) - b ≡ passed = omega arith in
-    let prefix : own_nets (take ((b + passed) - b) (drop b prefix_of)) ≡ own_nets (take passed (drop b new)) =
-    ap (λ k. own_nets (take k (drop b prefix_of))) count ∙ ap (λ rs. own_nets (take passed (drop b rs))) prefix_is in
+    let prefix : own_nets (blocks_of batch) b (take ((b + passed) - b) (drop b prefix_of)) ≡ own_nets (blocks_of batch) b (take passed (drop b new)) =
+    ap (λ k. own_nets (blocks_of batch) b (take k (drop b prefix_of))) count ∙ ap (λ rs. own_nets (blocks_of batch) b (take passed (drop b rs))) prefix_is in
     let one_thread = prefix
     ∙ (left (start_of batch) (blocks_of batch) b (drop b new) passed (alone_from batch b rounds state new counts fresh) conflict).0 in
     let legal = (batch_leads (start_of batch) (blocks_of batch) b passed).0 in
     let room = nets_have_room batch b at.within passed legal in (
-      subst (λ s. AreLegal s (own_nets (take ((b + passed) - b) (drop b prefix_of)))) (sym at.reached)
+      subst (λ s. AreLegal s (own_nets (blocks_of batch) b (take ((b + passed) - b) (drop b prefix_of)))) (sym at.reached)
           (subst (AreLegal (state_at (start_of batch) (blocks_of batch) b)) (sym one_thread) legal),
-      subst (λ s. AllHaveRoom s (own_nets (take ((b + passed) - b) (drop b prefix_of)))) (sym at.reached)
+      subst (λ s. AllHaveRoom s (own_nets (blocks_of batch) b (take ((b + passed) - b) (drop b prefix_of)))) (sym at.reached)
           (subst (AllHaveRoom (state_at (start_of batch) (blocks_of batch) b)) (sym one_thread) room),
     )
 
@@ -304,7 +304,7 @@ pub one_round : (batch : Batch) (b rounds : ℕ) (seen : Seen) (state next : Sta
     → first_of ≡ new
     → IsSeen (take (length first_of - b) (drop b first_of)) seen
     → prefix_of ≡ new
-    → next ≡ after state (own_nets (take ((b + seen.first) - b) (drop b prefix_of)))
+    → next ≡ after state (own_nets (blocks_of batch) b (take ((b + seen.first) - b) (drop b prefix_of)))
     → kept_of ≡ new
     → AreRefuted kept_of (take seen.upto seen.nets) (b + seen.first) (length kept_of) later
     → b < length (blocks_of batch)
@@ -317,8 +317,8 @@ one_round batch b rounds seen state next old new first_of prefix_of kept_of was 
     let here = subst (λ rs. IsSeen rs seen) (rest_of new b) (subst (λ rs. IsSeen (take (length rs - b) (drop b rs)) seen) first_is saw) in
     let opening = opens batch b rounds seen.first state new counts fresh here.first in
     let count : (b + seen.first) - b ≡ seen.first = omega arith in
-    let prefix : own_nets (take ((b + seen.first) - b) (drop b prefix_of)) ≡ own_nets (take seen.first (drop b new)) =
-    ap (λ k. own_nets (take k (drop b prefix_of))) count ∙ ap (λ rs. own_nets (take seen.first (drop b rs))) prefix_is in
+    let prefix : own_nets (blocks_of batch) b (take ((b + seen.first) - b) (drop b prefix_of)) ≡ own_nets (blocks_of batch) b (take seen.first (drop b new)) =
+    ap (λ k. own_nets (blocks_of batch) b (take k (drop b prefix_of))) count ∙ ap (λ rs. own_nets (blocks_of batch) b (take seen.first (drop b rs))) prefix_is in
     let here_left = left (start_of batch) (blocks_of batch) b (drop b new) seen.first (alone_from batch b rounds state new counts fresh)
     here.first in
     let counted = ap (nets (start_of batch) (blocks_of batch) b) (sym count) in

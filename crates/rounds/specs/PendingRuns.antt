@@ -1,6 +1,6 @@
 -- Pending runs, and what the passes over them return: which is the first that doesn't hold, which are to be made again,
 -- those that were made. No public contract names it.
-use Rattle.std.specs.Prelude.{◌≡◌, ◌≢◌, ℕ, ◌+◌, ◌<◌, ◌≤◌, ◌⊎◌, Option, Some, None, List, [], ◌∷◌, ◌++◌, length, map, take, set}
+use Rattle.std.specs.Prelude.{◌≡◌, ◌≢◌, ⊤, ℕ, suc, ◌+◌, ◌<◌, ◌≤◌, ◌⊎◌, Option, Some, None, List, [], ◌∷◌, ◌++◌, length, map, take, set}
 use Rattle.std.specs.Prelude.{slice_index_or, option_map, box_value}
 use Rattle.std.specs.List.{All}
 use Rattle.std.specs.declared.vec.Vec.{Vec}
@@ -8,7 +8,7 @@ use Rattle.std.specs.declared.alloc.Global.{Global}
 use Rattle.objects.specs.Entries.{State, AllCommute, kinds}
 use Rattle.meaning.specs.Records.{Taken, entries}
 use Rattle.meaning.specs.OneThread.{Run as OneRun, record_of}
-use Rattle.meaning.specs.Batch.{net_of, shown_of}
+use Rattle.meaning.specs.Batch.{net_of, shown_of, block_at}
 use Rattle.claims.specs.Views.{times}
 use Rattle.committed.specs.NumberSets.{Has}
 use Rattle.committed.specs.Summaries.{entries_of, IsSummary}
@@ -17,6 +17,10 @@ use Rattle.objects.specs.declared.entry.Entry.{Entry}
 use Rattle.rounds.specs.Views.{meaning}
 use Rattle.rounds.specs.declared.pending_run.PendingRun.{PendingRun}
 use Rattle.rounds.specs.declared.pending_run.Sums.{Sums}
+use Rattle.rounds.specs.declared.pending_run.Net.{Net}
+use Rattle.rounds.specs.declared.pending_run.Net.TheVariants.{Summed, Listed, Recorded}
+use Rattle.meaning.specs.Trees.{Block}
+use Rattle.batch.specs.Left.{left_by_transaction}
 use Rattle.rounds.specs.declared.make.Made.{Made}
 use Rattle.speculate.specs.declared.speculated.Run.{Run}
 use Rattle.batch.specs.Views.{record_view}
@@ -30,13 +34,25 @@ left_or entries (Some net) = entries_of net.items
 abbrev pub left_by : Sums → List Entry
 left_by sums = left_or (entries_of sums.entries.items) sums.of_net
 
--- the net of a run, which its summary has where there is no other
-abbrev pub net_or : List Entry → Option (Vec Entry Global) → List Entry
-net_or summed None = summed
-net_or summed (Some net) = net.items
+-- a net in one of three places
+abbrev pub net_in : List Entry → List Entry → Net → List Entry
+net_in summed recorded Summed = summed
+net_in summed recorded (Listed net) = net.items
+net_in summed recorded Recorded = recorded
 
-abbrev pub own_net : PendingRun → List Entry
-own_net run = net_or (left_by run.sums) run.net
+-- it isn't only in the record
+abbrev pub IsListed : Net → Type 0
+IsListed Summed = ⊤
+IsListed (Listed net) = ⊤
+IsListed Recorded = ⊥
+
+-- the net of a run, and none where it is only in the record
+abbrev pub listed_net : PendingRun → List Entry
+listed_net run = net_in (left_by run.sums) [] run.net
+
+-- the net of a run of this block
+abbrev pub own_net : Block → PendingRun → List Entry
+own_net block run = net_in (left_by run.sums) (left_by_transaction block (record_view run.tree)) run.net
 
 -- summaries of these entries and of this net, which has a summary of its own where it isn't all of the entries
 pub record AreSumsOf (sums : Sums) (entries net : List Entry) : Type 0 where
@@ -47,7 +63,7 @@ pub record AreSumsOf (sums : Sums) (entries net : List Entry) : Type 0 where
 -- a pending run of a meaning: its record and its net, with summaries of its entries and its net
 pub record IsPendingOf (meant : OneRun Taken) (run : PendingRun) : Type 0 where
   pub tree : record_view run.tree ≡ shown_of meant
-  pub net : own_net run ≡ net_of meant
+  pub net : IsListed run.net → listed_net run ≡ net_of meant
   pub sums : AreSumsOf run.sums (entries (record_of meant)) (net_of meant)
 
 -- a run without entries, or one of this number that was made on some state of the batch's objects
@@ -55,10 +71,10 @@ abbrev pub WasMade : Batch → ℕ → PendingRun → Type 0
 WasMade batch number run = (run.sums.entries.items ≡ [])
     ⊎ ((state : State) × (kinds state ≡ kinds batch.objects) × IsPendingOf (meaning batch number state) run)
 
--- what runs leave, one after the other
-abbrev pub own_nets : List PendingRun → List Entry
-own_nets [] = []
-own_nets (run ∷ runs) = own_net run ++ own_nets runs
+-- what runs of the blocks from this number on leave, one after the other
+abbrev pub own_nets : List Block → ℕ → List PendingRun → List Entry
+own_nets blocks number [] = []
+own_nets blocks number (run ∷ runs) = own_net (block_at blocks number) run ++ own_nets blocks (suc number) runs
 
 -- its summaries
 abbrev pub all_left : List PendingRun → List Entry

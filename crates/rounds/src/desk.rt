@@ -6,11 +6,11 @@ ghost use Rattle.rounds.specs.Views.{meaning};
 ghost use Rattle.rounds.specs.Passes.{CanBeMade};
 ghost use Rattle.intentions.specs.Trials.{CanRepeat};
 ghost use Rattle.rounds.specs.Desks.{IsDeskOn};
-ghost use Rattle.rounds.specs.PendingRuns.{IsPendingOf, WasMade, own_net};
+ghost use Rattle.rounds.specs.PendingRuns.{IsPendingOf, WasMade, listed_net, IsListed};
 ghost use Rattle.meaning.specs.declared.limits.TheConstants.{MAX_TRANSACTIONS};
 ghost use Rattle.plan.specs.declared.plan.TheConstants.{MAX_WORKERS};
 
-use crate::pending_run::PendingRun;
+use crate::pending_run::{Net, PendingRun};
 use batch::Batch;
 use intentions::Trial;
 use meaning::Held;
@@ -56,18 +56,20 @@ impl<'s> Desk<'s> {
         pending: &PendingRun,
     ) -> Result<bool, NoMemory>
         requires few { number ≤ MAX_TRANSACTIONS }
-        requires can { ¬ (pending.now.sums.entries.items ≡ []) → pending.now.sums.of_net ≡ None → CanRepeat self.old.trial (own_net pending.now) }
+        requires can { ¬ (pending.now.sums.entries.items ≡ []) → pending.now.sums.of_net ≡ None → IsListed pending.now.net → CanRepeat self.old.trial (listed_net pending.now) }
         ensures entries { IfOk result (λ same. IsTrue same → ¬ (pending.now.sums.entries.items ≡ [])) }
         ensures whole { IfOk result (λ same. IsTrue same → pending.now.sums.of_net ≡ None) }
-        ensures legal { IfOk result (λ same. IsTrue same → AreLegal self.old.trial (own_net pending.now)) }
+        ensures listed { IfOk result (λ same. IsTrue same → IsListed pending.now.net) }
+        ensures legal { IfOk result (λ same. IsTrue same → AreLegal self.old.trial (listed_net pending.now)) }
         ensures again { (self.new.trial ≡ self.old.trial) × (self.new.view ≡ self.old.view) × (self.new.labels ≡ self.old.labels) }
     {
         if !pending.is_to_be_tried() {
             return Ok(false);
         }
         let same = match &pending.net {
-            Some(net) => self.trial.repeats(net)?,
-            None => self.trial.repeats_marked(pending.sums.net())?,
+            Net::Listed(net) => self.trial.repeats(net)?,
+            Net::Summed => self.trial.repeats_marked(pending.sums.net())?,
+            Net::Recorded => return Ok(false),
         };
         if same {
             gate.pass(number as u32 + 1, 0);

@@ -149,7 +149,10 @@ pub(crate) fn make_all<R: Threads + Sync, G: Gate>(
         alloc,
         numbers.len().div_ceil(cut) as u32,
         makers(crew, numbers.len()),
-        &|piece: u32, bench: Bench<Box<Desk<'_>>, Made>| -> Result<Bench<Box<Desk<'_>>, Made>, NoMemory>
+        &|piece: u32, bench: Bench<Box<Desk<'_>>, Made>| -> Result<
+            Bench<Box<Desk<'_>>, Made>,
+            NoMemory,
+        >
             requires { (cut ≤ MAX_CUT) × (piece * cut < length numbers.now) × (1 ≤ width) × (width ≤ MAX_WORKERS) × (kinds objects.now ≡ kinds batch.now.objects) × (length runs.now ≡ length batch.now.transactions.items) × (length runs.now ≤ MAX_TRANSACTIONS) × All (λ n. CanBeMade batch.now objects.now n) numbers.now × All (λ n. (d : OnePending) → WasMade batch.now n (slice_index_or runs.now n d)) numbers.now × IfSome bench.desk (λ desk. IsDeskOn objects.now desk.value) }
             ensures { IfOk result (λ after. IfSome after.desk (λ desk. IsDeskOn objects.entry.now desk.value) × AreAdded batch.entry.now objects.entry.now runs.entry.now (slice_chunk numbers.entry.now cut piece) bench.entry.items.items after.items.items) }
         {
@@ -157,7 +160,15 @@ pub(crate) fn make_all<R: Threads + Sync, G: Gate>(
             let mut desk = desk_or_new(alloc, objects, desk)?;
             let group = group_at(numbers, cut, piece);
             make_group(
-                threads, alloc, batch, group, width, gate, desk.as_mut(), runs, &mut items,
+                threads,
+                alloc,
+                batch,
+                group,
+                width,
+                gate,
+                desk.as_mut(),
+                runs,
+                &mut items,
             )?;
             Ok(Bench {
                 desk: Some(desk),

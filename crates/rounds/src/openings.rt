@@ -135,7 +135,8 @@ fn round<R: Threads + Sync, G: Gate>(
     // As many runs are expected to be committed as in the round before.
     let seen = seek_conflict(crew, &at.runs[opened..], at.passed)?;
     let passed = seen.first;
-    commit(&at.runs[opened..opened + passed], &mut at.objects)?;
+    let committed = &at.runs[opened..opened + passed];
+    commit(batch, opened, committed, &mut at.objects)?;
     at.opened += passed;
     at.passed = passed;
     at.rounds += 1;

@@ -2,7 +2,7 @@
 ghost use Rattle.std.specs.Prelude.{◌≡◌, ◌≤◌, [], length, IsTrue, None, OnOk};
 ghost use Rattle.committed.specs.Summaries.{entries_of};
 ghost use Rattle.committed.specs.declared.summary.TheConstants.{FEW_ENTRIES};
-ghost use Rattle.rounds.specs.PendingRuns.{left_by, own_net, AreSumsOf};
+ghost use Rattle.rounds.specs.PendingRuns.{left_by, listed_net, IsListed, AreSumsOf};
 
 use batch::Record;
 use intentions::{Entry, FEW_ENTRIES, MarkedEntry, summarize};
@@ -70,13 +70,37 @@ impl Sums {
 /// How often a run is made again without a trial after a trial failed.
 const WAIT: u8 = 7;
 
+/// Up to how many entries of a net are listed. A longer list would take more memory than all else
+/// that is kept of a run.
+const MOST_LISTED: usize = 256;
+
+/// Where a run has its net.
+#[derive(Drop)]
+pub(crate) enum Net {
+    /// In its summary, which has all of a few entries.
+    Summed,
+    /// In a list.
+    Listed(Vec<Entry>),
+    /// In its record: the calls are those of the block that was run.
+    Recorded,
+}
+
+impl Net {
+    // The list, or an empty one, which takes no memory.
+    fn into_list(self, alloc: Global) -> Vec<Entry> {
+        match self {
+            Net::Listed(list) => list,
+            Net::Summed | Net::Recorded => Vec::new(alloc),
+        }
+    }
+}
+
 /// A run that waits to be committed: its record, summaries in place of its entries, and its net.
 #[derive(Drop)]
 pub(crate) struct PendingRun {
     pub(crate) tree: Record,
     pub(crate) sums: Sums,
-    /// The net. None where it has few entries: its summary has all of them then.
-    pub(crate) net: Option<Vec<Entry>>,
+    pub(crate) net: Net,
     /// How often it is made again before its replies are tried.
     pub(crate) wait: u8,
 }
@@ -92,18 +116,29 @@ impl PendingRun {
                 outcome: End::Ended,
             },
             sums: Sums::empty(alloc),
-            net: None,
+            net: Net::Summed,
             wait: 0,
         }
     }
 
-    /// Whether the replies of the run are to be tried on other objects. It has entries then, and its
-    /// net is all of them.
+    /// Whether the replies of the run are to be tried on other objects. It has entries then, its net
+    /// is all of them, and isn't only in its record.
     pub(crate) fn is_to_be_tried(&self) -> bool
         ensures entries { IsTrue result → ¬ (self.now.sums.entries.items ≡ []) }
         ensures whole { IsTrue result → self.now.sums.of_net ≡ None }
+        ensures listed { IsTrue result → IsListed self.now.net }
     {
-        self.wait == 0 && self.sums.of_net.is_none() && !self.sums.entries.is_empty()
+        self.wait == 0
+            && self.is_listed()
+            && self.sums.of_net.is_none()
+            && !self.sums.entries.is_empty()
+    }
+
+    // Whether its net isn't only in its record.
+    fn is_listed(&self) -> bool
+        ensures { IsTrue result → IsListed self.now.net }
+    {
+        !matches!(self.net, Net::Recorded)
     }
 
     /// The wait of the run that is made in place of this one.
@@ -121,15 +156,17 @@ impl PendingRun {
         requires whole { length run.old.net.items ≡ length run.old.entries.items → run.old.net.items ≡ run.old.entries.items }
         ensures tree { OnOk result (self.new.tree ≡ run.old.tree) }
         ensures sums { OnOk result (AreSumsOf self.new.sums run.old.entries.items run.old.net.items) }
-        ensures net { OnOk result (own_net self.new ≡ run.old.net.items) }
+        ensures net { OnOk result (IsListed self.new.net → listed_net self.new ≡ run.old.net.items) }
     {
         let whole = run.net.len() == run.entries.len();
         self.sums.renew(alloc, &run.entries, &run.net, whole)?;
+        let spare = replace(&mut self.net, Net::Recorded).into_list(alloc);
         self.net = if run.net.len() <= FEW_ENTRIES {
-            None
+            Net::Summed
+        } else if run.net.len() <= MOST_LISTED {
+            Net::Listed(replace(&mut run.net, spare))
         } else {
-            let spare = self.net.take().unwrap_or(Vec::new(alloc));
-            Some(replace(&mut run.net, spare))
+            Net::Recorded
         };
         swap(&mut self.tree, &mut run.tree);
         Ok(())

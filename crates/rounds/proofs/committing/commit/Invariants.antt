@@ -1,5 +1,6 @@
+use Rattle.rounds.specs.Views.{blocks_of}
 use Rattle.rounds.proofs.Commits.{ArePartCommitted}
 use Rattle.rounds.proofs.committing.commit.Given as goal
 
-abbrev pub invariant-loop-run : goal.invariant-loop-run
-invariant-loop-run l = ArePartCommitted l.runs l.initial.objects l.run-index l.objects
+abbrev pub invariant-loop-place : goal.invariant-loop-place
+invariant-loop-place l = ArePartCommitted (blocks_of l.batch) l.from l.runs l.initial.objects l.place l.objects
