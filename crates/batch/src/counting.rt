@@ -1,5 +1,7 @@
 //! How many operations the transactions of a batch have.
-ghost use Rattle.std.specs.Prelude.{◌≡◌, ◌≤◌, map};
+ghost use Rattle.std.specs.Prelude.{◌≡◌, ◌<◌, ◌≤◌, length, map};
+ghost use Rattle.meaning.specs.Batch.{block_at};
+ghost use Rattle.batch.specs.Parts.{blocks_of};
 ghost use Rattle.meaning.specs.Running.{all_operations};
 ghost use Rattle.meaning.specs.WellFormed.{operations, operations_of_children, operations_of_handlers, operations_of_step};
 ghost use Rattle.meaning.specs.Trees.{Pass, for_reasons};
@@ -21,6 +23,14 @@ impl Batch {
             count += operations_in(block);
         }
         count
+    }
+
+    /// How many operations the transaction with this number has, counted from 0.
+    pub fn operations_of(&self, number: usize) -> u32
+        requires { number < length self.now.transactions.items }
+        ensures { result ≡ operations (block_at (blocks_of self.now) number) }
+    {
+        operations_in(&self.transactions[number])
     }
 }
 

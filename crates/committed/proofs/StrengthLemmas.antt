@@ -1,4 +1,4 @@
--- What strengths tell: one that covers another is of an entry that is as strict.
+-- A strength that covers another is of an entry that is as strict.
 use Rattle.std.proofs.Common.{◌≡◌, ◌&&◌, ◌+◌, ℕ, Bool, true, false, nat_eq, nat_le, refl, sym, ap, ◌∙◌, arith}
 use Rattle.std.proofs.lemmas.Bool.{eqb-true, eq-eqb, leb-true, le-leb, and_parts, false≢true}
 use Rattle.atoms.specs.Account.{account_effect, account_effects_commute}

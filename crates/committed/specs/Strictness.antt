@@ -71,51 +71,51 @@ is_strict_by_number (call.Counter c) (reply.Counter r) (call.Counter d) (reply.C
 is_strict_by_number (call.Max c) (reply.Max r) (call.Max d) (reply.Max s) = max_is_as_strict (max_effect (c, r)) (max_effect (d, s))
 is_strict_by_number c r d s = false
 
--- ---- strengths: the kind, which effect of the kind, a number of the item or 0, and a range
+-- ---- strengths: the kind, which effect of the kind, a number of the item or 0, and a range of numbers
 
-abbrev pub told : ℕ → ℕ → ℕ → ℕ → ℕ → ℕ → Strength
-told o k v x l m = record { object = o; kind = k; variant = v; item = x; least = l; most = m }
+abbrev pub digest : ℕ → ℕ → ℕ → ℕ → ℕ → ℕ → Strength
+digest o k v x l m = record { object = o; kind = k; variant = v; item = x; least = l; most = m }
 
 -- of two withdrawals the smaller is stricter, of two balances the larger; other amounts make no difference
-abbrev pub account_told : AccountEffect → ℕ × ℕ × ℕ
-account_told (account.Deposited a) = (0, 0, 0)
-account_told (account.Withdrew a) = (1, a.value, 18446744073709551615)
-account_told (account.Refused a) = (2, 0, 0)
-account_told (account.Counted n) = (3, 0, n)
-account_told account.Impossible = (4, 0, 0)
+abbrev pub account_parts : AccountEffect → ℕ × ℕ × ℕ
+account_parts (account.Deposited a) = (0, 0, 0)
+account_parts (account.Withdrew a) = (1, a.value, 18446744073709551615)
+account_parts (account.Refused a) = (2, 0, 0)
+account_parts (account.Counted n) = (3, 0, n)
+account_parts account.Impossible = (4, 0, 0)
 
 abbrev pub account_strength : ℕ → AccountEffect → Strength
-account_strength o e = told o 0 (account_told e).0 0 (account_told e).1 (account_told e).2
+account_strength o e = digest o 0 (account_parts e).0 0 (account_parts e).1 (account_parts e).2
 
-abbrev pub counter_told : CounterEffect → ℕ
-counter_told (counter.Added a) = 0
-counter_told (counter.Subtracted a) = 0
-counter_told (counter.Counted n) = 1
-counter_told counter.Impossible = 2
+abbrev pub counter_parts : CounterEffect → ℕ
+counter_parts (counter.Added a) = 0
+counter_parts (counter.Subtracted a) = 0
+counter_parts (counter.Counted n) = 1
+counter_parts counter.Impossible = 2
 
 abbrev pub counter_strength : ℕ → CounterEffect → Strength
-counter_strength o e = told o 1 (counter_told e) 0 0 0
+counter_strength o e = digest o 1 (counter_parts e) 0 0 0
 
-abbrev pub set_told : SetEffect → ℕ × ℕ × ℕ
-set_told (set.WasAdded x) = (0, x.0 + 1, 0)
-set_told (set.WasRemoved x) = (1, x.0 + 1, 0)
-set_told (set.WasInside x) = (2, x.0 + 1, 0)
-set_told (set.WasOutside x) = (3, x.0 + 1, 0)
-set_told (set.WasCounted n) = (4, 0, n)
-set_told set.Impossible = (5, 0, 0)
+abbrev pub set_parts : SetEffect → ℕ × ℕ × ℕ
+set_parts (set.WasAdded x) = (0, x.0 + 1, 0)
+set_parts (set.WasRemoved x) = (1, x.0 + 1, 0)
+set_parts (set.WasInside x) = (2, x.0 + 1, 0)
+set_parts (set.WasOutside x) = (3, x.0 + 1, 0)
+set_parts (set.WasCounted n) = (4, 0, n)
+set_parts set.Impossible = (5, 0, 0)
 
 abbrev pub set_strength : ℕ → SetEffect → Strength
-set_strength o e = told o 2 (set_told e).0 (set_told e).1 (set_told e).2 (set_told e).2
+set_strength o e = digest o 2 (set_parts e).0 (set_parts e).1 (set_parts e).2 (set_parts e).2
 
-abbrev pub queue_told : QueueEffect → ℕ × ℕ × ℕ
-queue_told (queue.Enqueued x) = (0, 0, x.0 + 1)
-queue_told (queue.Dequeued x) = (1, x.0 + 1, 0)
-queue_told queue.FoundEmpty = (2, 0, 0)
-queue_told (queue.Counted n) = (3, 0, n)
-queue_told queue.Impossible = (4, 0, 0)
+abbrev pub queue_parts : QueueEffect → ℕ × ℕ × ℕ
+queue_parts (queue.Enqueued x) = (0, 0, x.0 + 1)
+queue_parts (queue.Dequeued x) = (1, x.0 + 1, 0)
+queue_parts queue.FoundEmpty = (2, 0, 0)
+queue_parts (queue.Counted n) = (3, 0, n)
+queue_parts queue.Impossible = (4, 0, 0)
 
 abbrev pub queue_strength : ℕ → QueueEffect → Strength
-queue_strength o e = told o 3 (queue_told e).0 (queue_told e).1 (queue_told e).2 (queue_told e).2
+queue_strength o e = digest o 3 (queue_parts e).0 (queue_parts e).1 (queue_parts e).2 (queue_parts e).2
 
 abbrev pub key_strength : KeyEffect → ℕ × ℕ
 key_strength (key.WasBound x) = (0, x.0 + 1)
@@ -127,16 +127,16 @@ key_strength (key.WasFound x) = (5, x.0 + 1)
 key_strength key.Impossible = (6, 0)
 
 abbrev pub directory_strength : ℕ → DirectoryEffect → Strength
-directory_strength o e = told o 4 (key_strength e.change).0 (e.key.0 + 1) (key_strength e.change).1 (key_strength e.change).1
+directory_strength o e = digest o 4 (key_strength e.change).0 (e.key.0 + 1) (key_strength e.change).1 (key_strength e.change).1
 
 -- of two raises the larger is stricter, of two tops the smaller
-abbrev pub max_told : MaxEffect → ℕ × ℕ × ℕ
-max_told (max.Raised a) = (0, 0, a.value)
-max_told (max.Counted n) = (1, n, 18446744073709551615)
-max_told max.Impossible = (2, 0, 0)
+abbrev pub max_parts : MaxEffect → ℕ × ℕ × ℕ
+max_parts (max.Raised a) = (0, 0, a.value)
+max_parts (max.Counted n) = (1, n, 18446744073709551615)
+max_parts max.Impossible = (2, 0, 0)
 
 abbrev pub max_strength : ℕ → MaxEffect → Strength
-max_strength o e = told o 5 (max_told e).0 0 (max_told e).1 (max_told e).2
+max_strength o e = digest o 5 (max_parts e).0 0 (max_parts e).1 (max_parts e).2
 
 abbrev pub strength_at : ℕ → Call → Reply → Strength
 strength_at o (call.Account c) (reply.Account r) = account_strength o (account_effect (c, r))
@@ -145,7 +145,7 @@ strength_at o (call.Set c) (reply.Set r) = set_strength o (set_effect (c, r))
 strength_at o (call.Queue c) (reply.Queue r) = queue_strength o (queue_effect (c, r))
 strength_at o (call.Directory c) (reply.Directory r) = directory_strength o (directory_effect (c, r))
 strength_at o (call.Max c) (reply.Max r) = max_strength o (max_effect (c, r))
-strength_at o c r = told o 6 0 0 0 0
+strength_at o c r = digest o 6 0 0 0 0
 
 abbrev pub strength_of : Entry → Strength
 strength_of e = strength_at e.object e.call e.reply

@@ -1,11 +1,11 @@
-//! Strengths: digests of entries, which tell whether an entry alone is as strict as another.
+//! Strengths: digests of entries. By them one entry is found to be as strict as another.
 //!
-//! A range has all numbers at which an effect is told apart. Of two withdrawals the smaller is
+//! Each has a range of numbers, and a wider range is stricter. Of two withdrawals the smaller is
 //! stricter, and its range goes from its amount up. Of two balances the larger is stricter, and its
 //! range goes up to it. An item or a size is a range of one number, so that only the same one is as
 //! strict. Where numbers make no difference, the range is that of 0.
 ghost use Rattle.std.specs.Prelude.{◌≡◌, ◌+◌};
-ghost use Rattle.committed.specs.Strictness.{strength_of, account_strength, counter_strength, set_strength, queue_strength, directory_strength, key_strength, max_strength, told, covers};
+ghost use Rattle.committed.specs.Strictness.{strength_of, account_strength, counter_strength, set_strength, queue_strength, directory_strength, key_strength, max_strength, digest, covers};
 
 use objects::{
     Account, AccountEffect, Call, Counter, CounterEffect, Directory, DirectoryEffect, Entry, Item,
@@ -27,7 +27,7 @@ const REGISTER: u8 = 5;
 /// The call and the reply are of different kinds.
 const NONE: u8 = 6;
 
-/// What an entry tells of its strictness.
+/// A digest of an entry, by which it is compared with others for strictness.
 #[derive(Clone, Copy)]
 pub struct Strength {
     object: u32,
@@ -67,7 +67,7 @@ impl Strength {
             (Call::Max(call), Reply::Max(reply)) => {
                 max_strength(entry.object, MaxRegister::effect(call, reply))
             }
-            _ => told(entry.object, NONE, 0, 0, 0, 0),
+            _ => digest(entry.object, NONE, 0, 0, 0, 0),
         }
     }
 
@@ -105,8 +105,8 @@ impl Strength {
     }
 }
 
-fn told(object: u32, kind: u8, variant: u8, item: u64, least: u64, most: u64) -> Strength
-    ensures { result ≡ told object kind variant item least most }
+fn digest(object: u32, kind: u8, variant: u8, item: u64, least: u64, most: u64) -> Strength
+    ensures { result ≡ digest object kind variant item least most }
 {
     Strength {
         object,
@@ -131,11 +131,11 @@ fn account_strength(object: u32, effect: AccountEffect) -> Strength
     ensures { result ≡ account_strength object effect }
 {
     match effect {
-        AccountEffect::Deposited(_) => told(object, ACCOUNT, 0, 0, 0, 0),
-        AccountEffect::Withdrew(amount) => told(object, ACCOUNT, 1, 0, amount.get(), u64::MAX),
-        AccountEffect::Refused(_) => told(object, ACCOUNT, 2, 0, 0, 0),
-        AccountEffect::Counted(balance) => told(object, ACCOUNT, 3, 0, 0, balance),
-        AccountEffect::Impossible => told(object, ACCOUNT, 4, 0, 0, 0),
+        AccountEffect::Deposited(_) => digest(object, ACCOUNT, 0, 0, 0, 0),
+        AccountEffect::Withdrew(amount) => digest(object, ACCOUNT, 1, 0, amount.get(), u64::MAX),
+        AccountEffect::Refused(_) => digest(object, ACCOUNT, 2, 0, 0, 0),
+        AccountEffect::Counted(balance) => digest(object, ACCOUNT, 3, 0, 0, balance),
+        AccountEffect::Impossible => digest(object, ACCOUNT, 4, 0, 0, 0),
     }
 }
 
@@ -143,9 +143,11 @@ fn counter_strength(object: u32, effect: CounterEffect) -> Strength
     ensures { result ≡ counter_strength object effect }
 {
     match effect {
-        CounterEffect::Added(_) | CounterEffect::Subtracted(_) => told(object, COUNTER, 0, 0, 0, 0),
-        CounterEffect::Counted(_) => told(object, COUNTER, 1, 0, 0, 0),
-        CounterEffect::Impossible => told(object, COUNTER, 2, 0, 0, 0),
+        CounterEffect::Added(_) | CounterEffect::Subtracted(_) => digest(
+            object, COUNTER, 0, 0, 0, 0,
+        ),
+        CounterEffect::Counted(_) => digest(object, COUNTER, 1, 0, 0, 0),
+        CounterEffect::Impossible => digest(object, COUNTER, 2, 0, 0, 0),
     }
 }
 
@@ -153,12 +155,12 @@ fn set_strength(object: u32, effect: SetEffect) -> Strength
     ensures { result ≡ set_strength object effect }
 {
     match effect {
-        SetEffect::WasAdded(item) => told(object, SET, 0, number(item), 0, 0),
-        SetEffect::WasRemoved(item) => told(object, SET, 1, number(item), 0, 0),
-        SetEffect::WasInside(item) => told(object, SET, 2, number(item), 0, 0),
-        SetEffect::WasOutside(item) => told(object, SET, 3, number(item), 0, 0),
-        SetEffect::WasCounted(size) => told(object, SET, 4, 0, size, size),
-        SetEffect::Impossible => told(object, SET, 5, 0, 0, 0),
+        SetEffect::WasAdded(item) => digest(object, SET, 0, number(item), 0, 0),
+        SetEffect::WasRemoved(item) => digest(object, SET, 1, number(item), 0, 0),
+        SetEffect::WasInside(item) => digest(object, SET, 2, number(item), 0, 0),
+        SetEffect::WasOutside(item) => digest(object, SET, 3, number(item), 0, 0),
+        SetEffect::WasCounted(size) => digest(object, SET, 4, 0, size, size),
+        SetEffect::Impossible => digest(object, SET, 5, 0, 0, 0),
     }
 }
 
@@ -166,11 +168,11 @@ fn queue_strength(object: u32, effect: QueueEffect) -> Strength
     ensures { result ≡ queue_strength object effect }
 {
     match effect {
-        QueueEffect::Enqueued(item) => told(object, QUEUE, 0, 0, number(item), number(item)),
-        QueueEffect::Dequeued(item) => told(object, QUEUE, 1, number(item), 0, 0),
-        QueueEffect::FoundEmpty => told(object, QUEUE, 2, 0, 0, 0),
-        QueueEffect::Counted(length) => told(object, QUEUE, 3, 0, length, length),
-        QueueEffect::Impossible => told(object, QUEUE, 4, 0, 0, 0),
+        QueueEffect::Enqueued(item) => digest(object, QUEUE, 0, 0, number(item), number(item)),
+        QueueEffect::Dequeued(item) => digest(object, QUEUE, 1, number(item), 0, 0),
+        QueueEffect::FoundEmpty => digest(object, QUEUE, 2, 0, 0, 0),
+        QueueEffect::Counted(length) => digest(object, QUEUE, 3, 0, length, length),
+        QueueEffect::Impossible => digest(object, QUEUE, 4, 0, 0, 0),
     }
 }
 
@@ -178,7 +180,7 @@ fn directory_strength(object: u32, effect: DirectoryEffect) -> Strength
     ensures { result ≡ directory_strength object effect }
 {
     let (variant, bound) = key_strength(effect.change);
-    told(object, DIRECTORY, variant, number(effect.key), bound, bound)
+    digest(object, DIRECTORY, variant, number(effect.key), bound, bound)
 }
 
 /// Which effect it is, and a number of the item that it bound or found.
@@ -201,8 +203,8 @@ fn max_strength(object: u32, effect: MaxEffect) -> Strength
     ensures { result ≡ max_strength object effect }
 {
     match effect {
-        MaxEffect::Raised(amount) => told(object, REGISTER, 0, 0, 0, amount.get()),
-        MaxEffect::Counted(top) => told(object, REGISTER, 1, 0, top, u64::MAX),
-        MaxEffect::Impossible => told(object, REGISTER, 2, 0, 0, 0),
+        MaxEffect::Raised(amount) => digest(object, REGISTER, 0, 0, 0, amount.get()),
+        MaxEffect::Counted(top) => digest(object, REGISTER, 1, 0, top, u64::MAX),
+        MaxEffect::Impossible => digest(object, REGISTER, 2, 0, 0, 0),
     }
 }

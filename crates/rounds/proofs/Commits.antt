@@ -1,7 +1,7 @@
 -- Runs are committed one after the other.
 use Rattle.std.proofs.Common.{◌≡◌, ℕ, suc, ◌+◌, ◌<◌, List, [], ◌∷◌, ◌++◌, length, get_or, drop, refl, sym, ap, subst, ◌∙◌, add-one, arith}
 use Rattle.std.proofs.Common.{drop-cons}
-use Rattle.std.proofs.lemmas.List.{length-map, get_or-map}
+use Rattle.std.proofs.lemmas.List.{length-map}
 use Rattle.objects.specs.declared.value.Value.{Value}
 use Rattle.objects.specs.declared.entry.Entry.{Entry}
 use Rattle.objects.specs.Entries.{after, AreLegal}
@@ -13,11 +13,7 @@ use Rattle.committed.specs.declared.marks.MarkedEntry.{MarkedEntry}
 use Rattle.objects.specs.Objects.{objects}
 use Rattle.rounds.specs.declared.pending_run.PendingRun.{PendingRun}
 use Rattle.meaning.specs.Batch.{block_at}
-use Rattle.meaning.specs.Trees.{Block, NoStep}
-use Rattle.batch.specs.Views.{block_view}
-use Rattle.batch.specs.declared.batch.Batch.{Batch}
-use Rattle.batch.specs.declared.tree.Block.{Block as OneBlock}
-use Rattle.rounds.specs.Views.{blocks_of}
+use Rattle.meaning.specs.Trees.{Block}
 use Rattle.rounds.specs.PendingRuns.{own_net, own_nets}
 
 -- two lists, one after the other
@@ -60,7 +56,8 @@ module _ (blocks : List Block) (number : ℕ) (runs : List PendingRun) (start : 
   rest =
       let next : suc (number + i) ≡ number + (i + 1) = omega arith in
       ap (own_nets blocks (number + i)) (drop-cons runs i x lt)
-      ∙ (ap (λ (y : PendingRun). own_net (block_at blocks (number + i)) y ++ own_nets blocks (suc (number + i)) (drop (suc i) runs)) (sym is)
+      ∙ (ap (λ (y : PendingRun). own_net (block_at blocks (number + i)) y
+      ++ own_nets blocks (suc (number + i)) (drop (suc i) runs)) (sym is)
       ∙ (ap (λ n. here ++ own_nets blocks n (drop (suc i) runs)) next ∙ rw add-one refl))
 
   both_legal : AreLegal now here × AreLegal (after now here) later
@@ -81,9 +78,3 @@ module _ (blocks : List Block) (number : ℕ) (runs : List PendingRun) (start : 
     room = subst (λ v. AllHaveRoom v later) (sym on) both_have_room.1;
     leads = ap (λ v. after v later) on ∙ sym (after-append now here later) ∙ ap (after now) (sym rest) ∙ part.leads;
   }
-
--- the block of a transaction, as the meaning sees it
-pub block_is : (batch : Batch) (number : ℕ) (block : OneBlock) → number < length batch.transactions.items
-    → block ≡ get_or batch.transactions.items number block → block_at (blocks_of batch) number ≡ block_view block
-block_is batch number block inside is =
-    get_or-map block_view batch.transactions.items number block NoStep inside ∙ ap block_view (sym is)

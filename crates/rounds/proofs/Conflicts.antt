@@ -42,7 +42,7 @@ pub some_run : (P : Type 0) (runs : List PendingRun) (i : ℕ) → i < length ru
 some_run P [] i lt use_run = absurd (omega arith)
 some_run P (run ∷ runs) i lt use_run = use_run run
 
--- a net is in its place, where the record tells it too
+-- a net is in its place, where the record has it too
 net_at : (place : Net) (summed recorded net : List Entry) → (IsListed place → net_in summed [] place ≡ net) → recorded ≡ net
     → net_in summed recorded place ≡ net
 net_at Summed summed recorded net listed told = listed tt
@@ -95,7 +95,8 @@ module _ (start : State) (blocks : List Block) where
       (answers 0 run (omega arith)) in
       let rest = nets_agree (suc b) j runs (omega arith) (λ k d lt. let there : b + suc k ≡ suc b + k = omega arith in
       subst (λ i. IsPendingOf (answer start blocks i) (get_or runs k d)) there (answers (suc k) d (omega arith))) in (
-        ap (λ ns. ns ++ own_nets blocks (suc b) (take j runs)) (own_net_is (block_at blocks b) (state_at start blocks b) run is) ∙ ap (λ ns. net_of (answer start blocks b) ++ ns) rest.0,
+        ap (λ ns. ns ++ own_nets blocks (suc b) (take j runs)) (own_net_is (block_at blocks b) (state_at start blocks b) run is)
+            ∙ ap (λ ns. net_of (answer start blocks b) ++ ns) rest.0,
         summary-append (left_by run.sums) (net_of (answer start blocks b)) (all_left (take j runs))
             (nets start blocks (suc b) j) is.sums.net_is rest.1,
       )
@@ -132,7 +133,8 @@ module _ (start : State) (blocks : List Block) where
 
   -- the runs before the first conflict leave what one thread leaves
   pub left : (b : ℕ) (runs : List PendingRun) (first : ℕ) → AreAlone b runs → IsFirstFrom runs 0 first
-      → (own_nets blocks b (take first runs) ≡ nets start blocks b first) × IsSummary (all_left (take first runs)) (nets start blocks b first)
+      → (own_nets blocks b (take first runs) ≡ nets start blocks b first)
+      × IsSummary (all_left (take first runs)) (nets start blocks b first)
   left b runs first are conflict =
       nets_agree b first runs conflict.within
       (λ k d lt. (clear b first runs are conflict.within (λ k low. conflict.clear k (omega arith) low) k d lt).1)

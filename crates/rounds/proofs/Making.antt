@@ -21,7 +21,8 @@ use Rattle.rounds.specs.declared.make.Made.{Made}
 use Rattle.claims.specs.Views.{bit, times}
 use Rattle.committed.specs.NumberSets.{Has}
 use Rattle.committed.proofs.NumberSetLemmas.{has_of_longer}
-use Rattle.rounds.specs.PendingRuns.{AreSumsOf, IsPendingOf, IsThisOrThat, IsListed, listed_net, numbers_of, with_run, with_changed, IsMade, AreMade}
+use Rattle.rounds.specs.PendingRuns.{AreSumsOf, IsPendingOf, IsThisOrThat, IsListed, listed_net, numbers_of, with_run, with_changed}
+use Rattle.rounds.specs.PendingRuns.{IsMade, AreMade}
 use Rattle.claims.proofs.Lists.{times-append}
 use Rattle.rounds.proofs.Times.{times_one, times_none, times_sum}
 use Rattle.rounds.proofs.Touched.{has_none, has_front, has_back}
@@ -142,7 +143,8 @@ all_front P (x ∷ xs) y all =
 
 -- a pending run of a run of a meaning
 pub pending_of : (meant : OneRun Taken) (run : Run) (pending : PendingRun) → IsRunOf meant run → pending.tree ≡ run.tree
-    → (IsListed pending.net → listed_net pending ≡ run.net.items) → AreSumsOf pending.sums run.entries.items run.net.items → IsPendingOf meant pending
+    → (IsListed pending.net → listed_net pending ≡ run.net.items)
+    → AreSumsOf pending.sums run.entries.items run.net.items → IsPendingOf meant pending
 pending_of meant run pending is tree net are = record {
   tree = ap record_view tree ∙ is.tree;
   net = λ listed. net listed ∙ is.net;
@@ -192,12 +194,14 @@ put_in batch state numbers old runs was counts changed left number None inside i
 -- one more is in its place
 pub put_one : (batch : Batch) (state : State) (numbers : List ℕ) (old runs : List PendingRun) (was counts changed : List ℕ)
     (left rest : List Made) (m : Made) → length was ≡ length old → m.number < length old → left ≡ rest ++ m ∷ []
-    → ArePut batch state numbers old runs was counts changed left → ArePut batch state numbers old (with_run runs m.number (option_map box_value m.run)) was
+    → ArePut batch state numbers old runs was counts changed left
+    → ArePut batch state numbers old (with_run runs m.number (option_map box_value m.run)) was
     (set counts m.number (get_or counts m.number 0 + 1)) (with_changed changed m.number (option_map box_value m.run)) rest
 put_one batch state numbers old runs was counts changed left rest m sizes inside popped put =
     let made = all_front (IsMade batch state old) rest m (subst (All (IsMade batch state old)) popped put.each) in
     let new = with_run runs m.number (option_map box_value m.run) in
-    let put_here = put_in batch state numbers old runs was counts changed left m.number (option_map box_value m.run) inside made.1 (put.few m.number) put in
+    let put_here = put_in batch state numbers old runs was counts changed left m.number (option_map box_value m.run) inside
+    made.1 (put.few m.number) put in
     let split : (i : ℕ) → times i (numbers_of left) ≡ times i (numbers_of rest) + times i (m.number ∷ []) =
     λ i. ap (λ ms. times i (numbers_of ms)) popped ∙ times_numbers i rest (m ∷ []) in
     let runs_all = put.runs_all in

@@ -250,7 +250,8 @@ pub repeats_run : (batch : Batch) (i : ℕ) (here there : State) (run : PendingR
 repeats_run batch i here there run same pending listed all legal =
     let meant = meaning batch i here in
     let few = net-le_kept (record_of meant) (outcome_of meant) in
-    let made = block_repeats (block_at (blocks_of batch) i) [] here there same (omega (arith, ap length all, ap length (pending.net listed), few))
+    let made = block_repeats (block_at (blocks_of batch) i) [] here there same
+    (omega (arith, ap length all, ap length (pending.net listed), few))
     (subst (AreLegal there) all legal) in
     moved meant (meaning batch i there) run pending (ap record_of made.0) (ap outcome_of made.0)
 

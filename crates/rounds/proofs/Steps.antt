@@ -274,8 +274,9 @@ round_commits batch b rounds passed state old new first_of prefix_of was counts 
     let conflict = subst (λ rs. IsFirstFrom rs 0 passed) (rest_of new b)
     (subst (λ rs. IsFirstFrom (take (length rs - b) (drop b rs)) 0 passed) first_is first) in
     let count : (b + passed) - b ≡ passed = omega arith in
-    let prefix : own_nets (blocks_of batch) b (take ((b + passed) - b) (drop b prefix_of)) ≡ own_nets (blocks_of batch) b (take passed (drop b new)) =
-    ap (λ k. own_nets (blocks_of batch) b (take k (drop b prefix_of))) count ∙ ap (λ rs. own_nets (blocks_of batch) b (take passed (drop b rs))) prefix_is in
+    let left_of = own_nets (blocks_of batch) b in
+    let prefix : left_of (take ((b + passed) - b) (drop b prefix_of)) ≡ left_of (take passed (drop b new)) =
+    ap (λ k. left_of (take k (drop b prefix_of))) count ∙ ap (λ rs. left_of (take passed (drop b rs))) prefix_is in
     let one_thread = prefix
     ∙ (left (start_of batch) (blocks_of batch) b (drop b new) passed (alone_from batch b rounds state new counts fresh) conflict).0 in
     let legal = (batch_leads (start_of batch) (blocks_of batch) b passed).0 in
@@ -317,8 +318,9 @@ one_round batch b rounds seen state next old new first_of prefix_of kept_of was 
     let here = subst (λ rs. IsSeen rs seen) (rest_of new b) (subst (λ rs. IsSeen (take (length rs - b) (drop b rs)) seen) first_is saw) in
     let opening = opens batch b rounds seen.first state new counts fresh here.first in
     let count : (b + seen.first) - b ≡ seen.first = omega arith in
-    let prefix : own_nets (blocks_of batch) b (take ((b + seen.first) - b) (drop b prefix_of)) ≡ own_nets (blocks_of batch) b (take seen.first (drop b new)) =
-    ap (λ k. own_nets (blocks_of batch) b (take k (drop b prefix_of))) count ∙ ap (λ rs. own_nets (blocks_of batch) b (take seen.first (drop b rs))) prefix_is in
+    let left_of = own_nets (blocks_of batch) b in
+    let prefix : left_of (take ((b + seen.first) - b) (drop b prefix_of)) ≡ left_of (take seen.first (drop b new)) =
+    ap (λ k. left_of (take k (drop b prefix_of))) count ∙ ap (λ rs. left_of (take seen.first (drop b rs))) prefix_is in
     let here_left = left (start_of batch) (blocks_of batch) b (drop b new) seen.first (alone_from batch b rounds state new counts fresh)
     here.first in
     let counted = ap (nets (start_of batch) (blocks_of batch) b) (sym count) in

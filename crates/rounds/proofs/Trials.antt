@@ -21,7 +21,8 @@ module _ (batch : Batch) (i : ℕ) (there : State) (run : PendingRun) (same : ki
   pub can_try : CanBeMade batch there i → CanRepeat there (listed_net run)
   can_try can =
       let made = made_on in
-      subst (CanRepeat there) (sym (made.2.net listed)) (can_repeat batch i made.0 there (made.1 ∙ sym same) can (sym (made.2.sums.whole whole)))
+      subst (CanRepeat there) (sym (made.2.net listed))
+      (can_repeat batch i made.0 there (made.1 ∙ sym same) can (sym (made.2.sums.whole whole)))
 
   -- where it gets the same replies, it is the run there
   pub tried : AreLegal there (listed_net run) → IsPendingOf (meaning batch i there) run

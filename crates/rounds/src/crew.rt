@@ -69,7 +69,28 @@ pub(crate) fn checkers(plan: Plan, runs: &[PendingRun], numbers: &[usize]) -> u3
     plan.workers_for(operations / CHECKS)
 }
 
-// How many operations a transaction of the batch has on average, rounded up.
+// How many transactions of a batch are counted at most, and at least where there are so many.
+const MOST_COUNTED: usize = 64;
+
+const FEWEST_COUNTED: usize = 8;
+
+// How many operations are enough to stop counting.
+const ENOUGH: usize = 4096;
+
+// About how many operations a transaction of the batch has: the average of some that are spread
+// evenly, rounded up.
 fn operations_each(batch: &Batch) -> usize {
-    (batch.operations() as usize).div_ceil(batch.transactions.len().max(1))
+    let stride = batch.transactions.len() / MOST_COUNTED + 1;
+    let mut operations: usize = 0;
+    let mut counted: usize = 0;
+    for place in 0..MOST_COUNTED {
+        let number = place.saturating_mul(stride);
+        let is_enough = FEWEST_COUNTED <= counted && ENOUGH <= operations;
+        if number >= batch.transactions.len() || is_enough {
+            break;
+        }
+        operations = operations.saturating_add(batch.operations_of(number) as usize);
+        counted = counted.saturating_add(1);
+    }
+    operations.div_ceil(counted.max(1))
 }

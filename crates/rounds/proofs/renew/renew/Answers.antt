@@ -67,7 +67,8 @@ putting-preserved g c =
     let place : next.number < length old = subst (λ n. next.number < n) (sym c.requires.every) within in
     let changed = c.put.new.changed.items in
     subst (λ rs. ArePut batch objects stale old rs was c.put.new.counts.items changed c.pop.new.self.items) (sym c.put.ensures.runs)
-    (subst (λ cs. ArePut batch objects stale old (with_run c.putting.runs.items next.number (option_map box_value next.run)) was cs changed c.pop.new.self.items)
+    (subst (λ cs. ArePut batch objects stale old (with_run c.putting.runs.items next.number (option_map box_value next.run)) was cs changed
+    c.pop.new.self.items)
     (sym c.put.ensures.counts)
     (subst (λ ns. ArePut batch objects stale old (with_run c.putting.runs.items next.number (option_map box_value next.run)) was
     (set c.putting.counts.items next.number (get_or c.putting.counts.items next.number 0 + 1)) ns c.pop.new.self.items)
