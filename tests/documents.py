@@ -1,6 +1,10 @@
 """Documents that are too long to keep, and what is printed for them."""
 
 import itertools
+import json
+import random
+
+import randoms
 
 ACCOUNT = '{"name":"a","kind":"account","start":0}'
 
@@ -335,6 +339,13 @@ def try_steps(program):
             program.expect(name, ["check"], given, None)
 
 
+def try_long_transactions(program):
+    """Transactions that leave more operations than are listed: they are performed by their blocks and records."""
+    for seed in range(4):
+        given = json.dumps(randoms.long(random.Random(seed), 4, 400)).encode()
+        program.expect_report("long random transactions, %d" % seed, given, program.run(["run"], given)[0])
+
+
 def try_all(program, whole):
     try_nesting(program)
     try_forms(program)
@@ -343,3 +354,4 @@ def try_all(program, whole):
     try_limits(program)
     try_bytes(program, whole)
     try_withdrawals(program)
+    try_long_transactions(program)

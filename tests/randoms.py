@@ -110,6 +110,15 @@ def whole(chance):
     return {"ordtx": version, "objects": objects, "transactions": [writer.block(3, {}) for _ in range(chance.randrange(4))]}
 
 
+def long(chance, transactions, steps):
+    """A document of transactions of so many subactions each, whose aborts are all taken."""
+    objects = [{"name": "o%d" % number, "kind": kind, "start": start(chance)}
+               for number, (kind, (_, start, _)) in enumerate(KINDS.items())]
+    writer = Writer(chance, 4, objects)
+    blocks = [[{"sub": writer.block(3, {}), "handler": []} for _ in range(steps)] for _ in range(transactions)]
+    return {"ordtx": 4, "objects": objects, "transactions": blocks}
+
+
 def places(value):
     """The objects and arrays of a document."""
     if isinstance(value, (dict, list)):
