@@ -1,5 +1,6 @@
--- A view as what a block is run on. No public contract names it.
-use Rattle.std.specs.Prelude.{◌≡◌}
+-- A view as what a block is run on, and the steps that are no operations. No public contract names them.
+use Rattle.std.specs.Prelude.{◌≡◌, ⊤}
+use Rattle.meaning.specs.Trees.{Step, Operation}
 use Rattle.batch.specs.Grounds.{Ground}
 use Rattle.intentions.specs.Levels.{Intentions as View, shown_values, absorbed}
 
@@ -9,3 +10,8 @@ in_view = record {
   state = shown_values;
   Took = λ before entries kept now. now ≡ absorbed before entries kept;
 }
+
+-- the step is not an operation
+abbrev pub IsNoOperation : Step → Type 0
+IsNoOperation (Operation object call labelled) = ⊥
+IsNoOperation step = ⊤

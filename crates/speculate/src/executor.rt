@@ -9,7 +9,7 @@ ghost use Rattle.meaning.specs.OneThread.{record_of, one, one_step, one_children
 ghost use Rattle.batch.specs.Views.{block_view, steps_view, step_view, subaction_view, children_view};
 ghost use Rattle.batch.specs.Running.{CanRunHere, CanStepHere, CanTryHere, CanRunAllHere, StillSeen, acted};
 ghost use Rattle.batch.specs.Shows.{ShowsRun, ShowsStep, ShowsTried, ShowsChildren};
-ghost use Rattle.speculate.specs.Running.{in_view};
+ghost use Rattle.speculate.specs.Running.{in_view, IsNoOperation};
 ghost use Rattle.speculate.specs.Ahead.{CanAllTry, IsRunAhead, AreRunAhead, IsRunBefore};
 
 use crate::ahead::{Ahead, Fork, both_halves, list_since};
@@ -61,7 +61,8 @@ pub(crate) fn run_block<T: Threads + Sync, G: Gate>(
     Ok(record)
 }
 
-// Runs steps one after the other, up to the first that aborts.
+// Runs steps one after the other, up to the first that aborts. Operations are performed in the loop
+// itself, as a call for each of them would take longer.
 #[cycle(run)]
 fn run_steps<T: Threads + Sync, G: Gate>(
     making: &Making<'_, T, G>,
@@ -79,7 +80,17 @@ fn run_steps<T: Threads + Sync, G: Gate>(
     let mut taken = spare;
     make_room(&mut taken, steps.len())?;
     for (place, step) in steps.iter().enumerate() {
-        let (done, end) = run_step(making, step, labels, view, width, &mut taken, place)?;
+        if let Step::Op {
+            object,
+            call,
+            labelled,
+        } = step
+        {
+            let reply = perform(*object, call, *labelled, labels, view)?;
+            put_at(&mut taken, place, Taken::Op(reply))?;
+            continue;
+        }
+        let (done, end) = run_other_step(making, step, labels, view, width, &mut taken, place)?;
         put_at(&mut taken, place, done)?;
         match end {
             End::Ended => {}
@@ -89,10 +100,11 @@ fn run_steps<T: Threads + Sync, G: Gate>(
     Ok(record_of(taken, steps.len(), End::Ended))
 }
 
-// Runs a step, and returns how the block goes on. Its labels are added to those that are seen. What
-// is at its place of the list is spare: a step with blocks takes the boxes that are there.
+// Runs a step that is no operation, and returns how the block goes on. Its labels are added to those
+// that are seen. What is at its place of the list is spare: a step with blocks takes the boxes that
+// are there.
 #[cycle(run)]
-fn run_step<T: Threads + Sync, G: Gate>(
+fn run_other_step<T: Threads + Sync, G: Gate>(
     making: &Making<'_, T, G>,
     step: &Step,
     labels: &mut Vec<Held>,
@@ -101,7 +113,8 @@ fn run_step<T: Threads + Sync, G: Gate>(
     taken: &mut Vec<Taken>,
     place: usize,
 ) -> Result<(Taken, End), NoMemory>
-    requires { CanStepHere (step_view step.now) labels.old.items (state_of_view view.old) }
+    requires other { IsNoOperation (step_view step.now) }
+    requires can { CanStepHere (step_view step.now) labels.old.items (state_of_view view.old) }
     ensures shows { IfOk result
         (λ r. ShowsStep in_view (one_step (step_view step.now) labels.old.items (state_of_view view.old)) r.0 r.1 labels.old.items labels.new.items view.old view.new) }
     ensures labels { OnOk result (StillSeen labels.old.items labels.new.items) }
@@ -109,14 +122,7 @@ fn run_step<T: Threads + Sync, G: Gate>(
     ensures before { take place taken.new.items ≡ take place taken.old.items }
 {
     match step {
-        Step::Op {
-            object,
-            call,
-            labelled,
-        } => {
-            let reply = perform(*object, call, *labelled, labels, view)?;
-            Ok((Taken::Op(reply), End::Ended))
-        }
+        Step::Op { .. } => unreachable!(),
         Step::If {
             label,
             test,

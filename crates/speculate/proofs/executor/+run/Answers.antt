@@ -35,20 +35,33 @@ pub run_steps-returns-in-Aborted-clause-shows : goal.run_steps-returns-in-Aborte
 run_steps-returns-in-Aborted-clause-shows g t c =
     part_run-aborted ground c.args.steps.now c.args.labels.now.items c.args.view.now c.loop-place.place
     (take c.loop-place.place c.loop-place.taken.items) c.loop-place.labels.items c.loop-place.view
-    c.index-steps-place.result c.in_ok-done.done c.in_ok-done.end c.run_step.new.labels.items c.run_step.new.view c.in-Aborted.field-0
-    c.record_of.result c.loop-place.invariant.part c.loop-place-test.true c.index-steps-place.is c.in_ok-done.ensures.shows c.in-Aborted.is
-    (c.record_of.ensures.taken ∙ c.in_ok-put_at.ensures.put ∙ ap (λ ts. ts ++ c.in_ok-done.done ∷ []) c.in_ok-done.ensures.before)
+    c.index-steps-place.result c.in_ok-done.done c.in_ok-done.end c.run_other_step.new.labels.items c.run_other_step.new.view
+    c.in-Aborted.field-0 c.record_of.result c.loop-place.invariant.part c.loop-place-test.true c.index-steps-place.is
+    c.in_ok-done.ensures.shows c.in-Aborted.is
+    (c.record_of.ensures.taken ∙ c.in_ok-put_at-2.ensures.put ∙ ap (λ ts. ts ++ c.in_ok-done.done ∷ []) c.in_ok-done.ensures.before)
     c.record_of.ensures.outcome
 
 pub run_steps-loop-place-preserved : goal.run_steps-loop-place-preserved
 run_steps-loop-place-preserved g t c = record {
-  long = c.in_ok-put_at.ensures.long;
-  part = rw (c.in_ok-put_at.ensures.put, c.in_ok-done.ensures.before)
+  long = c.in_ok-put_at-2.ensures.long;
+  part = rw (c.in_ok-put_at-2.ensures.put, c.in_ok-done.ensures.before)
       (part_run-more ground c.args.steps.now c.args.labels.now.items c.args.view.now c.loop-place.place
       (take c.loop-place.place c.loop-place.taken.items) c.loop-place.labels.items c.loop-place.view
-      c.index-steps-place.result c.in_ok-done.done c.in_ok-done.end c.run_step.new.labels.items c.run_step.new.view
+      c.index-steps-place.result c.in_ok-done.done c.in_ok-done.end c.run_other_step.new.labels.items c.run_other_step.new.view
       c.loop-place.invariant.part c.loop-place-test.true c.index-steps-place.is c.in_ok-done.ensures.shows c.in-Ended.is
       c.in_ok-done.ensures.labels);
+}
+
+pub run_steps-loop-place-preserved-in-Op : goal.run_steps-loop-place-preserved-in-Op
+run_steps-loop-place-preserved-in-Op g t c = record {
+  long = c.in_ok-put_at.ensures.long;
+  part = rw c.in_ok-put_at.ensures.put
+      (part_run-more ground c.args.steps.now c.args.labels.now.items c.args.view.now c.loop-place.place
+      (take c.loop-place.place c.loop-place.taken.items) c.loop-place.labels.items c.loop-place.view
+      c.index-steps-place.result _ _ c.perform.new.labels.items c.perform.new.view
+      c.loop-place.invariant.part c.loop-place-test.true c.index-steps-place.is
+      (op-shows ground c.index-steps-place.result _ _ _ _ _ _ _ _ c.in-Op.is c.in_ok-reply.ensures.reply c.in_ok-reply.ensures.view
+      c.in_ok-reply.ensures.labels) refl (_, c.in_ok-reply.ensures.labels));
 }
 
 pub run_steps-returns-clause-shows : goal.run_steps-returns-clause-shows
@@ -61,44 +74,33 @@ run_steps-returns-clause-shows g t c =
 
 -- ---- one step
 
-pub run_step-perform-requires-clause-fits : goal.run_step-perform-requires-clause-fits
-run_step-perform-requires-clause-fits g t c = (op-can c.args.step.now _ _ _ _ _ c.in-Op.is c.requires).fits
+pub run_other_step-index-requires : goal.run_other_step-index-requires
+run_other_step-index-requires g t c = let below = if-bound c.args.step.now c.in-If.label c.in-If.test c.in-If.then c.in-If.otherwise
+    c.args.labels.now.items _ c.in-If.is c.requires.can in omega arith
 
-pub run_step-perform-requires-clause-room : goal.run_step-perform-requires-clause-room
-run_step-perform-requires-clause-room g t c = (op-can c.args.step.now _ _ _ _ _ c.in-Op.is c.requires).room
-
-pub run_step-index-requires : goal.run_step-index-requires
-run_step-index-requires g t c = let below = if-bound c.args.step.now c.in-If.label c.in-If.test c.in-If.then c.in-If.otherwise
-    c.args.labels.now.items _ c.in-If.is c.requires in omega arith
-
-pub run_step-returns-in_ok-reply-in-Op-clause-shows : goal.run_step-returns-in_ok-reply-in-Op-clause-shows
-run_step-returns-in_ok-reply-in-Op-clause-shows g t c =
-    op-shows ground c.args.step.now _ _ _ _ _ _ _ _ c.in-Op.is c.in_ok-reply-in-Op.ensures.reply c.in_ok-reply-in-Op.ensures.view
-    c.in_ok-reply-in-Op.ensures.labels
-
-pub run_step-run_block-requires : goal.run_step-run_block-requires
-run_step-run_block-requires g t c κs lives =
+pub run_other_step-run_block-requires : goal.run_other_step-run_block-requires
+run_other_step-run_block-requires g t c κs lives =
     let first = λ (h : c.test_holds-holds.result ≡ true). c.branch_of-branch.ensures.first h ∙ c.deref.ensures in
     let other = λ (h : c.test_holds-holds.result ≡ false). c.branch_of-branch.ensures.other h ∙ c.deref-in-If.ensures in
     let smaller = branch_is_smaller c.args.step.now c.in-If.label c.in-If.test c.in-If.then c.in-If.otherwise c.test_holds-holds.result
     c.branch_of-branch.result.now c.in-If.is first other in
     let can = branch_can_run c.args.step.now c.in-If.label c.in-If.test c.in-If.then c.in-If.otherwise c.args.labels.now.items
-    (state_of_view c.args.view.now) c.test_holds-holds.result c.branch_of-branch.result.now c.in-If.is c.requires first other in
+    (state_of_view c.args.view.now) c.test_holds-holds.result c.branch_of-branch.result.now c.in-If.is c.requires.can first other in
     search rules
 
-pub run_step-returns-in_ok-boxed-in-If-clause-shows : goal.run_step-returns-in_ok-boxed-in-If-clause-shows
-run_step-returns-in_ok-boxed-in-If-clause-shows g t c =
+pub run_other_step-returns-in_ok-boxed-in-If-clause-shows : goal.run_other_step-returns-in_ok-boxed-in-If-clause-shows
+run_other_step-returns-in_ok-boxed-in-If-clause-shows g t c =
     let first = λ (h : c.test_holds-holds.result ≡ true). c.branch_of-branch.ensures.first h ∙ c.deref.ensures in
     let other = λ (h : c.test_holds-holds.result ≡ false). c.branch_of-branch.ensures.other h ∙ c.deref-in-If.ensures in
     let ran = c.in_ok-record-in-If in
     branch_shows c.args.step.now c.in-If.label c.in-If.test c.in-If.then c.in-If.otherwise c.args.labels.now.items
     c.run_block.new.labels.items c.args.view.now c.run_block.new.view c.index.result.now c.test_holds-holds.result
     c.branch_of-branch.result.now
-    ran.record c.in_ok-boxed-in-If.field-0 c.in-If.is c.requires c.index.ensures c.test_holds-holds.ensures first other ran.ensures.shows
-    ran.ensures.labels c.in_ok-boxed-in-If.ensures
+    ran.record c.in_ok-boxed-in-If.field-0 c.in-If.is c.requires.can c.index.ensures c.test_holds-holds.ensures first other
+    ran.ensures.shows ran.ensures.labels c.in_ok-boxed-in-If.ensures
 
-pub run_step-returns-in_ok-done-in-Sub-clause-shows : goal.run_step-returns-in_ok-done-in-Sub-clause-shows
-run_step-returns-in_ok-done-in-Sub-clause-shows g t c =
+pub run_other_step-returns-in_ok-done-in-Sub-clause-shows : goal.run_other_step-returns-in_ok-done-in-Sub-clause-shows
+run_other_step-returns-in_ok-done-in-Sub-clause-shows g t c =
     let child = c.in-Sub.child in
     let tried = c.in_ok-tried-in-Sub in
     let made = c.in_ok-done-in-Sub in
@@ -108,12 +110,12 @@ run_step-returns-in_ok-done-in-Sub-clause-shows g t c =
     (rw (made.ensures.labels, tried.ensures.labels, c.deref-in-Sub-2.ensures, subaction_view-labelled child.value) refl)
     made.ensures.taken)
 
-pub run_step-returns-in-Abort-clause-shows : goal.run_step-returns-in-Abort-clause-shows
-run_step-returns-in-Abort-clause-shows g t c = abort-shows ground c.args.step.now c.in-Abort.reason c.args.labels.now.items c.args.view.now
-    c.in-Abort.is
+pub run_other_step-returns-in-Abort-clause-shows : goal.run_other_step-returns-in-Abort-clause-shows
+run_other_step-returns-in-Abort-clause-shows g t c =
+    abort-shows ground c.args.step.now c.in-Abort.reason c.args.labels.now.items c.args.view.now c.in-Abort.is
 
-pub run_step-returns-in_ok-into_taken-in-Parallel-clause-shows : goal.run_step-returns-in_ok-into_taken-in-Parallel-clause-shows
-run_step-returns-in_ok-into_taken-in-Parallel-clause-shows g t c =
+pub run_other_step-returns-in_ok-into_taken-in-Parallel-clause-shows : goal.run_other_step-returns-in_ok-into_taken-in-Parallel-clause-shows
+run_other_step-returns-in_ok-into_taken-in-Parallel-clause-shows g t c =
     let reached = c.in_ok-reached-in-Parallel in
     let made = c.in_ok-into_taken-in-Parallel in
     rw made.ensures.taken
@@ -281,22 +283,20 @@ run_steps-returns-in-Aborted-clause-labels g t c = still_then _ _ _ c.loop-place
 pub run_steps-returns-clause-labels : goal.run_steps-returns-clause-labels
 run_steps-returns-clause-labels g t c = c.loop-place.invariant.part.still
 
-pub run_step-returns-in_ok-reply-in-Op-clause-labels : goal.run_step-returns-in_ok-reply-in-Op-clause-labels
-run_step-returns-in_ok-reply-in-Op-clause-labels g t c = (_, c.in_ok-reply-in-Op.ensures.labels)
-
-pub run_step-returns-in_ok-boxed-in-If-clause-labels : goal.run_step-returns-in_ok-boxed-in-If-clause-labels
-run_step-returns-in_ok-boxed-in-If-clause-labels g t c =
+pub run_other_step-returns-in_ok-boxed-in-If-clause-labels : goal.run_other_step-returns-in_ok-boxed-in-If-clause-labels
+run_other_step-returns-in_ok-boxed-in-If-clause-labels g t c =
     ([], c.in_ok-record-in-If.ensures.labels ∙ sym (append-nil c.args.labels.now.items))
 
-pub run_step-returns-in_ok-done-in-Sub-clause-labels : goal.run_step-returns-in_ok-done-in-Sub-clause-labels
-run_step-returns-in_ok-done-in-Sub-clause-labels g t c =
+pub run_other_step-returns-in_ok-done-in-Sub-clause-labels : goal.run_other_step-returns-in_ok-done-in-Sub-clause-labels
+run_other_step-returns-in_ok-done-in-Sub-clause-labels g t c =
     still_seen_and_more _ c.in_ok-done-in-Sub.ensures.labels c.in_ok-tried-in-Sub.ensures.labels
 
-pub run_step-returns-in-Abort-clause-labels : goal.run_step-returns-in-Abort-clause-labels
-run_step-returns-in-Abort-clause-labels g t c = still_same c.args.labels.now.items
+pub run_other_step-returns-in-Abort-clause-labels : goal.run_other_step-returns-in-Abort-clause-labels
+run_other_step-returns-in-Abort-clause-labels g t c = still_same c.args.labels.now.items
 
-pub run_step-returns-in_ok-into_taken-in-Parallel-clause-labels : goal.run_step-returns-in_ok-into_taken-in-Parallel-clause-labels
-run_step-returns-in_ok-into_taken-in-Parallel-clause-labels g t c =
+pub run_other_step-returns-in_ok-into_taken-in-Parallel-clause-labels :
+    goal.run_other_step-returns-in_ok-into_taken-in-Parallel-clause-labels
+run_other_step-returns-in_ok-into_taken-in-Parallel-clause-labels g t c =
     still_seen_and_more _ c.in_ok-into_taken-in-Parallel.ensures.labels c.in_ok-reached-in-Parallel.ensures.labels
 
 pub run_subaction-returns-in_ok-commit-in-Ended-clause-labels : goal.run_subaction-returns-in_ok-commit-in-Ended-clause-labels
@@ -340,8 +340,22 @@ pub run_block-run_steps-requires-after_bounds : goal.run_block-run_steps-require
 run_block-run_steps-requires-after_bounds g t c κs lives = rw c.deref.ensures.value
     (subst (λ b. CanRunHere b c.args.labels.now.items (state_of_view c.args.view.now)) (block_view-is c.args.block.now) c.requires)
 
-pub run_steps-run_step-requires-after_bounds : goal.run_steps-run_step-requires-after_bounds
-run_steps-run_step-requires-after_bounds g t c κs lives =
+pub run_steps-perform-requires-clause-fits : goal.run_steps-perform-requires-clause-fits
+run_steps-perform-requires-clause-fits g t c =
+    let can = part_run-can_step ground c.args.steps.now c.args.labels.now.items c.args.view.now c.loop-place.place _
+    c.loop-place.labels.items c.loop-place.view c.index-steps-place.result c.loop-place.invariant.part c.loop-place-test.true
+    c.index-steps-place.is in
+    (op-can c.index-steps-place.result _ _ _ _ _ c.in-Op.is can).fits
+
+pub run_steps-perform-requires-clause-room : goal.run_steps-perform-requires-clause-room
+run_steps-perform-requires-clause-room g t c =
+    let can = part_run-can_step ground c.args.steps.now c.args.labels.now.items c.args.view.now c.loop-place.place _
+    c.loop-place.labels.items c.loop-place.view c.index-steps-place.result c.loop-place.invariant.part c.loop-place-test.true
+    c.index-steps-place.is in
+    (op-can c.index-steps-place.result _ _ _ _ _ c.in-Op.is can).room
+
+pub run_steps-run_other_step-requires-clause-can : goal.run_steps-run_other_step-requires-clause-can
+run_steps-run_other_step-requires-clause-can g t c κs lives =
     part_run-can_step ground c.args.steps.now c.args.labels.now.items c.args.view.now c.loop-place.place _ c.loop-place.labels.items
     c.loop-place.view c.index-steps-place.result c.loop-place.invariant.part c.loop-place-test.true c.index-steps-place.is
 

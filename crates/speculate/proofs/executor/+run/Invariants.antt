@@ -20,8 +20,8 @@ decreases-run_block g l = deep (size-Block l.block.now) 0
 abbrev pub decreases-run_steps : goal.decreases-run_steps
 decreases-run_steps g l = deep (most size-Step l.steps.now) 1
 
-abbrev pub decreases-run_step : goal.decreases-run_step
-decreases-run_step g l = deep (size-Step l.step.now) 0
+abbrev pub decreases-run_other_step : goal.decreases-run_other_step
+decreases-run_other_step g l = deep (size-Step l.step.now) 0
 
 abbrev pub decreases-run_subaction : goal.decreases-run_subaction
 decreases-run_subaction g l = deep (size-Subaction l.child.now) 1
