@@ -1,20 +1,20 @@
 -- What drafts over a snapshot show, and what they showed before changes that are taken back.
 use Rattle.std.proofs.Common.{◌≡◌, ℕ, zero, suc, ◌<◌, ◌≤◌, arith, List, [], ◌∷◌, ◌++◌, Some, None, Option, length, length-append, ◌+◌}
 use Rattle.std.proofs.Common.{reverse, take, drop, Bool, true, false, cond, refl, sym, ap, ◌∙◌, subst}
-use Rattle.std.specs.Prelude.{nat_eq, slice_get, slice_set, option_map, option_and_then, unwrap_or, IsSome, IsSomeAnd, IfSome}
+use Rattle.std.specs.Prelude.{nat_eq, slice_get, slice_set, option_map, option_and_then, unwrap_or, IsSomeAnd, IfSome}
 use Rattle.std.proofs.lemmas.List.{take-append-le, drop-append-le, take-take, reverse-append}
 use Rattle.std.proofs.Math.ListN.{drop_of_length-le}
 use Rattle.std.proofs.lemmas.Bool.{eqb-true, eqb-false, eq-eqb}
 use Rattle.objects.specs.declared.value.Value.{Value}
 use Rattle.objects.specs.declared.call.Call.{Call}
-use Rattle.objects.specs.declared.change.Change.{Change}
 use Rattle.objects.specs.Objects.{objects, one_value, kind_of_value, kind_of_call, HasRoom, Fits, ObjectHasRoom}
-use Rattle.objects.specs.Changes.{value_change, objects_undoing}
 use Rattle.serial.specs.Places.{after_found}
 use Rattle.atoms.proofs.Undoings.{set_itself}
 use Rattle.drafts.specs.History.{History, unchanged, changed, undone}
 use Rattle.intentions.specs.Starts.{IsNested}
-use Rattle.intentions.specs.DraftTables.{Drafts, IsPut}
+use Rattle.intentions.specs.declared.draft_table.Drafted.{Drafted}
+use Rattle.intentions.specs.declared.draft_table.DraftTable.{DraftTable}
+use Rattle.intentions.specs.DraftTables.{Drafts, draft_of, drafts_of, draft_at, IsPlaceOf, IsPut}
 use Rattle.intentions.specs.Layers.{States, histories, values_now, undo_at, drafts_rewound, values_at, layered}
 use Rattle.intentions.proofs.StartsLemmas.{innermost_joined}
 use Rattle.intentions.proofs.DraftTableLemmas.{same_list, get_set_same, get_set_other}
@@ -46,17 +46,7 @@ get-values_now [] drafts object = refl
 get-values_now (lent ∷ snapshot) drafts zero = refl
 get-values_now (lent ∷ snapshot) drafts (suc object) = get-values_now snapshot (λ o. drafts (suc o)) object
 
--- an object with a draft, one without, and none
-pub found_draft : (snapshot : List Value) (drafts : Drafts) (object : ℕ) (lent : Value) (h : History Value)
-    → slice_get snapshot object ≡ Some lent → drafts object ≡ Some h → slice_get (histories snapshot drafts) object ≡ Some h
-found_draft snapshot drafts object lent h e d = get-histories snapshot drafts object ∙ ap (option_map (draft_or (drafts object))) e
-    ∙ ap (λ o. Some (draft_or o lent)) d
-
-pub found_lent : (snapshot : List Value) (drafts : Drafts) (object : ℕ) (lent : Value) → slice_get snapshot object ≡ Some lent
-    → drafts object ≡ None → slice_get (histories snapshot drafts) object ≡ Some (unchanged lent)
-found_lent snapshot drafts object lent e d = get-histories snapshot drafts object ∙ ap (option_map (draft_or (drafts object))) e
-    ∙ ap (λ o. Some (draft_or o lent)) d
-
+-- an object that is not there
 pub found_none : (snapshot : List Value) (drafts : Drafts) (object : ℕ) → slice_get snapshot object ≡ None
     → slice_get (values_now (histories snapshot drafts)) object ≡ None
 found_none snapshot drafts object e = get-values_now snapshot drafts object
@@ -96,35 +86,56 @@ histories-same (lent ∷ snapshot) drafts drafts' same =
     let rest = histories-same snapshot (λ o. drafts (suc o)) (λ o. drafts' (suc o)) (λ q. same (suc q)) in
     cc (here, rest)
 
-pub get-now : (hs : List (History Value)) (object : ℕ) (h : History Value) → slice_get hs object ≡ Some h
+get-now : (hs : List (History Value)) (object : ℕ) (h : History Value) → slice_get hs object ≡ Some h
     → slice_get (values_now hs) object ≡ Some h.value
 get-now [] object h e = cc
 get-now (g ∷ hs) zero h e = let same : g ≡ h = cc in ap (λ (f : History Value). Some f.value) same
 get-now (g ∷ hs) (suc object) h e = get-now hs object h e
 
--- an object that has the draft that it had, or else one of the borrowed value
-pub record HasDraft (snapshot : List Value) (drafts : Drafts) (starts journal : List ℕ) (state : States) (object : ℕ)
+-- what is shown of an object is its draft, or the borrowed value
+pub shown_there : (snapshot : List Value) (drafts : Drafts) (starts journal : List ℕ) (state : States) (object : ℕ) (lent : Value)
+    → layered (histories snapshot drafts) starts journal ≡ state → slice_get snapshot object ≡ Some lent
+    → slice_get state.shown object ≡ Some (draft_or (drafts object) lent).value
+shown_there snapshot drafts starts journal state object lent is e =
+    sym (ap (λ (s : States). slice_get s.shown object) is) ∙ get-values_now snapshot drafts object
+    ∙ ap (option_map (λ l. (draft_or (drafts object) l).value)) e
+
+-- a draft that is found at its place
+draft_placed : (table : DraftTable) (object place : ℕ) (h : History Value) → IsPlaceOf table object place
+    → drafts_of table object ≡ Some h → draft_at table place ≡ Some h
+draft_placed table object place h at is = by_drafted (slice_get table.drafts.items place) at.named
+    (ap (λ o. option_and_then (draft_of object) (option_and_then (slice_get table.drafts.items) o)) (sym at.placed) ∙ is)
+  where
+    by_drafted : (o : Option Drafted) → IsSomeAnd o (λ d. d.object ≡ object) → option_and_then (draft_of object) o ≡ Some h
+        → option_map (λ (d : Drafted). d.draft) o ≡ Some h
+    by_drafted None named e = absurd named
+    by_drafted (Some d) named e = sym (ap (λ b. cond b (Some d.draft) None) (eq-eqb d.object object named)) ∙ e
+
+-- an object that has the draft that it had, or else one of the borrowed value, at this place
+pub record HasDraft (snapshot : List Value) (table : DraftTable) (starts journal : List ℕ) (state : States) (object place : ℕ)
     (h : History Value) : Type 0 where
-  pub draft : drafts object ≡ Some h
-  pub found : slice_get (histories snapshot drafts) object ≡ Some h
+  pub draft : draft_at table place ≡ Some h
+  pub found : slice_get (histories snapshot (drafts_of table)) object ≡ Some h
   pub there : slice_get state.shown object ≡ Some h.value
-  pub shows : layered (histories snapshot drafts) starts journal ≡ state
+  pub shows : layered (histories snapshot (drafts_of table)) starts journal ≡ state
 
 -- nothing else is shown where a draft of the borrowed value is added
-pub added : (snapshot : List Value) (drafts put : Drafts) (starts journal : List ℕ) (state : States) (object : ℕ) (lent : Value)
-    → layered (histories snapshot drafts) starts journal ≡ state → slice_get snapshot object ≡ Some lent
-    → IsPut drafts put object (draft_or (drafts object) lent)
-    → HasDraft snapshot put starts journal state object (draft_or (drafts object) lent)
-added snapshot drafts put starts journal state object lent is e put_is =
+pub added : (snapshot : List Value) (table put : DraftTable) (starts journal : List ℕ) (state : States) (object place : ℕ) (lent : Value)
+    → layered (histories snapshot (drafts_of table)) starts journal ≡ state → slice_get snapshot object ≡ Some lent
+    → IsPlaceOf put object place → IsPut (drafts_of table) (drafts_of put) object (draft_or (drafts_of table object) lent)
+    → HasDraft snapshot put starts journal state object place (draft_or (drafts_of table object) lent)
+added snapshot table put starts journal state object place lent is e at put_is =
+    let drafts = drafts_of table in
     let h = draft_or (drafts object) lent in
     let before : slice_get (histories snapshot drafts) object ≡ Some h =
     get-histories snapshot drafts object ∙ ap (option_map (draft_or (drafts object))) e in
-    let same : histories snapshot put ≡ histories snapshot drafts =
-    histories-put snapshot drafts put object h put_is ∙ set_itself (histories snapshot drafts) object h before in
+    let same : histories snapshot (drafts_of put) ≡ histories snapshot drafts =
+    histories-put snapshot drafts (drafts_of put) object h put_is ∙ set_itself (histories snapshot drafts) object h before in
     record {
-      draft = put_is object ∙ ap (λ b. cond b (Some h) (drafts object)) (eq-eqb object object refl);
+      draft = draft_placed put object place h at
+          (put_is object ∙ ap (λ b. cond b (Some h) (drafts object)) (eq-eqb object object refl));
       found = ap (λ hs. slice_get hs object) same ∙ before;
-      there = sym (ap (λ (s : States). slice_get s.shown object) is) ∙ get-now (histories snapshot drafts) object h before;
+      there = shown_there snapshot drafts starts journal state object lent is e;
       shows = ap (λ hs. layered hs starts journal) same ∙ is;
     }
 
@@ -146,14 +157,6 @@ rewound-append : (hs : List (History Value)) (xs ys : List ℕ) → drafts_rewou
 rewound-append hs [] ys = refl
 rewound-append hs (x ∷ xs) ys = rewound-append (undo_at hs x) xs ys
 
--- a change that names its object
-abbrev at_object : ℕ → Change → ℕ × Change
-at_object object change = (object, change)
-
-some_change : {D E : Type 0} (f : D → E) (o : Option D) → IsSome (option_map f o) → IsSome o
-some_change f None h = h
-some_change f (Some d) h = refl
-
 -- what is asked of a call holds of the value that is shown
 pub fits_found : (values : List Value) (object : ℕ) (call : Call) (v : Value) → slice_get values object ≡ Some v → Fits values object call
     → kind_of_value v ≡ kind_of_call call
@@ -162,12 +165,6 @@ fits_found values object call v found fits = subst (λ o. IsSomeAnd o (λ w. kin
 pub room_found : (values : List Value) (object : ℕ) (call : Call) (v : Value) → slice_get values object ≡ Some v
     → ObjectHasRoom values object call → HasRoom v call
 room_found values object call v found room = subst (λ o. IfSome o (λ w. HasRoom w call)) found room
-
-pub change_found : (values : List Value) (object : ℕ) (call : Call) (v : Value) → slice_get values object ≡ Some v
-    → IsSome (objects_undoing.change values (object, call)) → IsSome (value_change v call)
-change_found values object call v found some =
-    some_change (at_object object) (value_change v call)
-    (subst (λ o. IsSome (option_map (at_object object) (option_and_then (λ w. value_change w call) o))) found some)
 
 -- one more change leaves what was shown at the begin of each level
 values_at-changed : (hs : List (History Value)) (object : ℕ) (h : History Value) (v : Value) (starts journal : List ℕ)
@@ -195,6 +192,15 @@ now-after hs shown object call h new is found value =
     let there : slice_get shown object ≡ Some h.value = sym (ap (λ vs. slice_get vs object) is) ∙ get-now hs object h found in
     now-set hs object new ∙ ap (λ vs. slice_set vs object new.value) is ∙ ap (slice_set shown object) value
     ∙ sym (ap (after_found one_value shown object call) there)
+
+-- a call that leaves what is shown of its object
+pub looked : (state : States) (object : ℕ) (call : Call) (v : Value) → slice_get state.shown object ≡ Some v
+    → one_value.after v call ≡ v → state ≡ states (objects.after state.shown (object, call)) state.begun
+looked state object call v there same =
+    states_of
+    (sym (ap (after_found one_value state.shown object call) there ∙ ap (slice_set state.shown object) same
+    ∙ set_itself state.shown object v there))
+    refl
 
 -- a call on an object that became this
 pub performed : (hs new : List (History Value)) (starts journal pushed : List ℕ) (state : States) (object : ℕ) (call : Call)

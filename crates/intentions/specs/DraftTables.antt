@@ -1,5 +1,5 @@
 -- Drafts by their objects, in a table whose places may be stale. No public contract names it.
-use Rattle.std.specs.Prelude.{◌≡◌, ℕ, nat_eq, List, Option, Some, None, option_and_then, slice_get, if◌then◌else◌, IsSomeAnd}
+use Rattle.std.specs.Prelude.{◌≡◌, ℕ, nat_eq, List, Option, Some, None, option_map, option_and_then, slice_get, if◌then◌else◌, IsSomeAnd}
 use Rattle.objects.specs.declared.value.Value.{Value}
 use Rattle.drafts.specs.History.{History}
 use Rattle.intentions.specs.declared.draft_table.Drafted.{Drafted}
@@ -19,6 +19,10 @@ drafts_in places drafts object = option_and_then (draft_of object) (option_and_t
 
 abbrev pub drafts_of : DraftTable → Drafts
 drafts_of table = drafts_in table.places.items table.drafts.items
+
+-- the draft at a place
+abbrev pub draft_at : DraftTable → ℕ → Option (History Value)
+draft_at table place = option_map (λ (drafted : Drafted). drafted.draft) (slice_get table.drafts.items place)
 
 -- the draft of the object is at this place
 pub record IsPlaceOf (table : DraftTable) (object place : ℕ) : Type 0 where

@@ -1,13 +1,14 @@
 //! The table of drafts: by object, the draft of each object that was changed.
-ghost use Rattle.std.specs.Prelude.{◌≡◌, ◌<◌, ℕ, List, length, option_map, None, Some, IsSomeAnd, IfSome, IfOk, IsSome, IsNone, OnOk, OnErr, slice_get, unwrap_or};
+ghost use Rattle.std.specs.Prelude.{◌≡◌, ◌<◌, ℕ, List, length, None, Some, IsSomeAnd, IfSome, IfOk, IsSome, OnOk, OnErr, unwrap_or, option_and_then};
 ghost use Rattle.objects.specs.Objects.{kind_of_value, kind_of_call, one_value, HasRoom};
 ghost use Rattle.objects.specs.Changes.{value_change};
 ghost use Rattle.objects.specs.declared.value.Value.{Value};
-ghost use Rattle.drafts.specs.History.{History, unchanged, changed, undone};
-ghost use Rattle.intentions.specs.DraftTables.{drafts_of, IsPut, IsPlaceOf};
+ghost use Rattle.drafts.specs.Shown.{shown_value};
+ghost use Rattle.drafts.specs.History.{unchanged, changed};
+ghost use Rattle.intentions.specs.DraftTables.{drafts_of, draft_at, IsPut, IsPlaceOf};
 ghost use Rattle.intentions.specs.Layers.{histories, undo_at};
 
-use drafts::Draft;
+use drafts::{Draft, Shown};
 use objects::{Call, NoMemory, Reply, Value};
 use std::alloc::Global;
 
@@ -48,9 +49,9 @@ impl<'s> DraftTable<'s> {
     }
 
     /// The place of the draft of the object, if it has one.
-    fn place(&self, object: u32) -> Option<usize>
+    pub fn place(&self, object: u32) -> Option<usize>
         ensures found { IfSome result (λ place. IsPlaceOf self.now object place) }
-        ensures none { IsNone result → drafts_of self.now object ≡ None }
+        ensures draft { option_and_then (draft_at self.now) result ≡ drafts_of self.now object }
     {
         let place = *self.places.get(object as usize)?;
         let drafted = self.drafts.get(place)?;
@@ -61,32 +62,52 @@ impl<'s> DraftTable<'s> {
         }
     }
 
-    /// The draft of the object, if it has one.
-    pub fn get(&self, object: u32) -> Option<&Draft<'s>>
-        ensures { option_map (λ draft. draft.now) result ≡ drafts_of self.now object }
+    /// The draft that was found, or else the borrowed value.
+    pub fn shown(&self, found: Option<usize>, lent: &'s Value) -> Shown<'_, 's>
+        requires { IfSome found (λ place. IsSome (draft_at self.now place)) }
+        ensures { shown_value result ≡ (unwrap_or (option_and_then (draft_at self.now) found) (unchanged lent.now)).value }
     {
-        match self.place(object) {
-            Some(place) => Some(&self.drafts[place].draft),
-            None => None,
+        match found {
+            Some(place) => Shown::Changed(&self.drafts[place].draft),
+            None => Shown::Lent(lent),
         }
     }
 
-    /// Makes a draft of the borrowed value, where the object has none. On `NoMemory` the table is
-    /// unchanged.
-    pub fn add(&mut self, alloc: Global, object: u32, lent: &'s Value) -> Result<(), NoMemory>
+    /// The place that was found, or else that of a new draft of the borrowed value. On `NoMemory`
+    /// the table is unchanged.
+    pub fn found_or_new(
+        &mut self,
+        alloc: Global,
+        found: Option<usize>,
+        object: u32,
+        lent: &'s Value,
+    ) -> Result<usize, NoMemory>
+        requires found { IfSome found (λ place. IsPlaceOf self.old object place) }
+        requires draft { option_and_then (draft_at self.old) found ≡ drafts_of self.old object }
+        ensures place { IfOk result (λ place. IsPlaceOf self.new object place) }
         ensures ok { OnOk result (IsPut (drafts_of self.old) (drafts_of self.new) object
             (unwrap_or (drafts_of self.old object) (unchanged lent.now))) }
         ensures err { OnErr result ((q : ℕ) → drafts_of self.new q ≡ drafts_of self.old q) }
     {
-        if self.place(object).is_some() {
-            return Ok(());
+        match found {
+            Some(place) => Ok(place),
+            None => self.add(alloc, object, lent),
         }
+    }
+
+    /// Makes a draft of the borrowed value, for an object without one, and returns its place. On
+    /// `NoMemory` the table is unchanged.
+    fn add(&mut self, alloc: Global, object: u32, lent: &'s Value) -> Result<usize, NoMemory>
+        ensures place { IfOk result (λ place. IsPlaceOf self.new object place) }
+        ensures ok { OnOk result (IsPut (drafts_of self.old) (drafts_of self.new) object (unchanged lent.now)) }
+        ensures err { OnErr result ((q : ℕ) → drafts_of self.new q ≡ drafts_of self.old q) }
+    {
         self.lengthen(object)?;
         let place = self.drafts.len();
         let draft = Draft::of(alloc, lent);
         self.drafts.push(Drafted { object, draft })?;
         self.places[object as usize] = place;
-        Ok(())
+        Ok(place)
     }
 
     /// Makes the list of places long enough for the object. All drafts stay.
@@ -102,37 +123,31 @@ impl<'s> DraftTable<'s> {
         Ok(())
     }
 
-    /// Performs a call that changes the draft of the object, and returns its reply. On `NoMemory`
+    /// Performs a call that changes the draft at this place, and returns its reply. On `NoMemory`
     /// the draft is as before.
-    pub fn perform(&mut self, object: u32, call: &Call) -> Result<Reply, NoMemory>
-        requires fits { IsSomeAnd (drafts_of self.old object) (λ h. kind_of_value h.value ≡ kind_of_call call.now) }
-        requires room { IfSome (drafts_of self.old object) (λ h. HasRoom h.value call.now) }
-        requires changes { IfSome (drafts_of self.old object) (λ h. IsSome (value_change h.value call.now)) }
-        ensures reply { IfOk result (λ reply. IfSome (drafts_of self.old object) (λ h. one_value.reply h.value call.now ≡ Some reply)) }
-        ensures ok { OnOk result (IfSome (drafts_of self.old object)
+    pub fn perform_at(&mut self, place: usize, call: &Call) -> Result<Reply, NoMemory>
+        requires fits { IsSomeAnd (draft_at self.old place) (λ h. kind_of_value h.value ≡ kind_of_call call.now) }
+        requires room { IfSome (draft_at self.old place) (λ h. HasRoom h.value call.now) }
+        requires changes { IfSome (draft_at self.old place) (λ h. IsSome (value_change h.value call.now)) }
+        ensures reply { IfOk result (λ reply. IfSome (draft_at self.old place) (λ h. one_value.reply h.value call.now ≡ Some reply)) }
+        ensures ok { OnOk result ((object : ℕ) → IsPlaceOf self.old object place → IfSome (draft_at self.old place)
             (λ h. IsPut (drafts_of self.old) (drafts_of self.new) object (changed h (one_value.after h.value call.now)))) }
         ensures err { OnErr result ((q : ℕ) → drafts_of self.new q ≡ drafts_of self.old q) }
     {
-        let Some(place) = self.place(object) else {
-            unreachable!()
-        };
         self.drafts[place].draft.perform(call)
     }
 
-    /// Performs a call as `perform` does, for good: no change of the object before it can be taken
-    /// back. This takes no memory for a number.
-    pub fn settle(&mut self, object: u32, call: &Call) -> Result<Reply, NoMemory>
-        requires fits { IsSomeAnd (drafts_of self.old object) (λ h. kind_of_value h.value ≡ kind_of_call call.now) }
-        requires room { IfSome (drafts_of self.old object) (λ h. HasRoom h.value call.now) }
-        requires changes { IfSome (drafts_of self.old object) (λ h. IsSome (value_change h.value call.now)) }
-        ensures reply { IfOk result (λ reply. IfSome (drafts_of self.old object) (λ h. one_value.reply h.value call.now ≡ Some reply)) }
-        ensures ok { OnOk result (IfSome (drafts_of self.old object)
+    /// Performs a call as `perform_at` does, for good: no change of the draft before it can be
+    /// taken back. This takes no memory for a number.
+    pub fn settle_at(&mut self, place: usize, call: &Call) -> Result<Reply, NoMemory>
+        requires fits { IsSomeAnd (draft_at self.old place) (λ h. kind_of_value h.value ≡ kind_of_call call.now) }
+        requires room { IfSome (draft_at self.old place) (λ h. HasRoom h.value call.now) }
+        requires changes { IfSome (draft_at self.old place) (λ h. IsSome (value_change h.value call.now)) }
+        ensures reply { IfOk result (λ reply. IfSome (draft_at self.old place) (λ h. one_value.reply h.value call.now ≡ Some reply)) }
+        ensures ok { OnOk result ((object : ℕ) → IsPlaceOf self.old object place → IfSome (draft_at self.old place)
             (λ h. IsPut (drafts_of self.old) (drafts_of self.new) object (unchanged (one_value.after h.value call.now)))) }
         ensures err { OnErr result ((q : ℕ) → drafts_of self.new q ≡ drafts_of self.old q) }
     {
-        let Some(place) = self.place(object) else {
-            unreachable!()
-        };
         self.drafts[place].draft.settle(call)
     }
 

@@ -1,8 +1,7 @@
 //! Drafts of changed values over a snapshot, in levels.
-ghost use Rattle.std.specs.Prelude.{◌≡◌, ◌<◌, ◌≤◌, List, [], ◌∷◌, length, reverse, slice_get, Some, IfOk, IfSome, IsSome, IsNone, OnOk, OnErr, take, drop, option_map};
+ghost use Rattle.std.specs.Prelude.{◌≡◌, ◌<◌, ◌≤◌, List, [], ◌∷◌, length, reverse, slice_get, Some, IfOk, OnOk, OnErr, take, drop, option_map};
 ghost use Rattle.drafts.specs.Shown.{shown_value};
 ghost use Rattle.objects.specs.Objects.{objects, Fits, ObjectHasRoom};
-ghost use Rattle.objects.specs.Changes.{objects_undoing};
 ghost use Rattle.intentions.specs.Levels.{AllHaveRoom};
 ghost use Rattle.objects.specs.Entries.{after, AreLegal};
 ghost use Rattle.objects.specs.declared.value.Value.{Value};
@@ -78,10 +77,7 @@ impl<'s> Layers<'s> {
         ensures { option_map shown_value result ≡ slice_get self.now.shown object }
     {
         match self.snapshot.value(object) {
-            Some(original) => match self.drafts.get(object) {
-                Some(draft) => Some(Shown::Changed(draft)),
-                None => Some(Shown::Lent(original)),
-            },
+            Some(lent) => Some(self.drafts.shown(self.drafts.place(object), lent)),
             None => None,
         }
     }
@@ -96,20 +92,22 @@ impl<'s> Layers<'s> {
         ensures ok { OnOk result (self.new ≡ record self.old { shown = objects.after self.old.shown (object, call.now) }) }
         ensures err { OnErr result (self.new ≡ self.old) }
     {
-        if let Some(reply) = self.look(object, call) {
-            return Ok(reply);
-        }
         let Some(lent) = self.snapshot.value(object) else {
             unreachable!()
         };
-        self.drafts.add(*self.starts.allocator(), object, lent)?;
+        let alloc = *self.starts.allocator();
+        let found = self.drafts.place(object);
+        if let Some(reply) = self.drafts.shown(found, lent).look(alloc, call) {
+            return Ok(reply);
+        }
+        let place = self.drafts.found_or_new(alloc, found, object, lent)?;
         if self.starts.is_empty() {
             // No open level could take a change back.
             self.journal.clear();
-            return self.drafts.settle(object, call);
+            return self.drafts.settle_at(place, call);
         }
         self.journal.reserve(1)?;
-        let reply = self.drafts.perform(object, call)?;
+        let reply = self.drafts.perform_at(place, call)?;
         self.journal.push_reserved(object);
         Ok(reply)
     }
@@ -174,19 +172,6 @@ impl<'s> Layers<'s> {
             }
         }
         Ok(state)
-    }
-
-    /// The reply of a call that leaves the object as it is, and none for a call that changes it.
-    fn look(&self, object: u32, call: &Call) -> Option<Reply>
-        ensures reply { IfSome result (λ reply. objects.reply self.now.shown (object, call.now) ≡ Some reply) }
-        ensures same { IsSome result → objects.after self.now.shown (object, call.now) ≡ self.now.shown }
-        ensures answers { Fits self.now.shown object call.now
-            → IsNone result → IsSome (objects_undoing.change self.now.shown (object, call.now)) }
-    {
-        match self.value(object) {
-            Some(value) => value.look(*self.starts.allocator(), call),
-            None => None,
-        }
     }
 
     /// Opens a level.

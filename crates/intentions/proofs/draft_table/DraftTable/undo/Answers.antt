@@ -1,4 +1,4 @@
-use Rattle.std.proofs.Common.{◌≡◌, refl}
+use Rattle.std.proofs.Common.{◌≡◌, sym}
 use Rattle.intentions.specs.DraftTables.{drafts_of, drafts_in}
 use Rattle.intentions.specs.declared.draft_table.Drafted.{Drafted}
 use Rattle.intentions.proofs.LayersLemmas.{undo-put, undo_none}
@@ -21,4 +21,4 @@ returns-in-Some c =
     (put-at places drafts object place d c.undo.new.self placed there.0 there.1)
 
 pub returns-in_default : goal.returns-in_default
-returns-in_default c = λ snapshot. undo_none snapshot (drafts_of c.args.self.now) c.args.object (c.in_default.ensures.none refl)
+returns-in_default c = λ snapshot. undo_none snapshot (drafts_of c.args.self.now) c.args.object (sym c.in_default.ensures.draft)
