@@ -36,6 +36,12 @@ def hot(count):
     return document([HOT], [block(op("a", "withdraw", 1))] * count)
 
 
+def jobs(count):
+    """Enqueues of items of their own, which conflict with one another."""
+    return document(['{"name":"q","kind":"queue","start":[]}'], [
+        block(op("q", "enq", "j%d" % number)) for number in range(count)])
+
+
 def taken(count):
     """Binds of a key that is bound already, and then puts on it."""
     return document([BOUND], [
@@ -64,9 +70,9 @@ def nested(depth):
     return document([ACCOUNT], [inner])
 
 
-# For each shape a size, and how many times as much a document of twice the size may take. Of hot there are four times as many
-# runs, most of which get the replies of the run before and take no memory.
-SHAPES = ((chain, 250, 2.2), (hot, 250, 2.2), (taken, 2_000, 2.2),
+# For each shape a size, and how many times as much a document of twice the size may take. Of hot and of jobs there are four
+# times as many runs, most of which get the replies of the run before and take no memory.
+SHAPES = ((chain, 250, 2.2), (hot, 250, 2.2), (jobs, 250, 2.2), (taken, 2_000, 2.2),
           (forks, 250, 2.2), (labels, 1_000, 2.2), (nested, 11, 2.2))
 
 
