@@ -9,12 +9,17 @@ use claims::{Board, Claim, Seat};
 use std::alloc::{AllocError, Global};
 use std::thread::{Threads, join};
 
+/// For up to how many seats the calling thread starts all threads. Threads that start each other often
+/// share a core for some milliseconds.
+const FEW: usize = 8;
+
 /// What `work` returns for each seat that claims, and the seats that don't. It is called with the
 /// seat, and with what the seat's first claim returned.
 ///
-/// A seat that draws a piece leaves the other seats to a new thread, where one can be made, and
-/// works in its own. Where a seat draws none, all pieces are drawn or a worker raised. Then the
-/// others don't claim.
+/// A seat that draws a piece works in a new thread, where one can be made, and the calling thread goes
+/// on with the other seats. Of many seats it leaves all but one to a new thread, which does the same.
+/// So few threads are started for short pieces. Where a seat draws none, all pieces are drawn or a
+/// worker raised. Then the others don't claim.
 ///
 /// Returns `AllocError` where there is no memory for the list of the results. No seat has claimed
 /// then.
@@ -56,9 +61,34 @@ fn give_last<X: Drop, F: Fn(Seat, Claim) -> X>(
     (all, left)
 }
 
+// Calls both, one in this thread and one in a new one, where one can be made. The first is called in
+// the new one where `moves_first` is true, and else the second.
+fn side_by_side<
+    R: Threads,
+    X: Send,
+    Y: Send,
+    F: FnOnce() -> X + Send,
+    G: FnOnce() -> Y + Send,
+>(
+    threads: &R,
+    moves_first: bool,
+    first: F,
+    second: G,
+) -> (X, Y)
+    requires { F.pre first × G.pre second }
+    ensures first { F.post first result.0 }
+    ensures second { G.post second result.1 }
+{
+    if moves_first {
+        return join(threads, first, second);
+    }
+    let (made, other) = join(threads, second, first);
+    (other, made)
+}
+
 // Adds what `work` returns for each seat that claims, for which there is room, and returns the seats
-// that don't claim. The other seats are left to a new thread before the piece is done, so that a long
-// piece holds none of them up.
+// that don't claim. The piece that a seat draws and the other seats go to two threads, so that a long
+// piece holds no seat up.
 #[cycle(cascade)]
 fn seat_by_seat<R: Threads + Sync, X: Send + Drop, F: Fn(Seat, Claim) -> X + Sync>(
     threads: &R,
@@ -83,6 +113,7 @@ fn seat_by_seat<R: Threads + Sync, X: Send + Drop, F: Fn(Seat, Claim) -> X + Syn
     if !has_piece || seats.is_empty() {
         return give_last(work, seat, first, all, seats);
     }
+    let are_few = seats.len() < FEW;
     let others = move || -> (Vec<X>, Vec<Seat>)
         requires { IsSync R.row × IsSync F.row × IsSend X.row × CanWork board.now (F.pre work.now)
             × AreNext board.now (F.post work.now) seats.items all.items (vec_capacity all) }
@@ -96,7 +127,7 @@ fn seat_by_seat<R: Threads + Sync, X: Send + Drop, F: Fn(Seat, Claim) -> X + Syn
         requires { F.pre work.now seat first }
         ensures { F.post work.entry.now seat first result }
     { work(seat, first) };
-    let ((mut given, unused), last) = join(threads, others, own);
+    let (last, (mut given, unused)) = side_by_side(threads, are_few, own, others);
     given.push_reserved(last);
     (given, unused)
 }

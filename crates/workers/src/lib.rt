@@ -3,8 +3,8 @@
 //!
 //! The pieces are the numbers below a bound. Each worker has a seat at one board (`claims`), and
 //! claims one piece after the other until there are none. Threads are started one after the other,
-//! each by the one before it, as long as there are pieces left. There are never more workers than
-//! pieces. One worker alone is no thread of its own.
+//! as long as there are pieces left. There are never more workers than pieces. One worker alone is no
+//! thread of its own.
 #![tactic(auto)]
 
 mod cascade;

@@ -79,8 +79,8 @@ returns-then-not-has_piece-clause-unused g t c =
 
 -- ---- the other seats claim in a thread of their own
 
-pub join-given-requires-after_bounds : goal.join-given-requires-after_bounds
-join-given-requires-after_bounds g t c κs within =
+pub side_by_side-last-requires-after_bounds : goal.side_by_side-last-requires-after_bounds
+side_by_side-last-requires-after_bounds g t c κs within =
     let popped = new_but_last c.args.board.now c.args.seats.items c.pop.new.self.items c.in-Some.seat
     c.in-Some.ensures.items c.requires.next.new in
     let claimed = first_claim c.args.board.now c.in-Some.seat c.claim-first.new.seat c.claim-first.result
@@ -99,21 +99,21 @@ pub push_reserved-requires : goal.push_reserved-requires
 push_reserved-requires g t c = omega (
   arith,
   c.requires.next.room,
-  c.join-given.ensures.first.0,
-  c.join-given.ensures.first.1,
-  c.join-given.result.0.0.ok.0,
+  c.side_by_side-last.ensures.second.0,
+  c.side_by_side-last.ensures.second.1,
+  c.side_by_side-last.result.1.0.ok.0,
   one_fewer c.args.seats.items c.pop.new.self.items c.in-Some.seat c.in-Some.ensures.items,
 )
 
 pub returns-clause-room : goal.returns-clause-room
-returns-clause-room g t c = c.push_reserved.ensures.capacity ∙ c.join-given.ensures.first.0
+returns-clause-room g t c = c.push_reserved.ensures.capacity ∙ c.side_by_side-last.ensures.second.0
 
 pub returns-clause-count : goal.returns-clause-count
 returns-clause-count g t c = omega (
   arith,
   ap length c.push_reserved.ensures.items,
-  length-append c.join-given.result.0.0.items (c.join-given.result.1 ∷ []),
-  c.join-given.ensures.first.1,
+  length-append c.side_by_side-last.result.1.0.items (c.side_by_side-last.result.0 ∷ []),
+  c.side_by_side-last.ensures.second.1,
   one_fewer c.args.seats.items c.pop.new.self.items c.in-Some.seat c.in-Some.ensures.items,
 )
 
@@ -124,15 +124,15 @@ returns-clause-some g t c = λ _.
     omega (
       arith,
       ap length c.push_reserved.ensures.items,
-      length-append c.join-given.result.0.0.items (c.join-given.result.1 ∷ []),
-      c.join-given.ensures.first.4 more,
+      length-append c.side_by_side-last.result.1.0.items (c.side_by_side-last.result.0 ∷ []),
+      c.side_by_side-last.ensures.second.4 more,
     )
 
 pub returns-clause-each : goal.returns-clause-each
 returns-clause-each g t c =
-    given_more (λ s k x. g.F.Fn.post c.args.work.now (s, (k, tt)) x) c.join-given.result.0.0.items c.push_reserved.new.self.items
-    c.claim-first.new.seat c.claim-first.result c.join-given.result.1
-    c.push_reserved.ensures.items c.join-given.ensures.first.2 c.join-given.ensures.second
+    given_more (λ s k x. g.F.Fn.post c.args.work.now (s, (k, tt)) x) c.side_by_side-last.result.1.0.items c.push_reserved.new.self.items
+    c.claim-first.new.seat c.claim-first.result c.side_by_side-last.result.0
+    c.push_reserved.ensures.items c.side_by_side-last.ensures.second.2 c.side_by_side-last.ensures.first
 
 pub returns-clause-unused : goal.returns-clause-unused
-returns-clause-unused g t c = c.join-given.ensures.first.3
+returns-clause-unused g t c = c.side_by_side-last.ensures.second.3
