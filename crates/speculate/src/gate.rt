@@ -17,7 +17,7 @@ pub struct Progress {
 /// Sees runs and checks begin, and runs end, from the threads that they are made on. It sees rounds
 /// end. It changes no result.
 ///
-/// - `pass(t, 0)` is called as a run of transaction `t` starts.
+/// - `pass(t, 0)` is called as a run of transaction `t` starts, or just before `repeated`.
 /// - `pass(t, c)` is called as child `c` (from 1) of one of its parallel blocks starts, and once
 ///   more where the child is run again.
 /// - `pass(0, i)` is called as the check of the `i`-th run of a round (from 1) starts.
