@@ -340,10 +340,12 @@ def try_steps(program):
 
 
 def try_long_transactions(program):
-    """Transactions that leave more operations than are listed: they are performed by their blocks and records."""
+    """Transactions that leave more operations than are listed: they are performed by their blocks and records. Where each has
+    objects of its own, several workers commit them, and most of what they leave needs no list."""
     for seed in range(4):
-        given = json.dumps(randoms.long(random.Random(seed), 4, 400)).encode()
-        program.expect_report("long random transactions, %d" % seed, given, program.run(["run"], given)[0])
+        for name, apart in (("long random transactions", False), ("long random transactions apart", True)):
+            given = json.dumps(randoms.long(random.Random(seed), 16 if apart else 4, 400, apart)).encode()
+            program.expect_report("%s, %d" % (name, seed), given, program.run(["run"], given)[0])
 
 
 def try_all(program, whole):

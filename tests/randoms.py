@@ -110,12 +110,21 @@ def whole(chance):
     return {"ordtx": version, "objects": objects, "transactions": [writer.block(3, {}) for _ in range(chance.randrange(4))]}
 
 
-def long(chance, transactions, steps):
-    """A document of transactions of so many subactions each, whose aborts are all taken."""
-    objects = [{"name": "o%d" % number, "kind": kind, "start": start(chance)}
-               for number, (kind, (_, start, _)) in enumerate(KINDS.items())]
-    writer = Writer(chance, 4, objects)
-    blocks = [[{"sub": writer.block(3, {}), "handler": []} for _ in range(steps)] for _ in range(transactions)]
+def long(chance, transactions, steps, apart=False):
+    """A document of transactions of so many subactions each, whose aborts are all taken. Each may have objects of its own, which
+    stand among those of the others, beside an account on which all deposit."""
+    ours = [[{"name": "o%d_%d" % (owner, number), "kind": kind, "start": start(chance)}
+             for number, (kind, (_, start, _)) in enumerate(KINDS.items())] for owner in range(transactions if apart else 1)]
+    blocks = []
+    for number in range(transactions):
+        writer = Writer(chance, 4, ours[number if apart else 0])
+        blocks.append([{"sub": writer.block(3, {}), "handler": []} for _ in range(steps)])
+    objects = [one for own in ours for one in own]
+    if apart:
+        objects.append({"name": "all", "kind": "account", "start": 0})
+        chance.shuffle(objects)
+        for block in blocks:
+            block.insert(chance.randrange(steps), {"op": ["all", "deposit", 1]})
     return {"ordtx": 4, "objects": objects, "transactions": blocks}
 
 
