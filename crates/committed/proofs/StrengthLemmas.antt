@@ -1,6 +1,6 @@
 -- A strength that covers another is of an entry that is as strict.
 use Rattle.std.proofs.Common.{◌≡◌, ◌&&◌, ◌+◌, ℕ, Bool, true, false, nat_eq, nat_le, refl, sym, ap, ◌∙◌, arith}
-use Rattle.std.proofs.lemmas.Bool.{eqb-true, eq-eqb, leb-true, le-leb, and_parts, false≢true}
+use Rattle.std.proofs.lemmas.Bool.{eqb-true, eq-eqb, leb-true, le-leb, ltb-true, lt-ltb, and_parts, false≢true}
 use Rattle.atoms.specs.Account.{account_effect, account_effects_commute}
 use Rattle.atoms.specs.Counter.{counter_effect, counter_effects_commute}
 use Rattle.atoms.specs.ItemSet.{set_effect, set_effects_commute}
@@ -41,12 +41,10 @@ use Rattle.objects.specs.declared.call.Reply.{Reply}
 use Rattle.objects.specs.declared.call.Reply.TheVariants as reply
 use Rattle.objects.specs.declared.entry.Entry.{Entry}
 use Rattle.committed.specs.declared.strength.Strength.{Strength}
-use Rattle.committed.specs.Strictness.{IsAsStrict, EffectsAreAsStrict, is_strict_by_number, account_is_as_strict, counter_is_as_strict}
-use Rattle.committed.specs.Strictness.{max_is_as_strict, account_strength, counter_strength, set_strength, queue_strength, key_strength}
-use Rattle.committed.specs.Strictness.{directory_strength, max_strength, strength_at, strength_of, is_within, covers}
-use Rattle.committed.proofs.StrictnessLemmas.{OperationsAreAsStrict, account_strict, counter_strict, max_strict, accounts_strict}
-use Rattle.committed.proofs.StrictnessLemmas.{counters_strict, sets_strict, queues_strict, directories_strict, registers_strict}
-use Rattle.committed.proofs.StrictnessLemmas.{strict_together}
+use Rattle.committed.specs.Strictness.{IsAsStrict, EffectsAreAsStrict, account_strength, counter_strength, set_strength, queue_strength}
+use Rattle.committed.specs.Strictness.{key_strength, directory_strength, max_strength, strength_at, strength_of, is_within, covers}
+use Rattle.committed.proofs.StrictnessLemmas.{OperationsAreAsStrict, accounts_strict, counters_strict, sets_strict, queues_strict}
+use Rattle.committed.proofs.StrictnessLemmas.{directories_strict, registers_strict, strict_together}
 
 -- ---- the effects of one kind
 
@@ -62,41 +60,73 @@ one_range m n h = let parts = and_parts (nat_le m n) (nat_le n m) h in omega (ar
 one_number : (x y : Item) → (nat_le (x.0 + 1) (y.0 + 1) && nat_le (y.0 + 1) (x.0 + 1)) ≡ true → x ≡ y
 one_number x y h = one_item x y (omega (arith, one_range (x.0 + 1) (y.0 + 1) h))
 
--- where an account's effect has the other's in its range, it is as strict
+-- where an account's effect has the other's in its range, it is as strict: a smaller withdrawal commutes with fewer balances, a larger
+-- balance with fewer withdrawals, and other amounts make no difference
 account_within : (e f : AccountEffect) → is_within (account_strength 0 e) (account_strength 0 f) ≡ true
     → EffectsAreAsStrict account_effects_commute e e f
-account_within (account.Deposited a) (account.Deposited b) h x first second =
-    account_strict x (account.Deposited a) (account.Deposited b) refl first
-account_within (account.Withdrew a) (account.Withdrew b) h x first second =
-    account_strict x (account.Withdrew a) (account.Withdrew b) (and_parts (nat_le a.value b.value) true h).0 first
-account_within (account.Refused a) (account.Refused b) h x first second =
-    account_strict x (account.Refused a) (account.Refused b) refl first
-account_within (account.Counted m) (account.Counted n) h x first second = account_strict x (account.Counted m) (account.Counted n) h first
-account_within account.Impossible account.Impossible h x first second = first
-account_within e f h x first second = absurd (false≢true h)
+account_within (account.Withdrew a) (account.Withdrew b) h (account.Counted n) commutes again =
+    lt-ltb n b.value (omega (arith, leb-true a.value b.value (and_parts (nat_le a.value b.value) true h).0, ltb-true n a.value commutes))
+account_within (account.Counted m) (account.Counted n) h (account.Withdrew a) commutes again =
+    lt-ltb n a.value (omega (arith, leb-true n m h, ltb-true m a.value commutes))
+account_within (account.Deposited a) (account.Deposited b) h (account.Deposited c) commutes again = commutes
+account_within (account.Deposited a) (account.Deposited b) h (account.Withdrew c) commutes again = commutes
+account_within (account.Deposited a) (account.Deposited b) h (account.Refused c) commutes again = commutes
+account_within (account.Deposited a) (account.Deposited b) h (account.Counted c) commutes again = commutes
+account_within (account.Deposited a) (account.Deposited b) h account.Impossible commutes again = commutes
+account_within (account.Withdrew a) (account.Withdrew b) h (account.Deposited c) commutes again = commutes
+account_within (account.Withdrew a) (account.Withdrew b) h (account.Withdrew c) commutes again = commutes
+account_within (account.Withdrew a) (account.Withdrew b) h (account.Refused c) commutes again = commutes
+account_within (account.Withdrew a) (account.Withdrew b) h account.Impossible commutes again = commutes
+account_within (account.Refused a) (account.Refused b) h (account.Deposited c) commutes again = commutes
+account_within (account.Refused a) (account.Refused b) h (account.Withdrew c) commutes again = commutes
+account_within (account.Refused a) (account.Refused b) h (account.Refused c) commutes again = commutes
+account_within (account.Refused a) (account.Refused b) h (account.Counted c) commutes again = commutes
+account_within (account.Refused a) (account.Refused b) h account.Impossible commutes again = commutes
+account_within (account.Counted m) (account.Counted n) h (account.Deposited c) commutes again = commutes
+account_within (account.Counted m) (account.Counted n) h (account.Refused c) commutes again = commutes
+account_within (account.Counted m) (account.Counted n) h (account.Counted c) commutes again = commutes
+account_within (account.Counted m) (account.Counted n) h account.Impossible commutes again = commutes
+account_within account.Impossible account.Impossible h x commutes again = commutes
+account_within e f h x commutes again = absurd (false≢true h)
 
--- a counter's is
+-- a counter's is: numbers make no difference, nor whether a change adds or subtracts
 counter_within : (e f : CounterEffect) → is_within (counter_strength 0 e) (counter_strength 0 f) ≡ true
     → EffectsAreAsStrict counter_effects_commute e e f
-counter_within (counter.Added a) (counter.Added b) h x first second = counter_strict x (counter.Added a) (counter.Added b) refl first
-counter_within (counter.Added a) (counter.Subtracted b) h x first second =
-    counter_strict x (counter.Added a) (counter.Subtracted b) refl first
-counter_within (counter.Subtracted a) (counter.Added b) h x first second =
-    counter_strict x (counter.Subtracted a) (counter.Added b) refl first
-counter_within (counter.Subtracted a) (counter.Subtracted b) h x first second =
-    counter_strict x (counter.Subtracted a) (counter.Subtracted b) refl first
-counter_within (counter.Counted m) (counter.Counted n) h x first second =
-    counter_strict x (counter.Counted m) (counter.Counted n) refl first
-counter_within counter.Impossible counter.Impossible h x first second = first
-counter_within e f h x first second = absurd (false≢true h)
+counter_within (counter.Added a) (counter.Added b) h (counter.Added c) commutes again = commutes
+counter_within (counter.Added a) (counter.Added b) h (counter.Subtracted c) commutes again = commutes
+counter_within (counter.Added a) (counter.Added b) h (counter.Counted c) commutes again = commutes
+counter_within (counter.Added a) (counter.Added b) h counter.Impossible commutes again = commutes
+counter_within (counter.Added a) (counter.Subtracted b) h (counter.Added c) commutes again = commutes
+counter_within (counter.Added a) (counter.Subtracted b) h (counter.Subtracted c) commutes again = commutes
+counter_within (counter.Added a) (counter.Subtracted b) h (counter.Counted c) commutes again = commutes
+counter_within (counter.Added a) (counter.Subtracted b) h counter.Impossible commutes again = commutes
+counter_within (counter.Subtracted a) (counter.Added b) h (counter.Added c) commutes again = commutes
+counter_within (counter.Subtracted a) (counter.Added b) h (counter.Subtracted c) commutes again = commutes
+counter_within (counter.Subtracted a) (counter.Added b) h (counter.Counted c) commutes again = commutes
+counter_within (counter.Subtracted a) (counter.Added b) h counter.Impossible commutes again = commutes
+counter_within (counter.Subtracted a) (counter.Subtracted b) h (counter.Added c) commutes again = commutes
+counter_within (counter.Subtracted a) (counter.Subtracted b) h (counter.Subtracted c) commutes again = commutes
+counter_within (counter.Subtracted a) (counter.Subtracted b) h (counter.Counted c) commutes again = commutes
+counter_within (counter.Subtracted a) (counter.Subtracted b) h counter.Impossible commutes again = commutes
+counter_within (counter.Counted m) (counter.Counted n) h (counter.Added c) commutes again = commutes
+counter_within (counter.Counted m) (counter.Counted n) h (counter.Subtracted c) commutes again = commutes
+counter_within (counter.Counted m) (counter.Counted n) h (counter.Counted c) commutes again = commutes
+counter_within (counter.Counted m) (counter.Counted n) h counter.Impossible commutes again = commutes
+counter_within counter.Impossible counter.Impossible h x commutes again = commutes
+counter_within e f h x commutes again = absurd (false≢true h)
 
--- a register's is
+-- a register's is: a larger raise commutes with fewer tops, a smaller top with fewer raises
 max_within : (e f : MaxEffect) → is_within (max_strength 0 e) (max_strength 0 f) ≡ true → EffectsAreAsStrict max_effects_commute e e f
-max_within (max.Raised a) (max.Raised b) h x first second = max_strict x (max.Raised a) (max.Raised b) h first
-max_within (max.Counted m) (max.Counted n) h x first second =
-    max_strict x (max.Counted m) (max.Counted n) (and_parts (nat_le m n) true h).0 first
-max_within max.Impossible max.Impossible h x first second = first
-max_within e f h x first second = absurd (false≢true h)
+max_within (max.Raised a) (max.Raised b) h (max.Counted n) commutes again =
+    le-leb b.value n (omega (arith, leb-true b.value a.value h, leb-true a.value n commutes))
+max_within (max.Counted m) (max.Counted n) h (max.Raised a) commutes again =
+    le-leb a.value n (omega (arith, leb-true m n (and_parts (nat_le m n) true h).0, leb-true a.value m commutes))
+max_within (max.Raised a) (max.Raised b) h (max.Raised c) commutes again = commutes
+max_within (max.Raised a) (max.Raised b) h max.Impossible commutes again = commutes
+max_within (max.Counted m) (max.Counted n) h (max.Counted c) commutes again = commutes
+max_within (max.Counted m) (max.Counted n) h max.Impossible commutes again = commutes
+max_within max.Impossible max.Impossible h x commutes again = commutes
+max_within e f h x commutes again = absurd (false≢true h)
 
 -- a set's effect that has another's in its range is that effect
 set_within : (e f : SetEffect) → is_within (set_strength 0 e) (set_strength 0 f) ≡ true → e ≡ f
@@ -249,7 +279,7 @@ covers_strict p q h e commutes =
 pub given_strict : (p q : Entry) (s t : Strength) → s ≡ strength_of p → t ≡ strength_of q → covers s t ≡ true → IsAsStrict p q
 given_strict p q s t of_p of_q h = covers_strict p q (ap (λ u. covers u (strength_of q)) (sym of_p) ∙ ap (covers s) (sym of_q) ∙ h)
 
--- each covers itself
+-- each covers itself: of two equal entries the first is found to be as strict
 pub covers_itself : (s : Strength) → covers s s ≡ true
 covers_itself s = all (nat_eq s.object s.object) _ (eq-eqb s.object s.object refl) (all (nat_eq s.kind s.kind) _ (eq-eqb s.kind s.kind refl)
     (all (nat_eq s.variant s.variant) _ (eq-eqb s.variant s.variant refl) (all (nat_eq s.item s.item) _ (eq-eqb s.item s.item refl)
@@ -257,46 +287,3 @@ covers_itself s = all (nat_eq s.object s.object) _ (eq-eqb s.object s.object ref
   where
     all : (a b : Bool) → a ≡ true → b ≡ true → (a && b) ≡ true
     all a b first second = ap (λ x. x && b) first ∙ second
-
--- an account's effect that is as strict by its number has the other's in its range
-account_by_number : (e f : AccountEffect) → account_is_as_strict e f ≡ true
-    → is_within (account_strength 0 e) (account_strength 0 f) ≡ true
-account_by_number (account.Deposited a) (account.Deposited b) h = refl
-account_by_number (account.Withdrew a) (account.Withdrew b) h = ap (λ x. x && true) h
-account_by_number (account.Refused a) (account.Refused b) h = refl
-account_by_number (account.Counted m) (account.Counted n) h = h
-account_by_number e f h = absurd (false≢true h)
-
--- a counter's has
-counter_by_number : (e f : CounterEffect) → counter_is_as_strict e f ≡ true
-    → is_within (counter_strength 0 e) (counter_strength 0 f) ≡ true
-counter_by_number (counter.Added a) (counter.Added b) h = refl
-counter_by_number (counter.Added a) (counter.Subtracted b) h = refl
-counter_by_number (counter.Subtracted a) (counter.Added b) h = refl
-counter_by_number (counter.Subtracted a) (counter.Subtracted b) h = refl
-counter_by_number (counter.Counted m) (counter.Counted n) h = refl
-counter_by_number e f h = absurd (false≢true h)
-
--- a register's has
-max_by_number : (e f : MaxEffect) → max_is_as_strict e f ≡ true → is_within (max_strength 0 e) (max_strength 0 f) ≡ true
-max_by_number (max.Raised a) (max.Raised b) h = h
-max_by_number (max.Counted m) (max.Counted n) h = ap (λ x. x && true) h
-max_by_number e f h = absurd (false≢true h)
-
--- so has an operation's
-by_number : (c : Call) (r : Reply) (d : Call) (s : Reply) → is_strict_by_number c r d s ≡ true
-    → (nat_eq (strength_at 0 c r).kind (strength_at 0 d s).kind && is_within (strength_at 0 c r) (strength_at 0 d s)) ≡ true
-by_number (call.Account c) (reply.Account r) (call.Account d) (reply.Account s) h =
-    account_by_number (account_effect (c, r)) (account_effect (d, s)) h
-by_number (call.Counter c) (reply.Counter r) (call.Counter d) (reply.Counter s) h =
-    counter_by_number (counter_effect (c, r)) (counter_effect (d, s)) h
-by_number (call.Max c) (reply.Max r) (call.Max d) (reply.Max s) h = max_by_number (max_effect (c, r)) (max_effect (d, s)) h
-by_number c r d s h = absurd (false≢true h)
-
--- a strength covers one on its object where the numbers show that the entry is as strict
-pub covers_number : (p q : Entry) → p.object ≡ q.object → is_strict_by_number p.call p.reply q.call q.reply ≡ true
-    → covers (strength_of p) (strength_of q) ≡ true
-covers_number p q same h =
-    let rest : Bool = nat_eq (strength_at 0 p.call p.reply).kind (strength_at 0 q.call q.reply).kind
-    && is_within (strength_at 0 p.call p.reply) (strength_at 0 q.call q.reply) in
-    covers_parts p q ∙ ap (λ b. b && rest) (eq-eqb p.object q.object same) ∙ by_number p.call p.reply q.call q.reply h

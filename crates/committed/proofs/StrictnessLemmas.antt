@@ -1,6 +1,5 @@
--- Entries of which the numbers show that one commutes forward with no more than the other.
-use Rattle.std.proofs.Common.{◌≡◌, Bool, true, false, nat_eq, refl, sym, ap, ◌∙◌, arith}
-use Rattle.std.proofs.lemmas.Bool.{leb-true, le-leb, ltb-true, lt-ltb}
+-- Entries on one object whose effects are together as strict as a third's are as strict as the third.
+use Rattle.std.proofs.Common.{◌≡◌, Bool, true, false, nat_eq, refl, sym, ap, ◌∙◌}
 use Rattle.std.specs.Prelude.{IsTrue, if◌then◌else◌}
 use Rattle.atoms.specs.Account.{account_effect, account_effects_commute}
 use Rattle.atoms.specs.Counter.{counter_effect, counter_effects_commute}
@@ -20,12 +19,6 @@ use Rattle.atoms.specs.declared.queue.QueueCall.{QueueCall}
 use Rattle.atoms.specs.declared.queue.QueueReply.{QueueReply}
 use Rattle.atoms.specs.declared.directory.DirectoryCall.{DirectoryCall}
 use Rattle.atoms.specs.declared.directory.DirectoryReply.{DirectoryReply}
-use Rattle.atoms.specs.declared.account.AccountEffect.{AccountEffect}
-use Rattle.atoms.specs.declared.account.AccountEffect.TheVariants as account
-use Rattle.atoms.specs.declared.counter.CounterEffect.{CounterEffect}
-use Rattle.atoms.specs.declared.counter.CounterEffect.TheVariants as counter
-use Rattle.atoms.specs.declared.max_register.MaxEffect.{MaxEffect}
-use Rattle.atoms.specs.declared.max_register.MaxEffect.TheVariants as max
 use Rattle.objects.specs.Tables.{operations_commute}
 use Rattle.objects.specs.declared.call.Call.{Call}
 use Rattle.objects.specs.declared.call.Call.TheVariants as call
@@ -34,72 +27,7 @@ use Rattle.objects.specs.declared.call.Reply.TheVariants as reply
 use Rattle.objects.specs.declared.entry.Entry.{Entry}
 use Rattle.objects.specs.Entries.{CommuteForward}
 use Rattle.objects.proofs.CommuteLemmas.{entries_exact}
-use Rattle.committed.specs.Strictness.{AreAsStrict, EffectsAreAsStrict, account_is_as_strict}
-use Rattle.committed.specs.Strictness.{counter_is_as_strict, max_is_as_strict}
-
--- a smaller withdrawal commutes with fewer balances, a larger balance with fewer withdrawals; other amounts make no difference
-pub account_strict : (e p q : AccountEffect) → account_is_as_strict p q ≡ true → account_effects_commute e p ≡ true
-    → account_effects_commute e q ≡ true
-account_strict (account.Counted n) (account.Withdrew a) (account.Withdrew b) h commutes =
-    lt-ltb n b.value (omega (arith, leb-true a.value b.value h, ltb-true n a.value commutes))
-account_strict (account.Withdrew a) (account.Counted m) (account.Counted n) h commutes =
-    lt-ltb n a.value (omega (arith, leb-true n m h, ltb-true m a.value commutes))
-account_strict (account.Deposited c) (account.Deposited a) (account.Deposited b) h commutes = commutes
-account_strict (account.Deposited c) (account.Refused a) (account.Refused b) h commutes = commutes
-account_strict (account.Deposited c) (account.Withdrew a) (account.Withdrew b) h commutes = commutes
-account_strict (account.Deposited c) (account.Counted m) (account.Counted n) h commutes = commutes
-account_strict (account.Withdrew c) (account.Deposited a) (account.Deposited b) h commutes = commutes
-account_strict (account.Withdrew c) (account.Refused a) (account.Refused b) h commutes = commutes
-account_strict (account.Withdrew c) (account.Withdrew a) (account.Withdrew b) h commutes = commutes
-account_strict (account.Refused c) (account.Deposited a) (account.Deposited b) h commutes = commutes
-account_strict (account.Refused c) (account.Refused a) (account.Refused b) h commutes = commutes
-account_strict (account.Refused c) (account.Withdrew a) (account.Withdrew b) h commutes = commutes
-account_strict (account.Refused c) (account.Counted m) (account.Counted n) h commutes = commutes
-account_strict (account.Counted c) (account.Deposited a) (account.Deposited b) h commutes = commutes
-account_strict (account.Counted c) (account.Refused a) (account.Refused b) h commutes = commutes
-account_strict (account.Counted c) (account.Counted m) (account.Counted n) h commutes = commutes
-account_strict account.Impossible (account.Deposited a) (account.Deposited b) h commutes = commutes
-account_strict account.Impossible (account.Refused a) (account.Refused b) h commutes = commutes
-account_strict account.Impossible (account.Withdrew a) (account.Withdrew b) h commutes = commutes
-account_strict account.Impossible (account.Counted m) (account.Counted n) h commutes = commutes
-account_strict e p q h commutes = absurd cc
-
--- numbers make no difference to a counter's operations, nor whether a change adds or subtracts
-pub counter_strict : (e p q : CounterEffect) → counter_is_as_strict p q ≡ true → counter_effects_commute e p ≡ true
-    → counter_effects_commute e q ≡ true
-counter_strict (counter.Added c) (counter.Added a) (counter.Added b) h commutes = commutes
-counter_strict (counter.Added c) (counter.Added a) (counter.Subtracted b) h commutes = commutes
-counter_strict (counter.Added c) (counter.Subtracted a) (counter.Added b) h commutes = commutes
-counter_strict (counter.Added c) (counter.Subtracted a) (counter.Subtracted b) h commutes = commutes
-counter_strict (counter.Added c) (counter.Counted m) (counter.Counted n) h commutes = commutes
-counter_strict (counter.Subtracted c) (counter.Added a) (counter.Added b) h commutes = commutes
-counter_strict (counter.Subtracted c) (counter.Added a) (counter.Subtracted b) h commutes = commutes
-counter_strict (counter.Subtracted c) (counter.Subtracted a) (counter.Added b) h commutes = commutes
-counter_strict (counter.Subtracted c) (counter.Subtracted a) (counter.Subtracted b) h commutes = commutes
-counter_strict (counter.Subtracted c) (counter.Counted m) (counter.Counted n) h commutes = commutes
-counter_strict (counter.Counted c) (counter.Added a) (counter.Added b) h commutes = commutes
-counter_strict (counter.Counted c) (counter.Added a) (counter.Subtracted b) h commutes = commutes
-counter_strict (counter.Counted c) (counter.Subtracted a) (counter.Added b) h commutes = commutes
-counter_strict (counter.Counted c) (counter.Subtracted a) (counter.Subtracted b) h commutes = commutes
-counter_strict (counter.Counted c) (counter.Counted m) (counter.Counted n) h commutes = commutes
-counter_strict counter.Impossible (counter.Added a) (counter.Added b) h commutes = commutes
-counter_strict counter.Impossible (counter.Added a) (counter.Subtracted b) h commutes = commutes
-counter_strict counter.Impossible (counter.Subtracted a) (counter.Added b) h commutes = commutes
-counter_strict counter.Impossible (counter.Subtracted a) (counter.Subtracted b) h commutes = commutes
-counter_strict counter.Impossible (counter.Counted m) (counter.Counted n) h commutes = commutes
-counter_strict e p q h commutes = absurd cc
-
--- a larger raise commutes with fewer tops, a smaller top with fewer raises
-pub max_strict : (e p q : MaxEffect) → max_is_as_strict p q ≡ true → max_effects_commute e p ≡ true → max_effects_commute e q ≡ true
-max_strict (max.Counted n) (max.Raised a) (max.Raised b) h commutes = le-leb b.value n
-    (omega (arith, leb-true b.value a.value h, leb-true a.value n commutes))
-max_strict (max.Raised a) (max.Counted m) (max.Counted n) h commutes = le-leb a.value n
-    (omega (arith, leb-true m n h, leb-true a.value m commutes))
-max_strict (max.Raised c) (max.Raised a) (max.Raised b) h commutes = commutes
-max_strict max.Impossible (max.Raised a) (max.Raised b) h commutes = commutes
-max_strict (max.Counted c) (max.Counted m) (max.Counted n) h commutes = commutes
-max_strict max.Impossible (max.Counted m) (max.Counted n) h commutes = commutes
-max_strict e p q h commutes = absurd cc
+use Rattle.committed.specs.Strictness.{AreAsStrict, EffectsAreAsStrict}
 
 -- what commutes with two operations commutes with a third
 abbrev pub OperationsAreAsStrict : Call → Reply → Call → Reply → Call → Reply → Type 0

@@ -105,9 +105,9 @@ pub entry_at : (marked : List MarkedEntry) (at : ℕ) (m : MarkedEntry) (e : Ent
 entry_at marked at m e within is =
     ap (λ (k : MarkedEntry). k.entry) is ∙ sym (get_or-map (λ (k : MarkedEntry). k.entry) marked at m e within)
 
-module _ (marked : List MarkedEntry) (before last : ℕ) (earlier later : MarkedEntry) (e : Entry) (entries : List Entry)
-    (ordered : before ≤ last) (within : last < length marked) (first : earlier ≡ get_or marked before earlier)
-    (second : later ≡ get_or marked last later)
+module _ (marked : List MarkedEntry) (before last : ℕ) (earlier later e : Entry) (entries : List Entry) (ordered : before ≤ last)
+    (within : last < length marked) (is_earlier : (other : Entry) → get_or (entries_of marked) before other ≡ earlier)
+    (is_later : (other : Entry) → get_or (entries_of marked) last other ≡ later)
     (summary : IsSummary (entries_of marked) entries) where
   low_first : before < length (entries_of marked)
   low_first = omega (arith, length-map marked (λ (k : MarkedEntry). k.entry), within, ordered)
@@ -115,20 +115,14 @@ module _ (marked : List MarkedEntry) (before last : ℕ) (earlier later : Marked
   low : last < length (entries_of marked)
   low = omega (arith, length-map marked (λ (k : MarkedEntry). k.entry), within)
 
-  is_earlier : (other : Entry) → get_or (entries_of marked) before other ≡ earlier.entry
-  is_earlier other = sym (entry_at marked before earlier other (omega (arith, within, ordered)) first)
-
-  is_later : (other : Entry) → get_or (entries_of marked) last other ≡ later.entry
-  is_later other = sym (entry_at marked last later other within second)
-
   -- an entry is left out where two in the summary are as strict
-  pub summary_left : AreAsStrict earlier.entry later.entry e → IsSummary (entries_of marked) (entries ++ e ∷ [])
+  pub summary_left : AreAsStrict earlier later e → IsSummary (entries_of marked) (entries ++ e ∷ [])
   summary_left strict = record {
     same = λ other. (
       λ h. (
-          let with_earlier : CommuteForward other earlier.entry = subst (CommuteForward other) (is_earlier other)
+          let with_earlier : CommuteForward other earlier = subst (CommuteForward other) (is_earlier other)
           (one_commutes other (entries_of marked) before low_first h) in
-          let with_later : CommuteForward other later.entry = subst (CommuteForward other) (is_later other)
+          let with_later : CommuteForward other later = subst (CommuteForward other) (is_later other)
           (one_commutes other (entries_of marked) last low h) in
           commutes_both other entries (e ∷ []) ((summary.same other).0 h) (strict other with_earlier with_later, tt)
           ),
@@ -138,13 +132,13 @@ module _ (marked : List MarkedEntry) (before last : ℕ) (earlier later : Marked
 
   -- what commutes with the summary where it stands for the later one commutes with the earlier
   with_earlier_set : (other : Entry) → before < last → CommutesWith other (set (entries_of marked) last e)
-      → CommuteForward other earlier.entry
+      → CommuteForward other earlier
   with_earlier_set other less h = subst (CommuteForward other) (get_or-set_other (entries_of marked) last before e other
       (λ same. absurd (omega (arith, same, less))) ∙ is_earlier other)
       (one_commutes other (set (entries_of marked) last e) before (omega (arith, length-set (entries_of marked) last e, low_first)) h)
 
   -- it takes the place of the later where it is as strict with the earlier
-  set_there : before < last → AreAsStrict earlier.entry e later.entry → IsSummary (set (entries_of marked) last e) (entries ++ e ∷ [])
+  set_there : before < last → AreAsStrict earlier e later → IsSummary (set (entries_of marked) last e) (entries ++ e ∷ [])
   set_there less strict = record {
     same = λ other. (
       λ h. (
@@ -159,7 +153,7 @@ module _ (marked : List MarkedEntry) (before last : ℕ) (earlier later : Marked
   }
 
   -- with its mark
-  pub summary_set : (next : MarkedEntry) → next.entry ≡ e → before < last → AreAsStrict earlier.entry e later.entry
+  pub summary_set : (next : MarkedEntry) → next.entry ≡ e → before < last → AreAsStrict earlier e later
       → IsSummary (entries_of (set marked last next)) (entries ++ e ∷ [])
   summary_set next own less strict =
       subst (λ xs. IsSummary xs (entries ++ e ∷ []))

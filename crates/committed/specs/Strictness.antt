@@ -1,5 +1,5 @@
 -- Which of two entries commutes forward with less. No public contract names it.
-use Rattle.std.specs.Prelude.{ℕ, ◌+◌, ◌&&◌, ◌==◌, Bool, true, false, nat_le, IsTrue}
+use Rattle.std.specs.Prelude.{ℕ, ◌+◌, ◌&&◌, ◌==◌, Bool, nat_le, IsTrue}
 use Rattle.atoms.specs.Account.{account_effect}
 use Rattle.atoms.specs.Counter.{counter_effect}
 use Rattle.atoms.specs.ItemSet.{set_effect}
@@ -40,37 +40,6 @@ abbrev pub EffectsAreAsStrict : {Effect : Type 0} → (Effect → Effect → Boo
 EffectsAreAsStrict {Effect} commute first second third = (e : Effect) → IsTrue (commute e first) → IsTrue (commute e second)
     → IsTrue (commute e third)
 
--- deposits conflict with refusals and balances, and refusals with deposits, whatever their amounts
-abbrev pub account_is_as_strict : AccountEffect → AccountEffect → Bool
-account_is_as_strict (account.Deposited a) (account.Deposited b) = true
-account_is_as_strict (account.Withdrew a) (account.Withdrew b) = nat_le a.value b.value
-account_is_as_strict (account.Refused a) (account.Refused b) = true
-account_is_as_strict (account.Counted m) (account.Counted n) = nat_le n m
-account_is_as_strict e f = false
-
--- changes conflict with reads, and reads with changes, whatever their numbers
-abbrev pub counter_is_as_strict : CounterEffect → CounterEffect → Bool
-counter_is_as_strict (counter.Added a) (counter.Added b) = true
-counter_is_as_strict (counter.Added a) (counter.Subtracted b) = true
-counter_is_as_strict (counter.Subtracted a) (counter.Added b) = true
-counter_is_as_strict (counter.Subtracted a) (counter.Subtracted b) = true
-counter_is_as_strict (counter.Counted m) (counter.Counted n) = true
-counter_is_as_strict e f = false
-
-abbrev pub max_is_as_strict : MaxEffect → MaxEffect → Bool
-max_is_as_strict (max.Raised a) (max.Raised b) = nat_le b.value a.value
-max_is_as_strict (max.Counted m) (max.Counted n) = nat_le m n
-max_is_as_strict e f = false
-
--- of two operations on one object, the numbers show that the first is as strict
-abbrev pub is_strict_by_number : Call → Reply → Call → Reply → Bool
-is_strict_by_number (call.Account c) (reply.Account r) (call.Account d) (reply.Account s) = account_is_as_strict (account_effect (c, r))
-    (account_effect (d, s))
-is_strict_by_number (call.Counter c) (reply.Counter r) (call.Counter d) (reply.Counter s) = counter_is_as_strict (counter_effect (c, r))
-    (counter_effect (d, s))
-is_strict_by_number (call.Max c) (reply.Max r) (call.Max d) (reply.Max s) = max_is_as_strict (max_effect (c, r)) (max_effect (d, s))
-is_strict_by_number c r d s = false
-
 -- ---- strengths: the kind, which effect of the kind, a number of the item or 0, and a range of numbers
 
 abbrev pub digest : ℕ → ℕ → ℕ → ℕ → ℕ → ℕ → Strength
@@ -87,6 +56,7 @@ account_parts account.Impossible = (4, 0, 0)
 abbrev pub account_strength : ℕ → AccountEffect → Strength
 account_strength o e = digest o 0 (account_parts e).0 0 (account_parts e).1 (account_parts e).2
 
+-- numbers make no difference to a counter's operations, nor whether a change adds or subtracts
 abbrev pub counter_parts : CounterEffect → ℕ
 counter_parts (counter.Added a) = 0
 counter_parts (counter.Subtracted a) = 0

@@ -49,17 +49,9 @@ impl MarkedEntry {
     pub fn of(entry: &Entry) -> MarkedEntry
         ensures { result.entry ≡ entry.now }
     {
-        MarkedEntry::with(entry, Mark::of(entry))
-    }
-
-    /// The entry with this mark, which is its own.
-    pub fn with(entry: &Entry, mark: Mark) -> MarkedEntry
-        requires { mark ≡ mark_of entry.now }
-        ensures { result.entry ≡ entry.now }
-    {
         MarkedEntry {
             entry: *entry,
-            mark,
+            mark: Mark::of(entry),
         }
     }
 }

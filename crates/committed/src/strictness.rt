@@ -3,7 +3,7 @@ ghost use Rattle.std.specs.Prelude.{◌≡◌, IsTrue};
 ghost use Rattle.atoms.specs.ItemSet.{set_effects_commute};
 ghost use Rattle.atoms.specs.Queue.{queue_effects_commute};
 ghost use Rattle.atoms.specs.Directory.{key_effects_commute, directory_effects_commute};
-ghost use Rattle.committed.specs.Strictness.{IsAsStrict, AreAsStrict, EffectsAreAsStrict, is_strict_by_number, strength_of};
+ghost use Rattle.committed.specs.Strictness.{IsAsStrict, AreAsStrict, EffectsAreAsStrict, strength_of, covers};
 
 use crate::items::set_item;
 use crate::strength::Strength;
@@ -20,34 +20,32 @@ use objects::{
 /// on one object, each is as strict as the other.
 pub fn is_as_strict(first: &Entry, second: &Entry) -> bool
     ensures strict { IsTrue result → IsAsStrict first.now second.now }
-    ensures equal { first.now ≡ second.now → IsTrue result }
-    ensures numbers { first.now.object ≡ second.now.object → IsTrue (is_strict_by_number first.now.call first.now.reply second.now.call second.now.reply) → IsTrue result }
+    ensures exact { result ≡ covers (strength_of first.now) (strength_of second.now) }
 {
     Strength::of(first).covers(&Strength::of(second))
 }
 
+/// An entry with its strength.
+#[derive(Clone, Copy)]
+pub struct Measured<'e> {
+    /// The entry.
+    pub entry: &'e Entry,
+    /// Its strength.
+    pub strength: &'e Strength,
+    pub ghost is_own: { strength.now ≡ strength_of entry.now },
+}
+
 /// Whether the first two entries are known to be as strict as the third: whatever commutes forward
-/// with both commutes with it. It is where one of them is alone, or where the two together are. Each
-/// entry is given with its strength.
-pub fn are_as_strict(
-    first: &Entry,
-    second: &Entry,
-    third: &Entry,
-    of_first: &Strength,
-    of_second: &Strength,
-    of_third: &Strength,
-) -> bool
-    requires first { of_first.now ≡ strength_of first.now }
-    requires second { of_second.now ≡ strength_of second.now }
-    requires third { of_third.now ≡ strength_of third.now }
-    ensures { IsTrue result → AreAsStrict first.now second.now third.now }
+/// with both commutes with it. It is where one of them is alone, or where the two together are.
+pub fn are_as_strict(first: Measured<'_>, second: Measured<'_>, third: Measured<'_>) -> bool
+    ensures { IsTrue result → AreAsStrict first.entry.entry.now second.entry.entry.now third.entry.entry.now }
 {
-    of_first.covers(of_third)
-        || of_second.covers(of_third)
-        || of_third.is_paired()
-            && first.object == third.object
-            && second.object == third.object
-            && together_as_strict(first, second, third)
+    first.strength.covers(third.strength)
+        || second.strength.covers(third.strength)
+        || third.strength.is_paired()
+            && first.entry.object == third.entry.object
+            && second.entry.object == third.entry.object
+            && together_as_strict(first.entry, second.entry, third.entry)
 }
 
 /// Whether two operations on one object are together as strict as a third on it.

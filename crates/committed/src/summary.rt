@@ -1,11 +1,11 @@
 //! Entries with their marks: all of them, or a summary.
-ghost use Rattle.std.specs.Prelude.{◌≡◌, ◌<◌, ◌≤◌, ◌++◌, ◌∷◌, [], List, length, IfOk, OnOk};
+ghost use Rattle.std.specs.Prelude.{◌≡◌, ◌<◌, ◌≤◌, ◌++◌, ◌∷◌, [], List, length, get_or, IfOk, OnOk};
 ghost use Rattle.objects.specs.declared.entry.Entry.{Entry as OneEntry};
 ghost use Rattle.committed.specs.Summaries.{entries_of, strengths_of, IsSummary};
 
 use crate::marks::MarkedEntry;
 use crate::strength::Strength;
-use crate::strictness::are_as_strict;
+use crate::strictness::{Measured, are_as_strict};
 use objects::{Entry, NoMemory};
 use std::alloc::Global;
 use std::mem::replace;
@@ -114,16 +114,16 @@ impl Table {
         let slot = self.slot(&strength);
         let Places { last, before } = self.slots[slot];
         if before <= last && last < self.summary.len() {
-            let later = &self.summary[last].entry;
-            let earlier = &self.summary[before].entry;
-            let of_later = &self.strengths[last];
-            let of_earlier = &self.strengths[before];
-            if are_as_strict(earlier, later, entry, of_earlier, of_later, &strength) {
+            let own = Measured {
+                entry,
+                strength: &strength,
+            };
+            let later = self.measured(last);
+            let earlier = self.measured(before);
+            if are_as_strict(earlier, later, own) {
                 return Ok(());
             }
-            if before < last
-                && are_as_strict(earlier, entry, later, of_earlier, &strength, of_later)
-            {
+            if before < last && are_as_strict(earlier, own, later) {
                 self.summary[last] = MarkedEntry::of(entry);
                 self.strengths[last] = strength;
                 return Ok(());
@@ -138,6 +138,17 @@ impl Table {
         self.summary.push_reserved(MarkedEntry::of(entry));
         self.strengths.push_reserved(strength);
         Ok(())
+    }
+
+    /// The entry at this place of the summary.
+    fn measured(&self, place: usize) -> Measured<'_>
+        requires { place < length self.now.summary.items }
+        ensures { (other : OneEntry) → get_or (entries_of self.now.summary.items) place other ≡ result.entry.now }
+    {
+        Measured {
+            entry: &self.summary[place].entry,
+            strength: &self.strengths[place],
+        }
     }
 
     /// The slot of a strength: one for all entries about an item, and for those about none one for

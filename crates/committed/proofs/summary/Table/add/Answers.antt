@@ -13,13 +13,13 @@ pub returns-then-are_as_strict : goal.returns-then-are_as_strict
 returns-then-are_as_strict c = λ entries summary.
     let marked = c.args.self.now.summary.items in
     let within : c.index.result.now.last < length marked = omega (arith, c.if-last-len.true, c.len.ensures, c.args.self.now.summary.ok.0) in
-    summary_left marked c.index.result.now.before c.index.result.now.last c.index-then-last-len-2.result.now
-    c.index-then-last-len.result.now c.args.entry.now entries
-    c.if-before-last.true within c.index-then-last-len-2.ensures c.index-then-last-len.ensures summary
+    summary_left marked c.index.result.now.before c.index.result.now.last c.measured-earlier.result.entry.now
+    c.measured-later.result.entry.now c.args.entry.now entries
+    c.if-before-last.true within c.measured-earlier.ensures c.measured-later.ensures summary
     (c.are_as_strict.ensures c.if-are_as_strict.true)
 
-pub invariant_of-self-then-are_as_strict-2 : goal.invariant_of-self-then-are_as_strict-2
-invariant_of-self-then-are_as_strict-2 c =
+pub invariant_of-self : goal.invariant_of-self
+invariant_of-self c =
     let marked = c.args.self.now.summary.items in
     let last = c.index.result.now.last in
     record {
@@ -33,9 +33,9 @@ pub returns-then-are_as_strict-2 : goal.returns-then-are_as_strict-2
 returns-then-are_as_strict-2 c = λ entries summary.
     let marked = c.args.self.now.summary.items in
     let within : c.index.result.now.last < length marked = omega (arith, c.if-last-len.true, c.len.ensures, c.args.self.now.summary.ok.0) in
-    summary_set marked c.index.result.now.before c.index.result.now.last c.index-then-last-len-2.result.now
-    c.index-then-last-len.result.now c.args.entry.now entries
-    c.if-before-last.true within c.index-then-last-len-2.ensures c.index-then-last-len.ensures summary c.of.result c.of.ensures
+    summary_set marked c.index.result.now.before c.index.result.now.last c.measured-earlier.result.entry.now
+    c.measured-later.result.entry.now c.args.entry.now entries
+    c.if-before-last.true within c.measured-earlier.ensures c.measured-later.ensures summary c.of.result c.of.ensures
     c.if-before-last-2.true (c.are_as_strict-then-before-last-2.ensures c.if-are_as_strict-2.true)
 
 pub returns : goal.returns
