@@ -13,7 +13,7 @@ use Rattle.objects.specs.declared.call.Call.TheVariants.{Account as account_call
 use Rattle.objects.specs.declared.call.Call.TheVariants.{Queue as queue_call, Directory as directory_call, Max as max_call}
 use Rattle.objects.specs.declared.call.Reply.{Reply}
 use Rattle.objects.specs.declared.entry.Entry.{Entry}
-use Rattle.objects.specs.Entries.{after, AreLegal}
+use Rattle.objects.specs.Entries.{State, kinds, reply_at, after, AreLegal}
 use Rattle.intentions.specs.Levels.{AllHaveRoom}
 pub use Rattle.objects.proofs.ListLemmas.{after-append}
 
@@ -52,6 +52,23 @@ pub legal-fits : (values : List Value) (object : ℕ) (c : Call) (r : Reply) →
 legal-fits [] object c r h = cc
 legal-fits (v ∷ values) zero c r h = kinds_agree v c r h
 legal-fits (v ∷ values) (suc object) c r h = legal-fits values object c r h
+
+-- a value has a reply to each call of its kind
+value_fits : (v : Value) (c : Call) → one_value.reply v c ≡ None → kind_of_value v ≡ kind_of_call c → ⊥
+value_fits (account_value v) (account_call c) misfit same = cc
+value_fits (counter_value v) (counter_call c) misfit same = cc
+value_fits (set_value v) (set_call c) misfit same = cc
+value_fits (queue_value v) (queue_call c) misfit same = cc
+value_fits (directory_value v) (directory_call c) misfit same = cc
+value_fits (max_value v) (max_call c) misfit same = cc
+value_fits v c misfit same = cc
+
+-- so has an object
+pub fitting_replies : (state : State) (object : ℕ) (c : Call) → reply_at state object c ≡ None
+    → slice_get (kinds state) object ≡ Some (kind_of_call c) → ⊥
+fitting_replies [] object c misfit fits = cc
+fitting_replies (v ∷ vs) zero c misfit fits = value_fits v c misfit cc
+fitting_replies (v ∷ vs) (suc object) c misfit fits = fitting_replies vs object c misfit fits
 
 length-after_found : (values : List Value) (object : ℕ) (c : Call) (o : Option Value) → length (after_found one_value values object c o)
     ≡ length values

@@ -2,12 +2,8 @@
 use Rattle.std.proofs.Common.{◌≡◌, ℕ, zero, suc, ◌-◌, ◌≤◌, List, [], ◌∷◌, ◌++◌, length, Bool, true, false, Option, Some, None, refl, sym}
 use Rattle.std.proofs.Common.{ap, ◌∙◌, subst, arith, length-append}
 use Rattle.std.proofs.lemmas.List.{nil_from_length}
-use Rattle.objects.specs.Objects.{kind_of_value, kind_of_call, value_reply as reply_of}
-use Rattle.objects.specs.declared.value.Value.{Value}
-use Rattle.objects.specs.declared.value.Value.TheVariants.{Account, Counter, Set, Queue, Directory, Max}
 use Rattle.objects.specs.declared.entry.Entry.{Entry}
 use Rattle.objects.specs.declared.call.Call.{Call}
-use Rattle.objects.specs.declared.call.Call.TheVariants as to
 use Rattle.objects.specs.declared.call.Reply.{Reply}
 use Rattle.objects.specs.Entries.{State, kinds, reply_at, after_call, AreLegal, after}
 use Rattle.meaning.specs.declared.end.End.{End}
@@ -32,7 +28,7 @@ use Rattle.meaning.proofs.Counting.{entries_count}
 use Rattle.batch.specs.declared.batch.Batch.{Batch}
 use Rattle.batch.proofs.CanRun.{operations_before}
 use Rattle.intentions.specs.Trials.{CanRepeat}
-use Rattle.intentions.proofs.EntriesLemmas.{after-append}
+use Rattle.intentions.proofs.EntriesLemmas.{after-append, fitting_replies}
 use Rattle.speculate.proofs.Room.{legal_call_fits, kept-le, kept_of_step-le, kept_of_child-le, kept_of_handler-le, kept_of_children-le}
 use Rattle.rounds.specs.Views.{meaning, blocks_of}
 use Rattle.rounds.specs.Passes.{CanBeMade}
@@ -42,20 +38,6 @@ use Rattle.rounds.proofs.Commits.{split_legal}
 use Rattle.rounds.proofs.Conflicts.{moved}
 
 -- ---- a call that doesn't fit is of another kind, and doesn't fit on other objects of these kinds
-
-value_fits : (v : Value) (c : Call) → reply_of v c ≡ None → kind_of_value v ≡ kind_of_call c → ⊥
-value_fits (Account v) (to.Account c) misfit same = cc
-value_fits (Counter v) (to.Counter c) misfit same = cc
-value_fits (Set v) (to.Set c) misfit same = cc
-value_fits (Queue v) (to.Queue c) misfit same = cc
-value_fits (Directory v) (to.Directory c) misfit same = cc
-value_fits (Max v) (to.Max c) misfit same = cc
-value_fits v c misfit same = cc
-
-fitting_replies : (state : State) (object : ℕ) (call : Call) → reply_at state object call ≡ None → CallFits (kinds state) object call → ⊥
-fitting_replies [] object call misfit fits = cc
-fitting_replies (v ∷ vs) zero call misfit fits = value_fits v call misfit cc
-fitting_replies (v ∷ vs) (suc object) call misfit fits = fitting_replies vs object call misfit fits
 
 misfit_there : (here there : State) (object : ℕ) (call : Call) → kinds here ≡ kinds there → reply_at here object call ≡ None
     → (reply : Option Reply) → reply_at there object call ≡ reply → reply ≡ None
