@@ -12,4 +12,3 @@ pub mod Grounds
 pub mod Shows
 pub mod Taking
 pub mod Left
-pub mod Performing

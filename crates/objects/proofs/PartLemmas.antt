@@ -1,6 +1,6 @@
 -- Parts of the objects: what is performed on parts side by side is performed on them together.
-use Rattle.std.proofs.Common.{◌≡◌, ◌+◌, ◌-◌, ◌<◌, ◌≤◌, ℕ, suc, zero, List, [], ◌∷◌, ◌++◌, length, take, drop, Option, Some, None, ◌⊎◌, inl, inr}
-use Rattle.std.proofs.Common.{refl, sym, ap, subst, ◌∙◌, arith, length-append, drop-drop}
+use Rattle.std.proofs.Common.{◌≡◌, ◌+◌, ◌-◌, ◌<◌, ◌≤◌, ℕ, suc, zero, List, [], ◌∷◌, ◌++◌, length, take, drop, Option, Some, None}
+use Rattle.std.proofs.Common.{◌⊎◌, inl, inr, refl, sym, ap, subst, ◌∙◌, arith, length-append, drop-drop}
 use Rattle.std.specs.Prelude.{slice_get, slice_set, option_and_then, IfSome, All}
 use Rattle.std.proofs.lemmas.List.{length-set, drop-set-lt, drop-set-add, take-set-le, drop-take}
 use Rattle.std.proofs.lemmas.Option.{slice_get_within}
@@ -202,7 +202,8 @@ part-high first low high state is =
     ∙ drop-append_seam low high
 
 -- entries that are performed on two parts side by side are performed on both together
-pub performed-beside : (first : ℕ) (low low_new high high_new : List Value) (entries : List Entry) → ArePerformedOn first low low_new entries
+pub performed-beside : (first : ℕ) (low low_new high high_new : List Value) (entries : List Entry)
+    → ArePerformedOn first low low_new entries
     → ArePerformedOn (first + length low) high high_new entries → ArePerformedOn first (low ++ high) (low_new ++ high_new) entries
 performed-beside first low low_new high high_new entries on_low on_high = record {
   same = length-append low_new high_new ∙ ap (λ n. n + length high_new) on_low.same ∙ ap (λ n. length low + n) on_high.same

@@ -33,7 +33,7 @@ fn commit_one(block: &Block, run: &PendingRun, objects: &mut Objects) -> Result<
     match &run.net {
         Net::Listed(net) => perform_each(objects, net),
         Net::Summed => perform_marked(objects, run.sums.net()),
-        Net::Recorded => perform_left(block, &run.tree, objects),
+        Net::Recorded => perform_left(block, &run.tree, 0, objects.values_mut()),
     }
 }
 

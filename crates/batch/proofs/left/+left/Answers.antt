@@ -1,11 +1,12 @@
-use Rattle.std.proofs.Common.{◌<◌, ◌≤◌, length, sym, ap, subst, arith}
+use Rattle.std.proofs.Common.{◌<◌, ◌≤◌, [], length, sym, ap, subst, arith}
 use Rattle.std.specs.Prelude.{option_copied}
-use Rattle.objects.specs.Entries.{after, AreLegal, AllHaveRoom}
+use Rattle.objects.specs.Parts.{ArePerformedOn, CanPerformOn}
+use Rattle.objects.proofs.PartLemmas.{can-fits, can-room, performed-none}
 use Rattle.batch.specs.declared.tree.Step.{size-Step}
 use Rattle.batch.specs.declared.tree.Subaction.{size-Subaction}
 use Rattle.batch.specs.Views.{block_view, subaction_view}
 use Rattle.batch.proofs.SizeLemmas.{among-most, steps-are_smaller, children-are_smaller}
-use Rattle.batch.proofs.ViewLemmas.{step_view-Parallel, taken_view-Parallel}
+use Rattle.batch.proofs.ViewLemmas.{step_view-Op, step_view-Parallel, taken_view-Op, taken_view-Parallel}
 use Rattle.batch.proofs.LeftParts.{are_left-start, are_left-can, are_left-more, are_left-end}
 use Rattle.batch.proofs.LeftRest.{steps_left-start, steps_left-more, steps_left-no_step, steps_left-end, children_left-start}
 use Rattle.batch.proofs.LeftRest.{children_left-more, children_left-no_child, children_left-end, transaction_left-ended}
@@ -18,10 +19,7 @@ pub perform_left-perform_block-requires : goal.perform_left-perform_block-requir
 perform_left-perform_block-requires t c =
     let is = transaction_left-ended (block_view c.args.block.now) c.args.done.now c.in-Ended.is in (
       omega (arith, c.decreases),
-      record {
-        legal = subst (AreLegal c.args.objects.now) is c.requires.legal;
-        room = subst (AllHaveRoom c.args.objects.now) is c.requires.room;
-      },
+      subst (CanPerformOn c.args.first c.args.values.now) is c.requires,
     )
 
 pub perform_left-returns-in_ok-perform_block-in-Ended : goal.perform_left-returns-in_ok-perform_block-in-Ended
@@ -29,13 +27,15 @@ perform_left-returns-in_ok-perform_block-in-Ended t c =
     rw (transaction_left-ended (block_view c.args.block.now) c.args.done.now c.in-Ended.is) c.in_ok-perform_block-in-Ended.ensures
 
 pub perform_left-returns-in-Aborted : goal.perform_left-returns-in-Aborted
-perform_left-returns-in-Aborted t c = ap (after c.args.objects.now)
+perform_left-returns-in-Aborted t c =
+    subst (ArePerformedOn c.args.first c.args.values.now c.args.values.now)
     (sym (transaction_left-aborted (block_view c.args.block.now) c.args.done.now c.in-Aborted.field-0 c.in-Aborted.is))
+    (performed-none c.args.first c.args.values.now)
 
 -- ---- steps one after the other
 
 pub perform_block-loop-place-init : goal.perform_block-loop-place-init
-perform_block-loop-place-init t c = are_left-start _ _ _ c.requires (steps_left-start c.args.block.now c.args.done.now)
+perform_block-loop-place-init t c = are_left-start _ _ _ _ c.requires (steps_left-start c.args.block.now c.args.done.now)
 
 pub perform_block-perform_step-requires : goal.perform_block-perform_step-requires
 perform_block-perform_step-requires t c =
@@ -45,7 +45,7 @@ perform_block-perform_step-requires t c =
     let lt' : c.loop-place.place < length taken.items = omega (arith, c.if-place-len.false, c.len.ensures, taken.ok.0) in
     let more = steps_left-more c.loop-place.place _ taken.items c.args.done.now.outcome _ _ lt is lt' c.index.ensures in (
       omega (arith, among-most size-Step _ _ _ lt is, steps-are_smaller c.args.block.now, c.decreases),
-      are_left-can _ _ _ _ _ _ c.loop-place.invariant more,
+      are_left-can _ _ _ _ _ _ _ c.loop-place.invariant more,
     )
 
 pub perform_block-loop-place-preserved : goal.perform_block-loop-place-preserved
@@ -55,18 +55,18 @@ perform_block-loop-place-preserved t c =
     let is = rw c.deref-step-items.ensures.value at c.step-item.is in
     let lt' : c.loop-place.place < length taken.items = omega (arith, c.if-place-len.false, c.len.ensures, taken.ok.0) in
     let more = steps_left-more c.loop-place.place _ taken.items c.args.done.now.outcome _ _ lt is lt' c.index.ensures in
-    are_left-more _ _ _ _ _ _ _ c.loop-place.invariant more c.in_ok-perform_step.ensures
+    are_left-more _ _ _ _ _ _ _ _ c.loop-place.invariant more c.in_ok-perform_step.ensures
 
 pub perform_block-returns-then-place-len : goal.perform_block-returns-then-place-len
 perform_block-returns-then-place-len t c =
     let taken = c.args.done.now.taken in
     let le : length taken.items ≤ c.loop-place.place = omega (arith, c.if-place-len.true, c.len.ensures, taken.ok.0) in
-    are_left-end _ _ _ _ c.loop-place.invariant (steps_left-end _ _ _ _ le)
+    are_left-end _ _ _ _ _ c.loop-place.invariant (steps_left-end _ _ _ _ le)
 
 pub perform_block-returns : goal.perform_block-returns
 perform_block-returns t c =
     let le = rw c.deref-step-items.ensures.value at c.loop-place-test.false in
-    are_left-end _ _ _ _ c.loop-place.invariant (steps_left-no_step _ _ _ _ le)
+    are_left-end _ _ _ _ _ c.loop-place.invariant (steps_left-no_step _ _ _ _ le)
 
 -- ---- a subaction
 
@@ -85,30 +85,38 @@ perform_child-returns-in-Some t c =
 -- ---- children one after the other
 
 pub perform_children-loop-place-init : goal.perform_children-loop-place-init
-perform_children-loop-place-init t c = are_left-start _ _ _ c.requires (children_left-start c.args.children.now c.args.tried.now)
+perform_children-loop-place-init t c = are_left-start _ _ _ _ c.requires (children_left-start c.args.children.now c.args.tried.now)
 
 pub perform_children-perform_child-requires : goal.perform_children-perform_child-requires
 perform_children-perform_child-requires t c =
     let more = children_left-more c.loop-place.place c.args.children.now c.args.tried.now _ _ c.loop-place-test.true
     c.index-children-place.is c.if-place-tried.false c.index-tried-place.is in (
       omega (arith, among-most size-Subaction _ _ _ c.loop-place-test.true c.index-children-place.is, c.decreases),
-      rw c.as_ref.ensures.value (are_left-can _ _ _ _ _ _ c.loop-place.invariant more),
+      rw c.as_ref.ensures.value (are_left-can _ _ _ _ _ _ _ c.loop-place.invariant more),
     )
 
 pub perform_children-loop-place-preserved : goal.perform_children-loop-place-preserved
 perform_children-loop-place-preserved t c =
     let more = children_left-more c.loop-place.place c.args.children.now c.args.tried.now _ _ c.loop-place-test.true
     c.index-children-place.is c.if-place-tried.false c.index-tried-place.is in
-    are_left-more _ _ _ _ _ _ _ c.loop-place.invariant more (rw c.as_ref.ensures.value at c.in_ok-perform_child.ensures)
+    are_left-more _ _ _ _ _ _ _ _ c.loop-place.invariant more (rw c.as_ref.ensures.value at c.in_ok-perform_child.ensures)
 
 pub perform_children-returns-then-place-tried : goal.perform_children-returns-then-place-tried
 perform_children-returns-then-place-tried t c =
-    are_left-end _ _ _ _ c.loop-place.invariant (children_left-end _ _ _ c.if-place-tried.true)
+    are_left-end _ _ _ _ _ c.loop-place.invariant (children_left-end _ _ _ c.if-place-tried.true)
 
 pub perform_children-returns : goal.perform_children-returns
-perform_children-returns t c = are_left-end _ _ _ _ c.loop-place.invariant (children_left-no_child _ _ _ c.loop-place-test.false)
+perform_children-returns t c = are_left-end _ _ _ _ _ c.loop-place.invariant (children_left-no_child _ _ _ c.loop-place-test.false)
 
 -- ---- one step
+
+pub perform_step-perform_on-requires-clause-fits : goal.perform_step-perform_on-requires-clause-fits
+perform_step-perform_on-requires-clause-fits t c =
+    can-fits c.args.first c.args.values.now _ [] (rw (c.in-Op-Op.is-0, c.in-Op-Op.is-1, step_view-Op, taken_view-Op) at c.requires)
+
+pub perform_step-perform_on-requires-clause-room : goal.perform_step-perform_on-requires-clause-room
+perform_step-perform_on-requires-clause-room t c =
+    can-room c.args.first c.args.values.now _ [] (rw (c.in-Op-Op.is-0, c.in-Op-Op.is-1, step_view-Op, taken_view-Op) at c.requires)
 
 pub perform_step-perform_children-requires : goal.perform_step-perform_children-requires
 perform_step-perform_children-requires t c =

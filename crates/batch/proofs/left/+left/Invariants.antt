@@ -6,10 +6,10 @@ use Rattle.batch.proofs.left.+left.Given as goal
 
 abbrev pub invariant-perform_block-loop-place : goal.invariant-perform_block-loop-place
 invariant-perform_block-loop-place l =
-    AreLeft l.fn.objects l.objects (left (block_view l.fn.block) (record_view l.fn.done))
+    AreLeft l.first l.fn.values l.values (left (block_view l.fn.block) (record_view l.fn.done))
     (steps_left l.place l.block.steps.items l.done.taken.items l.done.outcome)
 
 abbrev pub invariant-perform_children-loop-place : goal.invariant-perform_children-loop-place
 invariant-perform_children-loop-place l =
-    AreLeft l.fn.objects l.objects (left_by_children (children_view l.fn.children) (all_tried_view l.fn.tried))
+    AreLeft l.first l.fn.values l.values (left_by_children (children_view l.fn.children) (all_tried_view l.fn.tried))
     (children_left l.place l.children l.tried)

@@ -1,5 +1,4 @@
 use Rattle.std.proofs.Common.{◌≤◌, zero, sym, subst, arith}
-use Rattle.meaning.specs.Running.{all_operations}
 use Rattle.meaning.specs.WellFormed.{operations}
 use Rattle.meaning.specs.declared.limits.TheConstants.{MAX_OPERATIONS}
 use Rattle.batch.specs.Parts.{blocks_of}
