@@ -1,80 +1,74 @@
--- Runs are committed one after the other.
+-- Runs are committed one after the other, each on some of the objects.
 use Rattle.std.proofs.Common.{◌≡◌, ℕ, suc, ◌+◌, ◌<◌, List, [], ◌∷◌, ◌++◌, length, get_or, drop, refl, sym, ap, subst, ◌∙◌, add-one, arith}
-use Rattle.std.proofs.Common.{drop-cons}
-use Rattle.std.proofs.lemmas.List.{length-map}
+use Rattle.std.proofs.Common.{◌≤◌, drop-cons}
+use Rattle.std.specs.Prelude.{Result, Ok, Err, OnOk}
 use Rattle.objects.specs.declared.value.Value.{Value}
 use Rattle.objects.specs.declared.entry.Entry.{Entry}
-use Rattle.objects.specs.Entries.{after, AreLegal}
-use Rattle.intentions.specs.Levels.{AllHaveRoom}
-use Rattle.intentions.proofs.EntriesLemmas.{NextEntry, next_entry, after-append}
-use Rattle.committed.specs.Summaries.{entries_of}
-use Rattle.committed.proofs.SummaryLemmas.{entry_at}
-use Rattle.committed.specs.declared.marks.MarkedEntry.{MarkedEntry}
-use Rattle.objects.specs.Objects.{objects}
+use Rattle.objects.specs.Parts.{CanPerformOn, ArePerformedOn}
+use Rattle.objects.proofs.PartLemmas.{IsOutside, all_performed-outside, can-next, performed-append, performed-none}
 use Rattle.rounds.specs.declared.pending_run.PendingRun.{PendingRun}
 use Rattle.meaning.specs.Batch.{block_at}
 use Rattle.meaning.specs.Trees.{Block}
+use Rattle.rounds.specs.declared.span.Span.{Span}
+use Rattle.rounds.specs.Spans.{AreIn}
 use Rattle.rounds.specs.PendingRuns.{own_net, own_nets}
 
--- two lists, one after the other
-pub split_legal : (values : List Value) (xs ys : List Entry) → AreLegal values (xs ++ ys) → AreLegal values xs
-    × AreLegal (after values xs) ys
-split_legal values [] ys h = (tt, h)
-split_legal values (x ∷ xs) ys h = let rest = split_legal (objects.after values (x.object, x.call)) xs ys h.1 in ((h.0, rest.0), rest.1)
+-- of all entries these are left to be performed
+pub record AreLeft (first : ℕ) (old now : List Value) (all left : List Entry) : Type 0 where
+  pub can : CanPerformOn first now left
+  pub leads : (new : List Value) → ArePerformedOn first now new left → ArePerformedOn first old new all
 
-split_room : (values : List Value) (xs ys : List Entry) → AllHaveRoom values (xs ++ ys) → AllHaveRoom values xs
-    × AllHaveRoom (after values xs) ys
-split_room values [] ys h = (tt, h)
-split_room values (x ∷ xs) ys h = let rest = split_room (objects.after values (x.object, x.call)) xs ys h.1 in ((h.0, rest.0), rest.1)
+-- all of them, at first
+pub all_left_over : (first : ℕ) (old : List Value) (all : List Entry) → CanPerformOn first old all → AreLeft first old old all all
+all_left_over first old all can = record { can = can; leads = λ new done. done }
 
--- the first of the entries with their marks that are left
-pub next_marked : (values : List Value) (marked : List MarkedEntry) (i : ℕ) (m : MarkedEntry) → i < length marked
-    → m ≡ get_or marked i m → AreLegal values (drop i (entries_of marked)) → AllHaveRoom values (drop i (entries_of marked))
-    → NextEntry values (drop i (entries_of marked)) m.entry (drop (i + 1) (entries_of marked))
-next_marked values marked i m lt is legal room =
-    next_entry values (entries_of marked) i m.entry (subst (λ n. i < n) (sym (length-map marked (λ (k : MarkedEntry). k.entry))) lt)
-    (entry_at marked i m m.entry lt is) legal room
+-- the later ones, once those before them are performed
+pub fewer_left : (first : ℕ) (old now next : List Value) (all left here later : List Entry) → left ≡ here ++ later
+    → AreLeft first old now all left → ArePerformedOn first now next here → AreLeft first old next all later
+fewer_left first old now next all left here later split so_far done =
+    let part = subst (AreLeft first old now all) split so_far in record {
+      can = can-next first now next here later part.can done;
+      leads = λ new rest. part.leads new (performed-append first now next new here later done rest);
+    }
 
--- of these runs, which are of the blocks from this number on, the first i are committed
-pub record ArePartCommitted (blocks : List Block) (number : ℕ) (runs : List PendingRun) (start : List Value) (i : ℕ) (now : List Value)
-    : Type 0 where
-  pub legal : AreLegal now (own_nets blocks (number + i) (drop i runs))
-  pub room : AllHaveRoom now (own_nets blocks (number + i) (drop i runs))
-  pub leads : after now (own_nets blocks (number + i) (drop i runs)) ≡ after start (own_nets blocks number runs)
+-- none at the end
+pub none_left : (first : ℕ) (old now : List Value) (all left : List Entry) → left ≡ [] → AreLeft first old now all left
+    → ArePerformedOn first old now all
+none_left first old now all left none so_far =
+    so_far.leads now (subst (ArePerformedOn first now now) (sym none) (performed-none first now))
 
-module _ (blocks : List Block) (number : ℕ) (runs : List PendingRun) (start : List Value) (i : ℕ) (now : List Value) (x : PendingRun)
-    (part : ArePartCommitted blocks number runs start i now) (lt : i < length runs) (is : x ≡ get_or runs i x) where
-  -- what the next one leaves, and what those after it leave
-  abbrev pub here : List Entry
-  here = own_net (block_at blocks (number + i)) x
+-- the first of the entries that are left
+pub next_entries : (entries : List Entry) (i : ℕ) (e : Entry) → i < length entries → e ≡ get_or entries i e
+    → drop i entries ≡ (e ∷ []) ++ drop (i + 1) entries
+next_entries entries i e lt is =
+    drop-cons entries i e lt ∙ (ap (λ x. x ∷ drop (suc i) entries) (sym is) ∙ rw add-one refl)
 
-  abbrev later : List Entry
-  later = own_nets blocks (number + (i + 1)) (drop (i + 1) runs)
+-- what runs leave from the i-th on is what the i-th leaves, and then what the later ones leave
+pub next_nets_left : (blocks : List Block) (number : ℕ) (runs : List PendingRun) (i : ℕ) (x : PendingRun) → i < length runs
+    → x ≡ get_or runs i x
+    → own_nets blocks (number + i) (drop i runs)
+    ≡ own_net (block_at blocks (number + i)) x ++ own_nets blocks (number + (i + 1)) (drop (i + 1) runs)
+next_nets_left blocks number runs i x lt is =
+    let here = own_net (block_at blocks (number + i)) x in
+    let next : suc (number + i) ≡ number + (i + 1) = omega arith in
+    ap (own_nets blocks (number + i)) (drop-cons runs i x lt)
+    ∙ (ap (λ (y : PendingRun). own_net (block_at blocks (number + i)) y
+    ++ own_nets blocks (suc (number + i)) (drop (suc i) runs)) (sym is)
+    ∙ (ap (λ n. here ++ own_nets blocks n (drop (suc i) runs)) next ∙ rw add-one refl))
 
-  -- the runs from the next one on
-  rest : own_nets blocks (number + i) (drop i runs) ≡ here ++ later
-  rest =
-      let next : suc (number + i) ≡ number + (i + 1) = omega arith in
-      ap (own_nets blocks (number + i)) (drop-cons runs i x lt)
-      ∙ (ap (λ (y : PendingRun). own_net (block_at blocks (number + i)) y
-      ++ own_nets blocks (suc (number + i)) (drop (suc i) runs)) (sym is)
-      ∙ (ap (λ n. here ++ own_nets blocks n (drop (suc i) runs)) next ∙ rw add-one refl))
+-- entries of a span without one of the objects leave these as they are
+pub passed_over : (first : ℕ) (values : List Value) (span : Span) (entries : List Entry) → AreIn span entries
+    → ((object : ℕ) → span.first ≤ object → object ≤ span.last → IsOutside first values object)
+    → ArePerformedOn first values values entries
+passed_over first values span entries inside beyond =
+    all_performed-outside first values entries (λ k e lt. let is_in = inside k e lt in beyond _ is_in.0 is_in.1)
 
-  both_legal : AreLegal now here × AreLegal (after now here) later
-  both_legal = split_legal now here later (subst (AreLegal now) rest part.legal)
+-- what follows from two facts that hold of a success
+pub both_ok : {T E : Type 0} (result : Result T E) (A B C : Type 0) → (A → B → C) → OnOk result A → OnOk result B → OnOk result C
+both_ok (Ok x) A B C both first second = both first second
+both_ok (Err e) A B C both first second = tt
 
-  both_have_room : AllHaveRoom now here × AllHaveRoom (after now here) later
-  both_have_room = split_room now here later (subst (AllHaveRoom now) rest part.room)
-
-  pub next_legal : AreLegal now here
-  next_legal = both_legal.0
-
-  pub next_room : AllHaveRoom now here
-  next_room = both_have_room.0
-
-  pub part_committed-more : (next : List Value) → next ≡ after now here → ArePartCommitted blocks number runs start (i + 1) next
-  part_committed-more next on = record {
-    legal = subst (λ v. AreLegal v later) (sym on) both_legal.1;
-    room = subst (λ v. AllHaveRoom v later) (sym on) both_have_room.1;
-    leads = ap (λ v. after v later) on ∙ sym (after-append now here later) ∙ ap (after now) (sym rest) ∙ part.leads;
-  }
+-- what follows from a fact that holds of a success
+pub then_ok : {T E : Type 0} (result : Result T E) (A B : Type 0) → (A → B) → OnOk result A → OnOk result B
+then_ok (Ok x) A B next first = next first
+then_ok (Err e) A B next first = tt

@@ -1,6 +1,7 @@
 -- The first run of a round that conflicts is where the next opening is.
 use Rattle.std.proofs.Common.{◌≡◌, ℕ, zero, suc, ◌+◌, ◌-◌, ◌<◌, ◌≤◌, ◌↔◌, List, [], ◌∷◌, ◌++◌, length, get_or, take, refl, sym, ap, ◌∙◌}
 use Rattle.std.proofs.Common.{subst, arith}
+use Rattle.std.proofs.lemmas.List.{get_or-take, length-take-le}
 use native.Mathlib.Decide.{dec_le}
 use Rattle.objects.specs.Entries.{State}
 use Rattle.objects.specs.declared.entry.Entry.{Entry}
@@ -17,7 +18,8 @@ use Rattle.committed.specs.Summaries.{entries_of, IsSummary}
 use Rattle.committed.proofs.SummaryLemmas.{stands-summary, past-summary, summary-append, summary-nil}
 use Rattle.rounds.specs.declared.pending_run.PendingRun.{PendingRun}
 use Rattle.rounds.specs.PendingRuns.{left_by, AreSumsOf, IsPendingOf, net_in, IsListed, own_net, own_nets, all_left, HoldsPast, HoldsAt}
-use Rattle.rounds.specs.PendingRuns.{IsFirstFrom}
+use Rattle.rounds.specs.PendingRuns.{IsFirstFrom, AreSpanned}
+use Rattle.rounds.specs.Spans.{AreIn}
 use Rattle.rounds.specs.declared.pending_run.Net.{Net}
 use Rattle.rounds.specs.declared.pending_run.Net.TheVariants.{Summed, Listed, Recorded}
 use Rattle.batch.specs.Views.{record_view}
@@ -35,6 +37,7 @@ moved r s made is taken outcome =
       net = λ listed. is.net listed ∙ nets_are;
       sums = subst (λ ns. AreSumsOf made.sums (entries (record_of s)) ns) nets_are
           (subst (λ es. AreSumsOf made.sums es (net (record_of r) (outcome_of r))) (ap entries (sym taken)) is.sums);
+      span = subst (AreIn made.span) nets_are is.span;
     }
 
 -- where a run doesn't conflict there is one
@@ -104,6 +107,15 @@ module _ (start : State) (blocks : List Block) where
   -- each run was made on the state of opening b, by number from b on
   abbrev pub AreAlone : ℕ → List PendingRun → Type 0
   AreAlone b runs = (k : ℕ) (d : PendingRun) → k < length runs → IsPendingOf (alone start blocks (b + k) b) (get_or runs k d)
+
+  -- what each of them leaves is in its span
+  pub spanned : (b count : ℕ) (runs : List PendingRun) → AreAlone b runs → count ≤ length runs → AreSpanned blocks b (take count runs)
+  spanned b count runs are le k d lt =
+      let size = length-take-le count runs le in
+      let is = are k d (omega (arith, lt, size, le)) in
+      subst (λ run. AreIn run.span (own_net (block_at blocks (b + k)) run)) (sym (get_or-take count runs k d (omega (arith, lt, size))))
+      (subst (AreIn (get_or runs k d).span)
+      (sym (own_net_is (block_at blocks (b + k)) (state_at start blocks b) (get_or runs k d) is)) is.span)
 
   -- a run holds past those before it exactly where it keeps
   holds_here : (b k : ℕ) (runs : List PendingRun) (d : PendingRun) → AreAlone b runs → k < length runs → IsSummary (all_left (take k runs))

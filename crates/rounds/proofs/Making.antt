@@ -23,6 +23,7 @@ use Rattle.committed.specs.NumberSets.{Has}
 use Rattle.committed.proofs.NumberSetLemmas.{has_of_longer}
 use Rattle.rounds.specs.PendingRuns.{AreSumsOf, IsPendingOf, IsThisOrThat, IsListed, listed_net, numbers_of, with_run, with_changed}
 use Rattle.rounds.specs.PendingRuns.{IsMade, AreMade}
+use Rattle.rounds.specs.Spans.{AreIn}
 use Rattle.claims.proofs.Lists.{times-append}
 use Rattle.rounds.proofs.Times.{times_one, times_none, times_sum}
 use Rattle.rounds.proofs.Touched.{has_none, has_front, has_back}
@@ -144,12 +145,13 @@ all_front P (x ∷ xs) y all =
 -- a pending run of a run of a meaning
 pub pending_of : (meant : OneRun Taken) (run : Run) (pending : PendingRun) → IsRunOf meant run → pending.tree ≡ run.tree
     → (IsListed pending.net → listed_net pending ≡ run.net.items)
-    → AreSumsOf pending.sums run.entries.items run.net.items → IsPendingOf meant pending
-pending_of meant run pending is tree net are = record {
+    → AreSumsOf pending.sums run.entries.items run.net.items → AreIn pending.span run.net.items → IsPendingOf meant pending
+pending_of meant run pending is tree net are inside = record {
   tree = ap record_view tree ∙ is.tree;
   net = λ listed. net listed ∙ is.net;
   sums = subst (AreSumsOf pending.sums (entries_in (record_of meant))) is.net
       (subst (λ es. AreSumsOf pending.sums es run.net.items) is.entries are);
+  span = subst (AreIn pending.span) is.net inside;
 }
 
 -- a run that was made is in its place, and its number is then one of the changed ones. The others stay

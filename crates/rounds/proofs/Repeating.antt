@@ -34,7 +34,7 @@ use Rattle.rounds.specs.Views.{meaning, blocks_of}
 use Rattle.rounds.specs.Passes.{CanBeMade}
 use Rattle.rounds.specs.PendingRuns.{IsPendingOf, IsListed, listed_net}
 use Rattle.rounds.specs.declared.pending_run.PendingRun.{PendingRun}
-use Rattle.rounds.proofs.Commits.{split_legal}
+use Rattle.objects.proofs.ListLemmas.{legal_parts}
 use Rattle.rounds.proofs.Conflicts.{moved}
 
 -- ---- a call that doesn't fit is of another kind, and doesn't fit on other objects of these kinds
@@ -128,7 +128,7 @@ go_on_repeats (Ran step Ended labels mid) again rest there step_repeats rest_rep
     let more = rest labels mid in
     let each = each_kept own (entries (record_of more)) (kept_of_step step) (kept (record_of more)) (kept_of_step-le step)
     (kept-le (record_of more)) all in
-    let parts = split_legal there own (entries (record_of more)) legal in
+    let parts = legal_parts there own (entries (record_of more)) legal in
     let made = step_repeats each.0 parts.0 in
     let rest_made = rest_repeats labels mid (after there own) made.1 each.1 parts.1 in
     let leads = sym (after-append there own (entries (record_of more))) in (
@@ -139,7 +139,7 @@ go_on_repeats (Ran step Ended labels mid) again rest there step_repeats rest_rep
 go_on_repeats (Ran step (Aborted reason) labels mid) again rest there step_repeats rest_repeats all legal =
     let own = entries_of_step step in
     let each = each_kept own [] (kept_of_step step) [] (kept_of_step-le step) (omega arith) all in
-    let made = step_repeats each.0 (split_legal there own [] legal).0 in
+    let made = step_repeats each.0 (legal_parts there own [] legal).0 in
     let leads = sym (after-append there own []) in
     (ap (λ run. go_on run rest) made.0 ∙ ap (Ran (Took step Nothing) (Aborted reason) []) leads, made.1 ∙ ap kinds leads)
 
@@ -152,7 +152,7 @@ go_on_children_repeats (Ran child Ended labels mid) again younger there child_re
     let more = younger mid in
     let each = each_kept own (entries_of_children (record_of more)) (kept_of_child child) (kept_of_children (record_of more))
     (kept_of_child-le child) (kept_of_children-le (record_of more)) all in
-    let parts = split_legal there own (entries_of_children (record_of more)) legal in
+    let parts = legal_parts there own (entries_of_children (record_of more)) legal in
     let made = child_repeats each.0 parts.0 in
     let younger_made = younger_repeat mid (after there own) made.1 each.1 parts.1 in
     let leads = sym (after-append there own (entries_of_children (record_of more))) in (
@@ -163,7 +163,7 @@ go_on_children_repeats (Ran child Ended labels mid) again younger there child_re
 go_on_children_repeats (Ran child (Aborted reason) labels mid) again younger there child_repeats younger_repeat all legal =
     let own = entries_of_child child in
     let each = each_kept own [] (kept_of_child child) [] (kept_of_child-le child) (omega arith) all in
-    let made = child_repeats each.0 (split_legal there own [] legal).0 in
+    let made = child_repeats each.0 (legal_parts there own [] legal).0 in
     let leads = sym (after-append there own []) in (
       ap (λ run. go_on_children run younger) made.0
           ∙ ap (Ran (TakenChildren.Child child TakenChildren.NoChild) (Aborted reason) []) leads,

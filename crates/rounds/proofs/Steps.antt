@@ -24,11 +24,11 @@ use Rattle.rounds.proofs.Times.{times_read}
 use Rattle.rounds.proofs.Renewing.{still_earlier, stays}
 use Rattle.rounds.specs.Passes.{CanBeMade}
 use Rattle.claims.specs.Views.{times}
-use Rattle.rounds.specs.PendingRuns.{IsPendingOf, own_nets, all_left, Kept, HoldsPast, AreRefuted, AreRenewed, IsFirstFrom}
+use Rattle.rounds.specs.PendingRuns.{IsPendingOf, own_nets, AreSpanned, all_left, Kept, HoldsPast, AreRefuted, AreRenewed, IsFirstFrom}
 use Rattle.rounds.specs.Checks.{IsSeen}
 use Rattle.rounds.specs.declared.check.Seen.{Seen}
 use Rattle.rounds.specs.AtOpenings.{AtOpening}
-use Rattle.rounds.proofs.Conflicts.{some_run, AreAlone, left, holds_past, still_stands, keeps_answers, next_opening}
+use Rattle.rounds.proofs.Conflicts.{some_run, AreAlone, left, spanned, holds_past, still_stands, keeps_answers, next_opening}
 
 none_or_some : (n : ℕ) → (n ≡ 0) ⊎ (0 < n)
 none_or_some zero = inl refl
@@ -256,7 +256,7 @@ listed_nets b seen new first_of kept_of first_is saw kept_is =
     let size : first ≡ (b + first) - b = omega arith in
     here.nets ∙ (ap (λ n. all_left (take n (drop b new))) size ∙ ap (λ rs. all_left (take ((b + first) - b) (drop b rs))) (sym kept_is))
 
--- what a round commits is legal on the objects of its opening, and has room
+-- what a round commits is legal on the objects of its opening, has room, and is in its spans
 pub round_commits : (batch : Batch) (b rounds passed : ℕ) (state : State) (old new first_of prefix_of : List PendingRun)
     (was counts given stale changed : List ℕ)
     → AtOpening batch b rounds state old was stale
@@ -267,6 +267,7 @@ pub round_commits : (batch : Batch) (b rounds passed : ℕ) (state : State) (old
     → prefix_of ≡ new
     → AreLegal state (own_nets (blocks_of batch) b (take ((b + passed) - b) (drop b prefix_of)))
     × AllHaveRoom state (own_nets (blocks_of batch) b (take ((b + passed) - b) (drop b prefix_of)))
+    × AreSpanned (blocks_of batch) b (take ((b + passed) - b) (drop b prefix_of))
 round_commits batch b rounds passed state old new first_of prefix_of was counts given stale changed at stale_is put first_is first
     prefix_is =
     let fresh = renewed batch b rounds state old new was counts stale changed at
@@ -285,6 +286,10 @@ round_commits batch b rounds passed state old new first_of prefix_of was counts 
           (subst (AreLegal (state_at (start_of batch) (blocks_of batch) b)) (sym one_thread) legal),
       subst (λ s. AllHaveRoom s (own_nets (blocks_of batch) b (take ((b + passed) - b) (drop b prefix_of)))) (sym at.reached)
           (subst (AllHaveRoom (state_at (start_of batch) (blocks_of batch) b)) (sym one_thread) room),
+      subst (AreSpanned (blocks_of batch) b)
+          (sym (ap (λ k. take k (drop b prefix_of)) count ∙ ap (λ rs. take passed (drop b rs)) prefix_is))
+          (spanned (start_of batch) (blocks_of batch) b passed (drop b new) (alone_from batch b rounds state new counts fresh)
+          conflict.within),
     )
 
 -- every stale transaction can be run on the objects of the opening

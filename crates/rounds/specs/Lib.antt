@@ -1,4 +1,5 @@
 pub mod Views
+pub mod Spans
 pub mod Passes
 pub mod PendingRuns
 pub mod Desks

@@ -14,6 +14,7 @@ use Rattle.committed.specs.NumberSets.{Has}
 use Rattle.committed.specs.Summaries.{entries_of, IsSummary}
 use Rattle.committed.specs.declared.marks.MarkedEntry.{MarkedEntry}
 use Rattle.objects.specs.declared.entry.Entry.{Entry}
+use Rattle.rounds.specs.Spans.{AreIn}
 use Rattle.rounds.specs.Views.{meaning}
 use Rattle.rounds.specs.declared.pending_run.PendingRun.{PendingRun}
 use Rattle.rounds.specs.declared.pending_run.Sums.{Sums}
@@ -60,11 +61,12 @@ pub record AreSumsOf (sums : Sums) (entries net : List Entry) : Type 0 where
   pub net_is : IsSummary (left_by sums) net
   pub whole : sums.of_net ≡ None → net ≡ entries
 
--- a pending run of a meaning: its record and its net, with summaries of its entries and its net
+-- a pending run of a meaning: its record, its net and the span of it, with summaries of its entries and its net
 pub record IsPendingOf (meant : OneRun Taken) (run : PendingRun) : Type 0 where
   pub tree : record_view run.tree ≡ shown_of meant
   pub net : IsListed run.net → listed_net run ≡ net_of meant
   pub sums : AreSumsOf run.sums (entries (record_of meant)) (net_of meant)
+  pub span : AreIn run.span (net_of meant)
 
 -- a run without entries, or one of this number that was made on some state of the batch's objects
 abbrev pub WasMade : Batch → ℕ → PendingRun → Type 0
@@ -180,3 +182,8 @@ pub record AreRenewed (batch : Batch) (state : State) (numbers : List ℕ) (old 
 abbrev pub AreRenewedAndAdded : Batch → State → List ℕ → List PendingRun → List PendingRun → List ℕ → List ℕ → List ℕ → List ℕ → Type 0
 AreRenewedAndAdded batch state numbers old new was counts before after = (own : List ℕ) × (after ≡ before ++ own)
     × AreRenewed batch state numbers old new was counts own
+
+-- what each run leaves is in its span; they are of the blocks from this number on
+abbrev pub AreSpanned : List Block → ℕ → List PendingRun → Type 0
+AreSpanned blocks number runs = (k : ℕ) (d : PendingRun) → k < length runs
+    → AreIn (slice_index_or runs k d).span (own_net (block_at blocks (number + k)) (slice_index_or runs k d))

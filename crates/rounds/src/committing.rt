@@ -1,57 +1,173 @@
 //! Commits runs: performs what they leave on the objects.
-ghost use Rattle.std.specs.Prelude.{◌≡◌, ◌+◌, ◌≤◌, length, OnOk};
+ghost use Rattle.std.specs.Prelude.{◌≡◌, ◌+◌, ◌<◌, ◌≤◌, ◌^◌, length, OnOk};
+ghost use Rattle.std.specs.Thread.{IsSync, IsSend};
 ghost use Rattle.batch.specs.Views.{block_view};
 ghost use Rattle.rounds.specs.Views.{blocks_of};
-ghost use Rattle.objects.specs.Entries.{after, AreLegal};
+ghost use Rattle.objects.specs.Entries.{after, AreLegal, AllHaveRoom};
+ghost use Rattle.objects.specs.Parts.{CanPerformOn, ArePerformedOn};
 ghost use Rattle.committed.specs.Summaries.{entries_of};
-ghost use Rattle.intentions.specs.Levels.{AllHaveRoom};
-ghost use Rattle.rounds.specs.PendingRuns.{own_net, own_nets};
+ghost use Rattle.rounds.specs.PendingRuns.{own_net, own_nets, AreSpanned};
 
+use crate::crew::{Crew, committers};
 use crate::pending_run::{Net, PendingRun};
 use batch::{Batch, Block, perform_left};
-use intentions::{MarkedEntry, perform_each};
+use intentions::{Entry, MarkedEntry};
+use objects::{Value, perform_on};
 use speculate::{NoMemory, Objects};
+use std::thread::{Threads, join_mut};
 
-// Performs the calls of entries that have their marks, one after the other.
-fn perform_marked(objects: &mut Objects, entries: &[MarkedEntry]) -> Result<(), NoMemory>
-    requires legal { AreLegal objects.old (entries_of entries.now) }
-    requires room { AllHaveRoom objects.old (entries_of entries.now) }
-    ensures { OnOk result (objects.new ≡ after objects.old (entries_of entries.now)) }
+// Performs those calls of entries that are on these values, one after the other.
+fn perform_each(values: &mut [Value], first: usize, entries: &[Entry]) -> Result<(), NoMemory>
+    requires { CanPerformOn first values.old entries.now }
+    ensures { OnOk result (ArePerformedOn first values.old values.new entries.now) }
 {
-    for marked in entries {
-        let _reply = objects.perform(marked.entry.object, &marked.entry.call)?;
+    for entry in entries {
+        perform_on(values, first, entry.object, &entry.call)?;
     }
     Ok(())
 }
 
-// Performs what a run of this block leaves.
-fn commit_one(block: &Block, run: &PendingRun, objects: &mut Objects) -> Result<(), NoMemory>
-    requires legal { AreLegal objects.old (own_net (block_view block.now) run.now) }
-    requires room { AllHaveRoom objects.old (own_net (block_view block.now) run.now) }
-    ensures { OnOk result (objects.new ≡ after objects.old (own_net (block_view block.now) run.now)) }
+// The same, of entries that have their marks.
+fn perform_marked(
+    values: &mut [Value],
+    first: usize,
+    entries: &[MarkedEntry],
+) -> Result<(), NoMemory>
+    requires { CanPerformOn first values.old (entries_of entries.now) }
+    ensures { OnOk result (ArePerformedOn first values.old values.new (entries_of entries.now)) }
+{
+    for marked in entries {
+        perform_on(values, first, marked.entry.object, &marked.entry.call)?;
+    }
+    Ok(())
+}
+
+// Performs what a run of this block leaves on these values.
+fn commit_one(
+    block: &Block,
+    run: &PendingRun,
+    first: usize,
+    values: &mut [Value],
+) -> Result<(), NoMemory>
+    requires { CanPerformOn first values.old (own_net (block_view block.now) run.now) }
+    ensures { OnOk result (ArePerformedOn first values.old values.new (own_net (block_view block.now) run.now)) }
 {
     match &run.net {
-        Net::Listed(net) => perform_each(objects, net),
-        Net::Summed => perform_marked(objects, run.sums.net()),
-        Net::Recorded => perform_left(block, &run.tree, 0, objects.values_mut()),
+        Net::Listed(net) => perform_each(values, first, net),
+        Net::Summed => perform_marked(values, first, run.sums.net()),
+        Net::Recorded => perform_left(block, &run.tree, first, values),
     }
 }
 
-/// Commits runs of the transactions from this number on, counted from 0, in order. On `NoMemory` some
-/// of their calls may have been performed.
-pub(crate) fn commit(
+// Performs what runs of the transactions from this number on leave on these values. Runs that leave
+// nothing there are passed over.
+fn commit_on(
+    batch: &Batch,
+    from: usize,
+    runs: &[PendingRun],
+    first: usize,
+    values: &mut [Value],
+) -> Result<(), NoMemory>
+    requires within { from + length runs.now ≤ length batch.now.transactions.items }
+    requires spans { AreSpanned (blocks_of batch.now) from runs.now }
+    requires can { CanPerformOn first values.old (own_nets (blocks_of batch.now) from runs.now) }
+    ensures { OnOk result (ArePerformedOn first values.old values.new (own_nets (blocks_of batch.now) from runs.now)) }
+{
+    for place in 0..runs.len() {
+        let run = &runs[place];
+        if run.span.meets(first, values.len()) {
+            commit_one(&batch.transactions[from + place], run, first, values)?;
+        }
+    }
+    Ok(())
+}
+
+// The same by so many workers, each on a part of the values.
+#[cycle(parts)]
+fn commit_by<R: Threads + Sync>(
+    threads: &R,
+    workers: u32,
+    batch: &Batch,
+    from: usize,
+    runs: &[PendingRun],
+    first: usize,
+    values: &mut [Value],
+) -> Result<(), NoMemory>
+    requires within { from + length runs.now ≤ length batch.now.transactions.items }
+    requires spans { AreSpanned (blocks_of batch.now) from runs.now }
+    requires few { first + length values.old < 2 ^ 64 }
+    requires can { CanPerformOn first values.old (own_nets (blocks_of batch.now) from runs.now) }
+    ensures { OnOk result (ArePerformedOn first values.old values.new (own_nets (blocks_of batch.now) from runs.now)) }
+{
+    let share = values.len() / workers.max(1) as usize;
+    if workers <= 1 || share == 0 {
+        return commit_on(batch, from, runs, first, values);
+    }
+    let (low, high) = values.split_at_mut(share);
+    commit_both(threads, workers - 1, batch, from, runs, first, low, high)
+}
+
+// The same on two parts: on the first in a new thread, where one can be made, and on the other by so
+// many workers.
+#[cycle(parts)]
+fn commit_both<R: Threads + Sync>(
+    threads: &R,
+    others: u32,
+    batch: &Batch,
+    from: usize,
+    runs: &[PendingRun],
+    first: usize,
+    low: &mut [Value],
+    high: &mut [Value],
+) -> Result<(), NoMemory>
+    requires within { from + length runs.now ≤ length batch.now.transactions.items }
+    requires spans { AreSpanned (blocks_of batch.now) from runs.now }
+    requires few { first + length low.old + length high.old < 2 ^ 64 }
+    requires can_low { CanPerformOn first low.old (own_nets (blocks_of batch.now) from runs.now) }
+    requires can_high { CanPerformOn (first + length low.old) high.old (own_nets (blocks_of batch.now) from runs.now) }
+    ensures low { OnOk result (ArePerformedOn first low.old low.new (own_nets (blocks_of batch.now) from runs.now)) }
+    ensures high { OnOk result (ArePerformedOn (first + length low.old) high.old high.new (own_nets (blocks_of batch.now) from runs.now)) }
+{
+    let beyond = first + low.len();
+    let mut on_low = || -> Result<(), NoMemory>
+        requires { (from + length runs.now ≤ length batch.now.transactions.items) × AreSpanned (blocks_of batch.now) from runs.now
+            × CanPerformOn first low.now (own_nets (blocks_of batch.now) from runs.now) }
+        ensures { OnOk result (ArePerformedOn first low.entry.now low.exit.now (own_nets (blocks_of batch.entry.now) from runs.entry.now)) }
+    { commit_on(batch, from, runs, first, low) };
+    let mut on_high = || -> Result<(), NoMemory>
+        requires { IsSync R.row × (from + length runs.now ≤ length batch.now.transactions.items) × AreSpanned (blocks_of batch.now) from runs.now
+            × (beyond + length high.now < 2 ^ 64) × CanPerformOn beyond high.now (own_nets (blocks_of batch.now) from runs.now) }
+        ensures { OnOk result (ArePerformedOn beyond high.entry.now high.exit.now (own_nets (blocks_of batch.entry.now) from runs.entry.now)) }
+    { commit_by(threads, others, batch, from, runs, beyond, high) };
+    let (low_done, high_done) = join_mut(threads, &mut on_low, &mut on_high);
+    low_done?;
+    high_done
+}
+
+/// Commits runs of the transactions from this number on, counted from 0, in order. Where they have
+/// many operations, several workers do it, each on a part of the objects. On `NoMemory` some of their
+/// calls may have been performed.
+pub(crate) fn commit<R: Threads + Sync, G>(
+    crew: &Crew<R, G>,
     batch: &Batch,
     from: usize,
     runs: &[PendingRun],
     objects: &mut Objects,
 ) -> Result<(), NoMemory>
     requires within { from + length runs.now ≤ length batch.now.transactions.items }
+    requires spans { AreSpanned (blocks_of batch.now) from runs.now }
     requires legal { AreLegal objects.old (own_nets (blocks_of batch.now) from runs.now) }
     requires room { AllHaveRoom objects.old (own_nets (blocks_of batch.now) from runs.now) }
     ensures { OnOk result (objects.new ≡ after objects.old (own_nets (blocks_of batch.now) from runs.now)) }
 {
-    for place in 0..runs.len() {
-        commit_one(&batch.transactions[from + place], &runs[place], objects)?;
-    }
-    Ok(())
+    let workers = committers(crew, runs.len());
+    commit_by(
+        crew.threads,
+        workers,
+        batch,
+        from,
+        runs,
+        0,
+        objects.values_mut(),
+    )
 }

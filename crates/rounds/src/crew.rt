@@ -55,6 +55,19 @@ pub(crate) fn makers<R, G>(crew: &Crew<R, G>, runs: usize) -> u32
         .workers_for(runs.saturating_mul(crew.operations_each))
 }
 
+/// How many operations of committed runs are enough for a worker.
+const COMMITTED: usize = 4096;
+
+/// How many workers to commit so many runs with: one for each 4,096 of the operations that they are
+/// taken to have, at least 1 and at most all of the plan.
+pub(crate) fn committers<R, G>(crew: &Crew<R, G>, runs: usize) -> u32
+    ensures within { (1 ≤ result) × (result ≤ crew.now.plan.workers) }
+{
+    let operations = runs.saturating_mul(crew.operations_each);
+    let workers = (operations / COMMITTED).min(crew.plan.workers as usize);
+    workers.max(1) as u32
+}
+
 /// How many workers to check the runs of these numbers with: all of the plan with a cut of 1, and
 /// else as many as pay for an eighth of their entries.
 pub(crate) fn checkers(plan: Plan, runs: &[PendingRun], numbers: &[usize]) -> u32

@@ -13,6 +13,7 @@ mod openings;
 mod pending;
 mod pending_run;
 mod renew;
+mod span;
 
 pub use batch::{Batch, Outcome, Record};
 pub use check::first_conflict;

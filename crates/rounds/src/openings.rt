@@ -69,6 +69,7 @@ fn records_of(alloc: Global, runs: Vec<PendingRun>) -> Result<Vec<Record>, NoMem
             tree,
             sums: _,
             net: _,
+            span: _,
             wait: _,
         } = made;
         records.push(tree)?;
@@ -136,7 +137,7 @@ fn round<R: Threads + Sync, G: Gate>(
     let seen = seek_conflict(crew, &at.runs[opened..], at.passed)?;
     let passed = seen.first;
     let committed = &at.runs[opened..opened + passed];
-    commit(batch, opened, committed, &mut at.objects)?;
+    commit(crew, batch, opened, committed, &mut at.objects)?;
     at.opened += passed;
     at.passed = passed;
     at.rounds += 1;

@@ -3,7 +3,9 @@ ghost use Rattle.std.specs.Prelude.{◌≡◌, ◌≤◌, [], length, IsTrue, No
 ghost use Rattle.committed.specs.Summaries.{entries_of};
 ghost use Rattle.committed.specs.declared.summary.TheConstants.{FEW_ENTRIES};
 ghost use Rattle.rounds.specs.PendingRuns.{left_by, listed_net, IsListed, AreSumsOf};
+ghost use Rattle.rounds.specs.Spans.{AreIn};
 
+use crate::span::Span;
 use batch::Record;
 use intentions::{Entry, FEW_ENTRIES, MarkedEntry, summarize};
 use meaning::End;
@@ -101,6 +103,8 @@ pub(crate) struct PendingRun {
     pub(crate) tree: Record,
     pub(crate) sums: Sums,
     pub(crate) net: Net,
+    /// Between which objects its net is.
+    pub(crate) span: Span,
     /// How often it is made again before its replies are tried.
     pub(crate) wait: u8,
 }
@@ -117,6 +121,7 @@ impl PendingRun {
             },
             sums: Sums::empty(alloc),
             net: Net::Summed,
+            span: Span::of(&[]),
             wait: 0,
         }
     }
@@ -157,9 +162,11 @@ impl PendingRun {
         ensures tree { OnOk result (self.new.tree ≡ run.old.tree) }
         ensures sums { OnOk result (AreSumsOf self.new.sums run.old.entries.items run.old.net.items) }
         ensures net { OnOk result (IsListed self.new.net → listed_net self.new ≡ run.old.net.items) }
+        ensures span { OnOk result (AreIn self.new.span run.old.net.items) }
     {
         let whole = run.net.len() == run.entries.len();
         self.sums.renew(alloc, &run.entries, &run.net, whole)?;
+        self.span = Span::of(&run.net);
         let spare = replace(&mut self.net, Net::Recorded).into_list(alloc);
         self.net = if run.net.len() <= FEW_ENTRIES {
             Net::Summed

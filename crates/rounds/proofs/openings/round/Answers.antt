@@ -48,7 +48,7 @@ slice_bounds-seek_conflict-start g c =
     search rules
 
 pub commit-requires-clause-legal : goal.commit-requires-clause-legal
-commit-requires-clause-legal g c =
+commit-requires-clause-legal g c κs within =
     (round_commits c.args.batch.now c.args.at.now.opened c.args.at.now.rounds c.in_ok-seen.seen.first c.args.at.now.objects
     c.args.at.now.runs.items
     c.renew.new.runs.items c.deref-2.result.now c.deref-3.result.now c.args.at.now.counts.items
@@ -56,12 +56,20 @@ commit-requires-clause-legal g c =
     c.in_ok-renew.ensures.renewed c.deref-2.ensures.value c.in_ok-seen.ensures.first c.deref-3.ensures.value).0
 
 pub commit-requires-clause-room : goal.commit-requires-clause-room
-commit-requires-clause-room g c =
+commit-requires-clause-room g c κs within =
     (round_commits c.args.batch.now c.args.at.now.opened c.args.at.now.rounds c.in_ok-seen.seen.first c.args.at.now.objects
     c.args.at.now.runs.items
     c.renew.new.runs.items c.deref-2.result.now c.deref-3.result.now c.args.at.now.counts.items
     c.renew.new.counts.items c.deref.result.now c.args.at.now.stale.items c.renew.new.changed.items c.requires.at.here c.deref.ensures.value
     c.in_ok-renew.ensures.renewed c.deref-2.ensures.value c.in_ok-seen.ensures.first c.deref-3.ensures.value).1
+
+pub commit-requires-clause-spans : goal.commit-requires-clause-spans
+commit-requires-clause-spans g c κs within =
+    (round_commits c.args.batch.now c.args.at.now.opened c.args.at.now.rounds c.in_ok-seen.seen.first c.args.at.now.objects
+    c.args.at.now.runs.items
+    c.renew.new.runs.items c.deref-2.result.now c.deref-3.result.now c.args.at.now.counts.items
+    c.renew.new.counts.items c.deref.result.now c.args.at.now.stale.items c.renew.new.changed.items c.requires.at.here c.deref.ensures.value
+    c.in_ok-renew.ensures.renewed c.deref-2.ensures.value c.in_ok-seen.ensures.first c.deref-3.ensures.value).2
 
 pub keep_all-requires-clause-made : goal.keep_all-requires-clause-made
 keep_all-requires-clause-made g c κs lives = λ k lt.

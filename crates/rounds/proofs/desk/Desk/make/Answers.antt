@@ -25,3 +25,4 @@ returns-clause-made g c =
     let run = c.run_in.new.run in
     let made = subst (λ n. IsRunOf (meant n) run) (same_number c.args.number) c.in_ok-run_in.ensures.run in
     pending_of (meant c.args.number) run c.put.new.self made c.in_ok-put.ensures.tree c.in_ok-put.ensures.net c.in_ok-put.ensures.sums
+    c.in_ok-put.ensures.span
