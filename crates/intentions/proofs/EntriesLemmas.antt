@@ -15,7 +15,8 @@ use Rattle.objects.specs.declared.call.Reply.{Reply}
 use Rattle.objects.specs.declared.entry.Entry.{Entry}
 use Rattle.objects.specs.Entries.{State, kinds, reply_at, after, AreLegal}
 use Rattle.intentions.specs.Levels.{AllHaveRoom}
-pub use Rattle.objects.proofs.ListLemmas.{after-append}
+use Rattle.objects.proofs.CommuteLemmas.{kinds_agree}
+pub use Rattle.objects.proofs.ListLemmas.{after-append, length-after}
 
 pub legal-append : (values : List Value) (xs ys : List Entry) → AreLegal values xs → AreLegal (after values xs) ys
     → AreLegal values (xs ++ ys)
@@ -38,15 +39,6 @@ room-take values (suc n) [] h = tt
 room-take values (suc n) (x ∷ xs) h = (h.0, room-take (objects.after values (x.object, x.call)) n xs h.1)
 
 -- a call whose reply an entry has fits
-kinds_agree : (v : Value) (c : Call) (r : Reply) → one_value.reply v c ≡ Some r → kind_of_value v ≡ kind_of_call c
-kinds_agree (account_value v) (account_call c) r h = refl
-kinds_agree (counter_value v) (counter_call c) r h = refl
-kinds_agree (set_value v) (set_call c) r h = refl
-kinds_agree (queue_value v) (queue_call c) r h = refl
-kinds_agree (directory_value v) (directory_call c) r h = refl
-kinds_agree (max_value v) (max_call c) r h = refl
-kinds_agree v c r h = cc
-
 pub legal-fits : (values : List Value) (object : ℕ) (c : Call) (r : Reply) → objects.reply values (object, c) ≡ Some r
     → Fits values object c
 legal-fits [] object c r h = cc
@@ -69,17 +61,6 @@ pub fitting_replies : (state : State) (object : ℕ) (c : Call) → reply_at sta
 fitting_replies [] object c misfit fits = cc
 fitting_replies (v ∷ vs) zero c misfit fits = value_fits v c misfit cc
 fitting_replies (v ∷ vs) (suc object) c misfit fits = fitting_replies vs object c misfit fits
-
-length-after_found : (values : List Value) (object : ℕ) (c : Call) (o : Option Value) → length (after_found one_value values object c o)
-    ≡ length values
-length-after_found values object c None = refl
-length-after_found values object c (Some v) = length-set values object (one_value.after v c)
-
--- entries change no number of objects
-pub length-after : (values : List Value) (entries : List Entry) → length (after values entries) ≡ length values
-length-after values [] = refl
-length-after values (e ∷ entries) =
-    length-after (objects.after values (e.object, e.call)) entries ∙ length-after_found values e.object e.call (slice_get values e.object)
 
 pub get-past : {A : Type 0} (xs : List A) (i : ℕ) → i < length xs → slice_get xs i ≡ None → ⊥
 get-past [] i h e = absurd (omega arith)
