@@ -9,7 +9,7 @@ use Rattle.std.proofs.Math.ListN.{get_or-append, length-drop}
 use native.Mathlib.Decide.{dec_le}
 use Rattle.objects.specs.declared.entry.Entry.{Entry}
 use Rattle.rounds.specs.declared.pending_run.PendingRun.{PendingRun}
-use Rattle.rounds.specs.PendingRuns.{left_by, all_left, HoldsPast, HoldsAt, IsFirstFrom, AreStarts}
+use Rattle.rounds.specs.PendingRuns.{left_by, all_left, HoldsPast, HoldsAt, HoldAlike, IsFirstFrom, AreStarts}
 use Rattle.rounds.specs.Checks.{IsSeen}
 
 -- the nets of two lists of runs
@@ -125,6 +125,11 @@ module _ (runs : List PendingRun) (from i : ℕ) where
   pub rest_is : (run : PendingRun) → run ≡ get_or (take (length runs - from) (drop from runs)) i run → run ≡ get_or runs (from + i) run
   rest_is run is = is ∙ (ap (λ rs. get_or rs i run) (take_rest runs from) ∙ get_or-drop from runs i run)
 
+-- past one and the same list the runs hold alike
+pub alike_same : (runs : List PendingRun) (from : ℕ) (xs ys : List Entry) → xs ≡ ys → HoldAlike runs from xs ys
+alike_same runs from xs ys same i d low lt = subst (λ l. HoldsPast xs (get_or runs i d) ↔ HoldsPast l (get_or runs i d)) same
+    (λ h. h, λ h. h)
+
 -- ---- a block of runs, which ends at place n
 
 -- what holds before it and in it
@@ -147,7 +152,8 @@ block_seen runs n from first upto nets starts within inside listed are is before
       first = first_found runs first (omega arith) (λ k low. block_clear runs n from first before told k (omega arith) low)
           (λ _ stands. told.conflict lt (stands_front runs n first inside stands));
       within = front_within (take n runs) first upto nets listed size;
-      nets = front_taken (take n runs) first upto nets listed size ∙ before_front runs n first inside;
+      nets = alike_same runs first (take upto nets) (all_left (take first runs))
+          (front_taken (take n runs) first upto nets listed size ∙ before_front runs n first inside);
     }
 
 -- ---- run by run
@@ -164,13 +170,13 @@ clear_more runs i clear here k lt = elim (dec_le i k) [
 pub all_taken : (nets : List Entry) (upto : ℕ) → upto ≡ length nets → take upto nets ≡ nets
 all_taken nets upto size = take_all upto nets (omega arith)
 
--- the nets of the runs before a conflict are listed, and no others
+-- what is listed is as good as the nets of the runs before a conflict
 pub turn_seen : (runs : List PendingRun) (first upto : ℕ) (nets : List Entry) → first ≤ length runs → upto ≡ length nets
-    → nets ≡ all_left (take first runs)
+    → HoldAlike runs first nets (all_left (take first runs))
     → ((k : ℕ) → k < first → HoldsAt runs k) → (first < length runs → ¬ HoldsAt runs first)
     → IsSeen runs (record { first = first; nets = nets; upto = upto })
 turn_seen runs first upto nets within size listed clear fails = record {
   first = first_found runs first within clear fails;
   within = omega arith;
-  nets = all_taken nets upto size ∙ listed;
+  nets = subst (λ ns. HoldAlike runs first ns (all_left (take first runs))) (sym (all_taken nets upto size)) listed;
 }

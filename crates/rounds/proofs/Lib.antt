@@ -11,6 +11,8 @@ pub mod Summed
 pub mod Steps
 pub mod Ends
 pub mod Touched
+pub mod OwnersLemmas
+pub mod Alike
 pub mod Repeating
 pub mod Wholes
 pub mod Trials

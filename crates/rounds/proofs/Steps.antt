@@ -24,10 +24,12 @@ use Rattle.rounds.proofs.Times.{times_read}
 use Rattle.rounds.proofs.Renewing.{still_earlier, stays}
 use Rattle.rounds.specs.Passes.{CanBeMade}
 use Rattle.claims.specs.Views.{times}
-use Rattle.rounds.specs.PendingRuns.{IsPendingOf, own_nets, AreSpanned, all_left, Kept, HoldsPast, AreRefuted, AreRenewed, IsFirstFrom}
+use Rattle.rounds.specs.PendingRuns.{IsPendingOf, own_nets, AreSpanned, all_left, HoldAlike, Kept, HoldsPast, AreRefuted, AreRenewed}
+use Rattle.rounds.specs.PendingRuns.{IsFirstFrom}
 use Rattle.rounds.specs.Checks.{IsSeen}
 use Rattle.rounds.specs.declared.check.Seen.{Seen}
 use Rattle.rounds.specs.AtOpenings.{AtOpening}
+use Rattle.rounds.proofs.Alike.{alike_among}
 use Rattle.rounds.proofs.Conflicts.{some_run, AreAlone, left, spanned, holds_past, still_stands, keeps_answers, next_opening}
 
 none_or_some : (n : ℕ) → (n ≡ 0) ⊎ (0 < n)
@@ -244,17 +246,20 @@ module _ (batch : Batch) (b m : ℕ) (rounds : ℕ) (state next : State) (runs :
 rest_of : (runs : List PendingRun) (b : ℕ) → take (length runs - b) (drop b runs) ≡ drop b runs
 rest_of runs b = let size = length-drop b runs in take_all (length runs - b) (drop b runs) (omega arith)
 
--- what was listed is what the runs that are committed leave
+-- what was listed is, for the later runs, as good as what the runs that are committed leave
 pub listed_nets : (b : ℕ) (seen : Seen) (new first_of kept_of : List PendingRun)
     → first_of ≡ new
     → IsSeen (take (length first_of - b) (drop b first_of)) seen
     → kept_of ≡ new
-    → take seen.upto seen.nets ≡ all_left (take ((b + seen.first) - b) (drop b kept_of))
+    → HoldAlike kept_of (b + seen.first) (take seen.upto seen.nets) (all_left (take ((b + seen.first) - b) (drop b kept_of)))
 listed_nets b seen new first_of kept_of first_is saw kept_is =
     let first = seen.first in
     let here = subst (λ rs. IsSeen rs seen) (rest_of new b) (subst (λ rs. IsSeen (take (length rs - b) (drop b rs)) seen) first_is saw) in
     let size : first ≡ (b + first) - b = omega arith in
-    here.nets ∙ (ap (λ n. all_left (take n (drop b new))) size ∙ ap (λ rs. all_left (take ((b + first) - b) (drop b rs))) (sym kept_is))
+    let listed = take seen.upto seen.nets in
+    subst (λ rs. HoldAlike rs (b + first) listed (all_left (take ((b + first) - b) (drop b rs)))) (sym kept_is)
+    (subst (λ n. HoldAlike new (b + first) listed (all_left (take n (drop b new)))) size
+    (alike_among new b first listed (all_left (take first (drop b new))) here.nets))
 
 -- what a round commits is legal on the objects of its opening, has room, and is in its spans
 pub round_commits : (batch : Batch) (b rounds passed : ℕ) (state : State) (old new first_of prefix_of : List PendingRun)
@@ -312,7 +317,7 @@ pub one_round : (batch : Batch) (b rounds : ℕ) (seen : Seen) (state next : Sta
     → prefix_of ≡ new
     → next ≡ after state (own_nets (blocks_of batch) b (take ((b + seen.first) - b) (drop b prefix_of)))
     → kept_of ≡ new
-    → AreRefuted kept_of (take seen.upto seen.nets) (b + seen.first) (length kept_of) later
+    → AreRefuted kept_of (all_left (take ((b + seen.first) - b) (drop b kept_of))) (b + seen.first) (length kept_of) later
     → b < length (blocks_of batch)
     → IsNextOpening (start_of batch) (blocks_of batch) b (b + seen.first) × AtOpening batch (b + seen.first)
     (rounds + 1) next new counts later
@@ -330,8 +335,8 @@ one_round batch b rounds seen state next old new first_of prefix_of kept_of was 
     here.first in
     let counted = ap (nets (start_of batch) (blocks_of batch) b) (sym count) in
     let summed = subst (IsSummary (all_left (take seen.first (drop b new)))) counted here_left.1 in
-    let told_here = subst (λ ns. AreRefuted new ns (b + seen.first) (length new) later) here.nets
-    (subst (λ rs. AreRefuted rs (take seen.upto seen.nets) (b + seen.first) (length rs) later) kept_is told) in (
+    let told_here = subst (λ k. AreRefuted new (all_left (take k (drop b new))) (b + seen.first) (length new) later) count
+    (subst (λ rs. AreRefuted rs (all_left (take ((b + seen.first) - b) (drop b rs))) (b + seen.first) (length rs) later) kept_is told) in (
       opening,
       moves_on batch b (b + seen.first) rounds state next new counts later (all_left (take seen.first (drop b new))) fresh going opening
           summed

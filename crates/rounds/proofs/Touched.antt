@@ -253,7 +253,7 @@ all_put pending watch runs opened from made le tells count put others = record {
 }
 
 -- past two lists, one after the other
-past_both : (es xs ys : List Entry) → AllCommute es xs → AllCommute es ys → AllCommute es (xs ++ ys)
+pub past_both : (es xs ys : List Entry) → AllCommute es xs → AllCommute es ys → AllCommute es (xs ++ ys)
 past_both [] xs ys first second = tt
 past_both (e ∷ es) xs ys first second = (commutes_both e xs ys first.0 second.0, past_both es xs ys first.1 second.1)
 

@@ -6,6 +6,7 @@ use Rattle.meaning.specs.Rounds.{RoundsFrom, Rounds, CountFrom, Count}
 use Rattle.meaning.specs.declared.limits.TheConstants.{MAX_TRANSACTIONS}
 use Rattle.rounds.specs.Views.{start_of, blocks_of}
 use Rattle.rounds.specs.Pending.{WatchesAll}
+use Rattle.rounds.specs.Owners.{AllNoted}
 use Rattle.claims.specs.Views.{times}
 use Rattle.rounds.specs.PendingRuns.{IsPendingOf, WasMade}
 use Rattle.rounds.specs.declared.openings.Opening.{Opening}
@@ -37,3 +38,4 @@ pub record IsOpening (batch : Batch) (at : Opening) : Type 0 where
   pub here : AtOpening batch at.opened at.rounds at.objects at.runs.items at.counts.items at.stale.items
   pub few : length at.stale.items ≤ MAX_TRANSACTIONS
   pub watched : WatchesAll at.pending.watch at.runs.items at.opened
+  pub noted : AllNoted at.owners 0 at.runs.items

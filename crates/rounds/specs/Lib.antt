@@ -7,3 +7,4 @@ pub mod Openings
 pub mod AtOpenings
 pub mod Checks
 pub mod Pending
+pub mod Owners

@@ -1,6 +1,6 @@
 -- Pending runs, and what the passes over them return: which is the first that doesn't hold, which are to be made again,
 -- those that were made. No public contract names it.
-use Rattle.std.specs.Prelude.{◌≡◌, ◌≢◌, ⊤, ℕ, suc, ◌+◌, ◌<◌, ◌≤◌, ◌⊎◌, Option, Some, None, List, [], ◌∷◌, ◌++◌, length, map, take, set}
+use Rattle.std.specs.Prelude.{◌≡◌, ◌≢◌, ◌↔◌, ⊤, ℕ, suc, ◌+◌, ◌<◌, ◌≤◌, ◌⊎◌, Option, Some, None, List, [], ◌∷◌, ◌++◌, length, map, take, set}
 use Rattle.std.specs.Prelude.{slice_index_or, option_map, box_value}
 use Rattle.std.specs.List.{All}
 use Rattle.std.specs.declared.vec.Vec.{Vec}
@@ -86,6 +86,11 @@ all_left (run ∷ runs) = left_by run.sums ++ all_left runs
 -- each entry of the run's summary commutes forward with each of the list
 abbrev pub HoldsPast : List Entry → PendingRun → Type 0
 HoldsPast since run = AllCommute (entries_of run.sums.entries.items) since
+
+-- each run from one place on holds past the one list where it holds past the other
+abbrev pub HoldAlike : List PendingRun → ℕ → List Entry → List Entry → Type 0
+HoldAlike runs from listed left = (i : ℕ) (d : PendingRun) → from ≤ i → i < length runs
+    → HoldsPast listed (slice_index_or runs i d) ↔ HoldsPast left (slice_index_or runs i d)
 
 -- run i holds past what those before it leave
 abbrev pub HoldsAt : List PendingRun → ℕ → Type 0

@@ -4,11 +4,13 @@ ghost use Rattle.std.specs.Prelude.{◌≡◌, ◌↔◌, ◌+◌, ◌<◌, ◌�
 ghost use Rattle.rounds.specs.Passes.{IsFirstConflict};
 ghost use Rattle.rounds.specs.PendingRuns.{all_left, HoldsPast, HoldsAt, IsFirstFrom, AreStarts, AreSummed};
 ghost use Rattle.rounds.specs.Checks.{IsSeen};
+ghost use Rattle.rounds.specs.Owners.{AllNoted};
 ghost use Rattle.rounds.specs.declared.pending_run.PendingRun.{PendingRun as OnePending};
 ghost use Rattle.meaning.specs.declared.limits.TheConstants.{MAX_TRANSACTIONS};
 ghost use Rattle.plan.specs.declared.plan.TheConstants.{MAX_WORKERS};
 
 use crate::crew::Crew;
+use crate::owners::{Owners, list_shared};
 use crate::pending_run::PendingRun;
 use intentions::Committed;
 use plan::Plan;
@@ -18,7 +20,7 @@ use std::thread::Threads;
 use workers::first_failing;
 
 /// What a check found: the first conflict, a list that begins with the nets of the runs before it,
-/// and how many entries of the list these nets are.
+/// and how many entries of the list these nets are. What no other run touches may be left out.
 #[derive(Drop)]
 pub(crate) struct Seen {
     pub(crate) first: usize,
@@ -56,7 +58,7 @@ pub(crate) fn stands_past(runs: &[PendingRun], place: usize, nets: &Committed, u
     requires upto { upto ≤ length nets.now }
     ensures { IsTrue result ↔ ((d : OnePending) → HoldsPast (take upto nets.now) (slice_index_or runs.now place d)) }
 {
-    nets.stands(&runs[place].sums.entries, upto)
+    upto == 0 || nets.stands(&runs[place].sums.entries, upto)
 }
 
 // The first conflict from one place on. The workers check the runs side by side, a run as a piece.
@@ -130,12 +132,20 @@ fn seek_in_blocks<R: Threads + Sync, G: Gate>(
 }
 
 // The first conflict, sought run by run. The net of a run without a conflict is listed before the
-// next run is checked.
-fn seek_in_turn<G: Gate>(alloc: Global, runs: &[PendingRun], gate: &G) -> Result<Seen, NoMemory>
-    requires few { length runs.now ≤ MAX_TRANSACTIONS }
+// next run is checked, without what no other run touches. The runs are numbered from `opened` on.
+fn seek_in_turn<G: Gate>(
+    alloc: Global,
+    runs: &[PendingRun],
+    opened: usize,
+    owners: &Owners,
+    gate: &G,
+) -> Result<Seen, NoMemory>
+    requires few { opened + length runs.now ≤ MAX_TRANSACTIONS }
+    requires noted { AllNoted owners.now opened runs.now }
     ensures { IfOk result (λ seen. IsSeen runs.now seen) }
 {
     let mut nets = Committed::new(alloc);
+    let mut shared = Vec::new(alloc);
     for place in 0..runs.len() {
         gate.pass(0, place as u32 + 1);
         let upto = nets.len();
@@ -146,7 +156,8 @@ fn seek_in_turn<G: Gate>(alloc: Global, runs: &[PendingRun], gate: &G) -> Result
                 upto,
             });
         }
-        nets.append_marked(runs[place].sums.net())?;
+        list_shared(owners, opened + place, runs[place].sums.net(), &mut shared)?;
+        nets.append_marked(&shared)?;
     }
     let upto = nets.len();
     Ok(Seen {
@@ -164,19 +175,24 @@ fn seek_in_turn<G: Gate>(alloc: Global, runs: &[PendingRun], gate: &G) -> Result
 /// expected to be committed.
 ///
 /// Otherwise one worker checks each run and lists its net, run by run, up to the first conflict.
-/// Listing a net costs as much as checking it, and only one worker can list.
+/// Listing a net costs as much as checking it, and only one worker can list. So entries about
+/// objects that no other run touches aren't listed: they commute with all entries of the others.
+/// The runs are numbered from `opened` on.
 ///
 /// Returns `NoMemory` where a request for memory was refused.
 pub(crate) fn seek_conflict<R: Threads + Sync, G: Gate>(
     crew: &Crew<R, G>,
     runs: &[PendingRun],
+    opened: usize,
+    owners: &Owners,
     expected: usize,
 ) -> Result<Seen, NoMemory>
-    requires few { length runs.now ≤ MAX_TRANSACTIONS }
+    requires few { opened + length runs.now ≤ MAX_TRANSACTIONS }
+    requires noted { AllNoted owners.now opened runs.now }
     ensures { IfOk result (λ seen. IsSeen runs.now seen) }
 {
     if crew.plan.cut > 1 || crew.plan.workers == 1 {
-        return seek_in_turn(crew.alloc, runs, crew.gate);
+        return seek_in_turn(crew.alloc, runs, opened, owners, crew.gate);
     }
     seek_in_blocks(crew, runs, expected)
 }
@@ -219,6 +235,7 @@ pub fn first_conflict<R: Threads + Sync, G: Gate>(
         operations_each: 1,
     };
     let pending = summed(alloc, runs)?;
-    let seen = seek_conflict(&crew, &pending, 0)?;
+    let owners = Owners::new(alloc, 0)?;
+    let seen = seek_conflict(&crew, &pending, 0, &owners, 0)?;
     Ok(seen.first)
 }

@@ -1,6 +1,6 @@
 //! The check after a commit: which pending runs conflict with what was committed.
-ghost use Rattle.std.specs.Prelude.{◌≡◌, ◌<◌, ◌≤◌, ℕ, IfOk, OnOk, length, take, slice_index_or, slice_range};
-ghost use Rattle.rounds.specs.PendingRuns.{all_left, AreRefuted, AreRefutedAmong, IsTold};
+ghost use Rattle.std.specs.Prelude.{◌<◌, ◌≤◌, ℕ, IfOk, OnOk, length, take, slice_index_or, slice_range};
+ghost use Rattle.rounds.specs.PendingRuns.{all_left, HoldAlike, AreRefuted, AreRefutedAmong, IsTold};
 ghost use Rattle.rounds.specs.Pending.{ArePlaces, Tells, WatchesAll};
 ghost use Rattle.meaning.specs.declared.limits.TheConstants.{MAX_TRANSACTIONS};
 
@@ -105,9 +105,9 @@ fn refuted_of<R: Threads + Sync, G: Gate>(
 }
 
 /// The numbers of the runs, from one place on, that don't stand past what was committed, in any
-/// order. What was committed is the first `upto` entries of the nets. Only the runs that the commit
-/// may touch are decided, since the others are still valid. The workers decide them side by side, a
-/// run as a piece.
+/// order. These runs stand past what was committed where they stand past the first `upto` entries
+/// of the nets. Only the runs that the commit may touch are decided, since the others are still
+/// valid. The workers decide them side by side, a run as a piece.
 ///
 /// Returns `NoMemory` where a request for memory was refused.
 pub(crate) fn keep_all<R: Threads + Sync, G: Gate>(
@@ -126,8 +126,8 @@ pub(crate) fn keep_all<R: Threads + Sync, G: Gate>(
     requires made { (k : ℕ) → k < length made.now → slice_index_or made.now k 0 < length runs.now }
     requires tells { Tells pending.old runs.now opened made.now }
     requires upto { upto ≤ length nets.now }
-    requires nets { take upto nets.now ≡ all_left (slice_range runs.now opened from) }
-    ensures refuted { IfOk result (λ numbers. AreRefuted runs.now (take upto nets.now) from (length runs.now) numbers.items) }
+    requires nets { HoldAlike runs.now from (take upto nets.now) (all_left (slice_range runs.now opened from)) }
+    ensures refuted { IfOk result (λ numbers. AreRefuted runs.now (all_left (slice_range runs.now opened from)) from (length runs.now) numbers.items) }
     ensures few { IfOk result (λ numbers. length numbers.items ≤ MAX_TRANSACTIONS) }
     ensures watched { OnOk result (WatchesAll pending.new.watch runs.now from) }
 {

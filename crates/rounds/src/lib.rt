@@ -10,6 +10,7 @@ mod keep;
 pub mod laws;
 mod make;
 mod openings;
+mod owners;
 mod pending;
 mod pending_run;
 mod renew;

@@ -16,6 +16,7 @@ use crate::check::seek_conflict;
 use crate::committing::commit;
 use crate::crew::Crew;
 use crate::keep::keep_all;
+use crate::owners::{Owners, note_changed};
 use crate::pending::Pending;
 use crate::pending_run::PendingRun;
 use crate::renew::renew;
@@ -88,6 +89,8 @@ struct Opening {
     // Those that were made anew in the last pass.
     changed: Vec<usize>,
     pending: Pending,
+    // Which runs have had entries about each object.
+    owners: Owners,
     opened: usize,
     // How many transactions the round before committed.
     passed: usize,
@@ -106,6 +109,7 @@ fn begin(alloc: Global, batch: &Batch) -> Result<Opening, NoMemory>
         stale: all_numbers(alloc, count)?,
         changed: Vec::new(alloc),
         pending: Pending::new(alloc, count)?,
+        owners: Owners::new(alloc, batch.objects.len())?,
         opened: 0,
         passed: 0,
         rounds: 0,
@@ -132,9 +136,10 @@ fn round<R: Threads + Sync, G: Gate>(
         &mut at.counts,
         &mut at.changed,
     )?;
+    note_changed(&mut at.owners, &at.runs, &at.changed);
     let opened = at.opened;
     // As many runs are expected to be committed as in the round before.
-    let seen = seek_conflict(crew, &at.runs[opened..], at.passed)?;
+    let seen = seek_conflict(crew, &at.runs[opened..], opened, &at.owners, at.passed)?;
     let passed = seen.first;
     let committed = &at.runs[opened..opened + passed];
     commit(crew, batch, opened, committed, &mut at.objects)?;

@@ -1,5 +1,6 @@
-use Rattle.std.proofs.Common.{◌≡◌, ◌≤◌, length, arith}
-use Rattle.rounds.proofs.Firsts.{block_clear, block_seen, turn_seen}
+use Rattle.std.proofs.Common.{◌≡◌, ◌≤◌, length, take, arith}
+use Rattle.rounds.specs.PendingRuns.{all_left}
+use Rattle.rounds.proofs.Firsts.{alike_same, block_clear, block_seen, turn_seen}
 use Rattle.rounds.proofs.check.seek_in_blocks.Goals as goal
 
 pub returns-then-first-end : goal.returns-then-first-end
@@ -24,5 +25,6 @@ returns g c =
     let runs = c.args.runs.now in
     let was = c.looking.invariant in
     let end : c.looking.from ≡ length runs = omega (arith, was.within, c.looking-test.false) in
-    turn_seen runs c.looking.from c.len-upto.result c.looking.nets was.within c.len-upto.ensures was.nets was.clear
+    turn_seen runs c.looking.from c.len-upto.result c.looking.nets was.within c.len-upto.ensures
+    (alike_same runs c.looking.from c.looking.nets (all_left (take c.looking.from runs)) was.nets) was.clear
     (λ lt. absurd (omega (arith, end, lt)))

@@ -1,7 +1,9 @@
-use Rattle.std.proofs.Common.{◌∙◌, sym, ap, take, arith, rules}
-use Rattle.committed.specs.Summaries.{entries_of}
+use Rattle.std.proofs.Common.{◌+◌, ◌∙◌, sym, ap, take, arith, rules}
+use Rattle.rounds.specs.Owners.{shared_of}
 use Rattle.rounds.specs.PendingRuns.{left_by}
-use Rattle.rounds.proofs.Firsts.{nets_more, all_taken, stands_here, clear_more, turn_seen}
+use Rattle.committed.specs.Summaries.{entries_of}
+use Rattle.rounds.proofs.Firsts.{all_taken, clear_more, turn_seen}
+use Rattle.rounds.proofs.Alike.{alike_more, stands_alike}
 use Rattle.rounds.proofs.check.seek_in_turn.Goals as goal
 
 pub loop-place-preserved : goal.loop-place-preserved
@@ -11,12 +13,16 @@ loop-place-preserved g c =
     let so_far = c.loop-place.invariant.nets in
     let run_is = c.index-runs-place.is in
     let run = c.index-runs-place.result in
-    let listed = all_taken c.loop-place.nets c.len-upto.result c.len-upto.ensures ∙ so_far in
-    let here = (stands_here runs place (take c.len-upto.result c.loop-place.nets) c.stands_past.result listed c.stands_past.ensures).0
-    c.if-not-stands_past.false in
+    let listed = all_taken c.loop-place.nets c.len-upto.result c.len-upto.ensures in
+    let here = (stands_alike runs place c.loop-place.nets (take c.len-upto.result c.loop-place.nets) c.stands_past.result
+    c.loop-place-test.true listed so_far c.stands_past.ensures).0 c.if-not-stands_past.false in
+    let number = c.args.opened + place in
+    let net_is = c.net.ensures ∙ ap (λ r. left_by r.sums) (sym run_is) in
     record {
-      nets = nets_more runs place run c.loop-place.nets c.append_marked.new.self (entries_of c.net.result.now) c.loop-place-test.true
-          run_is (c.net.ensures ∙ ap (λ r. left_by r.sums) (sym run_is)) c.in_ok-append_marked.ensures.ok so_far;
+      nets = alike_more c.args.owners.now c.args.opened place runs run c.loop-place.nets c.append_marked.new.self
+          (entries_of c.deref.result.now) c.loop-place-test.true run_is c.requires.noted
+          (ap entries_of c.deref.ensures.value ∙ (c.in_ok-list_shared.ensures ∙ ap (shared_of c.args.owners.now number) net_is))
+          c.in_ok-append_marked.ensures.ok so_far;
       clear = clear_more runs place c.loop-place.invariant.clear here;
     }
 
@@ -27,7 +33,8 @@ returns-then-not-stands_past g c =
     let so_far = c.loop-place.invariant.nets in
     let low = c.loop-place-test.true in
     let failed = c.if-not-stands_past.true in
-    let listed = all_taken c.loop-place.nets c.len-upto.result c.len-upto.ensures ∙ so_far in
-    let here = stands_here runs place (take c.len-upto.result c.loop-place.nets) c.stands_past.result listed c.stands_past.ensures in
+    let listed = all_taken c.loop-place.nets c.len-upto.result c.len-upto.ensures in
+    let here = stands_alike runs place c.loop-place.nets (take c.len-upto.result c.loop-place.nets) c.stands_past.result low listed so_far
+    c.stands_past.ensures in
     turn_seen runs place c.len-upto.result c.loop-place.nets (omega arith) c.len-upto.ensures so_far c.loop-place.invariant.clear
     (λ lt stands. let passed = here.1 stands in search rules)

@@ -1,6 +1,9 @@
 use Rattle.std.proofs.Common.{length, take, sym, subst, arith}
 use Rattle.std.proofs.lemmas.Result.{IfOk-weaker}
+use Rattle.std.specs.Prelude.{slice_range}
+use Rattle.rounds.specs.PendingRuns.{all_left}
 use Rattle.rounds.specs.Pending.{ArePlaces, AreTouched}
+use Rattle.rounds.proofs.Alike.{among_alike}
 use Rattle.rounds.proofs.Touched.{touched_places, few_places, refuted_among_all}
 use Rattle.rounds.proofs.keep.keep_all.Goals as goal
 
@@ -12,13 +15,17 @@ refuted_of-requires-clause-places g c κs within =
 pub returns-clause-refuted : goal.returns-clause-refuted
 returns-clause-refuted g c =
     let runs = c.args.runs.now in
-    let since = take c.args.upto c.args.nets.now in
-    let past : AreTouched c.touch.new.self.touched runs c.args.from since =
-    subst (AreTouched c.touch.new.self.touched runs c.args.from) (sym c.requires.nets) c.in_ok-touch.ensures.touched in
-    let are : AreTouched c.touched.result.now runs c.args.from since =
-    subst (λ l. AreTouched l runs c.args.from since) (sym c.touched.ensures.all) past in
+    let listed = take c.args.upto c.args.nets.now in
+    let since = all_left (slice_range runs c.args.opened c.args.from) in
+    let touched = c.touched.result.now in
+    let are : AreTouched touched runs c.args.from since =
+    subst (λ l. AreTouched l runs c.args.from since) (sym c.touched.ensures.all) c.in_ok-touch.ensures.touched in
+    let places : ArePlaces touched c.args.from (length runs) =
+    touched_places touched c.touch.new.self.touched c.args.from (length runs) c.touched.ensures.all
+    c.touched.ensures.distinct c.in_ok-touch.ensures.touched.high c.in_ok-touch.ensures.touched.low in
     IfOk-weaker c.refuted_of.result _ _
-    (λ numbers among. refuted_among_all runs since c.args.from c.touched.result.now numbers.items are among) c.refuted_of.ensures
+    (λ numbers among. refuted_among_all runs since c.args.from touched numbers.items are
+    (among_alike runs c.args.from listed since touched numbers.items c.requires.nets places among)) c.refuted_of.ensures
 
 pub returns-clause-few : goal.returns-clause-few
 returns-clause-few g c =

@@ -4,6 +4,7 @@ use Rattle.rounds.specs.Views.{blocks_of}
 use Rattle.batch.specs.Views.{block_view}
 use Rattle.rounds.proofs.Steps.{starts}
 use Rattle.rounds.proofs.Touched.{all_blank}
+use Rattle.rounds.proofs.OwnersLemmas.{blank_noted}
 use Rattle.rounds.proofs.openings.begin.Goals as goal
 
 pub returns : goal.returns
@@ -21,5 +22,7 @@ returns c =
           (λ i lt. stale.ensures.below i (omega (arith, lt))) (λ i le. stale.ensures.beyond i (omega (arith, le)));
       few = omega (arith, stale.ensures.all);
       watched = all_blank c.in_ok-new.field-0.watch runs.field-0.items (omega (arith, c.in_ok-new.ensures, runs.ensures.all))
+          (λ i d lt. runs.ensures.blank i d (omega (arith, runs.ensures.all, lt)));
+      noted = blank_noted c.in_ok-new-2.field-0 runs.field-0.items
           (λ i d lt. runs.ensures.blank i d (omega (arith, runs.ensures.all, lt)));
     }

@@ -1,4 +1,4 @@
-use Rattle.std.proofs.Common.{◌≡◌, ◌+◌, ◌<◌, ◌≤◌, length, get_or, refl, ap, sym, subst, arith, rules}
+use Rattle.std.proofs.Common.{◌≡◌, ◌+◌, ◌-◌, ◌<◌, ◌≤◌, length, get_or, take, drop, refl, ap, sym, subst, arith, rules}
 use Rattle.std.proofs.lemmas.List.{length-map}
 use Rattle.meaning.proofs.Openings.{comes_on}
 use Rattle.rounds.specs.Views.{start_of, blocks_of}
@@ -8,6 +8,8 @@ use Rattle.committed.specs.NumberSets.{Has}
 use Rattle.rounds.specs.Pending.{Tells, WatchesAll}
 use Rattle.rounds.proofs.Steps.{one_round, round_commits, listed_nets, stale_can_be_made, same_kinds}
 use Rattle.rounds.proofs.Touched.{tells_renewed}
+use Rattle.rounds.specs.Owners.{AllNoted}
+use Rattle.rounds.proofs.OwnersLemmas.{noted_renewed, noted_from}
 use Rattle.rounds.proofs.openings.round.Goals as goal
 
 pub renew-requires-clause-numbers : goal.renew-requires-clause-numbers
@@ -32,71 +34,93 @@ pub renew-requires-clause-same_kinds : goal.renew-requires-clause-same_kinds
 renew-requires-clause-same_kinds g c κs lives = same_kinds c.args.batch.now c.args.at.now.opened c.args.at.now.rounds c.args.at.now.objects
     c.args.at.now.runs.items c.args.at.now.counts.items c.args.at.now.stale.items c.requires.at.here
 
+pub note_changed-requires : goal.note_changed-requires
+note_changed-requires g c = λ k lt.
+    let blocks : length (blocks_of c.args.batch.now) ≡ length c.args.batch.now.transactions.items =
+    length-map c.args.batch.now.transactions.items block_view in
+    let number = get_or c.deref-3.result.now k 0 in
+    let renewed = c.in_ok-renew.ensures.renewed in
+    let given = renewed.among number (subst (λ ns. Has ns number) c.deref-3.ensures.value (record { at = k; within = lt; is = refl })) in
+    let inside = (c.requires.at.here.numbers number (subst (λ ns. 0 < times number ns) c.deref.ensures.value given)).1 in
+    let all = c.requires.at.here.all in
+    let runs = renewed.runs in
+    omega (arith, ap length c.deref-2.ensures.value)
+
 pub slice_bounds-seek_conflict-count : goal.slice_bounds-seek_conflict-count
 slice_bounds-seek_conflict-count g c =
     let within = c.requires.at.here.within in
     let all = c.requires.at.here.all in
     let runs = c.in_ok-renew.ensures.renewed.runs in
-    omega (arith, ap length c.deref-2.ensures.value)
+    omega (arith, ap length c.deref-4.ensures.value)
 
 pub slice_bounds-seek_conflict-start : goal.slice_bounds-seek_conflict-start
 slice_bounds-seek_conflict-start g c =
     let within = c.requires.at.here.within in
     let all = c.requires.at.here.all in
     let runs = c.in_ok-renew.ensures.renewed.runs in
-    let inside : c.args.at.now.opened ≤ length c.deref-2.result.now = omega (arith, ap length c.deref-2.ensures.value) in
+    let inside : c.args.at.now.opened ≤ length c.deref-4.result.now = omega (arith, ap length c.deref-4.ensures.value) in
     search rules
+
+pub seek_conflict-requires-clause-noted : goal.seek_conflict-requires-clause-noted
+seek_conflict-requires-clause-noted g c κs lives =
+    subst (λ rs. AllNoted c.note_changed.new.owners c.args.at.now.opened (take (length rs - c.args.at.now.opened)
+    (drop c.args.at.now.opened rs))) (sym c.deref-4.ensures.value)
+    (noted_from c.note_changed.new.owners c.renew.new.runs.items c.args.at.now.opened
+    (noted_renewed c.args.batch.now c.args.at.now.objects c.args.at.now.owners c.note_changed.new.owners
+    c.args.at.now.runs.items c.renew.new.runs.items c.deref-2.result.now c.deref.result.now c.args.at.now.counts.items
+    c.renew.new.counts.items c.renew.new.changed.items c.deref-3.result.now c.requires.at.noted c.in_ok-renew.ensures.renewed
+    c.deref-2.ensures.value c.deref-3.ensures.value c.note_changed.ensures.noted c.note_changed.ensures.others))
 
 pub commit-requires-clause-legal : goal.commit-requires-clause-legal
 commit-requires-clause-legal g c κs within =
     (round_commits c.args.batch.now c.args.at.now.opened c.args.at.now.rounds c.in_ok-seen.seen.first c.args.at.now.objects
     c.args.at.now.runs.items
-    c.renew.new.runs.items c.deref-2.result.now c.deref-3.result.now c.args.at.now.counts.items
+    c.renew.new.runs.items c.deref-4.result.now c.deref-5.result.now c.args.at.now.counts.items
     c.renew.new.counts.items c.deref.result.now c.args.at.now.stale.items c.renew.new.changed.items c.requires.at.here c.deref.ensures.value
-    c.in_ok-renew.ensures.renewed c.deref-2.ensures.value c.in_ok-seen.ensures.first c.deref-3.ensures.value).0
+    c.in_ok-renew.ensures.renewed c.deref-4.ensures.value c.in_ok-seen.ensures.first c.deref-5.ensures.value).0
 
 pub commit-requires-clause-room : goal.commit-requires-clause-room
 commit-requires-clause-room g c κs within =
     (round_commits c.args.batch.now c.args.at.now.opened c.args.at.now.rounds c.in_ok-seen.seen.first c.args.at.now.objects
     c.args.at.now.runs.items
-    c.renew.new.runs.items c.deref-2.result.now c.deref-3.result.now c.args.at.now.counts.items
+    c.renew.new.runs.items c.deref-4.result.now c.deref-5.result.now c.args.at.now.counts.items
     c.renew.new.counts.items c.deref.result.now c.args.at.now.stale.items c.renew.new.changed.items c.requires.at.here c.deref.ensures.value
-    c.in_ok-renew.ensures.renewed c.deref-2.ensures.value c.in_ok-seen.ensures.first c.deref-3.ensures.value).1
+    c.in_ok-renew.ensures.renewed c.deref-4.ensures.value c.in_ok-seen.ensures.first c.deref-5.ensures.value).1
 
 pub commit-requires-clause-spans : goal.commit-requires-clause-spans
 commit-requires-clause-spans g c κs within =
     (round_commits c.args.batch.now c.args.at.now.opened c.args.at.now.rounds c.in_ok-seen.seen.first c.args.at.now.objects
     c.args.at.now.runs.items
-    c.renew.new.runs.items c.deref-2.result.now c.deref-3.result.now c.args.at.now.counts.items
+    c.renew.new.runs.items c.deref-4.result.now c.deref-5.result.now c.args.at.now.counts.items
     c.renew.new.counts.items c.deref.result.now c.args.at.now.stale.items c.renew.new.changed.items c.requires.at.here c.deref.ensures.value
-    c.in_ok-renew.ensures.renewed c.deref-2.ensures.value c.in_ok-seen.ensures.first c.deref-3.ensures.value).2
+    c.in_ok-renew.ensures.renewed c.deref-4.ensures.value c.in_ok-seen.ensures.first c.deref-5.ensures.value).2
 
 pub keep_all-requires-clause-made : goal.keep_all-requires-clause-made
 keep_all-requires-clause-made g c κs lives = λ k lt.
     let blocks : length (blocks_of c.args.batch.now) ≡ length c.args.batch.now.transactions.items =
     length-map c.args.batch.now.transactions.items block_view in
-    let changed = c.deref-5.result.now in
+    let changed = c.deref-7.result.now in
     let number = get_or changed k 0 in
     let renewed = c.in_ok-renew.ensures.renewed in
-    let given = renewed.among number (subst (λ ns. Has ns number) c.deref-5.ensures.value (record { at = k; within = lt; is = refl })) in
+    let given = renewed.among number (subst (λ ns. Has ns number) c.deref-7.ensures.value (record { at = k; within = lt; is = refl })) in
     let inside = (c.requires.at.here.numbers number (subst (λ ns. 0 < times number ns) c.deref.ensures.value given)).1 in
     let all = c.requires.at.here.all in
     let runs = renewed.runs in
-    omega (arith, ap length c.deref-4.ensures.value)
+    omega (arith, ap length c.deref-6.ensures.value)
 
 pub keep_all-requires-clause-tells : goal.keep_all-requires-clause-tells
 keep_all-requires-clause-tells g c κs lives =
-    let made = c.deref-5.result.now in
-    subst (λ rs. Tells c.args.at.now.pending rs c.args.at.now.opened made) (sym c.deref-4.ensures.value)
-    (subst (Tells c.args.at.now.pending c.renew.new.runs.items c.args.at.now.opened) (sym c.deref-5.ensures.value)
+    let made = c.deref-7.result.now in
+    subst (λ rs. Tells c.args.at.now.pending rs c.args.at.now.opened made) (sym c.deref-6.ensures.value)
+    (subst (Tells c.args.at.now.pending c.renew.new.runs.items c.args.at.now.opened) (sym c.deref-7.ensures.value)
     (tells_renewed c.args.batch.now c.args.at.now.objects c.args.at.now.pending c.args.at.now.runs.items c.renew.new.runs.items
     c.deref.result.now c.args.at.now.counts.items c.renew.new.counts.items c.renew.new.changed.items c.args.at.now.opened
     c.requires.at.watched c.in_ok-renew.ensures.renewed))
 
 pub keep_all-requires-clause-nets : goal.keep_all-requires-clause-nets
 keep_all-requires-clause-nets g c κs lives =
-    listed_nets c.args.at.now.opened c.in_ok-seen.seen c.renew.new.runs.items c.deref-2.result.now c.deref-4.result.now
-    c.deref-2.ensures.value c.in_ok-seen.ensures c.deref-4.ensures.value
+    listed_nets c.args.at.now.opened c.in_ok-seen.seen c.renew.new.runs.items c.deref-4.result.now c.deref-6.result.now
+    c.deref-4.ensures.value c.in_ok-seen.ensures c.deref-6.ensures.value
 
 pub returns-clause-at : goal.returns-clause-at
 returns-clause-at g c =
@@ -105,13 +129,17 @@ returns-clause-at g c =
     let later = c.args.at.now.opened + c.in_ok-seen.seen.first in
     record {
       here = (one_round c.args.batch.now c.args.at.now.opened c.args.at.now.rounds c.in_ok-seen.seen c.args.at.now.objects
-          c.commit.new.objects c.args.at.now.runs.items c.renew.new.runs.items c.deref-2.result.now c.deref-3.result.now
-          c.deref-4.result.now c.args.at.now.counts.items c.renew.new.counts.items c.deref.result.now c.args.at.now.stale.items
+          c.commit.new.objects c.args.at.now.runs.items c.renew.new.runs.items c.deref-4.result.now c.deref-5.result.now
+          c.deref-6.result.now c.args.at.now.counts.items c.renew.new.counts.items c.deref.result.now c.args.at.now.stale.items
           c.renew.new.changed.items c.in_ok-at.field-0.items c.requires.at.here c.deref.ensures.value c.in_ok-renew.ensures.renewed
-          c.deref-2.ensures.value c.in_ok-seen.ensures c.deref-3.ensures.value c.in_ok-commit.ensures
-          c.deref-4.ensures.value c.in_ok-at.ensures.refuted (omega (arith, blocks, c.requires.going))).1;
+          c.deref-4.ensures.value c.in_ok-seen.ensures c.deref-5.ensures.value c.in_ok-commit.ensures
+          c.deref-6.ensures.value c.in_ok-at.ensures.refuted (omega (arith, blocks, c.requires.going))).1;
       few = c.in_ok-at.ensures.few;
-      watched = subst (λ rs. WatchesAll c.keep_all.new.pending.watch rs later) c.deref-4.ensures.value c.in_ok-at.ensures.watched;
+      noted = noted_renewed c.args.batch.now c.args.at.now.objects c.args.at.now.owners c.note_changed.new.owners
+          c.args.at.now.runs.items c.renew.new.runs.items c.deref-2.result.now c.deref.result.now c.args.at.now.counts.items
+          c.renew.new.counts.items c.renew.new.changed.items c.deref-3.result.now c.requires.at.noted c.in_ok-renew.ensures.renewed
+          c.deref-2.ensures.value c.deref-3.ensures.value c.note_changed.ensures.noted c.note_changed.ensures.others;
+      watched = subst (λ rs. WatchesAll c.keep_all.new.pending.watch rs later) c.deref-6.ensures.value c.in_ok-at.ensures.watched;
     }
 
 pub returns-clause-on : goal.returns-clause-on
@@ -119,10 +147,10 @@ returns-clause-on g c =
     let blocks : length (blocks_of c.args.batch.now) ≡ length c.args.batch.now.transactions.items =
     length-map c.args.batch.now.transactions.items block_view in
     let opening = (one_round c.args.batch.now c.args.at.now.opened c.args.at.now.rounds c.in_ok-seen.seen c.args.at.now.objects
-    c.commit.new.objects c.args.at.now.runs.items c.renew.new.runs.items c.deref-2.result.now c.deref-3.result.now
-    c.deref-4.result.now c.args.at.now.counts.items c.renew.new.counts.items c.deref.result.now c.args.at.now.stale.items
+    c.commit.new.objects c.args.at.now.runs.items c.renew.new.runs.items c.deref-4.result.now c.deref-5.result.now
+    c.deref-6.result.now c.args.at.now.counts.items c.renew.new.counts.items c.deref.result.now c.args.at.now.stale.items
     c.renew.new.changed.items c.in_ok-at.field-0.items c.requires.at.here c.deref.ensures.value c.in_ok-renew.ensures.renewed
-    c.deref-2.ensures.value c.in_ok-seen.ensures c.deref-3.ensures.value c.in_ok-commit.ensures
-    c.deref-4.ensures.value c.in_ok-at.ensures.refuted (omega (arith, blocks, c.requires.going))).0 in
+    c.deref-4.ensures.value c.in_ok-seen.ensures c.deref-5.ensures.value c.in_ok-commit.ensures
+    c.deref-6.ensures.value c.in_ok-at.ensures.refuted (omega (arith, blocks, c.requires.going))).0 in
     comes_on (start_of c.args.batch.now) (blocks_of c.args.batch.now) c.args.at.now.opened
     (c.args.at.now.opened + c.in_ok-seen.seen.first) (omega (arith, blocks, c.requires.going)) opening
