@@ -236,29 +236,20 @@ impl<'s> View<'s> {
         }
     }
 
-    /// Puts the entries and the net of the base into two lists, in place of what they had. The net is
-    /// a copy, and takes no more memory than it needs. The view is then as if it had just been opened
-    /// on the same snapshot, and has the memory of the first list for its next run. On `NoMemory` the
-    /// view is unchanged.
-    pub fn take_run(
-        &mut self,
-        entries: &mut Vec<Entry>,
-        net: &mut Vec<Entry>,
-    ) -> Result<(), NoMemory>
+    /// Exchanges the entries and the net of the base for the memory of two lists, whose items are
+    /// dropped. The view is then as if it had just been opened on the same snapshot. This takes no
+    /// memory.
+    pub fn take_run(&mut self, entries: &mut Vec<Entry>, net: &mut Vec<Entry>)
         requires { length self.old.outer ≡ 0 }
-        ensures entries { OnOk result (entries.new.items ≡ self.old.entries) }
-        ensures net { OnOk result (net.new.items ≡ self.old.net) }
-        ensures opened { OnOk result (self.new ≡ opened self.old.snapshot) }
-        ensures err { OnErr result (self.new ≡ self.old) }
+        ensures entries { entries.new.items ≡ self.old.entries }
+        ensures net { net.new.items ≡ self.old.net }
+        ensures opened { self.new ≡ opened self.old.snapshot }
     {
-        net.clear();
-        net.reserve_exact(self.net.len())?;
-        extend_reserved(net, &self.net);
         entries.clear();
+        net.clear();
         swap(&mut self.entries, entries);
+        swap(&mut self.net, net);
         self.layers.restart(self.snapshot);
-        self.net.clear();
-        Ok(())
     }
 
     /// The entries, and the net of the base.

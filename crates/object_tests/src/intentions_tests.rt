@@ -114,9 +114,7 @@ fn follow_in(rt: &impl Abort, alloc: Global, snapshot: &Objects, steps: &[Step])
 /// where they have other lengths.
 fn take_run(rt: &impl Abort, view: &mut View<'_>, lists: &mut Lists, expected: (usize, usize)) {
     assert!(rt; view.depth() == 0);
-    view.take_run(&mut lists.entries, &mut lists.net)
-        .ok()
-        .expect(rt, "memory");
+    view.take_run(&mut lists.entries, &mut lists.net);
     assert_eq!(rt; (lists.entries.len(), lists.net.len()), expected);
 }
 

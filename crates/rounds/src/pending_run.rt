@@ -1,5 +1,5 @@
 //! Pending runs: those that wait to be committed.
-ghost use Rattle.std.specs.Prelude.{◌≡◌, ◌≤◌, [], length, IsTrue, None, OnOk};
+ghost use Rattle.std.specs.Prelude.{◌≡◌, ◌≤◌, [], length, IsTrue, None, IfOk, OnOk};
 ghost use Rattle.committed.specs.Summaries.{entries_of};
 ghost use Rattle.committed.specs.declared.summary.TheConstants.{FEW_ENTRIES};
 ghost use Rattle.rounds.specs.PendingRuns.{left_by, listed_net, IsListed, AreSumsOf};
@@ -109,6 +109,17 @@ pub(crate) struct PendingRun {
     pub(crate) wait: u8,
 }
 
+// The entries, in a list that has no more memory than they need, unless the spare one has.
+fn copied(spare: Vec<Entry>, entries: &[Entry]) -> Result<Vec<Entry>, NoMemory>
+    ensures { IfOk result (λ list. list.items ≡ entries.now) }
+{
+    let mut list = spare;
+    list.clear();
+    list.reserve_exact(entries.len())?;
+    list.extend_from_slice(entries)?;
+    Ok(list)
+}
+
 impl PendingRun {
     /// A run of no steps. This takes no memory.
     pub(crate) fn empty(alloc: Global) -> PendingRun
@@ -171,7 +182,7 @@ impl PendingRun {
         self.net = if run.net.len() <= FEW_ENTRIES {
             Net::Summed
         } else if run.net.len() <= MOST_LISTED {
-            Net::Listed(replace(&mut run.net, spare))
+            Net::Listed(copied(spare, &run.net)?)
         } else {
             Net::Recorded
         };

@@ -93,7 +93,7 @@ pub fn run_in<T: Threads + Sync, G: Gate>(
     };
     let spare = replace(&mut run.tree.taken, Vec::new(alloc));
     run.tree = run_block(&making, block, labels, view, width, spare)?;
-    view.take_run(&mut run.entries, &mut run.net)?;
+    view.take_run(&mut run.entries, &mut run.net);
     match run.tree.outcome {
         End::Ended => {}
         // What an aborted transaction did is not in its net.
