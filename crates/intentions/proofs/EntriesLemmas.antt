@@ -1,10 +1,9 @@
 -- Lists of entries: what they leave, which are legal and which have room.
 use Rattle.std.proofs.Common.{◌≡◌, ℕ, zero, suc, ◌+◌, ◌<◌, arith, List, [], ◌∷◌, ◌++◌, length, take, drop, refl, sym, ap, ◌∙◌, subst}
-use Rattle.std.proofs.Common.{Option, Some, None, get_or}
-use Rattle.std.proofs.lemmas.List.{length-set, drop_more}
+use Rattle.std.proofs.Common.{Some, None, get_or}
+use Rattle.std.proofs.lemmas.List.{drop_more}
 use Rattle.std.specs.Prelude.{slice_get}
 use Rattle.objects.specs.Objects.{objects, one_value, kind_of_value, kind_of_call, Fits, ObjectHasRoom}
-use Rattle.serial.specs.Places.{after_found}
 use Rattle.objects.specs.declared.value.Value.{Value}
 use Rattle.objects.specs.declared.value.Value.TheVariants.{Account as account_value, Counter as counter_value, Set as set_value}
 use Rattle.objects.specs.declared.value.Value.TheVariants.{Queue as queue_value, Directory as directory_value, Max as max_value}

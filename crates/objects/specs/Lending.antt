@@ -1,4 +1,4 @@
--- What a list of objects becomes where its values were lent to be changed in place.
+-- What a list of objects becomes where its values were borrowed to be changed in place.
 use Rattle.std.specs.Prelude.{List, ◌++◌, length, take, drop}
 use Rattle.std.specs.Borrow.{Lends, MutBor, Fml, Array}
 use Rattle.objects.specs.declared.value.Value.{Value}
@@ -9,6 +9,6 @@ use Rattle.objects.specs.contracts.objects.Objects.{the_row}
 abbrev pub written_over : List Value → List Value → List Value
 written_over old values = take (length old) (values ++ drop (length values) old)
 
--- the objects end with the last values behind the slice, of which there are as many as before
+-- the objects end with the last values of the borrowed slice, of which there are as many as before
 abbrev pub LendsValues : MutBor (List Value) → MutBor (List Value) → Fml
 LendsValues objects values = Lends the_row (Array one_value_type.the_row 0) objects values (written_over objects.now)

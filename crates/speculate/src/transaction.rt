@@ -84,6 +84,9 @@ pub fn run_in<T: Threads + Sync, G: Gate>(
     ensures unlabelled { OnOk result (labels.new.items ≡ []) }
 {
     gate.pass(number, 0);
+    let Run { entries, net, .. } = &mut *run;
+    // The view gets the memory of the lists of the earlier run.
+    view.take_run(entries, net);
     let block = &batch.transactions[number as usize - 1];
     let making = Making {
         threads,
@@ -91,6 +94,7 @@ pub fn run_in<T: Threads + Sync, G: Gate>(
         gate,
         number,
     };
+    view.reserve(block.steps.len())?;
     let spare = replace(&mut run.tree.taken, Vec::new(alloc));
     run.tree = run_block(&making, block, labels, view, width, spare)?;
     view.take_run(&mut run.entries, &mut run.net);

@@ -63,13 +63,7 @@ fn give_last<X: Drop, F: Fn(Seat, Claim) -> X>(
 
 // Calls both, one in this thread and one in a new one, where one can be made. The first is called in
 // the new one where `moves_first` is true, and else the second.
-fn side_by_side<
-    R: Threads,
-    X: Send,
-    Y: Send,
-    F: FnOnce() -> X + Send,
-    G: FnOnce() -> Y + Send,
->(
+fn side_by_side<R: Threads, X: Send, Y: Send, F: FnOnce() -> X + Send, G: FnOnce() -> Y + Send>(
     threads: &R,
     moves_first: bool,
     first: F,
