@@ -1,0 +1,5 @@
+pub mod Blind
+pub mod Conflicts
+pub mod Tallies
+pub mod Gathered
+pub mod RoundCounts
