@@ -86,8 +86,14 @@ alike_among runs b from xs ys alike i d low lt =
 kept_alike : (xs ys : List Entry) (told : ℕ) (run : PendingRun) → (HoldsPast xs run ↔ HoldsPast ys run) → Kept xs told run
     → Kept ys told run
 kept_alike xs ys told run alike kept = elim kept [
-  | inl stands ↦ inl (alike.0 stands.0, stands.1)
-  | inr fails ↦ inr ((λ past. fails.0 (alike.1 past)), fails.1)
+  | inl blind ↦ inl blind
+  | inr apart ↦ inr (
+    apart.0,
+    elim apart.1 [
+      | inl stands ↦ inl (alike.0 stands.0, stands.1)
+      | inr fails ↦ inr ((λ past. fails.0 (alike.1 past)), fails.1)
+    ],
+  )
 ]
 
 -- so the same runs are listed

@@ -6,7 +6,7 @@ use Rattle.objects.specs.Entries.{State, kinds, after}
 use Rattle.meaning.specs.Trees.{Block}
 use Rattle.batch.specs.Views.{record_view}
 use Rattle.meaning.specs.Batch.{state_at, answer, nets, shown_of, shown_from, all_shown}
-use Rattle.meaning.specs.Rounds.{Rounds}
+use Rattle.meaning.specs.Rounds.{Rounds, Count}
 use Rattle.meaning.proofs.Batches.{batch_leads}
 use Rattle.rounds.specs.Views.{start_of, blocks_of}
 use Rattle.rounds.specs.declared.pending_run.PendingRun.{PendingRun}
@@ -18,9 +18,9 @@ use Rattle.speculate.proofs.Room.{kinds_at}
 use Rattle.rounds.proofs.Conflicts.{some_run}
 use Rattle.rounds.proofs.Records.{IsRecordOf, AreAnswers}
 
-module _ (batch : Batch) (b rounds : ℕ) (state : State) (runs : List PendingRun) (counts stale : List ℕ) where
+module _ (batch : Batch) (b rounds : ℕ) (state : State) (runs : List PendingRun) (count : ℕ → ℕ) (stale : List ℕ) where
   abbrev pub AtTheEnd : Type 0
-  AtTheEnd = AtOpening batch b rounds state runs counts stale × (length (blocks_of batch) ≤ b)
+  AtTheEnd = AtOpening batch b rounds state runs count stale × (length (blocks_of batch) ≤ b)
 
   same_end : AtTheEnd → b ≡ length (blocks_of batch)
   same_end done = let within = done.0.within in let over = done.1 in omega arith
@@ -59,10 +59,14 @@ module _ (batch : Batch) (b rounds : ℕ) (state : State) (runs : List PendingRu
       last_state done ∙ (ap (state_at (start_of batch) (blocks_of batch)) count
       ∙ (batch_leads (start_of batch) (blocks_of batch) 0 (length (blocks_of batch))).1)
 
-  pub all_counts : AtTheEnd → AreCounts batch counts
-  all_counts done = record {
-    all = done.0.counted;
-    each = λ i lt. let over = done.1 in done.0.committed_counts i (omega arith);
+  pub all_counts : AtTheEnd → (counts : List ℕ) → length counts ≡ length (blocks_of batch)
+      → ((i : ℕ) → i < b → count i ≡ get_or counts i 0) → AreCounts batch counts
+  all_counts done counts all told = record {
+    all = all;
+    each = λ i lt.
+        let over = done.1 in
+        let before : i < b = omega arith in
+        subst (Count (start_of batch) (blocks_of batch) i) (told i before) (done.0.committed_counts i before);
   }
 
 -- what the records show, by number from b on

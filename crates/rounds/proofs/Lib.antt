@@ -8,6 +8,7 @@ pub mod Room
 pub mod Commits
 pub mod Records
 pub mod Summed
+pub mod Waiting
 pub mod Steps
 pub mod Ends
 pub mod Touched
@@ -17,3 +18,4 @@ pub mod Repeating
 pub mod Wholes
 pub mod Trials
 pub mod Blanks
+pub mod WaitLemmas

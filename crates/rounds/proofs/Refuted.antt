@@ -1,28 +1,35 @@
--- The runs that conflict are listed, each once.
-use Rattle.std.proofs.Common.{◌≡◌, ◌≢◌, ℕ, ◌+◌, ◌-◌, ◌<◌, ◌≤◌, inl, inr, List, [], ◌∷◌, ◌++◌, length, get_or, length-append, refl, sym, ap}
+-- The runs that conflict and are not blind are listed, each once.
+use Rattle.std.proofs.Common.{◌≡◌, ◌≢◌, ◌⊎◌, ℕ, ◌+◌, ◌-◌, ◌≤◌, inl, inr, List, [], ◌∷◌, ◌++◌, length, get_or, length-append, refl, sym, ap}
 use Rattle.std.proofs.Common.{◌∙◌, subst, arith}
-use Rattle.std.proofs.lemmas.List.{get_or_default}
 use native.Mathlib.Decide.{ℕ_discrete}
 use Rattle.objects.specs.declared.entry.Entry.{Entry}
 use Rattle.rounds.specs.declared.pending_run.PendingRun.{PendingRun}
 use Rattle.workers.specs.Working.{AreGivenOnce}
 use Rattle.workers.proofs.Once.{given_here, given_nowhere}
 use Rattle.claims.specs.Views.{times}
-use Rattle.rounds.specs.PendingRuns.{HoldsPast, Kept, IsDecided, AreRefuted}
+use Rattle.rounds.specs.PendingRuns.{HoldsPast, IsBlind, Kept, IsDecided, AreRefuted}
 use Rattle.claims.proofs.Lists.{times-append}
 use Rattle.rounds.proofs.Times.{times_one, times_none}
 
--- of a run that doesn't conflict nothing is listed
-pub stands_decided : (runs : List PendingRun) (since : List Entry) (place : ℕ) → ((d : PendingRun) → HoldsPast since (get_or runs place d))
+-- of a run that is blind or doesn't conflict nothing is listed
+pub stands_decided : (runs : List PendingRun) (since : List Entry) (place : ℕ)
+    → ((d : PendingRun) → IsBlind (get_or runs place d) ⊎ ((¬ IsBlind (get_or runs place d)) × HoldsPast since (get_or runs place d)))
     → IsDecided runs since place []
-stands_decided runs since place stands = record { here = λ d. inl (stands d, refl); elsewhere = λ i other. refl; few = omega arith }
+stands_decided runs since place stays = record {
+  here = λ d. elim (stays d) [
+    | inl blind ↦ inl (blind, refl)
+    | inr stands ↦ inr (stands.0, inl (stands.1, refl))
+  ];
+  elsewhere = λ i other. refl;
+  few = omega arith;
+}
 
--- of one that conflicts its number
-pub fails_decided : (runs : List PendingRun) (since : List Entry) (place : ℕ) → place < length runs
-    → ¬ ((d : PendingRun) → HoldsPast since (get_or runs place d))
+-- of one that isn't blind and conflicts its number
+pub fails_decided : (runs : List PendingRun) (since : List Entry) (place : ℕ)
+    → ((d : PendingRun) → (¬ IsBlind (get_or runs place d)) × (¬ HoldsPast since (get_or runs place d)))
     → IsDecided runs since place (place ∷ [])
-fails_decided runs since place lt fails = record {
-  here = λ d. inr ((λ past. fails (λ e. subst (HoldsPast since) (get_or_default runs place d e lt) past)), times_one place);
+fails_decided runs since place fails = record {
+  here = λ d. let both = fails d in inr (both.0, inr (both.1, times_one place));
   elsewhere = λ i other. times_none i place (λ h. other (sym h));
   few = omega arith;
 }

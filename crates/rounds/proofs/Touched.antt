@@ -1,5 +1,6 @@
 -- Numbers that are in a list once, and what is listed of the runs of these numbers.
-use Rattle.std.proofs.Common.{◌≡◌, ◌≢◌, ◌⊎◌, ℕ, zero, suc, ◌+◌, ◌<◌, ◌≤◌, inl, inr, List, [], ◌∷◌, ◌++◌, length, get_or, take}
+use Rattle.std.proofs.Common.{◌≡◌, ◌≢◌, ◌⊎◌, ℕ, zero, suc, ◌+◌, ◌<◌, ◌≤◌, inl, inr, Option, Some, None, IsSome, List, [], ◌∷◌, ◌++◌}
+use Rattle.std.proofs.Common.{length, get_or, take, true≢false}
 use Rattle.std.proofs.Common.{length-append, refl, sym, ap, ◌∙◌, subst, arith}
 use native.Mathlib.Decide.{ℕ_discrete}
 use Rattle.committed.specs.Summaries.{entries_of}
@@ -9,11 +10,12 @@ use Rattle.committed.specs.Watching.{Watches}
 use Rattle.committed.specs.NumberSets.{Has, AreDistinct}
 use Rattle.committed.specs.declared.watch.Watch.{Watch}
 use Rattle.objects.specs.declared.entry.Entry.{Entry}
+use Rattle.blind.specs.declared.blind.Blind.{Blind}
 use Rattle.rounds.specs.declared.pending_run.PendingRun.{PendingRun}
 use Rattle.workers.specs.Working.{AreGivenOnce}
 use Rattle.workers.proofs.Once.{parted, given_here, given_nowhere, few_given_once}
 use Rattle.claims.specs.Views.{times}
-use Rattle.rounds.specs.PendingRuns.{all_left, left_by, Kept, IsDecided, AreRefuted, AreRefutedAmong, AreRenewed}
+use Rattle.rounds.specs.PendingRuns.{all_left, left_by, IsBlind, blind_run, Kept, IsDecided, AreRefuted, AreRefutedAmong, AreRenewed}
 use Rattle.rounds.specs.Pending.{WatchesAll, Tells, ArePlaces, AreTouched, IsIn}
 use Rattle.rounds.specs.declared.pending.Pending.{Pending}
 use Rattle.batch.specs.declared.batch.Batch.{Batch}
@@ -122,6 +124,15 @@ few_places numbers from n are =
 
 -- ---- what is listed of the runs of these numbers
 
+-- there is a blind call or there is none
+some_or_none : (o : Option Blind) → IsSome o ⊎ (¬ IsSome o)
+some_or_none None = inr (λ some. true≢false (sym some))
+some_or_none (Some b) = inl refl
+
+-- a run is blind or isn't
+pub blind_or_not : (run : PendingRun) → IsBlind run ⊎ (¬ IsBlind run)
+blind_or_not run = some_or_none (blind_run run)
+
 -- what is listed of the first places of a list
 pub record AreToldOf (runs : List PendingRun) (since : List Entry) (places : List ℕ) (upto : ℕ) (numbers : List ℕ) : Type 0 where
   pub elsewhere : (i : ℕ) → ((k : ℕ) → k < upto → get_or places k 0 ≢ i) → times i numbers ≡ 0
@@ -195,14 +206,17 @@ module _ (runs : List PendingRun) (since : List Entry) (places : List ℕ) where
 
 module _ (runs : List PendingRun) (since : List Entry) (from : ℕ) (touched numbers : List ℕ)
     (are : AreTouched touched runs from since) (among : AreRefutedAmong runs since touched numbers) where
-  -- what isn't touched holds, so that what is listed of the touched ones is listed of all
+  -- what isn't touched is blind or holds, so that what is listed of the touched ones is listed of all
   pub refuted_among_all : AreRefuted runs since from (length runs) numbers
   refuted_among_all = record {
     before = λ i lt. among.elsewhere i (λ has. let low = are.low i has in absurd (omega arith));
     beyond = λ i le. among.elsewhere i (λ has. let high = are.high i has in absurd (omega arith));
     each = λ i d low high. elim (has_or_not touched i) [
       | inl has ↦ subst (λ j. Kept since (times j numbers) (get_or runs j d)) has.is (among.each has.at d has.within)
-      | inr out ↦ inl (are.hold i d low high out, among.elsewhere i out)
+      | inr out ↦ elim (blind_or_not (get_or runs i d)) [
+        | inl blind ↦ inl (blind, among.elsewhere i out)
+        | inr apart ↦ inr (apart, inl (are.hold i d low high out apart, among.elsewhere i out))
+      ]
     ];
   }
 
@@ -223,7 +237,7 @@ pub all_blank : (watch : Watch) (runs : List PendingRun) → watch.count ≡ len
 unfolding Watches
 all_blank watch runs count blank = record {
   all = count;
-  each = λ run d low high. subst (λ es. Watches watch run (entries_of es)) (sym (blank run d high)) (λ k e lt. absurd (omega arith));
+  each = λ run d low high apart. subst (λ es. Watches watch run (entries_of es)) (sym (blank run d high)) (λ k e lt. absurd (omega arith));
 }
 
 -- those that weren't made anew are watched as before
@@ -234,7 +248,7 @@ tells_renewed batch state pending runs new numbers was counts changed from watch
     let sizes = put.runs in
     record {
       all = watches.all ∙ sym put.runs;
-      watched = λ run d low high out. subst (λ r. Watches pending.watch run (entries_of r.sums.entries.items))
+      watched = λ run d low high out. subst (λ r. ¬ IsBlind r → Watches pending.watch run (entries_of r.sums.entries.items))
           (sym (put.same run d out)) (watches.each run d low (omega arith));
     }
 
@@ -262,7 +276,7 @@ pub none_touched : (touched : List ℕ) (runs : List PendingRun) (from : ℕ) �
 none_touched touched runs from empty = record {
   low = λ run has. absurd (has_none run (subst (λ l. Has l run) empty has));
   high = λ run has. absurd (has_none run (subst (λ l. Has l run) empty has));
-  hold = λ run d low high out. all_commute_none (entries_of (get_or runs run d).sums.entries.items);
+  hold = λ run d low high out apart. all_commute_none (entries_of (get_or runs run d).sums.entries.items);
 }
 
 -- one run more is committed
@@ -283,8 +297,8 @@ touched_more watch touched found runs from done k run net lt is net_is watches a
         | inl old ↦ are.high r old
         | inr new ↦ subst (λ n. r < n) watches.all new.1
       ];
-      hold = λ r d low high out.
+      hold = λ r d low high out apart.
           let others = entries_of (get_or runs r d).sums.entries.items in
-          past_both others (all_left (take k done)) net (are.hold r d low high (λ has. out (more r has)))
-          (stand r others low out (watches.each r d low high));
+          past_both others (all_left (take k done)) net (are.hold r d low high (λ has. out (more r has)) apart)
+          (stand r others low out (watches.each r d low high apart));
     })

@@ -8,3 +8,4 @@ pub mod AtOpenings
 pub mod Checks
 pub mod Pending
 pub mod Owners
+pub mod Waits

@@ -1,7 +1,7 @@
 -- Pending runs, and what the passes over them return: which is the first that doesn't hold, which are to be made again,
 -- those that were made. No public contract names it.
 use Rattle.std.specs.Prelude.{◌≡◌, ◌≢◌, ◌↔◌, ⊤, ℕ, suc, ◌+◌, ◌<◌, ◌≤◌, ◌⊎◌, Option, Some, None, List, [], ◌∷◌, ◌++◌, length, map, take, set}
-use Rattle.std.specs.Prelude.{slice_index_or, option_map, box_value}
+use Rattle.std.specs.Prelude.{slice_index_or, option_map, box_value, IsSome}
 use Rattle.std.specs.List.{All}
 use Rattle.std.specs.declared.vec.Vec.{Vec}
 use Rattle.std.specs.declared.alloc.Global.{Global}
@@ -14,6 +14,8 @@ use Rattle.committed.specs.NumberSets.{Has}
 use Rattle.committed.specs.Summaries.{entries_of, IsSummary}
 use Rattle.committed.specs.declared.marks.MarkedEntry.{MarkedEntry}
 use Rattle.objects.specs.declared.entry.Entry.{Entry}
+use Rattle.blind.specs.Blind.{blind_of}
+use Rattle.blind.specs.declared.blind.Blind.{Blind}
 use Rattle.rounds.specs.Spans.{AreIn}
 use Rattle.rounds.specs.Views.{meaning}
 use Rattle.rounds.specs.declared.pending_run.PendingRun.{PendingRun}
@@ -60,6 +62,17 @@ pub record AreSumsOf (sums : Sums) (entries net : List Entry) : Type 0 where
   pub entries_are : IsSummary (entries_of sums.entries.items) entries
   pub net_is : IsSummary (left_by sums) net
   pub whole : sums.of_net ≡ None → net ≡ entries
+
+-- the blind call of a run that is one and nothing else
+abbrev pub blind_in : List MarkedEntry → Option (Vec MarkedEntry Global) → Net → Option Blind
+blind_in (marked ∷ []) None Summed = blind_of marked.entry
+blind_in entries of_net net = None
+
+abbrev pub blind_run : PendingRun → Option Blind
+blind_run run = blind_in run.sums.entries.items run.sums.of_net run.net
+
+abbrev pub IsBlind : PendingRun → Type 0
+IsBlind run = IsSome (blind_run run)
 
 -- a pending run of a meaning: its record, its net and the span of it, with summaries of its entries and its net
 pub record IsPendingOf (meant : OneRun Taken) (run : PendingRun) : Type 0 where
@@ -115,10 +128,14 @@ pub record AreStarts (runs : List PendingRun) (starts : List ℕ) : Type 0 where
   pub each : (i : ℕ) → i < length runs → slice_index_or starts i 0 ≡ length (all_left (take i runs))
 
 -- a run stands past these entries and isn't among the numbers, or it doesn't and is there once
-abbrev pub Kept : List Entry → ℕ → PendingRun → Type 0
-Kept since told run = (HoldsPast since run × (told ≡ 0)) ⊎ ((¬ HoldsPast since run) × (told ≡ 1))
+abbrev pub IsKept : List Entry → ℕ → PendingRun → Type 0
+IsKept since told run = (HoldsPast since run × (told ≡ 0)) ⊎ ((¬ HoldsPast since run) × (told ≡ 1))
 
--- what is listed of one place: its number where its run doesn't stand past these entries, and no other number
+-- the same of a run that isn't blind. A blind one isn't among the numbers
+abbrev pub Kept : List Entry → ℕ → PendingRun → Type 0
+Kept since told run = (IsBlind run × (told ≡ 0)) ⊎ ((¬ IsBlind run) × IsKept since told run)
+
+-- what is listed of one place: its number where its run isn't blind and doesn't stand past these entries, and no other number
 pub record IsDecided (runs : List PendingRun) (since : List Entry) (place : ℕ) (told : List ℕ) : Type 0 where
   pub here : (d : PendingRun) → Kept since (times place told) (slice_index_or runs place d)
   pub elsewhere : (i : ℕ) → i ≢ place → times i told ≡ 0
@@ -128,13 +145,13 @@ pub record IsDecided (runs : List PendingRun) (since : List Entry) (place : ℕ)
 abbrev pub IsTold : List PendingRun → List Entry → ℕ → List ℕ → List ℕ → Type 0
 IsTold runs since place before after = (own : List ℕ) × (after ≡ before ++ own) × IsDecided runs since place own
 
--- the numbers, each once, of the runs from one place on and before another that don't stand past these entries
+-- the numbers, each once, of the runs from one place on and before another that aren't blind and don't stand past these entries
 pub record AreRefuted (runs : List PendingRun) (since : List Entry) (from upto : ℕ) (numbers : List ℕ) : Type 0 where
   pub before : (i : ℕ) → i < from → times i numbers ≡ 0
   pub beyond : (i : ℕ) → upto ≤ i → times i numbers ≡ 0
   pub each : (i : ℕ) (d : PendingRun) → from ≤ i → i < upto → Kept since (times i numbers) (slice_index_or runs i d)
 
--- those of these places whose runs don't stand past these entries, each once
+-- those of these places whose runs aren't blind and don't stand past these entries, each once
 pub record AreRefutedAmong (runs : List PendingRun) (since : List Entry) (places numbers : List ℕ) : Type 0 where
   pub elsewhere : (i : ℕ) → ¬ Has places i → times i numbers ≡ 0
   pub each : (k : ℕ) (d : PendingRun) → k < length places → Kept since (times (slice_index_or places k 0) numbers)

@@ -1,6 +1,8 @@
-//! The check after a commit: which pending runs conflict with what was committed.
-ghost use Rattle.std.specs.Prelude.{◌<◌, ◌≤◌, ℕ, IfOk, OnOk, length, take, slice_index_or, slice_range};
-ghost use Rattle.rounds.specs.PendingRuns.{all_left, HoldAlike, AreRefuted, AreRefutedAmong, IsTold};
+//! The check after a commit: which pending runs conflict with what was committed and are to be made
+//! again. A blind run isn't, since it is the same run on all objects.
+ghost use Rattle.std.specs.Prelude.{◌<◌, ◌≤◌, ◌⊎◌, ℕ, IfOk, OnOk, IsTrue, length, take, slice_index_or, slice_range};
+ghost use Rattle.rounds.specs.declared.pending_run.PendingRun.{PendingRun as OnePending};
+ghost use Rattle.rounds.specs.PendingRuns.{all_left, HoldAlike, HoldsPast, IsBlind, AreRefuted, AreRefutedAmong, IsTold};
 ghost use Rattle.rounds.specs.Pending.{ArePlaces, Tells, WatchesAll};
 ghost use Rattle.meaning.specs.declared.limits.TheConstants.{MAX_TRANSACTIONS};
 
@@ -15,8 +17,18 @@ use std::alloc::Global;
 use std::thread::Threads;
 use workers::{Bench, give_all};
 
-// Adds the number of the run, where the run doesn't stand past what was committed, which is the
-// first `upto` entries of the nets.
+// Whether the run is to be made again: it isn't blind and doesn't stand past what was committed,
+// which is the first `upto` entries of the nets.
+fn is_refuted(runs: &[PendingRun], place: usize, nets: &Committed, upto: usize) -> bool
+    requires place { place < length runs.now }
+    requires upto { upto ≤ length nets.now }
+    ensures refuted { (d : OnePending) → IsTrue result → (¬ IsBlind (slice_index_or runs.now place d)) × (¬ HoldsPast (take upto nets.now) (slice_index_or runs.now place d)) }
+    ensures stays { (d : OnePending) → ¬ IsTrue result → IsBlind (slice_index_or runs.now place d) ⊎ ((¬ IsBlind (slice_index_or runs.now place d)) × HoldsPast (take upto nets.now) (slice_index_or runs.now place d)) }
+{
+    runs[place].blind().is_none() && !stands_past(runs, place, nets, upto)
+}
+
+// Adds the number of the run, where it is to be made again.
 fn tell(
     runs: &[PendingRun],
     place: usize,
@@ -28,15 +40,14 @@ fn tell(
     requires upto { upto ≤ length nets.now }
     ensures { OnOk result (IsTold runs.now (take upto nets.now) place told.old.items told.new.items) }
 {
-    let fails = !stands_past(runs, place, nets, upto);
-    if fails {
+    if is_refuted(runs, place, nets, upto) {
         told.push(place)?;
     }
     Ok(())
 }
 
-// The numbers of those of the listed runs that don't stand past what was committed, in the order of
-// the list. One worker does this alone. The listed runs are from one place on.
+// The numbers of those of the listed runs that are to be made again, in the order of the list. One
+// worker does this alone. The listed runs are from one place on.
 fn refuted_among<G: Gate>(
     alloc: Global,
     runs: &[PendingRun],
@@ -54,7 +65,7 @@ fn refuted_among<G: Gate>(
     let mut numbers = Vec::new(alloc);
     for place in touched {
         gate.pass(0, (MAX_TRANSACTIONS + *place - from) as u32 + 1);
-        if !stands_past(runs, *place, nets, upto) {
+        if is_refuted(runs, *place, nets, upto) {
             numbers.push(*place)?;
         }
     }
@@ -104,10 +115,10 @@ fn refuted_of<R: Threads + Sync, G: Gate>(
     )
 }
 
-/// The numbers of the runs, from one place on, that don't stand past what was committed, in any
-/// order. These runs stand past what was committed where they stand past the first `upto` entries
-/// of the nets. Only the runs that the commit may touch are decided, since the others are still
-/// valid. The workers decide them side by side, a run as a piece.
+/// The numbers of the runs, from one place on, that aren't blind and don't stand past what was
+/// committed, in any order. These runs stand past what was committed where they stand past the
+/// first `upto` entries of the nets. Only the runs that the commit may touch are decided, since the
+/// others are still valid. The workers decide them side by side, a run as a piece.
 ///
 /// Returns `NoMemory` where a request for memory was refused.
 pub(crate) fn keep_all<R: Threads + Sync, G: Gate>(

@@ -15,6 +15,7 @@ mod pending;
 mod pending_run;
 mod renew;
 mod span;
+mod waits;
 
 pub use batch::{Batch, Outcome, Record};
 pub use check::first_conflict;

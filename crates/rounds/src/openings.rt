@@ -20,6 +20,7 @@ use crate::owners::{Owners, note_changed};
 use crate::pending::Pending;
 use crate::pending_run::PendingRun;
 use crate::renew::renew;
+use crate::waits::Waits;
 use batch::{Batch, Outcome, Record};
 use plan::Plan;
 use speculate::{Gate, NoMemory, Objects, Progress};
@@ -91,6 +92,7 @@ struct Opening {
     pending: Pending,
     // Which runs have had entries about each object.
     owners: Owners,
+    waits: Waits,
     opened: usize,
     // How many transactions the round before committed.
     passed: usize,
@@ -110,6 +112,7 @@ fn begin(alloc: Global, batch: &Batch) -> Result<Opening, NoMemory>
         changed: Vec::new(alloc),
         pending: Pending::new(alloc, count)?,
         owners: Owners::new(alloc, batch.objects.len())?,
+        waits: Waits::new(alloc, count)?,
         opened: 0,
         passed: 0,
         rounds: 0,
@@ -137,12 +140,16 @@ fn round<R: Threads + Sync, G: Gate>(
         &mut at.changed,
     )?;
     note_changed(&mut at.owners, &at.runs, &at.changed);
+    at.waits.begin(&at.runs, &at.changed)?;
     let opened = at.opened;
     // As many runs are expected to be committed as in the round before.
     let seen = seek_conflict(crew, &at.runs[opened..], opened, &at.owners, at.passed)?;
     let passed = seen.first;
     let committed = &at.runs[opened..opened + passed];
     commit(crew, batch, opened, committed, &mut at.objects)?;
+    // The runs that are committed didn't wait for what they commit themselves.
+    at.waits.settle(&at.runs, opened, opened + passed, &mut at.counts, crew.gate);
+    at.waits.add(&seen.nets.entries()[..seen.upto])?;
     at.opened += passed;
     at.passed = passed;
     at.rounds += 1;

@@ -11,6 +11,22 @@ use intentions::{NumberSet, Watch};
 use speculate::NoMemory;
 use std::alloc::Global;
 
+// Puts the run of this number into the watch, unless it is blind.
+fn put_run(watch: &mut Watch, runs: &[PendingRun], number: usize) -> Result<(), NoMemory>
+    requires count { watch.old.count ≡ length runs.now }
+    requires within { number < length runs.now }
+    ensures count { watch.new.count ≡ watch.old.count }
+    ensures put { OnOk result ((d : OnePending) → IsIn watch.new runs.now number d) }
+    ensures others { OnOk result ((run : ℕ) (d : OnePending) → IsIn watch.old runs.now run d → IsIn watch.new runs.now run d) }
+{
+    let run = &runs[number];
+    if run.blind().is_some() {
+        return Ok(());
+    }
+    watch.put(number, &run.sums.entries)?;
+    Ok(())
+}
+
 // A watch of the runs from one place on.
 fn watch_from(alloc: Global, runs: &[PendingRun], from: usize) -> Result<Watch, NoMemory>
     requires few { length runs.now ≤ MAX_TRANSACTIONS }
@@ -23,7 +39,7 @@ fn watch_from(alloc: Global, runs: &[PendingRun], from: usize) -> Result<Watch, 
     );
     let mut watch = Watch::new(alloc, runs.len(), entries)?;
     for place in from..runs.len() {
-        watch.put(place, &runs[place].sums.entries)?;
+        put_run(&mut watch, runs, place)?;
     }
     Ok(watch)
 }
@@ -43,7 +59,7 @@ fn put_made(
 {
     for number in made {
         if *number >= from {
-            watch.put(*number, &runs[*number].sums.entries)?;
+            put_run(watch, runs, *number)?;
         }
     }
     Ok(())
@@ -76,8 +92,8 @@ impl Pending {
         self.touched.members()
     }
 
-    // Watches the runs from one place on, of which some were made since the last commit. Where none is
-    // watched yet, or most links are stale, it begins a new watch.
+    // Watches the runs from one place on, of which some were made since the last commit. Where all
+    // pending runs were made since then, or most links are stale, it begins a new watch.
     fn watch_made(
         &mut self,
         alloc: Global,
@@ -93,7 +109,7 @@ impl Pending {
         requires tells { Tells self.old runs.now opened made.now }
         ensures { OnOk result (WatchesAll self.new.watch runs.now from) }
     {
-        if !self.watch.is_empty() {
+        if made.len() < runs.len() - opened {
             put_made(&mut self.watch, runs, made, from)?;
             if !self.watch.is_stale() {
                 return Ok(());

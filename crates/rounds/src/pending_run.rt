@@ -2,11 +2,12 @@
 ghost use Rattle.std.specs.Prelude.{◌≡◌, ◌≤◌, [], length, IsTrue, None, IfOk, OnOk};
 ghost use Rattle.committed.specs.Summaries.{entries_of};
 ghost use Rattle.committed.specs.declared.summary.TheConstants.{FEW_ENTRIES};
-ghost use Rattle.rounds.specs.PendingRuns.{left_by, listed_net, IsListed, AreSumsOf};
+ghost use Rattle.rounds.specs.PendingRuns.{blind_run, left_by, listed_net, IsListed, AreSumsOf};
 ghost use Rattle.rounds.specs.Spans.{AreIn};
 
 use crate::span::Span;
 use batch::Record;
+use blind::Blind;
 use intentions::{Entry, FEW_ENTRIES, MarkedEntry, summarize};
 use meaning::End;
 use speculate::{NoMemory, Run};
@@ -148,6 +149,16 @@ impl PendingRun {
             && self.is_listed()
             && self.sums.of_net.is_none()
             && !self.sums.entries.is_empty()
+    }
+
+    /// The blind call, where the run is one and nothing else.
+    pub(crate) fn blind(&self) -> Option<Blind>
+        ensures { result ≡ blind_run self.now }
+    {
+        match (&self.sums.entries[..], &self.sums.of_net, &self.net) {
+            ([marked], None, Net::Summed) => Blind::of(&marked.entry),
+            _ => None,
+        }
     }
 
     // Whether its net isn't only in its record.

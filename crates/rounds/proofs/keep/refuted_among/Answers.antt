@@ -1,8 +1,8 @@
-use Rattle.std.proofs.Common.{◌≡◌, [], ◌∷◌, length, take, get_or, subst, arith, refl, sym, ap, ◌∙◌, append-nil, rules}
+use Rattle.std.proofs.Common.{◌≡◌, [], ◌∷◌, length, take, get_or, subst, arith, refl, sym, ap, ◌∙◌, append-nil, true≢false}
 use Rattle.rounds.proofs.Refuted.{stands_decided, fails_decided}
 use Rattle.rounds.proofs.Touched.{AreToldOf, told_of_more, told_of_all}
 use Rattle.rounds.proofs.keep.refuted_among.Goals as goal
-use Rattle.rounds.proofs.keep.refuted_among.Goals.{then-not-stands_past+in_ok-push, else-not-stands_past}
+use Rattle.rounds.proofs.keep.refuted_among.Goals.{then-is_refuted+in_ok-push, else-is_refuted}
 
 pub loop-place-preserved : goal.loop-place-preserved
 loop-place-preserved g c =
@@ -12,16 +12,16 @@ loop-place-preserved g c =
     let at = c.loop-place.place-index in
     let place = get_or places at 0 in
     let told = c.loop-place.numbers.items in
-    let now = c.if-not-stands_past.numbers.items in
+    let now = c.if-is_refuted.numbers.items in
     let more = told_of_more runs since places c.requires.places.distinct at place told in
-    elim c.if-not-stands_past.branch [
-      | then-not-stands_past+in_ok-push w ↦
-          let fails = fails_decided runs since place (c.requires.places.high at c.loop-place-test.true)
-          (λ stands. let failed = w.if-not-stands_past.true in let passed = c.stands_past.ensures.1 stands in search rules) in
+    elim c.if-is_refuted.branch [
+      | then-is_refuted+in_ok-push w ↦
+          let fails = fails_decided runs since place (λ d. c.is_refuted.ensures.refuted d w.if-is_refuted.true) in
           more (place ∷ []) now c.loop-place-test.true refl c.loop-place.invariant fails
           (ap (λ v. v.items) w.numbers-is ∙ w.in_ok-push.ensures.items)
-      | else-not-stands_past w ↦
-          let stands = stands_decided runs since place (c.stands_past.ensures.0 w.if-not-stands_past.false) in
+      | else-is_refuted w ↦
+          let stands = stands_decided runs since place
+          (λ d. c.is_refuted.ensures.stays d (λ told_so. true≢false (sym told_so ∙ w.if-is_refuted.false))) in
           more [] now c.loop-place-test.true refl c.loop-place.invariant stands
           (ap (λ v. v.items) w.numbers-is ∙ sym (append-nil told))
     ]

@@ -3,6 +3,7 @@ use Rattle.std.proofs.lemmas.List.{length-map}
 use Rattle.rounds.specs.Views.{blocks_of}
 use Rattle.batch.specs.Views.{block_view}
 use Rattle.rounds.proofs.Ends.{answers, all_are_shown, all_rounds, last_state, all_nets, few_objects, all_counts}
+use Rattle.rounds.proofs.Waiting.{counted_before, count_of}
 use Rattle.rounds.proofs.openings.execute.Goals as goal
 
 pub opening-init : goal.opening-init
@@ -26,7 +27,7 @@ returns-clause-records g c =
     let count = c.len.ensures in
     all_are_shown c.args.batch.now c.in_ok-records_of.field-0.items (answers c.args.batch.now c.opening.at.opened
     c.opening.at.rounds c.opening.at.objects
-    c.opening.at.runs.items c.opening.at.counts.items c.opening.at.stale.items (c.opening.invariant.here, omega arith)
+    c.opening.at.runs.items (count_of c.opening.at) c.opening.at.stale.items (c.opening.invariant.here, omega arith)
     c.in_ok-records_of.field-0.items c.in_ok-records_of.ensures)
 
 pub returns-clause-few_objects : goal.returns-clause-few_objects
@@ -36,7 +37,7 @@ returns-clause-few_objects g c =
     let over = c.opening-test.false in
     let count = c.len.ensures in
     few_objects c.args.batch.now c.opening.at.opened c.opening.at.rounds c.opening.at.objects
-    c.opening.at.runs.items c.opening.at.counts.items c.opening.at.stale.items (c.opening.invariant.here, omega arith)
+    c.opening.at.runs.items (count_of c.opening.at) c.opening.at.stale.items (c.opening.invariant.here, omega arith)
 
 pub returns-clause-objects : goal.returns-clause-objects
 returns-clause-objects g c =
@@ -45,7 +46,7 @@ returns-clause-objects g c =
     let over = c.opening-test.false in
     let count = c.len.ensures in
     last_state c.args.batch.now c.opening.at.opened c.opening.at.rounds c.opening.at.objects
-    c.opening.at.runs.items c.opening.at.counts.items c.opening.at.stale.items (c.opening.invariant.here, omega arith)
+    c.opening.at.runs.items (count_of c.opening.at) c.opening.at.stale.items (c.opening.invariant.here, omega arith)
 
 pub returns-clause-net : goal.returns-clause-net
 returns-clause-net g c =
@@ -54,7 +55,7 @@ returns-clause-net g c =
     let over = c.opening-test.false in
     let count = c.len.ensures in
     all_nets c.args.batch.now c.opening.at.opened c.opening.at.rounds c.opening.at.objects
-    c.opening.at.runs.items c.opening.at.counts.items c.opening.at.stale.items (c.opening.invariant.here, omega arith)
+    c.opening.at.runs.items (count_of c.opening.at) c.opening.at.stale.items (c.opening.invariant.here, omega arith)
 
 pub returns-clause-rounds : goal.returns-clause-rounds
 returns-clause-rounds g c =
@@ -63,7 +64,7 @@ returns-clause-rounds g c =
     let over = c.opening-test.false in
     let count = c.len.ensures in
     all_rounds c.args.batch.now c.opening.at.opened c.opening.at.rounds c.opening.at.objects
-    c.opening.at.runs.items c.opening.at.counts.items c.opening.at.stale.items (c.opening.invariant.here, omega arith)
+    c.opening.at.runs.items (count_of c.opening.at) c.opening.at.stale.items (c.opening.invariant.here, omega arith)
 
 pub returns-clause-runs : goal.returns-clause-runs
 returns-clause-runs g c =
@@ -72,7 +73,9 @@ returns-clause-runs g c =
     let over = c.opening-test.false in
     let count = c.len.ensures in
     all_counts c.args.batch.now c.opening.at.opened c.opening.at.rounds c.opening.at.objects
-    c.opening.at.runs.items c.opening.at.counts.items c.opening.at.stale.items (c.opening.invariant.here, omega arith)
+    c.opening.at.runs.items (count_of c.opening.at) c.opening.at.stale.items (c.opening.invariant.here, omega arith)
+    c.opening.at.counts.items c.opening.invariant.counted
+    (λ i lt. counted_before c.opening.at.counts.items c.opening.at.waits c.opening.at.runs.items c.opening.at.opened i lt)
 
 pub returns-clause-few : goal.returns-clause-few
 returns-clause-few g c =
