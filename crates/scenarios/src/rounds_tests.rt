@@ -106,6 +106,28 @@ fn a_run_that_still_stands_is_not_made_again(rt: HostRuntime) {
     assert_eq!(rt; gate.begun(), [1, 2, 1]);
 }
 
+#[test]
+fn an_enqueue_is_repeated_for_each_round_that_conflicts_with_it(rt: HostRuntime) {
+    let queue = "{\"name\":\"q\",\"kind\":\"queue\",\"start\":[]}";
+    let transactions =
+        "[{\"op\":[\"q\",\"enq\",\"x\"]}],[{\"op\":[\"q\",\"enq\",\"y\"]}],[{\"op\":[\"q\",\"enq\",\"x\"]}],[{\"op\":[\"q\",\"enq\",\"z\"]}]";
+    let gate = Counting::new();
+    assert_eq!(rt; rounds_of(&rt, queue, transactions, &gate), 4);
+    // The third doesn't conflict with the first, which enqueues the same item.
+    assert_eq!(rt; gate.begun(), [1, 2, 2]);
+    assert_eq!(rt; gate.all(), 9);
+}
+
+#[test]
+fn deposits_are_repeated_after_a_balance(rt: HostRuntime) {
+    let transactions =
+        "[{\"op\":[\"a\",\"deposit\",1]}],[{\"op\":[\"a\",\"balance\"]}],[{\"op\":[\"a\",\"deposit\",2]}],[{\"op\":[\"a\",\"deposit\",3]}]";
+    let gate = Counting::new();
+    assert_eq!(rt; rounds_of(&rt, ACCOUNTS, transactions, &gate), 3);
+    assert_eq!(rt; gate.begun(), [1, 2, 2]);
+    assert_eq!(rt; gate.all(), 7);
+}
+
 /// A list of one item.
 fn list_of<T: Drop>(rt: &(impl Abort + AllocGlobal), item: T) -> Vec<T> {
     let mut list = Vec::new(rt.alloc());
