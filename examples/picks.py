@@ -1,5 +1,5 @@
 #!/usr/bin/env python3
-"""Makes a document of a pick list: `picks.py < picks.tsv > picks.json`.
+"""Makes a document of a pick list: `picks.py picks.tsv > picks.json`.
 
 The lines are `stock PART COUNT`, `pick ORDER PART COUNT` and `receive PART COUNT`, with tabs between. Lines of one order that
 follow each other are one transaction. So are deliveries that follow each other. An order whose parts aren't all there takes
@@ -8,47 +8,67 @@ none of them: it aborts for the reason `short`, and its handler puts it among th
 
 import itertools
 
-from writing import Names, convert
+from reading import Fault, convert, split, whole
+from writing import MOST_AMOUNT, MOST_START, Document, Names
 
-FIELDS = {"stock": 3, "pick": 4, "receive": 3}
-
-
-def fields(lines):
-    """The fields of each line, with its count as a number."""
-    for number, line in enumerate(lines, 1):
-        found = line.rstrip("\n").split("\t")
-        if len(found) != FIELDS.get(found[0]) or not found[-1].isdecimal() or int(found[-1]) == 0:
-            raise ValueError("line %d: none of stock, pick and receive with a count: %s" % (number, line.rstrip("\n")))
-        yield [*found[:-1], int(found[-1])]
+FIELDS = {"stock": ("PART", "COUNT"), "pick": ("ORDER", "PART", "COUNT"), "receive": ("PART", "COUNT")}
 
 
-def picked(order, lines):
+def fields(line):
+    """The fields of a line, all of which its first word asks for."""
+    found, end = split(line, r"(?:^|(?<=\t))[^\t]*")
+    wanted = FIELDS.get(found[0].text)
+    if wanted is None:
+        raise Fault(found[0], "none of stock, pick and receive: '%s'" % found[0].text)
+    if len(found) > len(wanted) + 1:
+        raise Fault(found[len(wanted) + 1], "a surplus field")
+    if len(found) <= len(wanted):
+        raise Fault(end, "there is no %s" % wanted[len(found) - 1])
+    for field, name in zip(found[1:], wanted):
+        if not field.text:
+            raise Fault(field, "an empty %s" % name)
+    return found
+
+
+def picked(document, names, group):
     steps = []
-    for number, (_, _, part, count) in enumerate(lines, 1):
-        label = "part-%d" % number
-        steps += [{"op": [part, "withdraw", count], "as": label}, {"if": label, "is": "no", "then": [{"abort": "short"}]}]
-    steps.append({"op": ["packing", "enq", order]})
-    return [{"sub": steps, "handlers": {"short": [{"op": ["backorders", "insert", order]}]}}]
+    for number, (word, order, part, count) in enumerate(group, 1):
+        if number == 1:
+            block, name = document.begin(word), names.of(order)
+            document.add(order, block, {"sub": steps, "handlers": {"short": [{"op": ["backorders", "insert", name]}]}})
+        stock, label = document.object(part, names.of(part), "account", 0)["name"], "part-%d" % number
+        document.add(count, steps, {"op": [stock, "withdraw", whole(count, MOST_AMOUNT)], "as": label},
+                     {"if": label, "is": "no", "then": [{"abort": "short"}]})
+    document.add(order, steps, {"op": ["packing", "enq", name]})
 
 
-def received(lines):
-    return [{"parallel": [{"sub": [{"op": [part, "deposit", count]}]} for _, part, count in lines]}]
+def received(document, names, group):
+    children = []
+    for number, (word, part, count) in enumerate(group, 1):
+        if number == 1:
+            document.add(word, document.begin(word), {"parallel": children})
+        stock = document.object(part, names.of(part), "account", 0)["name"]
+        document.add(count, children, {"sub": [{"op": [stock, "deposit", whole(count, MOST_AMOUNT)]}]})
 
 
-def made_of(lines):
-    names, starts, transactions = Names(), {}, []
-    named = [[line[0], *map(names.of, line[1:-1]), line[-1]] for line in fields(lines)]
-    for line in named:
-        starts.setdefault(line[-2], 0)
-    for (word, order), group in itertools.groupby(named, lambda line: (line[0], line[1] if line[0] == "pick" else None)):
-        if word == "stock":
-            for _, part, count in group:
-                starts[part] += count
-        else:
-            transactions.append(picked(order, group) if order else received(group))
-    objects = [{"name": part, "kind": "account", "start": start} for part, start in starts.items()]
-    objects += [{"name": "packing", "kind": "queue", "start": []}, {"name": "backorders", "kind": "set", "start": []}]
-    return objects, transactions
+def stocked(document, names, group):
+    for _, part, count in group:
+        one = document.object(part, names.of(part), "account", 0)
+        one["start"] += whole(count, MOST_START)
+        if one["start"] > MOST_START:
+            raise Fault(count, "a stock of more than %s" % format(MOST_START, ","))
+
+
+MADE = {"stock": stocked, "pick": picked, "receive": received}
+
+
+def made_of(lines, _):
+    document, names = Document(), Names()
+    document.object(None, "packing", "queue", [])
+    document.object(None, "backorders", "set", [])
+    for (word, *_), group in itertools.groupby(map(fields, lines), lambda found: [field.text for field in found[:-2]]):
+        MADE[word](document, names, group)
+    return document.text()
 
 
 if __name__ == "__main__":

@@ -1,57 +1,108 @@
 #!/usr/bin/env python3
-"""Makes a document of account postings: `postings.py < postings.csv > postings.json`.
+"""Makes a document of account postings: `postings.py postings.csv > postings.json`.
 
-Each row has an identifier, the account that pays, the one that is paid, and an amount. A row without a payer is an opening
-balance. Each other row is a transaction, in the order of the rows. It aborts for the reason `uncovered` where the payer has
-too little. Amounts have up to two digits after the point; a negative one is paid the other way.
+The header says which form a file has. Columns `id`, `date` and `text` may be there, too, and are passed over.
+
+- `payer`, `paid`, `amount`: a row is a transaction of two accounts. It aborts for the reason `uncovered` where the payer has
+  too little. A row without a payer is an opening balance. A negative amount is paid the other way.
+- `transaction`, `account`, `currency`, `amount`: the rows of a transaction follow each other, and their amounts sum to 0 in
+  each currency. An amount is what the account gets. A row without a transaction is an opening balance. An account is a
+  counter, which may go below 0. With `--covered ACCOUNT` it may not, and a transaction aborts for the reason `uncovered`.
 """
 
-import csv
-from decimal import Decimal, InvalidOperation
+import itertools
+import re
 
-from writing import Names, convert
+from reading import Fault, Field, convert, smallest
+from tables import table
+from writing import MOST_AMOUNT, MOST_START, Document, Names
 
+PASSED_OVER = ("id", "date", "text")
+PAYMENTS = ("payer", "paid", "amount")
+ENTRIES = ("transaction", "account", "currency", "amount")
 
-def cents(text):
-    """Amounts are whole numbers in a document: those of the smallest unit."""
-    try:
-        amount = Decimal(text) * 100
-        return int(amount) if amount == int(amount) else None
-    except (InvalidOperation, OverflowError, ValueError):
-        return None
-
-
-def fields(row, line):
-    payer, paid, amount = (row.get(column) or "" for column in ("payer", "paid", "amount"))
-    if not paid or cents(amount) is None:
-        raise ValueError("line %d: nobody is paid, or no amount: %s, %s" % (line, paid, amount))
-    return payer, paid, cents(amount)
+# How many digits after the point the smallest unit of a currency has (ISO 4217), where it isn't 2.
+DIGITS = dict.fromkeys("BIF CLP DJF GNF ISK JPY KMF KRW PYG RWF UGX UYI VND VUV XAF XOF XPF".split(), 0)
+DIGITS.update(dict.fromkeys("BHD IQD JOD KWD LYD OMR TND".split(), 3))
 
 
-def transfer(payer, paid, amount):
-    return [{"op": [payer, "withdraw", amount], "as": "paid"},
-            {"if": "paid", "is": "no", "then": [{"abort": "uncovered"}]},
-            {"op": [paid, "deposit", amount]}]
+def opened(field, one, amount):
+    one["start"] += amount
+    if not (0 if one["kind"] == "account" else -MOST_START) <= one["start"] <= MOST_START:
+        raise Fault(field, "the opening balance of %s gets too small or too large: %d" % (one["name"], one["start"]))
 
 
-def made_of(lines):
-    names, starts, transactions = Names(), {}, []
-    rows = csv.DictReader(lines)
-    for row in rows:
-        payer, paid, amount = fields(row, rows.line_num)
-        payer, paid = payer and names.of(payer), names.of(paid)
-        starts.setdefault(paid, 0)
-        if not payer:
-            starts[paid] += amount
+def moved(one, amount, label):
+    """The steps by which an object gets an amount. One of 0 is none in a document."""
+    if one["kind"] == "counter":
+        return [{"op": [one["name"], "add" if amount > 0 else "sub", abs(amount)]}] * (amount != 0)
+    if amount >= 0:
+        return [{"op": [one["name"], "deposit", amount]}] * (amount > 0)
+    withdrawal = {"op": [one["name"], "withdraw", -amount], "as": label}
+    return [withdrawal, {"if": label, "is": "no", "then": [{"abort": "uncovered"}]}]
+
+
+def payments(document, names, table):
+    """Each row is a transaction, also with an amount of 0, so that the rows keep their numbers."""
+    for payer, paid, field in table:
+        if not paid.text:
+            raise Fault(paid, "nobody is paid")
+        amount = smallest(field, MOST_AMOUNT if payer.text else MOST_START)
+        one = document.object(paid, names.of(paid), "account", 0)
+        if not payer.text:
+            opened(field, one, amount)
             continue
-        starts.setdefault(payer, 0)
-        if amount < 0:
-            payer, paid, amount = paid, payer, -amount
-        # An amount of 0 is none in a document. Its transaction stays, so that the rows keep their numbers.
-        transactions.append(transfer(payer, paid, amount) if amount else [])
-    objects = [{"name": name, "kind": "account", "start": start} for name, start in starts.items()]
-    return objects, transactions
+        other, block = document.object(payer, names.of(payer), "account", 0), document.begin(field)
+        source, target = (one, other) if amount < 0 else (other, one)
+        document.add(field, block, *moved(source, -abs(amount), "paid"), *moved(target, abs(amount), None))
+
+
+def entries(document, names, table, covered):
+    """The rows of a transaction are its steps, each on the object of an account in a currency."""
+    done, unseen = {""}, set(covered)
+    for transaction, group in itertools.groupby(table, lambda row: row[0].text):
+        block, sums = None, {}
+        for number, (first, account, currency, field) in enumerate(group, 1):
+            if block is None and transaction:
+                if transaction in done:
+                    raise Fault(first, "the rows of transaction '%s' don't follow each other" % transaction)
+                block = document.begin(first)
+            one = held(document, names, account, currency, covered)
+            amount = smallest(field, MOST_AMOUNT if transaction else MOST_START, DIGITS.get(currency.text, 2))
+            if transaction:
+                document.add(field, block, *moved(one, amount, "row-%d" % number))
+                sums[currency.text] = (sums.get(currency.text, (0,))[0] + amount, field)
+            else:
+                opened(field, one, amount)
+            unseen.discard(account.text)
+        done.add(transaction)
+        for currency, (total, field) in sums.items():
+            if total:
+                raise Fault(field, "the %s of '%s' sum to %d of the smallest unit, not to 0" % (currency, transaction, total))
+    if unseen:
+        raise SystemExit("--covered: no row has the account '%s'" % min(unseen))
+
+
+def held(document, names, account, currency, covered):
+    """The object of an account in a currency."""
+    if not account.text:
+        raise Fault(account, "no account")
+    if not re.fullmatch("[A-Z]{3}", currency.text):
+        raise Fault(currency, "no currency of three capital letters: '%s'" % currency.text)
+    name = names.of(Field("%s-%s" % (account.text, currency.text), account.line, account.column))
+    return document.object(account, name, "account" if account.text in covered else "counter", 0)
+
+
+def made_of(lines, chosen):
+    document, names = Document(), Names()
+    form, found = table(lines, (PAYMENTS, ENTRIES), PASSED_OVER)
+    if form == PAYMENTS:
+        payments(document, names, found)
+    else:
+        entries(document, names, found, chosen.covered)
+    return document.text()
 
 
 if __name__ == "__main__":
-    convert(made_of)
+    convert(made_of, ("--covered", {"action": "append", "default": [], "metavar": "ACCOUNT",
+                                    "help": "an account of entries that may not go below 0; may be given several times"}))
