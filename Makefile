@@ -4,8 +4,8 @@
 # make test     the gate: every proof from nothing, the must-fail edits, the tests, the programs; then `make try`
 # make try      tries the built program: documents, command lines, failing devices, refused memory
 # make bench    prints the figures of bench/
-# make install  puts the program, its pages, the documents and the examples into PREFIX/bin, PREFIX/share/man and PREFIX/share/doc/ordtx,
-#               and completions for bash, zsh and fish where these look for them below PREFIX/share
+# make install  puts the program, its pages, the documents, the licences, the changelog and the examples into PREFIX/bin, PREFIX/share/man
+#               and PREFIX/share/doc/ordtx, and completions for bash, zsh and fish where these look for them below PREFIX/share
 RT ?= rt
 PREFIX ?= /usr/local
 SINCE ?= HEAD
@@ -63,6 +63,7 @@ install: bin/ordtx
 	install -m 644 docs/ordtx.5 $(DESTDIR)$(PREFIX)/share/man/man5/ordtx.5
 	install -d $(DESTDIR)$(PREFIX)/share/doc/ordtx/examples
 	install -m 644 docs/*.md docs/*.svg docs/document.schema.json $(DESTDIR)$(PREFIX)/share/doc/ordtx
+	install -m 644 LICENSE-MIT LICENSE-APACHE CHANGELOG.md $(DESTDIR)$(PREFIX)/share/doc/ordtx
 	install -m 644 examples/*.* $(DESTDIR)$(PREFIX)/share/doc/ordtx/examples
 	install -d $(DESTDIR)$(PREFIX)/share/bash-completion/completions
 	install -m 644 completions/ordtx.bash $(DESTDIR)$(PREFIX)/share/bash-completion/completions/ordtx

@@ -35,7 +35,7 @@ EXCEPTIONS = (
 )
 
 # Names of the language, of its guides, of other programs, and of what a check leaves.
-OUTSIDE = {"Wait", "SHORTER_PROOFS.md", "TERMS.md", "crates/*/out", "jq"}
+OUTSIDE = {"Wait", "SHORTER_PROOFS.md", "START-HERE.md", "TERMS.md", "WHAT", "crates/*/out", "jq"}
 
 # What a path has in the place of a name.
 ANY = re.compile(r"\b(?:NAME|CRATE|MODULE|FUNCTION)\b")
@@ -50,7 +50,7 @@ WORD = re.compile(r"[A-Za-z_][A-Za-z0-9_]*")
 
 
 def pages(tree):
-    names = ("README.md", "CONTRIBUTING.md", "examples/README.md", "tests/README.md")
+    names = ("README.md", "CONTRIBUTING.md", "CHANGELOG.md", "examples/README.md", "tests/README.md")
     return [tree / name for name in names] + sorted((tree / "docs").glob("*.md"))
 
 
