@@ -55,6 +55,36 @@ def try_faults(program):
     program.compare("faults that are shown", [], (shown,), (12,))
 
 
+# Steps that get fault 7, each with those of the page's lines that list it, and one that gets none.
+WRONG_ARGUMENTS = (
+    (["a", "deposit", 0], "1"), (["a", "deposit", -1], "1"), (["a", "deposit", 10 ** 12 + 1], "1"), (["a", "deposit", 5.5], "13"),
+    (["a", "deposit", 5.0], "3"), (["a", "withdraw", 1e30], "13"), (["a", "deposit", "5"], "1"), (["a", "withdraw"], "1"),
+    (["q", "enq", 5], "2"), (["q", "enq", None], "2"), (["a", "deposit", 5], ""),
+)
+
+
+def try_lines(program):
+    """The page's lines for a shell: each runs on its section's document; those of fault 7 list what they say."""
+    text = (ROOT / "docs" / "FAULTS.md").read_text()
+    for section in text.split("\n## ")[1:]:
+        found = re.search(r"^    (\{.*)", section, re.M)
+        for line in re.findall(r"^    (jq .*|grep .*) FILE$", section, re.M):
+            program_of_line, *words = shlex.split(line)
+            if not found or section.startswith("1:") or not shutil.which(program_of_line):
+                continue
+            done = subprocess.run([program_of_line, *words], input=found[1].encode(), capture_output=True)
+            program.compare("the line %s" % line, [section.split("\n")[0]], (done.returncode < 2, done.stderr), (True, b""))
+    section = text.split("\n## 7:")[1].split("\n## ")[0]
+    lines = re.findall(r"^    (jq .*|grep .*) FILE$", section, re.M)
+    objects = [{"name": "a", "kind": "account", "start": 0}, {"name": "q", "kind": "queue", "start": []}]
+    for step, numbers in WRONG_ARGUMENTS if shutil.which("jq") else ():
+        document = json.dumps({"ordtx": 4, "objects": objects, "transactions": [[{"op": step}]]}).encode()
+        err = program.run(["check"], document)[2]
+        listed = [str(number) for number, line in enumerate(lines, 1)
+                  if subprocess.run(shlex.split(line), input=document, capture_output=True).stdout]
+        program.compare("the lines that list %s" % step, [], ("".join(listed), err), (numbers, b"fault 7 transaction 1\n" if numbers else b""))
+
+
 def shown_in(page):
     """The indented blocks of a page, or those of a manual page between `.RS` and `.RE`."""
     text = page.read_text()
@@ -82,4 +112,5 @@ def try_shown(program):
 def try_all(program):
     try_examples(program)
     try_faults(program)
+    try_lines(program)
     try_shown(program)

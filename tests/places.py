@@ -161,6 +161,11 @@ LINES = (
 NO_JSON = (
     (b'{\n  "ordtx":1,\n  }', 3, 3),
     (b"[1,]", 1, 4),
+    # Columns count bytes; what is within a text, a number or a word is found by its first byte.
+    ('{"ä":1,,}'.encode(), 1, 9), (b'{"a":"la\\qte"}', 1, 6), (b'{"a":"b\tc"}', 1, 6), (b'{"a":"late}', 1, 6), (b'{"a":nul}', 1, 6),
+    (b'{"a":01}', 1, 6), (b'{"a":1.}', 1, 6), (b'["a\xc3"]', 1, 4),
+    # A later quote closes a text; the bytes end too soon.
+    (b'{"a:1,"b":2}', 1, 8), (b'{"ordtx":1', 1, 10), (b'{"ordtx":1\n', 2, 0), (b"", 1, 0),
 )
 
 

@@ -8,11 +8,16 @@ import functools
 import json
 import pathlib
 import random
+import re
 
 import commuting
 import randoms
 
-EXAMPLES = pathlib.Path(__file__).resolve().parent.parent / "examples"
+ROOT = pathlib.Path(__file__).resolve().parent.parent
+EXAMPLES = ROOT / "examples"
+
+# How `docs/DOCUMENT.md` cuts a line.
+PARTS = re.search(r're\.fullmatch\(r"(.*?)", line\)', (ROOT / "docs" / "DOCUMENT.md").read_text())[1]
 TITLES = {kind: title for title, kind, _ in commuting.TABLES}
 PLANS = ([], ["--workers", "1"], ["--workers", "64", "--cut", "1"])
 
@@ -115,12 +120,22 @@ def lines_of(program, document):
     return "".join(lines)
 
 
+def try_places(program, name, report, lines):
+    """Both operations are in the report with their paths and calls, and the earlier one with its reply."""
+    shown = dict(line[2:].split(" ", 1) for line in report.decode().splitlines() if line.startswith("O "))
+    for line in lines.splitlines():
+        number, path, call, _, earlier_path, earlier_call, reply = re.fullmatch(PARTS, line).groups()
+        program.compare("%s: %s" % (name, line), ["run", "--why"],
+                        (shown.get(path, "").split(" = ")[0], shown.get(earlier_path)), (call, "%s = %s" % (earlier_call, reply)))
+
+
 def try_document(program, name, document):
     given = json.dumps(document).encode()
     report, status, _ = program.run(["run"], given)
     lines = lines_of(program, document) if status == 0 else None
     if lines is None:
         return
+    try_places(program, name, report, lines)
     for plan in PLANS:
         program.expect(name, ["run", "--why", *plan], given, report + lines.encode())
     audit = program.run(["run", "--audit"], given)[0]
@@ -138,7 +153,7 @@ def try_transactions(program):
 def try_all(program, cases):
     try_transactions(program)
     for file in sorted(cases.glob("*.json")) + sorted(EXAMPLES.glob("*.json")):
-        if file.with_suffix(".report").exists():
+        if not file.with_suffix(".fault").exists():
             document = json.loads(file.read_bytes())
             if len(document["transactions"]) <= 40:
                 try_document(program, file.stem, document)
