@@ -42,11 +42,12 @@ def steps_in(block):
     """The steps of a block and of all blocks in it, and children, in the order in which they are read."""
     for step in block:
         yield step
-        for part in ("then", "else", "parallel", "sub"):
-            yield from steps_in(step.get(part, ()))
-        for _, handler in sorted(step.get("handlers", {}).items()):
-            yield from steps_in(handler)
-        yield from steps_in(step.get("handler", ()))
+        if "op" not in step:
+            for part in ("then", "else", "parallel", "sub"):
+                yield from steps_in(step.get(part, ()))
+            for _, handler in sorted(step.get("handlers", {}).items()):
+                yield from steps_in(handler)
+            yield from steps_in(step.get("handler", ()))
 
 
 class Document:
