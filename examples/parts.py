@@ -65,7 +65,7 @@ def write_parts(file, folder, most):
 def read_report(file, transactions, objects):
     """The lines of each transaction, and those of the objects. They are as many as the part has."""
     blocks, ends = [], []
-    with file.open() as source:
+    with file.open(errors="replace") as source:
         for number, line in enumerate(source, 1):
             found = LINE.match(line)
             if found and not ends and int(found[2]) == len(blocks) + (found[1] == "T"):

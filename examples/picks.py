@@ -19,7 +19,7 @@ def fields(line):
     found, end = split(line, r"(?:^|(?<=\t))[^\t]*")
     wanted = FIELDS.get(found[0].text)
     if wanted is None:
-        raise Fault(found[0], "none of stock, pick and receive: '%s'" % found[0].text)
+        raise Fault(found[0], "none of stock, pick and receive: %r" % found[0].text)
     if len(found) > len(wanted) + 1:
         raise Fault(found[len(wanted) + 1], "a surplus field")
     if len(found) <= len(wanted):
@@ -53,10 +53,7 @@ def received(document, names, group):
 
 def stocked(document, names, group):
     for _, part, count in group:
-        one = document.object(part, names.of(part), "account", 0)
-        one["start"] += whole(count, MOST_START)
-        if one["start"] > MOST_START:
-            raise Fault(count, "a stock of more than %s" % format(MOST_START, ","))
+        document.open(count, document.object(part, names.of(part), "account", 0), whole(count, MOST_START))
 
 
 MADE = {"stock": stocked, "pick": picked, "receive": received}

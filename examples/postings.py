@@ -26,12 +26,6 @@ DIGITS = dict.fromkeys("BIF CLP DJF GNF ISK JPY KMF KRW PYG RWF UGX UYI VND VUV 
 DIGITS.update(dict.fromkeys("BHD IQD JOD KWD LYD OMR TND".split(), 3))
 
 
-def opened(field, one, amount):
-    one["start"] += amount
-    if not (0 if one["kind"] == "account" else -MOST_START) <= one["start"] <= MOST_START:
-        raise Fault(field, "the opening balance of %s gets too small or too large: %d" % (one["name"], one["start"]))
-
-
 def moved(one, amount, label):
     """The steps by which an object gets an amount. One of 0 is none in a document."""
     if one["kind"] == "counter":
@@ -50,7 +44,7 @@ def payments(document, names, table):
         amount = smallest(field, MOST_AMOUNT if payer.text else MOST_START)
         one = document.object(paid, names.of(paid), "account", 0)
         if not payer.text:
-            opened(field, one, amount)
+            document.open(field, one, amount)
             continue
         other, block = document.object(payer, names.of(payer), "account", 0), document.begin(field)
         source, target = (one, other) if amount < 0 else (other, one)
@@ -65,7 +59,7 @@ def entries(document, names, table, covered):
         for number, (first, account, currency, field) in enumerate(group, 1):
             if block is None and transaction:
                 if transaction in done:
-                    raise Fault(first, "the rows of transaction '%s' don't follow each other" % transaction)
+                    raise Fault(first, "the rows of transaction %r don't follow each other" % transaction)
                 block = document.begin(first)
             one = held(document, names, account, currency, covered)
             amount = smallest(field, MOST_AMOUNT if transaction else MOST_START, DIGITS.get(currency.text, 2))
@@ -73,14 +67,14 @@ def entries(document, names, table, covered):
                 document.add(field, block, *moved(one, amount, "row-%d" % number))
                 sums[currency.text] = (sums.get(currency.text, (0,))[0] + amount, field)
             else:
-                opened(field, one, amount)
+                document.open(field, one, amount)
             unseen.discard(account.text)
         done.add(transaction)
         for currency, (total, field) in sums.items():
             if total:
-                raise Fault(field, "the %s of '%s' sum to %d of the smallest unit, not to 0" % (currency, transaction, total))
+                raise Fault(field, "the %s of %r sum to %d of the smallest unit, not to 0" % (currency, transaction, total))
     if unseen:
-        raise SystemExit("--covered: no row has the account '%s'" % min(unseen))
+        raise SystemExit("--covered: no row has the account %r" % min(unseen))
 
 
 def held(document, names, account, currency, covered):
@@ -88,7 +82,7 @@ def held(document, names, account, currency, covered):
     if not account.text:
         raise Fault(account, "no account")
     if not re.fullmatch("[A-Z]{3}", currency.text):
-        raise Fault(currency, "no currency of three capital letters: '%s'" % currency.text)
+        raise Fault(currency, "no currency of three capital letters: %r" % currency.text)
     name = names.of(Field("%s-%s" % (account.text, currency.text), account.line, account.column))
     return document.object(account, name, "account" if account.text in covered else "counter", 0)
 

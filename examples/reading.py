@@ -41,7 +41,7 @@ def split(line, pattern):
 def whole(field, most):
     """The whole number of 1 to so many that a field has."""
     if not re.fullmatch("[0-9]+", field.text):
-        raise Fault(field, "no whole number: '%s'" % field.text)
+        raise Fault(field, "no whole number: %r" % field.text)
     digits = field.text.lstrip("0")
     if not digits or len(digits) > len(str(most)) or int(digits) > most:
         raise Fault(field, "not within 1 to %s: %s" % (format(most, ","), field.text))
@@ -53,7 +53,7 @@ def smallest(field, most, digits=2):
     found = AMOUNT.fullmatch(field.text)
     if not found:
         what = "an amount has a point and no comma" if "," in field.text else "no amount"
-        raise Fault(field, "%s: '%s'" % (what, field.text))
+        raise Fault(field, "%s: %r" % (what, field.text))
     if len(found[3] or "") > digits:
         raise Fault(field, "more than %d digits after the point: %s" % (digits, field.text))
     amount = (found[2] + (found[3] or "").ljust(digits, "0")).lstrip("0") or "0"
@@ -72,8 +72,8 @@ def convert(made_of, *options):
     try:
         with open(chosen.file, "rb") if chosen.file else contextlib.nullcontext(sys.stdin.buffer) as source:
             text = made_of(lines(source), chosen)
-        sys.stdout.write(text)
-        sys.stdout.flush()
+        sys.stdout.buffer.write(text.encode())
+        sys.stdout.buffer.flush()
     except Fault as fault:
         sys.exit("%s:%s" % (chosen.file or "standard input", fault))
     except OSError as error:

@@ -36,7 +36,7 @@ def steps(line, names):
     number, command, *words = found
     sequence = whole(number, MOST_AMOUNT)
     if command.text not in COMMANDS:
-        raise Fault(command, "none of %s: '%s'" % (", ".join(COMMANDS), command.text))
+        raise Fault(command, "none of %s: %r" % (", ".join(COMMANDS), command.text))
     wanted, target, refused, reason = COMMANDS[command.text]
     if len(words) > len(wanted):
         raise Fault(words[len(wanted)], "a surplus word after %s" % command.text)

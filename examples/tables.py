@@ -39,12 +39,12 @@ def table(lines, forms, passed_over):
     form = max(forms, key=lambda form: len(set(form) & set(columns)))
     for place, field in enumerate(header):
         if field.text not in form + passed_over:
-            raise Fault(field, "an unknown column: '%s'" % field.text)
+            raise Fault(field, "an unknown column: %r" % field.text)
         if field.text in columns[:place]:
-            raise Fault(field, "the column '%s' is there twice" % field.text)
+            raise Fault(field, "the column %r is there twice" % field.text)
     for column in form:
         if column not in columns:
-            raise Fault(end, "there is no column '%s'" % column)
+            raise Fault(end, "there is no column %r" % column)
     places = [columns.index(column) for column in form]
     return form, (taken(places, columns, *row) for row in found)
 
@@ -53,5 +53,5 @@ def taken(places, columns, fields, end):
     if len(fields) > len(columns):
         raise Fault(fields[len(columns)], "a surplus field; a field with a comma needs quotes, and an amount has a point")
     if len(fields) < len(columns):
-        raise Fault(end, "there is no field for the column '%s'" % columns[len(fields)])
+        raise Fault(end, "there is no field for the column %r" % columns[len(fields)])
     return [fields[place] for place in places]

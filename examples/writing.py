@@ -33,7 +33,7 @@ class Names:
                 shown, digest = OTHERS.sub("-", text), hashlib.sha256(text.encode()).hexdigest()[:12]
                 name = "%s-%s" % (shown if len(shown) <= 19 else shown[:9] + "-" + shown[-9:], digest)
             if self.texts.setdefault(name, text) != text:
-                raise Fault(field, "'%s' and '%s' both get the name %s" % (self.texts[name], text, name))
+                raise Fault(field, "%r and %r both get the name %s" % (self.texts[name], text, name))
             self.names[field.text] = name
         return self.names[field.text]
 
@@ -51,47 +51,60 @@ def steps_in(block):
 
 
 class Document:
-    """Objects and transactions within the limits. What is one too many is a fault of the field that asks for it."""
+    """Objects and transactions within the limits. What is too much is a fault of the field that asks for it."""
 
     def __init__(self):
         self.objects, self.transactions, self.counts = {}, [], collections.Counter()
+        self.size = len(self.text())
 
     def count(self, what, field):
         self.counts[what] += 1
         if self.counts[what] > LIMITS[what]:
             raise Fault(field, "more than %s %s in a document" % (format(LIMITS[what], ","), what))
 
+    def grow(self, size, field):
+        self.size += size
+        if self.size > MOST_BYTES:
+            raise Fault(field, "more than %s bytes in a document" % format(MOST_BYTES, ","))
+
     def object(self, field, name, kind, start):
         """The object of this name, which is made where there is none."""
         if name not in self.objects:
             self.count("objects", field)
-            self.objects[name] = {"name": name, "kind": kind, "start": start}
+            one = {"name": name, "kind": kind, "start": start}
+            self.grow(len(json.dumps(one)) + 4 * bool(self.objects), field)
+            self.objects[name] = one
         if self.objects[name]["kind"] != kind:
             raise Fault(field, "the name %s is that of a %s" % (name, self.objects[name]["kind"]))
         return self.objects[name]
 
+    def open(self, field, one, amount):
+        """An object starts with so much more."""
+        start = one["start"] + amount
+        if not (-MOST_START if one["kind"] == "counter" else 0) <= start <= MOST_START:
+            raise Fault(field, "%s would start with %d, which is too small or too large" % (one["name"], start))
+        self.grow(len(str(start)) - len(str(one["start"])), field)
+        one["start"] = start
+
     def begin(self, field):
         """A new transaction, which is empty."""
         self.count("transactions", field)
-        self.transactions.append((field, []))
-        return self.transactions[-1][1]
+        self.grow(2 + 4 * bool(self.transactions), field)
+        self.transactions.append([])
+        return self.transactions[-1]
 
     def add(self, field, block, *steps):
+        """Adds steps to a block of the document, or to one in its last step."""
         for step in steps_in(steps):
             self.count("operations" if "op" in step else "steps", field)
-        block.extend(steps)
+        for step in steps:
+            self.grow(len(json.dumps(step)) + 2 * bool(block), field)
+            block.append(step)
 
     def text(self):
         """A line for each object and each transaction."""
-        objects = ",\n  ".join(map(json.dumps, self.objects.values()))
-        head, end = '{"ordtx": 4,\n "objects": [\n  %s],\n "transactions": [\n  ' % objects, "]}\n"
-        size, written = len(head) + len(end), []
-        for field, block in self.transactions:
-            written.append(json.dumps(block))
-            size += len(written[-1]) + 4 * (len(written) > 1)
-            if size > MOST_BYTES:
-                raise Fault(field, "more than %s bytes in a document" % format(MOST_BYTES, ","))
-        return head + ",\n  ".join(written) + end
+        lists = [",\n  ".join(map(json.dumps, each)) for each in (self.objects.values(), self.transactions)]
+        return '{"ordtx": 4,\n "objects": [\n  %s],\n "transactions": [\n  %s]}\n' % tuple(lists)
 
 
 if __name__ == "__main__":

@@ -50,9 +50,9 @@ REFUSED = (
     ("postings.py", PAYMENTS + b"a,b,10000000000.01\n", "2:5", "more than 1,000,000,000,000 of the smallest unit: 10000000000.01"),
     ("postings.py", PAYMENTS + b",a,1" + b"0" * 9999, "2:4",
      "more than 1,000,000,000,000,000 of the smallest unit: 1" + "0" * 9999),
-    ("postings.py", PAYMENTS + b",a,-5\n", "2:4", "the opening balance of a gets too small or too large: -500"),
+    ("postings.py", PAYMENTS + b",a,-5\n", "2:4", "a would start with -500, which is too small or too large"),
     ("postings.py", PAYMENTS + b",a,10000000000000\n,a,0.01\n", "3:4",
-     "the opening balance of a gets too small or too large: 1000000000000001"),
+     "a would start with 1000000000000001, which is too small or too large"),
     ("postings.py", PAYMENTS + b"a,,5\n", "2:3", "nobody is paid"),
     ("postings.py", PAYMENTS + b'b,"a\n,c,5\n', "2:3", NO_QUOTE),
     ("postings.py", PAYMENTS + b'b,a"b"c,5\n', "2:3", NO_QUOTE),
@@ -73,7 +73,7 @@ REFUSED = (
     ("postings.py", ENTRIES + b"x,,EUR,5\n", "2:3", "no account"),
     ("postings.py", ENTRIES + b"x,a,JPY,5.5\n", "2:9", "more than 0 digits after the point: 5.5"),
     ("postings.py", ENTRIES + b",a,EUR,-10000000000000\n,a,EUR,-0.01\n", "3:8",
-     "the opening balance of a-EUR gets too small or too large: -1000000000000001"),
+     "a-EUR would start with -1000000000000001, which is too small or too large"),
     ("picks.py", b"stok\ta\t5\n", "1:1", "none of stock, pick and receive: 'stok'"),
     ("picks.py", b"\n", "1:1", "none of stock, pick and receive: ''"),
     ("picks.py", b"stock\ta\t5\npick\ta\t5\n", "2:9", "there is no COUNT"),
@@ -82,7 +82,7 @@ REFUSED = (
     ("picks.py", b"pick\to\tstock\t1,5\n", "1:14", NO_NUMBER % "1,5"),
     ("picks.py", b"stock\ta\t-5\n", "1:9", NO_NUMBER % "-5"),
     ("picks.py", b"stock\ta\t5\nreceive\ta\t0\n", "2:11", "not within 1 to 1,000,000,000,000: 0"),
-    ("picks.py", b"stock\ta\t1000000000000000\nstock\ta\t1\n", "2:9", "a stock of more than 1,000,000,000,000,000"),
+    ("picks.py", b"stock\ta\t1000000000000000\nstock\ta\t1\n", "2:9", "a would start with 1000000000000001, which is too small or too large"),
     ("picks.py", b"stock\tpacking\t5\n", "1:7", "the name packing is that of a queue"),
     ("picks.py", b"\xef\xbb\xbfstock\ta\t5\n", "1:1", MARK),
     ("picks.py", b"stock\ta\t5\nstock\tb\xff\t5\n", "2:8", NO_UTF_8),
@@ -186,14 +186,17 @@ def try_limits(program):
         wanted = "standard input:%d:%d: more than %s %s in a document\n" % (
             text.count(b"\n") + 1, column, limit({"steps": "ifs, "}.get(what, what)), what)
         program.compare("more %s than there may be" % what, words, made(words, text + more), (b"", 1, wanted))
-    row = b"x,a,EUR,1\nx,a,EUR,-1\n"
-    document, _, _ = made(["postings.py"], ENTRIES + row * 9 + row.replace(b"x", b"y"))
-    for operations, size, line, what in (
-            (20, len(document), None, None), (19, len(document), "21:9", "19 operations"),
-            (20, len(document) - 1, "20:1", "%d bytes" % (len(document) - 1))):
-        got = made(["-c", LIMITED, str(operations), str(size), "postings.py"], ENTRIES + row * 9 + row.replace(b"x", b"y"))
-        wanted = (b"", 1, "standard input:%s: more than %s in a document\n" % (line, what)) if line else (document, 0, "")
-        program.compare("a limit of %d operations and %d bytes" % (operations, size), [], got, wanted)
+    for sample, script, *options in SAMPLES:
+        given = (EXAMPLES / sample).read_bytes()
+        document = (EXAMPLES / sample).with_suffix(".json").read_bytes()
+        count = document.count(b'"op"')
+        for operations, size, what in (
+                (count, len(document), None), (count - 1, len(document), "%d operations" % (count - 1)),
+                (count, len(document) - 1, "%s bytes" % format(len(document) - 1, ","))):
+            got = made(["-c", LIMITED, str(operations), str(size), script, *options], given)
+            place = re.match(r"standard input:%d:\d+: " % given.count(b"\n"), got[2])
+            wanted = (b"", 1, "%smore than %s in a document\n" % (place and place[0], what)) if what else (document, 0, "")
+            program.compare("%s, at most %d operations and %d bytes" % (sample, operations, size), [], got, wanted)
     text = (EXAMPLES / "writing.py").read_text().replace("_", "")
     for what in ("bytes", "operations"):
         number = limit(what)
