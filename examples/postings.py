@@ -90,10 +90,12 @@ def held(document, names, account, currency, covered):
 def made_of(lines, chosen):
     document, names = Document(), Names()
     form, found = table(lines, (PAYMENTS, ENTRIES), PASSED_OVER)
-    if form == PAYMENTS:
-        payments(document, names, found)
-    else:
+    if form == ENTRIES:
         entries(document, names, found, chosen.covered)
+    elif chosen.covered:
+        raise SystemExit("--covered is for entries: of payments each account is covered")
+    else:
+        payments(document, names, found)
     return document.text()
 
 

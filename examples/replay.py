@@ -79,7 +79,7 @@ def write_parts(lines, prefix):
 
 
 def made_of(lines, chosen):
-    return write_parts(lines, chosen.parts) if chosen.parts else document_of(lines, Names()).text()
+    return document_of(lines, Names()).text() if chosen.parts is None else write_parts(lines, chosen.parts)
 
 
 if __name__ == "__main__":

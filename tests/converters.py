@@ -160,6 +160,8 @@ def try_refused(program, folder):
         program.compare("%s of no file" % script, [], made([script, "nothing"], b""), wanted)
     program.compare("an account that no row has", [], made(["postings.py", "--covered", "b"], ENTRIES + b"x,a,EUR,0\n"),
                     (b"", 1, "--covered: no row has the account 'b'\n"))
+    program.compare("an account of payments", [], made(["postings.py", "--covered", "b"], PAYMENTS + b",b,5\n"),
+                    (b"", 1, "--covered is for entries: of payments each account is covered\n"))
 
 
 # Runs a script with other limits.
