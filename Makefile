@@ -1,7 +1,8 @@
-# make          builds bin/ordtx (the first time it proves every crate that the program needs)
-# make run      runs the example of a day's ledger
+# make          proves every crate that the program needs, and builds bin/ordtx
+# make run      prints the report of a day's ledger, by bin/ordtx or else by a build without proofs
+# make test     runs every test of the crates and every case, without proofs
 # make check    checks the crates that differ from the revision SINCE (HEAD), with their tests, and those that use them
-# make test     the gate: every proof from nothing, the must-fail edits, the tests, the programs; then `make try`
+# make prove    the gate: every proof from nothing, the must-fail edits, the tests, the programs; then `make try`
 # make try      tries the built program: documents, command lines, failing devices, refused memory
 # make bench    prints the figures of bench/
 # make install  puts the program, its pages, the documents, the licences, the changelog and the examples into PREFIX/bin, PREFIX/share/man
@@ -12,7 +13,7 @@ SINCE ?= HEAD
 PROGRAM := crates/ordtx_cli
 SOURCES := crates.txt $(shell find crates \( -name '*.rt' -o -name '*.antt' \) -not -path '*/out/*')
 
-.PHONY: all run check test try bench install clean
+.PHONY: all run test check prove try bench install clean
 
 all: bin/ordtx
 
@@ -22,15 +23,20 @@ bin/ordtx: $(SOURCES)
 	RT=$(RT) tools/prove ordtx_cli --version
 	cp $(PROGRAM)/out/ordtx_cli bin/ordtx
 
-run: bin/ordtx
-	bin/ordtx run examples/ledger.json
+# A bin/ordtx that is newer than the sources is taken as it is.
+run:
+	@if $(MAKE) --silent --question bin/ordtx; then bin/ordtx run examples/ledger.json; \
+	else RT=$(RT) tools/report examples/ledger.json; fi
+
+test:
+	RT=$(RT) tools/test
 
 # For the daily loop: nothing is proved that an edit can't have touched.
 check:
 	RT=$(RT) tools/prove --since $(SINCE)
 
 # `rt ci` leaves the programs that it proved and built: those are tried.
-test:
+prove:
 	@echo "Proving every crate from nothing, with its must-fail edits, tests and programs."
 	@mkdir -p bin
 	@date +%s > bin/begun
