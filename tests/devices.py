@@ -26,7 +26,8 @@ def try_failing_input(program):
         for name, file, message in (
                 ("an absent file", absent, "ordtx: cannot open '%s': "
                  "No such file or directory (os error 2)\n" % absent),
-                ("a folder", folder, "ordtx: cannot read '%s'\n" % folder)):
+                ("a folder", folder, "ordtx: cannot read '%s': "
+                 "Is a directory (os error 21)\n" % folder)):
             for command in COMMANDS:
                 program.expect(name, [command, file], b"", b"", 1,
                                message.encode() + NO_INPUT)
@@ -41,9 +42,29 @@ def try_failing_input(program):
     with open(os.devnull, "wb") as unreadable:
         done = subprocess.run([program.path, "run"], stdin=unreadable,
                               stdout=subprocess.PIPE, stderr=subprocess.PIPE)
+        message = b"ordtx: cannot read standard input: Bad file descriptor (os error 9)\n"
         program.compare("input that can't be read", ["run"],
                         (done.stdout, done.returncode, done.stderr),
-                        (b"", 1, NO_INPUT))
+                        (b"", 1, message + NO_INPUT))
+
+
+def try_file_names(program, document, report):
+    """A file's name is bytes. What can't be shown of it is shown as bytes."""
+    with tempfile.TemporaryDirectory() as folder:
+        for name, shown in (
+                (b"a b", "a b"), ("äöü".encode(), "äöü"), (b"\xff", "\\xff"),
+                (b"a\xc3", "a\\xc3"), (b"\xe4\xf6.json", "\\xe4\\xf6.json"),
+                (b"a\n\x1b[1m\x7f", "a\\x0a\\x1b[1m\\x7f"), (b"\xc2\x85", "\\xc2\\x85"),
+                (bytes(byte for byte in range(1, 256) if byte != ord("/")), None)):
+            file = os.path.join(folder.encode(), name)
+            if shown is not None:
+                message = ("ordtx: cannot open '%s/%s': "
+                           "No such file or directory (os error 2)\n" % (folder, shown))
+                program.expect("an absent file of any name", ["run", file], b"", b"", 1,
+                               message.encode() + NO_INPUT)
+            with open(file, "wb") as out:
+                out.write(document)
+            program.expect("a file of any name", ["run", file], b"", report)
 
 
 def try_failing_output(program, document):
@@ -87,6 +108,7 @@ def try_all(program, case):
     report = case.with_suffix(".report").read_bytes()
     try_slow_input(program, document, report)
     try_failing_input(program)
+    try_file_names(program, document, report)
     try_failing_output(program, document)
     try_limited_output(program, ["run"], document, report)
     try_limited_output(program, ["locate"], b"{", b"fault 1 transaction 0 at line 1 column 1\n")

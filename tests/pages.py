@@ -20,6 +20,15 @@ def try_examples(program):
                               document.with_suffix(".txt").read_bytes())
 
 
+def try_version(program):
+    """The program, the newest entry of the changelog and the manual pages have one version."""
+    version = program.run(["--version"])[0].decode().split()[-1]
+    pages = {"CHANGELOG.md": r"^## \[(.+?)\]", "docs/ordtx.1": r'^\.TH .* "ordtx (.+?)"', "docs/ordtx.5": r'^\.TH .* "ordtx (.+?)"'}
+    for page, pattern in pages.items():
+        found = re.search(pattern, (ROOT / page).read_text(), re.M)
+        program.compare("the version of " + page, ["--version"], (found and found[1],), (version,))
+
+
 def try_pointer(program, words, document, pointer):
     """The page's line of `jq`, with another pointer."""
     words = shlex.split(words)
@@ -111,6 +120,7 @@ def try_shown(program):
 
 def try_all(program):
     try_examples(program)
+    try_version(program)
     try_faults(program)
     try_lines(program)
     try_shown(program)

@@ -1,5 +1,6 @@
 """Runs the program, and keeps count of what it did otherwise than it should."""
 
+import os
 import subprocess
 
 WORKERS = (1, 2, 64)
@@ -33,7 +34,7 @@ class Program:
         for part, seen, want in zip(("stdout", "status", "stderr"), got, wanted):
             if want is not None and seen != want:
                 self.failed += 1
-                print("FAILED %s: %s, %s" % (name, " ".join(words), part))
+                print("FAILED %s: %s, %s" % (name, " ".join(map(os.fsdecode, words)), part))
                 print("  wanted %.300r" % (want,))
                 print("  got    %.300r" % (seen,))
                 return

@@ -51,12 +51,16 @@ def try_messages(program, document):
     program.expect("no number", ["run", "--workers", "two"], document, b"", 2,
                    b"error: invalid value 'two' for '--workers <N>': "
                    b"invalid digit found in string" + TRY_HELP)
-    for place, words in ((1, [b"\xff"]), (2, [b"run", b"\xff"]),
-                         (2, [b"run", b"a" * 70000 + b"\x80", b"\xff"]),
-                         (4, [b"run", b"--cut", b"1", b"a\xfe"])):
+    # What can't be shown of a word is shown as bytes. No message says to pass an option as a value.
+    for words, message in (
+            ([b"\xff"], b"unrecognized subcommand '\\xff'"),
+            ([b"go\x1b[1m\n"], b"unrecognized subcommand 'go\\x1b[1m\\x0a'"),
+            ([b"run", b"--cut", b"\xc2\x85"], b"invalid value '\\xc2\\x85' for '--cut <K>'"),
+            ([b"run", b"--fast"], b"unexpected argument '--fast' found\n\nUsage: "),
+            ([b"run", b"--audits"], b"unexpected argument '--audits' found\n\n  tip: a similar argument exists")):
         out, status, err = program.run(words, document)
-        program.compare("no text", ["argument %d" % place], (out, status, err),
-                        (b"", 2, b"error: argument %d is no text\n" % place))
+        program.compare("a refused word", words, (out, status, err[:len(b"error: " + message)]),
+                        (b"", 2, b"error: " + message))
 
 
 def try_help(program):
@@ -71,10 +75,10 @@ def try_help(program):
     for flag in ("-h", "--help"):
         program.expect("help on help", ["help", flag], b"", help_of_help)
     for flag in ("-V", "--version"):
-        program.expect("the version", [flag], b"", b"ordtx 0.1.0\n")
+        program.expect("the version", [flag], b"", b"ordtx 1.0.0\n")
         for command in ("run", "serial", "carry", "check", "locate"):
             program.expect("the version", [command, flag], b"",
-                           b"ordtx-%s 0.1.0\n" % command.encode())
+                           b"ordtx-%s 1.0.0\n" % command.encode())
 
 
 def try_all(program, case):
@@ -87,6 +91,7 @@ def try_all(program, case):
         program.compare("a refused line says why", words,
                         (got[2] != b"",), (True,))
     program.expect("a file", ["run", file], b"", report)
+    program.expect("standard input by name", ["run", "-"], document, report)
     program.expect("a file, options after it",
                    ["run", file, "--workers", "64", "--cut", "1000"], b"", report)
     program.expect("options before a file",

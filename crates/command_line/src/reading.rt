@@ -24,16 +24,19 @@ const MOST_WORKERS: i64 = MAX_WORKERS as i64;
 /// The largest cut, as a number of the command line.
 const MOST_CUT: i64 = MAX_CUT as i64;
 
-const ABOUT: &str = "Runs numbered transactions over typed objects on several threads, with the \
-answer of running them by number on one";
+/// The program's version.
+const VERSION: &str = "1.0.0";
+
+const ABOUT: &str = "Runs a batch of numbered transactions over typed objects on several threads, \
+with the result of running them by number on one thread.";
 
 const HELP: &str =
     "The document is JSON: objects (account, counter, set, queue, directory, max), and
 transactions, which are lists of steps. Two deposits on an account of 100:
 
-  {\"ordtx\":1,
-   \"objects\":[{\"name\":\"a\",\"kind\":\"account\",\"start\":100}],
-   \"transactions\":[[{\"op\":[\"a\",\"deposit\",10]}],[{\"op\":[\"a\",\"deposit\",20]}]]}
+  {\"ordtx\": 4,
+   \"objects\": [{\"name\": \"a\", \"kind\": \"account\", \"start\": 100}],
+   \"transactions\": [[{\"op\": [\"a\", \"deposit\", 10]}], [{\"op\": [\"a\", \"deposit\", 20]}]]}
 
 Their report, by `ordtx run FILE`:
 
@@ -203,9 +206,27 @@ fn refusal_of(alloc: Global, error: &clap::Error) -> Refused
         Ok(text) if kind == ErrorKind::DisplayHelp || kind == ErrorKind::DisplayVersion => {
             Refused::Help(text)
         }
-        Ok(text) => Refused::Words(text),
+        Ok(text) => match without_tips(alloc, text.as_str()) {
+            Ok(text) => Refused::Words(text),
+            Err(_) => Refused::Memory,
+        }
         Err(_) => Refused::Memory,
     }
+}
+
+// The message without `clap`'s tip to pass a mistaken option as a value, and without the blank line
+// before the tip.
+fn without_tips(alloc: Global, message: &str) -> Result<String, AllocError> {
+    let mut kept = String::new(alloc);
+    let mut after_blank = false;
+    for line in message.lines() {
+        let blank = line.is_empty();
+        if !line.starts_with("  tip: to pass ") && !(blank && after_blank) {
+            writeln!(&mut kept, "{line}")?;
+            after_blank = blank;
+        }
+    }
+    Ok(kept)
 }
 
 fn ordtx_command<'a>(alloc: Global) -> Result<clap::Command<'a>, AllocError>
@@ -255,7 +276,7 @@ fn command_to_run<'a>(alloc: Global) -> Result<clap::Command<'a>, AllocError>
     clap::Command::new(alloc, "ordtx")
         .about(ABOUT)
         .after_help(HELP)
-        .version("0.1.0")
+        .version(VERSION)
         .propagate_version(true)
         .subcommand_required(true)
         .subcommand(run)
@@ -328,9 +349,9 @@ fn file_command<'a>(
     ensures app { IfOk result (λ command. app_of command ≡ file_app name.entry.now) }
     ensures local { IfOk result (λ command. (out-Command command).has_globals ≡ false) }
 {
-    let file = Arg::new(alloc, "file")
-        .value_name("FILE")
-        .help("The document; standard input where no file is given");
+    let file = Arg::new(alloc, "file").value_name("FILE").help(
+        "The document; standard input where no file is given, or -",
+    );
     clap::Command::new(alloc, name).about(about).arg(file)
 }
 

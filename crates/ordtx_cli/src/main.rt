@@ -2,8 +2,10 @@
 //! from a file or standard input, and writes the report to standard output.
 #![tactic(auto)]
 
+mod input;
 mod program;
 mod progress;
+mod words;
 
 use program::answer_words;
 use std::process::ExitCode;

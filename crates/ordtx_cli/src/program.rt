@@ -1,18 +1,18 @@
 //! What the program does with its words, and how it ends.
 ghost use Rattle.std.specs.Prelude.{◌≡◌, false};
 
+use crate::input::Input;
 use crate::progress::ProgressLine;
+use crate::words::{shown, text_of};
 use ordtx::{
     Code, Command, Fault, Gate, Line, Marked, NoGate, Refused, Sink, Source, audit_stream,
     carry_stream, check_stream, explain_stream, line, locate_stream, run_stream, serial_stream,
 };
 use std::alloc::{AllocError, Global};
-use std::fs::File;
-use std::io::ErrorKind;
+use std::io;
 use std::process::ExitCode;
 use std::rt::Env;
 use std::thread::Threads;
-use std::{env, io, str};
 
 // The status where the command line is refused.
 const REFUSED: u8 = 2;
@@ -28,7 +28,10 @@ pub fn answer_words<T: Threads + Sync>(rt: &HostRuntime, threads: &T) -> ExitCod
         Err(Refused::Memory) => status_of(rt, Err(Code::Memory.outside())),
         Err(Refused::Help(text)) => status_of(rt, print_help(rt, text.as_str())),
         Err(Refused::Words(text)) => {
-            let _ = rt.eprint(text.as_str());
+            let _ = match shown(rt.alloc(), text.as_str()) {
+                Ok(text) => rt.eprint(text.as_str()),
+                Err(_) => rt.eprint(text.as_str()),
+            };
             ExitCode::from(REFUSED)
         }
     }
@@ -36,62 +39,51 @@ pub fn answer_words<T: Threads + Sync>(rt: &HostRuntime, threads: &T) -> ExitCod
 
 fn asked(rt: &HostRuntime) -> Result<Line, Refused> {
     let alloc = rt.alloc();
-    let given = match env::args(rt) {
-        Ok(given) => given,
-        Err(error) => return Err(unread_words(rt, &error)?),
-    };
-    let owned: Vec<String> = given.collect(alloc)?;
-    let words: Vec<&str> = owned.iter().map(|word| word.as_str()).collect(alloc)?;
+    let texts = word_texts(rt, alloc)?;
+    let words: Vec<&str> = texts.iter().map(|word| word.as_str()).collect(alloc)?;
     line(alloc, words.as_slice())
 }
 
-// The refusal where a word is no text, or memory was refused.
-fn unread_words(rt: &HostRuntime, error: &io::Error) -> Result<Refused, AllocError> {
-    if error.kind() == ErrorKind::OutOfMemory {
-        return Ok(Refused::Memory);
-    }
-    let alloc = rt.alloc();
-    let text = match no_text(rt, alloc)? {
-        Some(number) => format!(in alloc; "error: argument {number} is no text\n")?,
-        None => String::from_str(alloc, "error: an argument is no text\n")?,
-    };
-    Ok(Refused::Words(text))
-}
-
-// The number of the first argument that is no text.
-fn no_text(rt: &HostRuntime, alloc: Global) -> Result<Option<usize>, AllocError> {
-    let mut bytes = vec![in alloc; 0u8; LONGEST]?;
+// The texts that stand for the words.
+fn word_texts(rt: &HostRuntime, alloc: Global) -> Result<Vec<String>, AllocError> {
+    let mut texts = Vec::new(alloc);
+    let mut word = vec![in alloc; 0u8; LONGEST]?;
     for number in 0..usize::MAX {
-        match rt.arg(number, bytes.as_mut_slice()) {
-            Ok(count) => {
-                if str::from_utf8(&bytes[..count]).is_err() {
-                    return Ok(Some(number));
-                }
-            }
+        match rt.arg(number, word.as_mut_slice()) {
+            Ok(count) => texts.push(text_of(alloc, &word[..count])?)?,
             Err(_) => break,
         }
     }
-    Ok(None)
+    Ok(texts)
 }
 
 fn answer_line<T: Threads + Sync>(rt: &HostRuntime, threads: &T, line: &Line) -> Result<(), Fault> {
-    match &line.file {
-        Some(path) => match File::open(rt, path.as_str()) {
-            Ok(file) => {
-                let mut source = Marked::new(file);
-                let answer = answer_source(rt, threads, line, &mut source);
-                if Source::failed(&source) {
-                    let _ = eprintln!(rt; "ordtx: cannot read '{path}'");
-                }
-                answer
+    let name = line.file.as_ref().map(|name| name.as_str());
+    match Input::open(rt, name) {
+        Ok(input) => {
+            let mut source = Marked::new(input);
+            let answer = answer_source(rt, threads, line, &mut source);
+            if let Some(error) = source.into_inner().refused() {
+                tell(rt, "cannot read", name, error);
             }
-            Err(error) => {
-                let _ = eprintln!(rt; "ordtx: cannot open '{path}': {error}");
-                Err(Code::Input.outside())
-            }
-        },
-        None => answer_source(rt, threads, line, &mut Marked::new(rt.stdin())),
+            answer
+        }
+        Err(error) => {
+            tell(rt, "cannot open", name, &error);
+            Err(Code::Input.outside())
+        }
     }
+}
+
+// Says on standard error what could not be done with an input, and why.
+fn tell(rt: &HostRuntime, what: &str, name: Option<&str>, error: &io::Error) {
+    let _ = match name {
+        None | Some("-") => eprintln!(rt; "ordtx: {what} standard input: {error}"),
+        Some(name) => match shown(rt.alloc(), name) {
+            Ok(name) => eprintln!(rt; "ordtx: {what} '{name}': {error}"),
+            Err(_) => eprintln!(rt; "ordtx: {what} a file: {error}"),
+        },
+    };
 }
 
 fn answer_source<T: Threads + Sync, R: Source>(
