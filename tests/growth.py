@@ -102,6 +102,19 @@ def try_threads_of_nested(program, library):
                     (got[1], started <= 64, None), (0, True, None))
 
 
+def try_workers(program, library):
+    """Of much work that is independent each worker has its part. One worker starts no thread."""
+    accounts = ['{"name":"a%d","kind":"account","start":0}' % i for i in range(500)]
+    independent = document(accounts, [
+        block(*(op("a%d" % (i % 500), "deposit", 1) for i in range(first, first + 20)))
+        for first in range(0, 100_000, 20)])
+    for workers, least, most in (("1", 0, 0), ("2", 1, 1_000), ("4", 3, 1_000)):
+        words = ["run", "--workers", workers]
+        got, _, started = preloaded.run(library, 0, words, program.path, independent, together=True)
+        program.compare("threads of independent work: %d" % started, words,
+                        (got[1], least <= started <= most, None), (0, True, None))
+
+
 # A step, and how many requests for memory its reading may take. By a tree it takes three times as many.
 STEPS = (
     ("operations", op("a", "deposit", 1), 0),
@@ -155,3 +168,4 @@ def try_all(program, library):
     try_refusing(program, library)
     try_reading(program, library)
     try_threads_of_nested(program, library)
+    try_workers(program, library)

@@ -17,14 +17,16 @@ def build(folder):
     return library
 
 
-def run(library, refused, words, path, document):
+def run(library, refused, words, path, document, together=False):
     """What the run returns whose Nth request for memory is refused (0: none), how many requests it
-    made, and how many threads it started."""
+    made, and how many threads it started. Unless they run together, each ends before the next is started."""
     with tempfile.TemporaryFile() as kept:
         kept.write(bytes(16))
         kept.flush()
         environment = dict(os.environ, LD_PRELOAD=library,
                            REFUSE=str(refused), COUNT=str(kept.fileno()))
+        if together:
+            environment["TOGETHER"] = "1"
         done = subprocess.run([path, *words], input=document,
                               stdout=subprocess.PIPE, stderr=subprocess.PIPE,
                               pass_fds=(kept.fileno(),), env=environment,
