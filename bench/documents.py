@@ -41,6 +41,74 @@ def withdrawals(count=1_000):
                     [block([operation("a", "withdraw", 1)])] * count)
 
 
+def sales(count=10_000):
+    """Transactions that each take a seat, and where there was one note an order of their own."""
+    start = ['{"name":"seats","kind":"account","start":%d}' % (count * 4 // 5), '{"name":"orders","kind":"directory","start":[]}']
+    return document(start, [
+        '[{"op":["seats","withdraw",1],"as":"s"},{"if":"s","is":"ok","then":[%s]}]' % operation("orders", "put", "o%d" % number, "ok")
+        for number in range(count)])
+
+
+def between(count=10_000, accounts=1_000, seed=4):
+    """Transfers between so many accounts, all or nothing."""
+    chosen = random.Random(seed)
+    blocks = []
+    for _ in range(count):
+        source, target = chosen.sample(range(accounts), 2)
+        blocks.append('[{"sub":[{"op":["a%d","withdraw",%d],"as":"w"},{"if":"w","is":"no","then":[{"abort":true}]},%s]}]' % (
+            source, chosen.randrange(1, 100), operation("a%d" % target, "deposit", chosen.randrange(1, 100))))
+    return document([account("a%d" % number, 1_000) for number in range(accounts)], blocks)
+
+
+def takers(count=10_000):
+    """Transactions that each take the first item of one queue."""
+    start = block(['"i%d"' % item for item in range(count)])
+    return document(['{"name":"q","kind":"queue","start":%s}' % start], [block([operation("q", "deq")])] * count)
+
+
+def sizes(count=10_000):
+    """Inserts of different items, each with a look at the size."""
+    return document(['{"name":"s","kind":"set","start":[]}'],
+                    [block([operation("s", "insert", "i%d" % item), operation("s", "size")]) for item in range(count)])
+
+
+def taken_back(count=1_000, operations=60):
+    """Transactions of a hot withdrawal, and of operations that are taken back."""
+    undone = block([*(operation("b%d" % number, "deposit", 1) for number in range(operations)), '{"abort":true}'])
+    return document([account("a", count), *(account("b%d" % number, 0) for number in range(operations))],
+                    [block(['{"sub":%s}' % undone, operation("a", "withdraw", 1)])] * count)
+
+
+def long_nets(count=400, length=257):
+    """Transactions of so many operations on items of their own, beside a hot withdrawal."""
+    return document([account("a", count), '{"name":"s","kind":"set","start":[]}'], [
+        block([operation("a", "withdraw", 1), *(operation("s", "insert", "i%d_%d" % (number, item)) for item in range(length - 1))])
+        for number in range(count)])
+
+
+def neighbours(count=2_000, operations=40):
+    """A chain of transactions that each raise a register many times, and look at that of the one before."""
+    return document(['{"name":"m%d","kind":"max","start":0}' % place for place in range(50)], [
+        block([*(operation("m%d" % (number % 50), "raise", number + place + 1) for place in range(operations)),
+               *[operation("m%d" % ((number + 49) % 50), "top")] * operations]) for number in range(count)])
+
+
+def logged_jobs(count=10_000):
+    """A log of settings in which every tenth command enqueues a job of its own, and counts it."""
+    return document(
+        ['{"name":"config","kind":"directory","start":[]}', '{"name":"jobs","kind":"queue","start":[]}',
+         '{"name":"seen","kind":"counter","start":0}'],
+        [block([operation("jobs", "enq", "j%d" % number), operation("seen", "add", 1)] if number % 10 == 0 else
+               [operation("config", "put", "k%d" % (number * 7919 % 400), "v%d" % (number % 50))])
+         for number in range(count)])
+
+
+def alternating(count=10_000):
+    """Puts of two values at one key, in turn."""
+    return document(['{"name":"d","kind":"directory","start":[]}'],
+                    [block([operation("d", "put", "k", "yz"[number & 1])]) for number in range(count)])
+
+
 def spread(count=10_000, operations=20, objects=1_000, seed=1):
     """Transactions of some operations over many accounts, nearly all deposits."""
     chosen = random.Random(seed)
