@@ -187,15 +187,14 @@ def register(count=10_000, operations=10):
     return document(['{"name":"m","kind":"max","start":%d}' % peak], blocks)
 
 
-def transfers(count=10_000, accounts=2_000, seed=3):
+def transfers(count=10_000, accounts=999, seed=3):
     """A ledger of transfers, each a subaction with a handler that books a failure."""
     chosen = random.Random(seed)
     objects = [account("a%d" % n, 1_000) for n in range(accounts)]
     objects.append('{"name":"failed","kind":"counter","start":0}')
-    objects = objects[:999] + objects[-1:]
     blocks = []
     for _ in range(count):
-        source, target = chosen.sample(range(999), 2)
+        source, target = chosen.sample(range(accounts), 2)
         amount = chosen.randrange(1, 200)
         blocks.append(
             '[{"sub":[{"op":["a%d","withdraw",%d],"as":"w"},'
