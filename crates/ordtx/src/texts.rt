@@ -8,7 +8,7 @@ use batch::Batch;
 use carry::{Unfit, carried, first_unfit};
 use lang::{Fault, Wrong, read};
 use report::{render, render_audit, render_check, render_plain};
-use rounds::{Plan, execute};
+use rounds::{Plan, execute, execute_ahead};
 use speculate::{Gate, NoMemory, plain};
 use std::alloc::Global;
 use std::thread::Threads;
@@ -34,10 +34,11 @@ fn report_of_batch<T: Threads + Sync, G: Gate>(
 ) -> Result<String, NoMemory>
     ensures { IfOk result (λ text. (bytes : List ℕ) → reading bytes ≡ Ok (document_of batch.now) → IsShownOf audit bytes (string_bytes text)) }
 {
-    let outcome = execute(threads, alloc, batch, plan, gate)?;
     if audit {
+        let outcome = execute(threads, alloc, batch, plan, gate)?;
         return render_audit(alloc, batch, &outcome);
     }
+    let outcome = execute_ahead(threads, alloc, batch, plan, gate)?;
     render(alloc, batch, &outcome)
 }
 

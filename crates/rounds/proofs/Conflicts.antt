@@ -86,7 +86,7 @@ module _ (start : State) (blocks : List Block) where
       subst (λ j. IsPendingOf (alone start blocks i j) run) same (still_stands i b (i - b) run is keeps)
 
   -- the first j runs leave what one thread leaves
-  nets_agree : (b j : ℕ) (runs : List PendingRun) → j ≤ length runs
+  pub nets_agree : (b j : ℕ) (runs : List PendingRun) → j ≤ length runs
       → ((k : ℕ) (d : PendingRun) → k < j → IsPendingOf (answer start blocks (b + k)) (get_or runs k d))
       → (own_nets blocks b (take j runs) ≡ nets start blocks b j) × IsSummary (all_left (take j runs)) (nets start blocks b j)
   unfolding nets

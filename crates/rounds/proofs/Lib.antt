@@ -13,6 +13,11 @@ pub mod Steps
 pub mod Ends
 pub mod Touched
 pub mod OwnersLemmas
+pub mod AheadLemmas
+pub mod AheadWindows
+pub mod AheadRounds
+pub mod AheadEnds
+pub mod Fallen
 pub mod Alike
 pub mod Repeating
 pub mod Wholes

@@ -136,7 +136,7 @@ front : (P : Made → Type 0) (x : Made) (xs : List Made) → P x → All P xs �
 front P x xs here rest zero d lt = here
 front P x xs here rest (suc k) d lt = rest k d (omega arith)
 
-all_front : (P : Made → Type 0) (xs : List Made) (y : Made) → All P (xs ++ y ∷ []) → All P xs × P y
+pub all_front : (P : Made → Type 0) (xs : List Made) (y : Made) → All P (xs ++ y ∷ []) → All P xs × P y
 all_front P [] y all = (λ k d lt. absurd (omega arith), all 0 y (omega arith))
 all_front P (x ∷ xs) y all =
     let rest = all_front P xs y (λ k d lt. all (suc k) d (omega arith)) in

@@ -9,3 +9,4 @@ pub mod Checks
 pub mod Pending
 pub mod Owners
 pub mod Waits
+pub mod Windows

@@ -2,6 +2,7 @@
 //! those before the first conflict are committed in order of number.
 #![tactic(auto)]
 
+mod ahead;
 mod check;
 mod committing;
 mod crew;
@@ -16,8 +17,10 @@ mod pending_run;
 mod renew;
 mod span;
 mod waits;
+mod window;
 
 pub use batch::{Batch, Outcome, Record};
+pub use ahead::execute_ahead;
 pub use check::first_conflict;
 pub use openings::execute;
 pub use plan::{MAX_CUT, MAX_WORKERS, Plan};

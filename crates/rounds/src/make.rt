@@ -15,6 +15,7 @@ use crate::crew::{Crew, makers};
 use crate::desk::Desk;
 use crate::pending_run::PendingRun;
 use batch::Batch;
+use plan::Plan;
 use speculate::{Gate, NoMemory, Objects};
 use std::alloc::Global;
 use std::thread::Threads;
@@ -69,7 +70,7 @@ fn make_group<R: Threads + Sync, G: Gate>(
     runs: &[PendingRun],
     all: &mut Vec<Made>,
 ) -> Result<(), NoMemory>
-    requires every { length runs.now ≡ length batch.now.transactions.items }
+    requires every { All (λ n. n < length runs.now) group.now }
     requires few { length runs.now ≤ MAX_TRANSACTIONS }
     requires within { All (λ n. CanBeMade batch.now desk.old.view.snapshot n) group.now }
     requires earlier { All (λ n. (d : OnePending) → WasMade batch.now n (slice_index_or runs.now n d)) group.now }
@@ -114,8 +115,18 @@ fn group_at(numbers: &[usize], cut: usize, piece: u32) -> &[usize]
     &numbers[first..end]
 }
 
+// How many numbers a group has: at most the cut, and no more than an even share of so many numbers
+// among so many workers.
+fn group_size(plan: Plan, numbers: usize, workers: u32) -> usize
+    ensures { (1 ≤ result) × (result ≤ plan.cut) }
+{
+    let share = numbers.div_ceil(workers.max(1) as usize);
+    share.max(1).min(plan.cut as usize)
+}
+
 /// A run for each of the numbers, in any order, made on these objects, where the one at its place
-/// doesn't get the same replies. A piece of the workers is a group of at most `cut` of the numbers.
+/// doesn't get the same replies. A piece of the workers is a group of at most `cut` of the numbers,
+/// and no more than an even share of them.
 /// Where there are at least twice as many workers as numbers, each run gets several workers for the
 /// children of parallel blocks.
 ///
@@ -128,7 +139,7 @@ pub(crate) fn make_all<R: Threads + Sync, G: Gate>(
     runs: &[PendingRun],
 ) -> Result<Vec<Made>, NoMemory>
     requires few { length numbers.now ≤ MAX_TRANSACTIONS }
-    requires every { length runs.now ≡ length batch.now.transactions.items }
+    requires every { All (λ n. n < length runs.now) numbers.now }
     requires few_runs { length runs.now ≤ MAX_TRANSACTIONS }
     requires within { All (λ n. CanBeMade batch.now objects.now n) numbers.now }
     requires earlier { All (λ n. (d : OnePending) → WasMade batch.now n (slice_index_or runs.now n d)) numbers.now }
@@ -142,18 +153,19 @@ pub(crate) fn make_all<R: Threads + Sync, G: Gate>(
         gate,
         ..
     } = *crew;
-    let cut = plan.cut as usize;
+    let workers = makers(crew, numbers.len());
+    let cut = group_size(plan, numbers.len(), workers);
     let width = plan.width(numbers.len() as u32);
     give_all(
         threads,
         alloc,
         numbers.len().div_ceil(cut) as u32,
-        makers(crew, numbers.len()),
+        workers,
         &|piece: u32, bench: Bench<Box<Desk<'_>>, Made>| -> Result<
             Bench<Box<Desk<'_>>, Made>,
             NoMemory,
         >
-            requires { (cut ≤ MAX_CUT) × (piece * cut < length numbers.now) × (1 ≤ width) × (width ≤ MAX_WORKERS) × (kinds objects.now ≡ kinds batch.now.objects) × (length runs.now ≡ length batch.now.transactions.items) × (length runs.now ≤ MAX_TRANSACTIONS) × All (λ n. CanBeMade batch.now objects.now n) numbers.now × All (λ n. (d : OnePending) → WasMade batch.now n (slice_index_or runs.now n d)) numbers.now × IfSome bench.desk (λ desk. IsDeskOn objects.now desk.value) }
+            requires { (cut ≤ MAX_CUT) × (piece * cut < length numbers.now) × (1 ≤ width) × (width ≤ MAX_WORKERS) × (kinds objects.now ≡ kinds batch.now.objects) × All (λ n. n < length runs.now) numbers.now × (length runs.now ≤ MAX_TRANSACTIONS) × All (λ n. CanBeMade batch.now objects.now n) numbers.now × All (λ n. (d : OnePending) → WasMade batch.now n (slice_index_or runs.now n d)) numbers.now × IfSome bench.desk (λ desk. IsDeskOn objects.now desk.value) }
             ensures { IfOk result (λ after. IfSome after.desk (λ desk. IsDeskOn objects.entry.now desk.value) × AreAdded batch.entry.now objects.entry.now runs.entry.now (slice_chunk numbers.entry.now cut piece) bench.entry.items.items after.items.items) }
         {
             let Bench { desk, mut items } = bench;

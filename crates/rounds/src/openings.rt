@@ -62,7 +62,7 @@ fn no_counts(alloc: Global, count: usize) -> Result<Vec<u32>, NoMemory>
 }
 
 // The records of runs.
-fn records_of(alloc: Global, runs: Vec<PendingRun>) -> Result<Vec<Record>, NoMemory>
+pub(crate) fn records_of(alloc: Global, runs: Vec<PendingRun>) -> Result<Vec<Record>, NoMemory>
     ensures { IfOk result (λ records. records.items ≡ map (λ r. r.tree) runs.items) }
 {
     let mut records = Vec::with_capacity(alloc, runs.len())?;

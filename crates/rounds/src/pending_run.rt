@@ -200,4 +200,12 @@ impl PendingRun {
         swap(&mut self.tree, &mut run.tree);
         Ok(())
     }
+
+    /// Frees all but the record.
+    pub(crate) fn settle(&mut self, alloc: Global)
+        ensures { self.new.tree ≡ self.old.tree }
+    {
+        self.sums = Sums::empty(alloc);
+        self.net = Net::Summed;
+    }
 }

@@ -15,6 +15,8 @@ pub use meeting::Meeting;
 pub use tally::Tally;
 
 #[cfg(test)]
+mod ahead_tests;
+#[cfg(test)]
 mod board_tests;
 #[cfg(test)]
 mod carry_tests;

@@ -12,8 +12,8 @@ returns g c =
     let objects = c.args.objects.now in
     let runs = c.args.runs.now in
     let numbers = c.args.numbers.now in
-    let cut = c.args.crew.now.plan.cut in
+    let cut = c.group_size-cut.result in
     let groups = given_by _ _ (λ piece. AreMade batch objects runs (slice_chunk numbers cut piece))
     c.give_all.result c.give_all.ensures (λ k before after done. search rules) in
     IfOk-weaker c.give_all.result _ _ (λ made given. all_groups batch objects runs numbers cut
-    c.div_ceil.result made.items (omega (arith, c.args.crew.now.plan.is_plan)) c.div_ceil.ensures given) groups
+    c.div_ceil.result made.items (omega (arith, c.group_size-cut.ensures)) c.div_ceil.ensures given) groups

@@ -24,8 +24,7 @@ loop-number-preserved g c =
     let run = c.in_ok-run.run' in
     let made : Made = record { number = number; run = run } in
     let earlier = c.index-runs-number.result in
-    let within = (c.requires.within c.loop-number.number-index 0 c.loop-number-test.true).within in
-    let there : number < length runs = omega (arith, within, c.requires.every) in
+    let there : number < length runs = c.requires.every c.loop-number.number-index 0 c.loop-number-test.true in
     let is_made : IsMade batch state runs made = λ d. subst (λ r. IsThisOrThat (meaning batch number state) r (option_map box_value run))
     (c.index-runs-number.is ∙ get_or_default runs number earlier d there)
     (subst (λ s. IsThisOrThat (meaning batch number s) earlier (option_map box_value run)) shown c.in_ok-run.ensures.made) in

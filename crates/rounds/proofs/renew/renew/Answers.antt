@@ -1,4 +1,4 @@
-use Rattle.std.proofs.Common.{◌≡◌, ◌<◌, length, get_or, set, ◌+◌, option_map, sym, ◌∙◌, subst, arith}
+use Rattle.std.proofs.Common.{◌≡◌, ◌<◌, length, get_or, set, ◌+◌, option_map, sym, ap, ◌∙◌, subst, arith}
 use Rattle.std.specs.Prelude.{box_value}
 use Rattle.std.proofs.lemmas.List.{get_or_default}
 use Rattle.rounds.specs.PendingRuns.{WasMade, AreMade, with_run}
@@ -13,6 +13,15 @@ make_all-requires-clause-earlier g c κs lives k d lt e =
     subst (λ rs. WasMade c.args.batch.now (get_or stale k d) (get_or rs (get_or stale k d) e)) (sym c.deref.ensures.value)
     (subst (λ n. WasMade c.args.batch.now n (get_or c.args.runs.now.items n e)) same
     (c.requires.earlier (get_or stale k 0) e (times_read stale k 0 lt)))
+
+pub make_all-requires-clause-every : goal.make_all-requires-clause-every
+make_all-requires-clause-every g c κs lives k d lt =
+    let stale = c.args.stale.now in
+    let same : get_or stale k 0 ≡ get_or stale k d = get_or_default stale k 0 d lt in
+    let within = c.requires.numbers (get_or stale k 0) (times_read stale k 0 lt) in
+    let all = c.requires.every in
+    let size = ap length c.deref.ensures.value in
+    omega arith
 
 pub putting-init : goal.putting-init
 putting-init g c =

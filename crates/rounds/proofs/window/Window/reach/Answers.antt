@@ -1,0 +1,32 @@
+use Rattle.std.proofs.Common.{◌≡◌, ◌+◌, length, ap, ◌∙◌, arith}
+use Rattle.std.proofs.lemmas.List.{length_push}
+use Rattle.rounds.specs.declared.window.Window.{Window}
+use Rattle.rounds.proofs.AheadLemmas.{grown_on, not_grown}
+use Rattle.rounds.proofs.AheadWindows.{reached_more}
+use Rattle.rounds.proofs.window.Window.reach.Goals as goal
+
+pub reaching-init : goal.reaching-init
+reaching-init c = record {
+  window = c.requires.window;
+  grown = not_grown c.args.opened c.args.self.now;
+}
+
+pub reaching-smaller : goal.reaching-smaller
+reaching-smaller c =
+    let going = c.reaching-test.true in
+    let len = c.len.ensures in
+    let pushed = ap length c.in_ok-push.ensures.items ∙ length_push c.reaching.self.runs.items c.empty.result in
+    omega arith
+
+pub reaching-preserved : goal.reaching-preserved
+reaching-preserved c =
+    let new : Window = record { runs = c.push.new.self; valid = c.push-in-reaching.new.self } in
+    let going = c.reaching-test.true in
+    let len = c.len.ensures in
+    let end = c.requires.end in
+    let more = reached_more c.args.batch.now c.args.opened c.args.objects.now c.reaching.self new c.empty.result
+    c.reaching.invariant.window (omega arith) c.empty.ensures c.in_ok-push.ensures.items c.in_ok-push-2.ensures.items in
+    record {
+      window = more.0;
+      grown = grown_on c.args.opened c.args.self.now c.reaching.self new c.reaching.invariant.grown more.1;
+    }

@@ -1,0 +1,12 @@
+use Rattle.std.proofs.Common.{◌-◌, length}
+use Rattle.rounds.specs.Windows.{IsWindowAt, HasGrown}
+use Rattle.rounds.proofs.window.Window.reach.Given as goal
+
+abbrev pub invariant-reaching : goal.invariant-reaching
+invariant-reaching l = record {
+  window : IsWindowAt l.batch l.opened l.objects l.self;
+  grown : HasGrown l.opened l.initial.self l.self;
+}
+
+abbrev pub decreases-reaching : goal.decreases-reaching
+decreases-reaching l = l.end - length l.self.runs.items
