@@ -36,7 +36,10 @@ fn makes_few_runs(rt: &(impl Threads + Sync + Abort + AllocGlobal), batch: &Batc
         } else {
             count.saturating_mul(4).saturating_add(1_000)
         };
-        assert!(rt; gate.all() <= most, "workers {workers} cut {cut} rounds {rounds}");
+        assert!(rt;
+            gate.all() <= most,
+            "workers {workers} cut {cut} rounds {rounds}"
+        );
     }
 }
 
@@ -112,7 +115,10 @@ fn transfers_take_few_runs(rt: HostRuntime) {
                 let to = from.wrapping_add(1 + i % (few - 1)) % few;
                 append_transfer(&rt, &mut transactions, from, to);
             }
-            makes_few_runs(&rt, &batch_of(&rt, 4, objects.as_str(), transactions.as_str()));
+            makes_few_runs(
+                &rt,
+                &batch_of(&rt, 4, objects.as_str(), transactions.as_str()),
+            );
         }
     }
 }
@@ -120,13 +126,18 @@ fn transfers_take_few_runs(rt: HostRuntime) {
 #[test]
 fn a_queue_that_all_take_from_takes_few_runs(rt: HostRuntime) {
     let queue = "{\"name\":\"q\",\"kind\":\"queue\",\"start\":[\"x\",\"y\",\"z\"]}";
-    copies_take_few_runs(&rt, queue, "[{\"op\":[\"q\",\"deq\"]},{\"op\":[\"q\",\"enq\",\"x\"]}]");
+    copies_take_few_runs(
+        &rt,
+        queue,
+        "[{\"op\":[\"q\",\"deq\"]},{\"op\":[\"q\",\"enq\",\"x\"]}]",
+    );
 }
 
 #[test]
 fn inserts_with_sizes_take_few_runs(rt: HostRuntime) {
     let set = "{\"name\":\"s\",\"kind\":\"set\",\"start\":[]}";
-    let five = "[{\"op\":[\"s\",\"insert\",\"x\"]},{\"op\":[\"s\",\"size\"]}],[{\"op\":[\"s\",\"remove\",\"x\"]},{\"op\":[\"s\",\"size\"]}]";
+    let five =
+        "[{\"op\":[\"s\",\"insert\",\"x\"]},{\"op\":[\"s\",\"size\"]}],[{\"op\":[\"s\",\"remove\",\"x\"]},{\"op\":[\"s\",\"size\"]}]";
     copies_take_few_runs(&rt, set, five);
 }
 
@@ -138,7 +149,10 @@ fn a_chain_takes_few_runs(rt: HostRuntime) {
         for i in 0..count {
             append_transfer(&rt, &mut transactions, i, i + 1);
         }
-        makes_few_runs(&rt, &batch_of(&rt, 4, objects.as_str(), transactions.as_str()));
+        makes_few_runs(
+            &rt,
+            &batch_of(&rt, 4, objects.as_str(), transactions.as_str()),
+        );
     }
 }
 

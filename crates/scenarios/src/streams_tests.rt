@@ -1,6 +1,7 @@
 //! Tests of streams that move a few bytes a call and fail, and of whole batches.
 ghost use Rattle.std.specs.Prelude.{◌≡◌, false};
 
+use crate::Meeting;
 use crate::memory::{TestSink, TestSource};
 use ordtx::{
     Code, Fault, Marked, NoGate, Plan, Sink, Source, Wrong, audit_stream, carry_stream,
@@ -66,6 +67,26 @@ fn writes_run_counts(rt: HostRuntime) {
     assert!(rt; audit_stream(&rt, rt.alloc(), &mut source, &mut sink, plan, &NoGate).is_ok());
     assert!(rt; sink.taken().starts_with(REPORT) && sink.taken().ends_with(COUNTS));
     assert_eq!(rt; sink.taken().len(), REPORT.len() + COUNTS.len());
+}
+
+#[test]
+fn runs_of_a_document_meet(rt: HostRuntime) {
+    let plan = Plan::new(2, 1).expect(&rt, "a plan");
+    let gate = Meeting::new((1, 0), (2, 0));
+    let mut sink = TestSink::new(&rt, ALWAYS, ALWAYS);
+    assert!(rt;
+        run_stream(
+            &rt,
+            rt.alloc(),
+            &mut Marked::new(DOCUMENT),
+            &mut sink,
+            plan,
+            &gate
+        )
+        .is_ok()
+    );
+    assert!(rt; gate.has_met());
+    assert!(rt; sink.taken() == REPORT);
 }
 
 #[test]
