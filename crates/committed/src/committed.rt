@@ -61,6 +61,16 @@ impl Committed {
         }
     }
 
+    /// Makes room for about so many more entries, so that the filter and the index need not grow with
+    /// each of them. On `NoMemory` some of the room may have been made.
+    pub fn expect(&mut self, more: usize) -> Result<(), NoMemory>
+        ensures { self.new ≡ self.old }
+    {
+        self.filter.reserve(&self.entries, more)?;
+        self.index.reserve(&self.entries, more)?;
+        Ok(())
+    }
+
     /// The number of entries.
     pub fn len(&self) -> usize
         ensures { result ≡ length self.now }

@@ -13,6 +13,9 @@ use std::mem::replace;
 /// How many slots a table has at most.
 const MOST: usize = 4096;
 
+/// For how many entries a summary has room at first.
+const ROOM: usize = 32;
+
 /// Up to how many entries a summary keeps all of them. For so few a table costs more than it saves.
 pub const FEW_ENTRIES: usize = 8;
 
@@ -97,7 +100,9 @@ impl Table {
         let slots = vec![in alloc; Places { last: 0, before: 0 }; size]?;
         let mut summary = spare;
         summary.clear();
-        let strengths = Vec::new(alloc);
+        let room = count.min(ROOM);
+        summary.reserve_exact(room)?;
+        let strengths = Vec::with_capacity(alloc, room)?;
         Ok(Table {
             slots,
             summary,
