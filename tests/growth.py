@@ -70,8 +70,7 @@ def nested(depth):
     return document([ACCOUNT], [inner])
 
 
-# For each shape a size, and how many times as much a document of twice the size may take. Of hot and of jobs there are four
-# times as many runs, most of which get the replies of the run before and take no memory.
+# For each shape a size, and how many times as much a document of twice the size may take.
 SHAPES = ((chain, 250, 2.2), (hot, 250, 2.2), (jobs, 250, 2.2), (taken, 2_000, 2.2),
           (forks, 250, 2.2), (labels, 1_000, 2.2), (nested, 11, 2.2))
 

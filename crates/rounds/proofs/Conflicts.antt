@@ -2,7 +2,6 @@
 use Rattle.std.proofs.Common.{◌≡◌, ℕ, zero, suc, ◌+◌, ◌-◌, ◌<◌, ◌≤◌, ◌↔◌, List, [], ◌∷◌, ◌++◌, length, get_or, take, refl, sym, ap, ◌∙◌}
 use Rattle.std.proofs.Common.{subst, arith}
 use Rattle.std.proofs.lemmas.List.{get_or-take, length-take-le}
-use native.Mathlib.Decide.{dec_le}
 use Rattle.objects.specs.Entries.{State}
 use Rattle.objects.specs.declared.entry.Entry.{Entry}
 use Rattle.objects.specs.Entries.{AllCommute}
@@ -12,13 +11,12 @@ use Rattle.meaning.specs.Records.{Taken, entries, net}
 use Rattle.meaning.specs.OneThread as one_thread
 use Rattle.meaning.specs.OneThread.{record_of, outcome_of, one}
 use Rattle.meaning.specs.Batch.{net_of, block_at, state_at, alone, answer, nets}
-use Rattle.meaning.specs.Rounds.{Keeps, AllKeep, IsNextOpening}
+use Rattle.meaning.specs.Rounds.{Keeps}
 use Rattle.meaning.proofs.Batches.{standing_run}
 use Rattle.committed.specs.Summaries.{entries_of, IsSummary}
 use Rattle.committed.proofs.SummaryLemmas.{stands-summary, past-summary, summary-append, summary-nil}
 use Rattle.rounds.specs.declared.pending_run.PendingRun.{PendingRun}
-use Rattle.rounds.specs.PendingRuns.{left_by, AreSumsOf, IsPendingOf, net_in, IsListed, own_net, own_nets, all_left, HoldsPast, HoldsAt}
-use Rattle.rounds.specs.PendingRuns.{IsFirstFrom, AreSpanned}
+use Rattle.rounds.specs.PendingRuns.{left_by, AreSumsOf, IsPendingOf, net_in, IsListed, own_net, own_nets, all_left, HoldsPast, AreSpanned}
 use Rattle.rounds.specs.Spans.{AreIn}
 use Rattle.rounds.specs.declared.pending_run.Net.{Net}
 use Rattle.rounds.specs.declared.pending_run.Net.TheVariants.{Summed, Listed, Recorded}
@@ -116,60 +114,3 @@ module _ (start : State) (blocks : List Block) where
       subst (λ run. AreIn run.span (own_net (block_at blocks (b + k)) run)) (sym (get_or-take count runs k d (omega (arith, lt, size))))
       (subst (AreIn (get_or runs k d).span)
       (sym (own_net_is (block_at blocks (b + k)) (state_at start blocks b) (get_or runs k d) is)) is.span)
-
-  -- a run holds past those before it exactly where it keeps
-  holds_here : (b k : ℕ) (runs : List PendingRun) (d : PendingRun) → AreAlone b runs → k < length runs → IsSummary (all_left (take k runs))
-      (nets start blocks b k)
-      → HoldsPast (all_left (take k runs)) (get_or runs k d) ↔ Keeps start blocks (b + k) b
-  holds_here b k runs d are lt same =
-      let count : (b + k) - b ≡ k = omega arith in
-      subst (λ n. HoldsPast (all_left (take k runs)) (get_or runs k d) ↔ AllCommute (entries (record_of (alone start blocks (b + k) b)))
-      (nets start blocks b n)) (sym count)
-      (holds_past (b + k) b (all_left (take k runs)) (nets start blocks b k) (get_or runs k d) (are k d lt) same)
-
-  clear : (b j : ℕ) (runs : List PendingRun) → AreAlone b runs → j ≤ length runs → ((k : ℕ) → k < j → HoldsAt runs k)
-      → (k : ℕ) (d : PendingRun) → k < j → Keeps start blocks (b + k) b × IsPendingOf (answer start blocks (b + k)) (get_or runs k d)
-  clear b zero runs are le stand k d lt = absurd (omega arith)
-  clear b (suc j) runs are le stand k d lt =
-      let before = clear b j runs are (omega arith) (λ k lt. stand k (omega arith)) in
-      elim (dec_le (suc k) j) [
-        | yes lower ↦ before k d lower
-        | no last ↦
-            let here : j ≡ k = omega arith in
-            let same = (nets_agree b j runs (omega arith) (λ k d lt. (before k d lt).1)).1 in
-            let keeps = (holds_here b j runs d are (omega arith) same).0 (stand j (omega arith) d) in
-            let from : b ≤ b + j = omega arith in
-            subst (λ k. Keeps start blocks (b + k) b × IsPendingOf (answer start blocks (b + k)) (get_or runs k d)) here
-            (keeps, keeps_answers (b + j) b (get_or runs j d) from (are j d (omega arith)) keeps)
-      ]
-
-  -- the runs before the first conflict leave what one thread leaves
-  pub left : (b : ℕ) (runs : List PendingRun) (first : ℕ) → AreAlone b runs → IsFirstFrom runs 0 first
-      → (own_nets blocks b (take first runs) ≡ nets start blocks b first)
-      × IsSummary (all_left (take first runs)) (nets start blocks b first)
-  left b runs first are conflict =
-      nets_agree b first runs conflict.within
-      (λ k d lt. (clear b first runs are conflict.within (λ k low. conflict.clear k (omega arith) low) k d lt).1)
-
-  no_later : (b : ℕ) (runs : List PendingRun) (first m : ℕ) → AreAlone b runs → IsFirstFrom runs 0 first → m ≤ b + length runs
-      → AllKeep start blocks b m → ¬ (b + first < m)
-  no_later b runs first m are conflict within keep later =
-      let more : first < length runs = omega arith in
-      conflict.conflict more (λ d. (holds_here b first runs d are more (left b runs first are conflict).1).1
-      (keep (b + first) (omega arith) later))
-
-  pub next_opening : (b : ℕ) (runs : List PendingRun) (first : ℕ) → b + length runs ≡ length blocks → AreAlone b runs
-      → IsFirstFrom runs 0 first → IsNextOpening start blocks b (b + first)
-  next_opening b runs first all are conflict = record {
-    within = let le = conflict.within in omega arith;
-    all_keep = λ i low high. let same : b + (i - b) ≡ i = omega arith in
-        let lt : i - b < first = omega arith in
-        let more : i - b < length runs = let le = conflict.within in omega arith in
-        some_run (Keeps start blocks i b) runs (i - b) more
-        (λ d. subst (λ k. Keeps start blocks k b) same
-        (clear b first runs are conflict.within (λ k low. conflict.clear k (omega arith) low) (i - b) d lt).0);
-    largest = λ m within keep. elim (dec_le m (b + first)) [
-      | yes le ↦ le
-      | no over ↦ absurd (no_later b runs first m are conflict (omega arith) keep (omega arith))
-    ];
-  }

@@ -3,70 +3,66 @@ use Rattle.std.proofs.Common.{◌≡◌, ℕ, zero, suc, ◌+◌, ◌<◌, ◌�
 use Rattle.std.proofs.lemmas.List.{get_or-map, length-map}
 use Rattle.objects.specs.Objects.{kind_of_value}
 use Rattle.objects.specs.Entries.{State, kinds, after}
-use Rattle.meaning.specs.Trees.{Block}
 use Rattle.batch.specs.Views.{record_view}
+use Rattle.meaning.specs.Trees.{Block}
 use Rattle.meaning.specs.Batch.{state_at, answer, nets, shown_of, shown_from, all_shown}
-use Rattle.meaning.specs.Rounds.{Rounds, Count}
+use Rattle.meaning.specs.Rounds.{Rounds}
 use Rattle.meaning.proofs.Batches.{batch_leads}
 use Rattle.rounds.specs.Views.{start_of, blocks_of}
-use Rattle.rounds.specs.declared.pending_run.PendingRun.{PendingRun}
+use Rattle.rounds.specs.declared.openings.Opening.{Opening}
+use Rattle.rounds.specs.Openings.{AreCounts}
+use Rattle.rounds.specs.Windows.{IsOpening, AreCountsAt}
 use Rattle.batch.specs.declared.record.Record.{Record}
 use Rattle.batch.specs.declared.batch.Batch.{Batch}
-use Rattle.rounds.specs.Openings.{AreCounts}
-use Rattle.rounds.specs.AtOpenings.{AtOpening}
 use Rattle.speculate.proofs.Room.{kinds_at}
 use Rattle.rounds.proofs.Conflicts.{some_run}
 use Rattle.rounds.proofs.Records.{IsRecordOf, AreAnswers}
 
-module _ (batch : Batch) (b rounds : ℕ) (state : State) (runs : List PendingRun) (count : ℕ → ℕ) (stale : List ℕ) where
-  abbrev pub AtTheEnd : Type 0
-  AtTheEnd = AtOpening batch b rounds state runs count stale × (length (blocks_of batch) ≤ b)
+module _ (batch : Batch) (at : Opening) (here : IsOpening batch at) (over : length (blocks_of batch) ≤ at.opened) where
+  is_end : at.opened ≡ length (blocks_of batch)
+  is_end = let within = here.within in omega arith
 
-  same_end : AtTheEnd → b ≡ length (blocks_of batch)
-  same_end done = let within = done.0.within in let over = done.1 in omega arith
+  every : length at.window.runs.items ≡ length (blocks_of batch)
+  every = let reached = here.reached in let within = here.window.within in omega arith
 
-  pub answers : AtTheEnd → (records : List Record) → records ≡ map (λ r. r.tree) runs → AreAnswers batch records
-  answers done records are = record {
-    all = ap length are ∙ (length-map runs (λ r. r.tree) ∙ done.0.all);
+  pub end_answers : (records : List Record) → records ≡ map (λ r. r.tree) at.window.runs.items → AreAnswers batch records
+  end_answers records are = record {
+    all = ap length are ∙ (length-map at.window.runs.items (λ r. r.tree) ∙ every);
     each = λ i d lt.
-        let over = done.1 in let all = done.0.all in
-        some_run (IsRecordOf (answer (start_of batch) (blocks_of batch) i) (get_or records i d)) runs i (omega arith) (λ run.
-        let place : i < length runs = omega arith in
-        let read : get_or records i d ≡ (get_or runs i run).tree = ap (λ rs. get_or rs i d) are
-        ∙ get_or-map (λ r. r.tree) runs i run d place in
-        subst (IsRecordOf (answer (start_of batch) (blocks_of batch) i)) (sym read) (done.0.committed i run (omega arith)).tree);
+        let all = every in
+        some_run (IsRecordOf (answer (start_of batch) (blocks_of batch) i) (get_or records i d)) at.window.runs.items i (omega arith)
+        (λ run. let place : i < length at.window.runs.items = omega arith in
+        let read : get_or records i d ≡ (get_or at.window.runs.items i run).tree = ap (λ rs. get_or rs i d) are
+        ∙ get_or-map (λ r. r.tree) at.window.runs.items i run d place in
+        subst (IsRecordOf (answer (start_of batch) (blocks_of batch) i)) (sym read) (here.committed i run (omega arith)));
   }
 
-  pub all_rounds : AtTheEnd → Rounds (start_of batch) (blocks_of batch) rounds
-  all_rounds done = let same : rounds + 0 ≡ rounds = omega arith in subst (Rounds (start_of batch) (blocks_of batch)) same
-      (done.0.all_rounds 0 (same_end done))
+  pub end_rounds : Rounds (start_of batch) (blocks_of batch) at.rounds
+  end_rounds = let same : at.rounds + 0 ≡ at.rounds = omega arith in subst (Rounds (start_of batch) (blocks_of batch)) same
+      (here.all_rounds 0 is_end)
 
-  pub last_state : AtTheEnd → state ≡ state_at (start_of batch) (blocks_of batch) (length (blocks_of batch))
-  last_state done = done.0.reached ∙ ap (state_at (start_of batch) (blocks_of batch)) (same_end done)
+  pub end_state : at.objects ≡ state_at (start_of batch) (blocks_of batch) (length (blocks_of batch))
+  end_state = here.objects ∙ ap (state_at (start_of batch) (blocks_of batch)) is_end
 
-  -- there are as many objects as at the start, and so few
-  pub few_objects : AtTheEnd → length state ≤ 1000
-  few_objects done =
-      let same : kinds state ≡ kinds (start_of batch) = ap kinds done.0.reached ∙ kinds_at batch b done.0.within in
-      let count : length state ≡ length (start_of batch) = sym (length-map state kind_of_value) ∙ ap length same
+  pub end_few : length at.objects ≤ 1000
+  end_few =
+      let same : kinds at.objects ≡ kinds (start_of batch) = ap kinds here.objects ∙ kinds_at batch at.opened here.within in
+      let count : length at.objects ≡ length (start_of batch) = sym (length-map at.objects kind_of_value) ∙ ap length same
       ∙ length-map (start_of batch) kind_of_value in
       omega (arith, count, batch.is_batch.few_objects)
 
-  pub all_nets : AtTheEnd → state ≡ after (start_of batch) (nets (start_of batch) (blocks_of batch) 0 (length (blocks_of batch)))
+  pub end_nets : at.objects ≡ after (start_of batch) (nets (start_of batch) (blocks_of batch) 0 (length (blocks_of batch)))
   unfolding state_at
-  all_nets done =
+  end_nets =
       let count : length (blocks_of batch) ≡ 0 + length (blocks_of batch) = omega arith in
-      last_state done ∙ (ap (state_at (start_of batch) (blocks_of batch)) count
+      end_state ∙ (ap (state_at (start_of batch) (blocks_of batch)) count
       ∙ (batch_leads (start_of batch) (blocks_of batch) 0 (length (blocks_of batch))).1)
 
-  pub all_counts : AtTheEnd → (counts : List ℕ) → length counts ≡ length (blocks_of batch)
-      → ((i : ℕ) → i < b → count i ≡ get_or counts i 0) → AreCounts batch counts
-  all_counts done counts all told = record {
-    all = all;
-    each = λ i lt.
-        let over = done.1 in
-        let before : i < b = omega arith in
-        subst (Count (start_of batch) (blocks_of batch) i) (told i before) (done.0.committed_counts i before);
+  -- each count is the defined one
+  pub end_counts : (counts : List ℕ) → AreCountsAt batch at.opened at.rounds at.window counts → AreCounts batch counts
+  end_counts counts are = record {
+    all = are.all;
+    each = λ i lt. are.committed i (omega arith);
   }
 
 -- what the records show, by number from b on

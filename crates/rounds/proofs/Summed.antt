@@ -15,7 +15,9 @@ use Rattle.committed.proofs.SummaryLemmas.{stands-summary, past-summary, summary
 use Rattle.speculate.specs.declared.speculated.Run.{Run}
 use Rattle.rounds.specs.declared.pending_run.PendingRun.{PendingRun}
 use Rattle.rounds.specs.Passes.{nets_of, StandsPast, IsFirstConflict}
-use Rattle.rounds.specs.PendingRuns.{left_by, AreSumsOf, AreSummed, all_left, HoldsPast, IsFirstFrom}
+use Rattle.rounds.specs.PendingRuns.{left_by, AreSumsOf, AreSummed, all_left, HoldsPast}
+use Rattle.rounds.specs.Checks.{IsSeenPast}
+use Rattle.rounds.specs.declared.check.Seen.{Seen}
 use Rattle.rounds.proofs.Conflicts.{some_run}
 
 -- entries that `==` finds equal are the same
@@ -82,8 +84,8 @@ module _ (runs : List Run) (pending : List PendingRun) (are : AreSummed runs pen
       (λ holds. by_summary.0 (by_since.0 holds), λ stands. by_since.1 (by_summary.1 stands))
 
   -- so the first conflict is the same
-  pub first_summed : (first : ℕ) → IsFirstFrom pending 0 first → IsFirstConflict runs first
-  first_summed first found =
+  pub first_summed : (seen : Seen) → IsSeenPast [] pending seen → IsFirstConflict runs seen.first
+  first_summed seen found =
       let size = are.all in
       let within = found.within in
       record {
@@ -91,6 +93,6 @@ module _ (runs : List Run) (pending : List PendingRun) (are : AreSummed runs pen
         clear = λ i low r.
             let lt : i < length runs = omega arith in
             some_run (StandsPast (nets_of (take i runs)) (get_or runs i r)) pending i (omega arith)
-            (λ d. (holds_or_stands i d r lt).0 (found.clear i (omega arith) low d));
-        conflict = λ r lt stands. found.conflict (omega arith) (λ d. (holds_or_stands first d r lt).1 stands);
+            (λ d. (holds_or_stands i d r lt).0 (found.clear i low d));
+        conflict = λ r lt stands. found.conflict (omega arith) (λ d. (holds_or_stands seen.first d r lt).1 stands);
       }

@@ -1,6 +1,7 @@
 -- A run that keeps as many operations as it performed keeps them all.
-use Rattle.std.proofs.Common.{◌≡◌, ◌≤◌, [], ◌++◌, length, refl, sym, ap, ap₂, ◌∙◌, arith, length-append}
+use Rattle.std.proofs.Common.{◌≡◌, ◌≤◌, List, [], ◌++◌, length, refl, sym, ap, ap₂, ◌∙◌, arith, length-append}
 use Rattle.std.proofs.lemmas.List.{nil_from_length}
+use Rattle.objects.specs.declared.entry.Entry.{Entry}
 use Rattle.meaning.specs.declared.end.End.{End}
 use Rattle.meaning.specs.declared.end.End.TheVariants.{Ended, Aborted}
 use Rattle.meaning.specs.Records.{Taken, Nothing, Took, TakenStep, Performed, Branched, Acted, InParallel, TakenChild, Committed, Undone}
@@ -8,7 +9,14 @@ use Rattle.meaning.specs.Records.{TakenHandler, NoHandler, Handled, TakenChildre
 use Rattle.meaning.specs.Records.{entries_of_child, entries_of_handler, entries_of_children, kept, kept_of_step, kept_of_child}
 use Rattle.meaning.specs.Records.{kept_of_handler, kept_of_children, net}
 use Rattle.speculate.proofs.Room.{kept-le, kept_of_step-le, kept_of_child-le, kept_of_handler-le, kept_of_children-le}
-use Rattle.rounds.proofs.Repeating.{each_kept}
+
+-- where all is kept of two parts, all is kept of each
+each_kept : (xs ys us vs : List Entry) → length us ≤ length xs → length vs ≤ length ys → length (xs ++ ys) ≤ length (us ++ vs)
+    → (length xs ≤ length us) × (length ys ≤ length vs)
+each_kept xs ys us vs first second all = (
+  omega (arith, second, all, length-append xs ys, length-append us vs),
+  omega (arith, first, all, length-append xs ys, length-append us vs),
+)
 
 mutual
   kept_whole : (taken : Taken) → length (entries taken) ≤ length (kept taken) → kept taken ≡ entries taken

@@ -4,8 +4,7 @@ use Rattle.objects.specs.Entries.{State}
 use Rattle.intentions.specs.Levels.{opened}
 use Rattle.rounds.specs.declared.desk.Desk.{Desk}
 
--- its view is as it was opened on this state, it tries entries on this state, and there are no labels
+-- its view is as it was opened on this state, and there are no labels
 pub record IsDeskOn (state : State) (desk : Desk) : Type 0 where
   pub opened : desk.view ≡ opened state
-  pub trial : desk.trial ≡ state
   pub unlabelled : desk.labels.items ≡ []

@@ -4,9 +4,5 @@ pub mod Passes
 pub mod PendingRuns
 pub mod Desks
 pub mod Openings
-pub mod AtOpenings
 pub mod Checks
-pub mod Pending
-pub mod Owners
-pub mod Waits
 pub mod Windows

@@ -1,10 +1,12 @@
--- Runs that are made as far as the rounds come. No public contract names it.
-use Rattle.std.specs.Prelude.{◌≡◌, ◌≢◌, ◌⊎◌, ℕ, ◌-◌, ◌+◌, ◌<◌, ◌≤◌, Bool, true, false, Option, Some, None, set, List, [], length, take, slice_index_or}
-use Rattle.std.specs.List.{All}
+-- Openings, with the runs that the rounds have come to. No public contract names it.
+use Rattle.std.specs.Prelude.{◌≡◌, ◌≢◌, ◌⊎◌, ℕ, ◌-◌, ◌+◌, ◌<◌, ◌≤◌, Bool, true, false, List, ◌++◌, suc, length, take, slice_index_or}
 use Rattle.objects.specs.Entries.{State}
 use Rattle.objects.specs.declared.entry.Entry.{Entry}
-use Rattle.meaning.specs.Batch.{state_at, answer, nets, shown_of}
-use Rattle.meaning.specs.Rounds.{AllKeep, IsNextOpening, RoundsFrom, Rounds}
+use Rattle.objects.specs.Entries.{AllCommute}
+use Rattle.meaning.specs.Records.{entries}
+use Rattle.meaning.specs.OneThread.{record_of}
+use Rattle.meaning.specs.Batch.{state_at, alone, answer, nets, shown_of}
+use Rattle.meaning.specs.Rounds.{Keeps, AllKeep, IsNextOpening, RoundsFrom, Rounds, CountFrom, Count}
 use Rattle.claims.specs.Views.{times}
 use Rattle.committed.specs.Summaries.{IsSummary}
 use Rattle.batch.specs.Views.{record_view}
@@ -14,19 +16,26 @@ use Rattle.rounds.specs.PendingRuns.{IsPendingOf, HoldsPast}
 use Rattle.rounds.specs.declared.check.Seen.{Seen}
 use Rattle.rounds.specs.declared.pending_run.PendingRun.{PendingRun}
 use Rattle.rounds.specs.declared.window.Window.{Window}
-use Rattle.rounds.specs.declared.ahead.Opening.{Opening}
+use Rattle.rounds.specs.declared.openings.Opening.{Opening}
 
 -- run i is one on the objects of the opening
 abbrev pub IsValid : Window → ℕ → Type 0
 IsValid window i = slice_index_or window.valid.items i false ≡ true
 
--- From number b on each valid run is the run of its transaction on this state, and the others have no entries.
+-- how many runs are still to be made of one that is valid or isn't
+abbrev pub still_to_be_made : Bool → ℕ
+still_to_be_made true = 0
+still_to_be_made false = 1
+
+-- so are all from one place on and before another
+abbrev pub AllValid : Window → ℕ → ℕ → Type 0
+AllValid window from end = (i : ℕ) → from ≤ i → i < end → IsValid window i
+
+-- From number b on each valid run is the run of its transaction on this state.
 pub record IsWindowAt (batch : Batch) (b : ℕ) (state : State) (window : Window) : Type 0 where
   pub flags : length window.valid.items ≡ length window.runs.items
   pub within : length window.runs.items ≤ length (blocks_of batch)
   pub made : (i : ℕ) (d : PendingRun) → b ≤ i → IsValid window i → IsPendingOf (meaning batch i state) (slice_index_or window.runs.items i d)
-  pub blank : (i : ℕ) (d : PendingRun) → b ≤ i → i < length window.runs.items → slice_index_or window.valid.items i false ≡ false
-      → (slice_index_or window.runs.items i d).sums.entries.items ≡ []
 
 -- more runs were made, and those of earlier transactions and all valid ones stayed
 pub record HasGrown (b : ℕ) (old new : Window) : Type 0 where
@@ -35,7 +44,7 @@ pub record HasGrown (b : ℕ) (old new : Window) : Type 0 where
       → slice_index_or new.runs.items i d ≡ slice_index_or old.runs.items i d
   pub still : (i : ℕ) → IsValid old i → IsValid new i
 
--- run i is valid and doesn't stand past these entries, and is told once, or it isn't told
+-- run i is valid and doesn't hold past these entries, and is listed once, or it isn't listed
 abbrev pub Told : Window → List Entry → ℕ → ℕ → PendingRun → Type 0
 Told window since i told d = ((IsValid window i → HoldsPast since (slice_index_or window.runs.items i d)) × (told ≡ 0))
     ⊎ (IsValid window i × (¬ HoldsPast since (slice_index_or window.runs.items i d)) × (told ≡ 1))
@@ -45,32 +54,34 @@ pub record IsFallenAt (window : Window) (since : List Entry) (place : ℕ) (numb
   pub here : (d : PendingRun) → Told window since place (times place numbers) d
   pub elsewhere : (i : ℕ) → i ≢ place → times i numbers ≡ 0
 
+-- it was added to a list
+abbrev pub IsDecided : Window → List Entry → ℕ → List ℕ → List ℕ → Type 0
+IsDecided window since place before after = (own : List ℕ) × (after ≡ before ++ own) × IsFallenAt window since place own
+
 -- the numbers, each once, of the valid runs from one place on and before another that don't stand past these entries
 pub record AreFallen (window : Window) (since : List Entry) (from upto : ℕ) (numbers : List ℕ) : Type 0 where
   pub before : (i : ℕ) → i < from → times i numbers ≡ 0
   pub beyond : (i : ℕ) → upto ≤ i → times i numbers ≡ 0
   pub each : (i : ℕ) (d : PendingRun) → from ≤ i → i < upto → Told window since i (times i numbers) d
 
--- the runs of these numbers are still to be made, and all others are as before
-pub record AreBlank (numbers : List ℕ) (old new : Window) : Type 0 where
+-- the runs of these numbers aren't valid, and all else is as before
+pub record AreStale (numbers : List ℕ) (old new : Window) : Type 0 where
+  pub runs : new.runs ≡ old.runs
   pub flags : length new.valid.items ≡ length old.valid.items
-  pub runs : length new.runs.items ≡ length old.runs.items
-  pub others : (i : ℕ) → times i numbers ≡ 0 → (slice_index_or new.valid.items i false ≡ slice_index_or old.valid.items i false)
-      × ((d : PendingRun) → slice_index_or new.runs.items i d ≡ slice_index_or old.runs.items i d)
-  pub here : (i : ℕ) → 0 < times i numbers → (slice_index_or new.valid.items i false ≡ false)
-      × ((d : PendingRun) → (slice_index_or new.runs.items i d).sums.entries.items ≡ [])
+  pub others : (i : ℕ) → times i numbers ≡ 0 → slice_index_or new.valid.items i false ≡ slice_index_or old.valid.items i false
+  pub here : (i : ℕ) → 0 < times i numbers → slice_index_or new.valid.items i false ≡ false
 
--- The runs from one place on are as before, but for those that didn't stand past these entries, which are still to be made.
+-- a run is valid where it was and stands past these entries
+abbrev pub KeptAt : List Entry → Window → Window → ℕ → PendingRun → Type 0
+KeptAt since old new i d = (IsValid new i × HoldsPast since (slice_index_or old.runs.items i d))
+    ⊎ ((slice_index_or new.valid.items i false ≡ false) × (¬ HoldsPast since (slice_index_or old.runs.items i d)))
+
+-- of the runs from one place on those are valid that were and stand past these entries
 pub record AreKept (from : ℕ) (since : List Entry) (old new : Window) : Type 0 where
+  pub runs : new.runs ≡ old.runs
   pub flags : length new.valid.items ≡ length old.valid.items
-  pub runs : length new.runs.items ≡ length old.runs.items
-  pub before : (i : ℕ) (d : PendingRun) → i < from → slice_index_or new.runs.items i d ≡ slice_index_or old.runs.items i d
-  pub valid : (i : ℕ) (d : PendingRun) → from ≤ i → IsValid new i → IsValid old i
-      × (slice_index_or new.runs.items i d ≡ slice_index_or old.runs.items i d) × HoldsPast since (slice_index_or old.runs.items i d)
-  pub blank : (i : ℕ) (d : PendingRun) → from ≤ i → i < length old.runs.items → slice_index_or new.valid.items i false ≡ false
-      → ((slice_index_or old.valid.items i false ≡ false) × (slice_index_or new.runs.items i d ≡ slice_index_or old.runs.items i d))
-      ⊎ (((slice_index_or new.runs.items i d).sums.entries.items ≡ []) × IsValid old i
-      × (¬ HoldsPast since (slice_index_or old.runs.items i d)))
+  pub valid : (i : ℕ) → from ≤ i → IsValid new i → IsValid old i
+  pub each : (i : ℕ) (d : PendingRun) → from ≤ i → IsValid old i → KeptAt since old new i d
 
 -- the runs before a place have only their records left
 pub record AreSettled (upto : ℕ) (old new : Window) : Type 0 where
@@ -79,14 +90,12 @@ pub record AreSettled (upto : ℕ) (old new : Window) : Type 0 where
   pub trees : (i : ℕ) (d : PendingRun) → (slice_index_or new.runs.items i d).tree ≡ (slice_index_or old.runs.items i d).tree
   pub others : (i : ℕ) (d : PendingRun) → upto ≤ i → slice_index_or new.runs.items i d ≡ slice_index_or old.runs.items i d
 
--- the flags with one more, where its run was made
-abbrev pub with_valid : List Bool → ℕ → Option PendingRun → List Bool
-with_valid valid number None = valid
-with_valid valid number (Some run) = set valid number true
-
--- numbers of a range whose runs aren't valid
-abbrev pub AreMissing : Window → ℕ → ℕ → List ℕ → Type 0
-AreMissing window from upto numbers = All (λ n. (from ≤ n) × (n < upto) × (slice_index_or window.valid.items n false ≡ false)) numbers
+-- the numbers, each once, of the runs from one place on and before another that aren't valid
+pub record AreMissing (window : Window) (from upto : ℕ) (numbers : List ℕ) : Type 0 where
+  pub before : (i : ℕ) → i < from → times i numbers ≡ 0
+  pub beyond : (i : ℕ) → upto ≤ i → times i numbers ≡ 0
+  pub each : (i : ℕ) → from ≤ i → i < upto → times i numbers ≡ still_to_be_made (slice_index_or window.valid.items i false)
+  pub few : length numbers + from ≤ upto
 
 -- all transactions from b on and before a place keep, and the list sums up what they leave
 pub record IsListedTo (batch : Batch) (b place : ℕ) (window : Window) (listed : List Entry) : Type 0 where
@@ -95,15 +104,23 @@ pub record IsListedTo (batch : Batch) (b place : ℕ) (window : Window) (listed 
   pub valid : (i : ℕ) → b ≤ i → i < place → IsValid window i
   pub nets : IsSummary listed (nets (start_of batch) (blocks_of batch) b (place - b))
 
+-- a block was checked up to its end or to the first conflict
+pub record IsBlockSeen (batch : Batch) (b end : ℕ) (window : Window) (nets : List Entry) (seen : Seen) : Type 0 where
+  pub within : seen.first ≤ end
+  pub upto : seen.upto ≤ length nets
+  pub listed : IsListedTo batch b seen.first window (take seen.upto nets)
+  pub conflict : seen.first < end → ¬ Keeps (start_of batch) (blocks_of batch) seen.first b
+  pub all : seen.first ≡ end → seen.upto ≡ length nets
+
 -- the round ends at the next opening, and the list begins with what its transactions leave
-pub record IsRoundSeen (batch : Batch) (b : ℕ) (window : Window) (seen : Seen) : Type 0 where
+pub record IsRoundSeen (batch : Batch) (b : ℕ) (window : Window) (nets : List Entry) (seen : Seen) : Type 0 where
   pub opening : IsNextOpening (start_of batch) (blocks_of batch) b seen.first
-  pub upto : seen.upto ≤ length seen.nets
-  pub listed : IsListedTo batch b seen.first window (take seen.upto seen.nets)
+  pub upto : seen.upto ≤ length nets
+  pub listed : IsListedTo batch b seen.first window (take seen.upto nets)
   pub reached : seen.first ≤ length window.runs.items
 
 -- what is at hand at an opening: the objects are those after the first transactions, whose records are those of one thread
-pub record IsAheadAt (batch : Batch) (at : Opening) : Type 0 where
+pub record IsOpening (batch : Batch) (at : Opening) : Type 0 where
   pub within : at.opened ≤ length (blocks_of batch)
   pub objects : at.objects ≡ state_at (start_of batch) (blocks_of batch) at.opened
   pub window : IsWindowAt batch at.opened at.objects at.window
@@ -113,3 +130,23 @@ pub record IsAheadAt (batch : Batch) (at : Opening) : Type 0 where
   pub few_rounds : at.rounds ≤ at.opened
   pub all_rounds : (more : ℕ) → RoundsFrom (start_of batch) (blocks_of batch) at.opened more
       → Rounds (start_of batch) (blocks_of batch) (at.rounds + more)
+
+-- the entries of transaction i, run at opening b, commute forward with all that the round from b to m commits
+abbrev pub Stands : Batch → ℕ → ℕ → ℕ → Type 0
+Stands batch b m i = AllCommute (entries (record_of (alone (start_of batch) (blocks_of batch) i b))) (nets (start_of batch) (blocks_of batch) b (m - b))
+
+-- A round leads from one opening to the next. Of the valid runs that it doesn't commit those stay so that hold past what it did.
+pub record IsRound (batch : Batch) (old new : Opening) : Type 0 where
+  pub next : IsNextOpening (start_of batch) (blocks_of batch) old.opened new.opened
+  pub on : old.opened < new.opened
+  pub one : new.rounds ≡ old.rounds + 1
+  pub kept : (i : ℕ) → new.opened ≤ i → IsValid old.window i → (IsValid new.window i × Stands batch old.opened new.opened i)
+      ⊎ ((slice_index_or new.window.valid.items i false ≡ false) × (¬ Stands batch old.opened new.opened i))
+
+-- How often each run was made. Those of an opening that aren't valid count where they are made.
+pub record AreCountsAt (batch : Batch) (b rounds : ℕ) (window : Window) (counts : List ℕ) : Type 0 where
+  pub all : length counts ≡ length (blocks_of batch)
+  pub few : (i : ℕ) → slice_index_or counts i 0 ≤ rounds
+  pub committed : (i : ℕ) → i < b → Count (start_of batch) (blocks_of batch) i (slice_index_or counts i 0)
+  pub pending : (i more : ℕ) → b ≤ i → i < length (blocks_of batch) → CountFrom (start_of batch) (blocks_of batch) i b (suc more)
+      → Count (start_of batch) (blocks_of batch) i (slice_index_or counts i 0 + still_to_be_made (slice_index_or window.valid.items i false) + more)

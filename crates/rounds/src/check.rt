@@ -1,16 +1,13 @@
-//! The check of a round: the first run that doesn't stand past those before it, which ends the
-//! round.
-ghost use Rattle.std.specs.Prelude.{◌≡◌, ◌↔◌, ◌+◌, ◌<◌, ◌≤◌, IfOk, OnOk, IsTrue, length, take, slice_index_or};
+//! The check of runs side by side: the first that doesn't stand past those before it.
+ghost use Rattle.std.specs.Prelude.{◌≡◌, ◌↔◌, ◌+◌, ◌<◌, ◌≤◌, ◌++◌, ℕ, [], IfOk, OnOk, IsTrue, length, take, slice_index_or};
 ghost use Rattle.rounds.specs.Passes.{IsFirstConflict};
-ghost use Rattle.rounds.specs.PendingRuns.{all_left, HoldsPast, HoldsAt, IsFirstFrom, AreStarts, AreSummed};
-ghost use Rattle.rounds.specs.Checks.{IsSeen};
-ghost use Rattle.rounds.specs.Owners.{AllNoted};
+ghost use Rattle.rounds.specs.PendingRuns.{all_left, HoldsPast, AreSummed};
+ghost use Rattle.rounds.specs.Checks.{AreStarts, HoldsFrom, IsFirstFrom, IsSeenPast};
 ghost use Rattle.rounds.specs.declared.pending_run.PendingRun.{PendingRun as OnePending};
 ghost use Rattle.meaning.specs.declared.limits.TheConstants.{MAX_TRANSACTIONS};
 ghost use Rattle.plan.specs.declared.plan.TheConstants.{MAX_WORKERS};
 
 use crate::crew::Crew;
-use crate::owners::{Owners, list_shared};
 use crate::pending_run::PendingRun;
 use intentions::Committed;
 use plan::Plan;
@@ -19,37 +16,12 @@ use std::alloc::Global;
 use std::thread::Threads;
 use workers::first_failing;
 
-/// What a check found: the first conflict, a list that begins with the nets of the runs before it,
-/// and how many entries of the list these nets are. What no other run touches may be left out.
+/// What a check found: the first conflict, and a list that begins with the nets of the runs before
+/// it, which are its first `upto` entries.
 #[derive(Drop)]
 pub(crate) struct Seen {
     pub(crate) first: usize,
-    pub(crate) nets: Committed,
     pub(crate) upto: usize,
-}
-
-/// How many more runs the first block has than are expected to be committed.
-const SPARE: usize = 2;
-
-// Lists the nets of the runs from one place on, after those of the runs before it. Adds for each
-// run how many entries come before its net.
-fn list_nets(
-    runs: &[PendingRun],
-    from: usize,
-    nets: &mut Committed,
-    starts: &mut Vec<usize>,
-) -> Result<(), NoMemory>
-    requires from { from ≤ length runs.now }
-    requires nets { nets.old ≡ all_left (take from runs.now) }
-    requires starts { AreStarts (take from runs.now) starts.old.items }
-    ensures nets { OnOk result (nets.new ≡ all_left runs.now) }
-    ensures starts { OnOk result (AreStarts runs.now starts.new.items) }
-{
-    for run in &runs[from..] {
-        starts.push(nets.len())?;
-        nets.append_marked(run.sums.net())?;
-    }
-    Ok(())
 }
 
 /// Whether a run stands past the first `upto` entries of a list.
@@ -61,19 +33,36 @@ pub(crate) fn stands_past(runs: &[PendingRun], place: usize, nets: &Committed, u
     upto == 0 || nets.stands(&runs[place].sums.entries, upto)
 }
 
-// The first conflict from one place on. The workers check the runs side by side, a run as a piece.
+// Lists the nets of runs. Adds for each of them how many entries come before its net.
+fn list_nets(
+    runs: &[PendingRun],
+    nets: &mut Committed,
+    starts: &mut Vec<usize>,
+) -> Result<(), NoMemory>
+    requires starts { starts.old.items ≡ [] }
+    ensures nets { OnOk result (nets.new ≡ nets.old ++ all_left runs.now) }
+    ensures starts { OnOk result (AreStarts nets.old runs.now starts.new.items) }
+{
+    for run in runs {
+        starts.push(nets.len())?;
+        nets.append_marked(run.sums.net())?;
+    }
+    Ok(())
+}
+
+// The first of these runs that doesn't stand past the entries that come before its net. The workers
+// check the runs side by side, a run as a piece. In the round there were some before them.
 fn first_from<R: Threads + Sync, G: Gate>(
     crew: &Crew<R, G>,
+    before: usize,
     runs: &[PendingRun],
-    from: usize,
     nets: &Committed,
     starts: &[usize],
 ) -> Result<usize, NoMemory>
-    requires few { length runs.now ≤ MAX_TRANSACTIONS }
-    requires from { from ≤ length runs.now }
-    requires nets { nets.now ≡ all_left runs.now }
-    requires starts { AreStarts runs.now starts.now }
-    ensures { IfOk result (λ first. IsFirstFrom runs.now from first) }
+    requires few { before + length runs.now ≤ MAX_TRANSACTIONS }
+    requires all { length starts.now ≡ length runs.now }
+    requires within { (i : ℕ) → i < length runs.now → slice_index_or starts.now i 0 ≤ length nets.now }
+    ensures { IfOk result (λ first. IsFirstFrom nets.now starts.now runs.now first) }
 {
     let Crew {
         threads,
@@ -85,116 +74,44 @@ fn first_from<R: Threads + Sync, G: Gate>(
     let passed = first_failing(
         threads,
         alloc,
-        (runs.len() - from) as u32,
+        runs.len() as u32,
         plan.workers,
         &|piece: u32| -> bool
-            requires { (from + piece < length runs.now) × (length runs.now ≤ MAX_TRANSACTIONS) × (nets.now ≡ all_left runs.now) × AreStarts runs.now starts.now }
-            ensures { IsTrue result ↔ HoldsAt runs.entry.now (from + piece) }
+            requires { (piece < length runs.now) × (before + length runs.now ≤ MAX_TRANSACTIONS) × (length starts.now ≡ length runs.now) × ((i : ℕ) → i < length runs.now → slice_index_or starts.now i 0 ≤ length nets.now) }
+            ensures { IsTrue result ↔ HoldsFrom nets.entry.now starts.entry.now runs.entry.now piece }
         {
-            let place = from + piece as usize;
-            gate.pass(0, place as u32 + 1);
+            let place = piece as usize;
+            gate.pass(0, (before + place) as u32 + 1);
             stands_past(runs, place, nets, starts[place])
         },
     )?;
-    Ok(from + passed as usize)
+    Ok(passed as usize)
 }
 
-// The first conflict, sought in blocks of runs, until one has a conflict. Each block is twice as
-// long as the one before it. The first block has a few more runs than are expected to be committed.
-fn seek_in_blocks<R: Threads + Sync, G: Gate>(
-    crew: &Crew<R, G>,
-    runs: &[PendingRun],
-    expected: usize,
-) -> Result<Seen, NoMemory>
-    requires few { length runs.now ≤ MAX_TRANSACTIONS }
-    ensures { IfOk result (λ seen. IsSeen runs.now seen) }
-{
-    let mut nets = Committed::new(crew.alloc);
-    let mut starts = Vec::new(crew.alloc);
-    let mut from: usize = 0;
-    'looking: while from < runs.len() {
-        let end = expected.saturating_add(2 * from + SPARE).min(runs.len());
-        let block = &runs[..end];
-        list_nets(block, from, &mut nets, &mut starts)?;
-        let first = first_from(crew, block, from, &nets, &starts)?;
-        if first < end {
-            let upto = starts[first];
-            return Ok(Seen { first, nets, upto });
-        }
-        from = end;
-    }
-    let upto = nets.len();
-    Ok(Seen {
-        first: from,
-        nets,
-        upto,
-    })
-}
-
-// The first conflict, sought run by run. The net of a run without a conflict is listed before the
-// next run is checked, without what no other run touches. The runs are numbered from `opened` on.
-fn seek_in_turn<G: Gate>(
-    alloc: Global,
-    runs: &[PendingRun],
-    opened: usize,
-    owners: &Owners,
-    gate: &G,
-) -> Result<Seen, NoMemory>
-    requires few { opened + length runs.now ≤ MAX_TRANSACTIONS }
-    requires noted { AllNoted owners.now opened runs.now }
-    ensures { IfOk result (λ seen. IsSeen runs.now seen) }
-{
-    let mut nets = Committed::new(alloc);
-    let mut shared = Vec::new(alloc);
-    for place in 0..runs.len() {
-        gate.pass(0, place as u32 + 1);
-        let upto = nets.len();
-        if !stands_past(runs, place, &nets, upto) {
-            return Ok(Seen {
-                first: place,
-                nets,
-                upto,
-            });
-        }
-        list_shared(owners, opened + place, runs[place].sums.net(), &mut shared)?;
-        nets.append_marked(&shared)?;
-    }
-    let upto = nets.len();
-    Ok(Seen {
-        first: runs.len(),
-        nets,
-        upto,
-    })
-}
-
-/// The first conflict, and the nets of the runs before it.
-///
-/// Where each run is a piece of work of its own and there are several workers, the runs are looked
-/// at in blocks, and the workers check the runs of a block side by side. Each block is twice as
-/// long as the one before it, until one has a conflict. The first has a few more runs than are
-/// expected to be committed.
-///
-/// Otherwise one worker checks each run and lists its net, run by run, up to the first conflict.
-/// Listing a net costs as much as checking it, and only one worker can list. So entries about
-/// objects that no other run touches aren't listed: they commute with all entries of the others.
-/// The runs are numbered from `opened` on.
+/// Lists the nets of these runs, and finds the first that doesn't stand past what was listed before
+/// and the nets of the runs before it. The workers check the runs side by side. In the round there
+/// were some before them.
 ///
 /// Returns `NoMemory` where a request for memory was refused.
-pub(crate) fn seek_conflict<R: Threads + Sync, G: Gate>(
+pub(crate) fn check_at_once<R: Threads + Sync, G: Gate>(
     crew: &Crew<R, G>,
+    before: usize,
     runs: &[PendingRun],
-    opened: usize,
-    owners: &Owners,
-    expected: usize,
+    nets: &mut Committed,
 ) -> Result<Seen, NoMemory>
-    requires few { opened + length runs.now ≤ MAX_TRANSACTIONS }
-    requires noted { AllNoted owners.now opened runs.now }
-    ensures { IfOk result (λ seen. IsSeen runs.now seen) }
+    requires few { before + length runs.now ≤ MAX_TRANSACTIONS }
+    ensures nets { OnOk result (nets.new ≡ nets.old ++ all_left runs.now) }
+    ensures seen { IfOk result (IsSeenPast nets.old runs.now) }
 {
-    if crew.plan.cut > 1 || crew.plan.workers == 1 {
-        return seek_in_turn(crew.alloc, runs, opened, owners, crew.gate);
+    let mut starts = Vec::new(crew.alloc);
+    list_nets(runs, nets, &mut starts)?;
+    let first = first_from(crew, before, runs, nets, &starts)?;
+    if first < runs.len() {
+        let upto = starts[first];
+        return Ok(Seen { first, upto });
     }
-    seek_in_blocks(crew, runs, expected)
+    let upto = nets.len();
+    Ok(Seen { first, upto })
 }
 
 // Pending runs that have only the summaries of these runs.
@@ -235,7 +152,7 @@ pub fn first_conflict<R: Threads + Sync, G: Gate>(
         operations_each: 1,
     };
     let pending = summed(alloc, runs)?;
-    let owners = Owners::new(alloc, 0)?;
-    let seen = seek_conflict(&crew, &pending, 0, &owners, 0)?;
+    let mut nets = Committed::new(alloc);
+    let seen = check_at_once(&crew, 0, &pending, &mut nets)?;
     Ok(seen.first)
 }

@@ -1,7 +1,6 @@
 //! The crew: what the passes of a round are run with, and how many workers a pass gets.
-ghost use Rattle.std.specs.Prelude.{◌≡◌, ◌<◌, ◌≤◌, ℕ, length, slice_index_or};
+ghost use Rattle.std.specs.Prelude.{◌≡◌, ◌≤◌};
 
-use crate::pending_run::PendingRun;
 use batch::Batch;
 use plan::Plan;
 use std::alloc::Global;
@@ -68,18 +67,14 @@ pub(crate) fn committers<R, G>(crew: &Crew<R, G>, runs: usize) -> u32
     workers.max(1) as u32
 }
 
-/// How many workers to check the runs of these numbers with: all of the plan with a cut of 1, and
-/// else as many as pay for an eighth of their entries.
-pub(crate) fn checkers(plan: Plan, runs: &[PendingRun], numbers: &[usize]) -> u32
-    requires { (k : ℕ) → k < length numbers.now → slice_index_or numbers.now k 0 < length runs.now }
-    ensures within { (1 ≤ result) × (result ≤ plan.workers) }
-    ensures all { plan.cut ≡ 1 → result ≡ plan.workers }
+/// How many workers to check so many runs with: all of the plan with a cut of 1, and else as many as
+/// pay for an eighth of the operations that the runs are taken to have.
+pub(crate) fn checkers<R, G>(crew: &Crew<R, G>, runs: usize) -> u32
+    ensures within { (1 ≤ result) × (result ≤ crew.now.plan.workers) }
+    ensures all { crew.now.plan.cut ≡ 1 → result ≡ crew.now.plan.workers }
 {
-    let mut operations: usize = 0;
-    for number in numbers {
-        operations = operations.saturating_add(runs[*number].sums.entries.len());
-    }
-    plan.workers_for(operations / CHECKS)
+    crew.plan
+        .workers_for(runs.saturating_mul(crew.operations_each) / CHECKS)
 }
 
 // How many transactions of a batch are counted at most, and at least where there are so many.

@@ -1,55 +1,28 @@
-//! The loop of openings. Each round makes the runs that are needed, seeks the first that
-//! conflicts, commits those before it, and decides which of the others are kept.
-ghost use Rattle.std.specs.Prelude.{◌≡◌, ◌<◌, ◌≤◌, ℕ, [], length, IfOk, OnOk, map, slice_index_or};
-ghost use Rattle.rounds.specs.declared.pending_run.PendingRun.{PendingRun as OnePending};
+//! The loop of openings. Each round makes runs as far as it comes, up to the first that conflicts. It
+//! commits those before it, and keeps of the others those that are still valid.
+ghost use Rattle.std.specs.Prelude.{◌≡◌, ◌+◌, ◌<◌, ◌≤◌, ℕ, [], length, IfOk, OnOk, map, slice_index_or};
 ghost use Rattle.objects.specs.Entries.{after};
 ghost use Rattle.meaning.specs.Batch.{all_shown, final_state, nets};
 ghost use Rattle.meaning.specs.Rounds.{Rounds};
 ghost use Rattle.batch.specs.Views.{record_view};
-ghost use Rattle.rounds.specs.Views.{start_of, blocks_of};
+ghost use Rattle.batch.specs.declared.batch.Batch.{Batch as OneBatch};
 ghost use Rattle.claims.specs.Views.{times};
+ghost use Rattle.rounds.specs.Views.{start_of, blocks_of};
 ghost use Rattle.rounds.specs.Openings.{AreCounts};
-ghost use Rattle.rounds.specs.AtOpenings.{IsOpening};
-ghost use Rattle.meaning.specs.declared.limits.TheConstants.{MAX_OBJECTS};
+ghost use Rattle.rounds.specs.Windows.{AllValid, IsOpening, IsRound, AreCountsAt};
+ghost use Rattle.meaning.specs.declared.limits.TheConstants.{MAX_OBJECTS, MAX_TRANSACTIONS};
 
-use crate::check::seek_conflict;
 use crate::committing::commit;
 use crate::crew::Crew;
-use crate::keep::keep_all;
-use crate::owners::{Owners, note_changed};
-use crate::pending::Pending;
 use crate::pending_run::PendingRun;
-use crate::renew::renew;
-use crate::waits::Waits;
+use crate::seek::seek;
+use crate::window::Window;
 use batch::{Batch, Outcome, Record};
+use intentions::Committed;
 use plan::Plan;
 use speculate::{Gate, NoMemory, Objects, Progress};
 use std::alloc::Global;
 use std::thread::Threads;
-
-// A place for each transaction, with no run yet.
-fn blank_runs(alloc: Global, count: usize) -> Result<Vec<PendingRun>, NoMemory>
-    ensures all { IfOk result (λ runs. length runs.items ≡ count) }
-    ensures blank { IfOk result (λ runs. (i : ℕ) (d : OnePending) → i < count → (slice_index_or runs.items i d).sums.entries.items ≡ []) }
-{
-    let mut runs = Vec::with_capacity(alloc, count)?;
-    for _ in 0..count {
-        runs.push(PendingRun::empty(alloc))?;
-    }
-    Ok(runs)
-}
-
-fn all_numbers(alloc: Global, count: usize) -> Result<Vec<usize>, NoMemory>
-    ensures all { IfOk result (λ numbers. length numbers.items ≡ count) }
-    ensures below { IfOk result (λ numbers. (i : ℕ) → i < count → times i numbers.items ≡ 1) }
-    ensures beyond { IfOk result (λ numbers. (i : ℕ) → count ≤ i → times i numbers.items ≡ 0) }
-{
-    let mut numbers = Vec::with_capacity(alloc, count)?;
-    for i in 0..count {
-        numbers.push(i)?;
-    }
-    Ok(numbers)
-}
 
 fn no_counts(alloc: Global, count: usize) -> Result<Vec<u32>, NoMemory>
     ensures { IfOk result (λ counts. (length counts.items ≡ count) × ((i : ℕ) → slice_index_or counts.items i 0 ≡ 0)) }
@@ -62,7 +35,7 @@ fn no_counts(alloc: Global, count: usize) -> Result<Vec<u32>, NoMemory>
 }
 
 // The records of runs.
-pub(crate) fn records_of(alloc: Global, runs: Vec<PendingRun>) -> Result<Vec<Record>, NoMemory>
+fn records_of(alloc: Global, runs: Vec<PendingRun>) -> Result<Vec<Record>, NoMemory>
     ensures { IfOk result (λ records. records.items ≡ map (λ r. r.tree) runs.items) }
 {
     let mut records = Vec::with_capacity(alloc, runs.len())?;
@@ -72,49 +45,34 @@ pub(crate) fn records_of(alloc: Global, runs: Vec<PendingRun>) -> Result<Vec<Rec
             sums: _,
             net: _,
             span: _,
-            wait: _,
         } = made;
         records.push(tree)?;
     }
     Ok(records)
 }
 
-// An opening: the objects, the runs and how often each was made, those that are to be made, and which
-// transactions are committed.
+// An opening: the objects, the runs, and how many transactions are committed.
 #[derive(Drop)]
 struct Opening {
     objects: Objects,
-    runs: Vec<PendingRun>,
-    counts: Vec<u32>,
-    stale: Vec<usize>,
-    // Those that were made anew in the last pass.
-    changed: Vec<usize>,
-    pending: Pending,
-    // Which runs have had entries about each object.
-    owners: Owners,
-    waits: Waits,
+    window: Window,
     opened: usize,
-    // How many transactions the round before committed.
-    passed: usize,
+    // How many runs the next round looks at first.
+    ahead: usize,
     rounds: u32,
 }
 
-// The first opening. The objects are as they start, and all runs are still to be made.
-fn begin(alloc: Global, batch: &Batch) -> Result<Opening, NoMemory>
-    ensures { IfOk result (IsOpening batch.now) }
+// The first opening. The objects are as they start, and no run is made. The first round looks at two
+// pieces for each worker first.
+fn begin(alloc: Global, batch: &Batch, plan: Plan) -> Result<Opening, NoMemory>
+    ensures opening { IfOk result (IsOpening batch.now) }
+    ensures first { IfOk result (λ at. (at.opened ≡ 0) × (at.rounds ≡ 0) × (at.window.valid.items ≡ [])) }
 {
-    let count = batch.transactions.len();
     Ok(Opening {
         objects: batch.objects.copy()?,
-        runs: blank_runs(alloc, count)?,
-        counts: no_counts(alloc, count)?,
-        stale: all_numbers(alloc, count)?,
-        changed: Vec::new(alloc),
-        pending: Pending::new(alloc, count)?,
-        owners: Owners::new(alloc, batch.objects.len())?,
-        waits: Waits::new(alloc, count)?,
+        window: Window::new(alloc),
         opened: 0,
-        passed: 0,
+        ahead: 2 * plan.workers as usize * plan.cut as usize,
         rounds: 0,
     })
 }
@@ -128,52 +86,111 @@ fn round<R: Threads + Sync, G: Gate>(
     requires at { IsOpening batch.now at.old }
     requires going { at.old.opened < length batch.now.transactions.items }
     ensures at { OnOk result (IsOpening batch.now at.new) }
-    ensures on { OnOk result (at.old.opened < at.new.opened) }
+    ensures round { OnOk result (IsRound batch.now at.old at.new) }
 {
-    renew(
+    let opened = at.opened;
+    let ahead = at.ahead.max(1);
+    let mut nets = Committed::new(crew.alloc);
+    let seen = seek(
         crew,
         batch,
         &at.objects,
-        &at.stale,
-        &mut at.runs,
-        &mut at.counts,
-        &mut at.changed,
+        opened,
+        ahead,
+        &mut at.window,
+        &mut nets,
     )?;
-    note_changed(&mut at.owners, &at.runs, &at.changed);
-    at.waits.begin(&at.runs, &at.changed)?;
-    let opened = at.opened;
-    // As many runs are expected to be committed as in the round before.
-    let seen = seek_conflict(crew, &at.runs[opened..], opened, &at.owners, at.passed)?;
-    let passed = seen.first;
-    let committed = &at.runs[opened..opened + passed];
-    commit(crew, batch, opened, committed, &mut at.objects)?;
-    // The runs that are committed didn't wait for what they commit themselves.
-    at.waits.settle(&at.runs, opened, opened + passed, &mut at.counts, crew.gate);
-    at.waits.add(&seen.nets.entries()[..seen.upto])?;
-    at.opened += passed;
-    at.passed = passed;
+    let first = seen.first;
+    commit(
+        crew,
+        batch,
+        opened,
+        &at.window.runs[opened..first],
+        &mut at.objects,
+    )?;
+    at.window.settle(crew.alloc, opened, first);
+    at.window.keep(crew, first, &nets, seen.upto)?;
+    at.ahead = (first - opened).saturating_mul(2);
+    at.opened = first;
     at.rounds += 1;
     crew.gate.ended(&Progress {
         round: at.rounds,
         before: opened,
-        committed: at.opened,
+        committed: first,
         transactions: batch.transactions.len(),
     });
-    at.stale = keep_all(
-        crew,
-        &at.runs,
-        &mut at.pending,
-        &at.changed,
-        opened,
-        at.opened,
-        &seen.nets,
-        seen.upto,
-    )?;
     Ok(())
 }
 
+// Drops the runs that the next round doesn't look at first, so that it hasn't to decide about them.
+fn drop_later(at: &mut Opening)
+    ensures at { (batch : OneBatch) → IsOpening batch at.old → IsOpening batch at.new }
+    ensures same { at.new.opened ≡ at.old.opened }
+{
+    let end = at.opened.saturating_add(at.ahead);
+    at.window.shorten(end);
+}
+
+// Adds 1 to the counts of these numbers, each of which comes once.
+fn count(numbers: &[usize], counts: &mut Vec<u32>)
+    requires within { (i : ℕ) → 0 < times i numbers.now → i < length counts.old.items }
+    requires few { (i : ℕ) → slice_index_or counts.old.items i 0 + times i numbers.now ≤ MAX_TRANSACTIONS + 1 }
+    ensures all { length counts.new.items ≡ length counts.old.items }
+    ensures counted { (i : ℕ) → slice_index_or counts.new.items i 0 ≡ slice_index_or counts.old.items i 0 + times i numbers.now }
+{
+    for number in numbers {
+        counts[*number] += 1;
+    }
+}
+
+// Makes the runs of all transactions that aren't committed and have no valid run, and counts them.
+fn make_rest<R: Threads + Sync, G: Gate>(
+    crew: &Crew<R, G>,
+    batch: &Batch,
+    at: &mut Opening,
+    counts: &mut Vec<u32>,
+) -> Result<(), NoMemory>
+    requires at { IsOpening batch.now at.old }
+    requires counts { AreCountsAt batch.now at.old.opened at.old.rounds at.old.window counts.old.items }
+    ensures at { OnOk result (IsOpening batch.now at.new) }
+    ensures same { OnOk result ((at.new.opened ≡ at.old.opened) × (at.new.rounds ≡ at.old.rounds)) }
+    ensures valid { OnOk result (AllValid at.new.window at.old.opened (length (blocks_of batch.now))) }
+    ensures counts { OnOk result (AreCountsAt batch.now at.old.opened (at.old.rounds + 1) at.new.window counts.new.items) }
+{
+    let all = batch.transactions.len();
+    at.window
+        .reach(crew.alloc, batch, at.opened, &at.objects, all)?;
+    let made = at
+        .window
+        .make_missing(crew, batch, at.opened, &at.objects, at.opened, all)?;
+    count(&made, counts);
+    Ok(())
+}
+
+// What there is at the last opening, with these run counts.
+fn outcome_of(alloc: Global, at: Opening, runs: Vec<u32>) -> Result<Outcome, NoMemory>
+    ensures records { IfOk result (λ o. o.records.items ≡ map (λ r. r.tree) at.window.runs.items) }
+    ensures objects { IfOk result (λ o. o.objects ≡ at.objects) }
+    ensures rounds { IfOk result (λ o. o.rounds ≡ at.rounds) }
+    ensures runs { IfOk result (λ o. o.runs ≡ runs) }
+{
+    let Opening {
+        objects,
+        window,
+        rounds,
+        ..
+    } = at;
+    Ok(Outcome {
+        records: records_of(alloc, window.runs)?,
+        objects,
+        rounds,
+        runs,
+    })
+}
+
 /// Runs a batch in rounds. It returns what one thread returns that runs the transactions by number,
-/// depth first.
+/// depth first. At each opening it makes a run of each transaction that is left and has no valid one,
+/// so that the run counts are those of the definition.
 ///
 /// Returns `NoMemory` where a request for memory was refused, and nothing else then.
 pub fn execute<R: Threads + Sync, G: Gate>(
@@ -198,21 +215,38 @@ pub fn execute<R: Threads + Sync, G: Gate>(
     ensures runs { IfOk result (λ o. AreCounts batch.now o.runs.items) }
 {
     let crew = Crew::of(threads, alloc, batch, plan, gate);
-    let mut at = begin(alloc, batch)?;
+    let mut at = begin(alloc, batch, plan)?;
+    let mut counts = no_counts(alloc, batch.transactions.len())?;
     'opening: while at.opened < batch.transactions.len() {
+        make_rest(&crew, batch, &mut at, &mut counts)?;
         round(&crew, batch, &mut at)?;
     }
-    let Opening {
-        objects,
-        runs,
-        counts,
-        rounds,
-        ..
-    } = at;
-    Ok(Outcome {
-        records: records_of(alloc, runs)?,
-        objects,
-        rounds,
-        runs: counts,
-    })
+    outcome_of(alloc, at, counts)
+}
+
+/// Runs a batch in rounds as [`execute`] does, and makes only the runs that a round comes to. It
+/// doesn't say how often each transaction is run: the outcome has no run counts.
+///
+/// Returns `NoMemory` where a request for memory was refused, and nothing else then.
+pub fn execute_ahead<R: Threads + Sync, G: Gate>(
+    threads: &R,
+    alloc: Global,
+    batch: &Batch,
+    plan: Plan,
+    gate: &G,
+) -> Result<Outcome, NoMemory>
+    ensures records { IfOk result (λ o. map record_view o.records.items ≡ all_shown (start_of batch.now) (blocks_of batch.now)) }
+    ensures objects { IfOk result (λ o. o.objects ≡ final_state (start_of batch.now) (blocks_of batch.now)) }
+    ensures few_objects { IfOk result (λ o. length o.objects ≤ MAX_OBJECTS) }
+    ensures net { IfOk result (λ o. o.objects ≡ after (start_of batch.now) (nets (start_of batch.now) (blocks_of batch.now) 0 (length (blocks_of batch.now)))) }
+    ensures rounds { IfOk result (λ o. Rounds (start_of batch.now) (blocks_of batch.now) o.rounds) }
+    ensures few { IfOk result (λ o. o.rounds ≤ length (blocks_of batch.now)) }
+{
+    let crew = Crew::of(threads, alloc, batch, plan, gate);
+    let mut at = begin(alloc, batch, plan)?;
+    'opening: while at.opened < batch.transactions.len() {
+        round(&crew, batch, &mut at)?;
+        drop_later(&mut at);
+    }
+    outcome_of(alloc, at, Vec::new(alloc))
 }

@@ -2,12 +2,11 @@
 ghost use Rattle.std.specs.Prelude.{◌≡◌, ◌≤◌, [], length, IsTrue, None, IfOk, OnOk};
 ghost use Rattle.committed.specs.Summaries.{entries_of};
 ghost use Rattle.committed.specs.declared.summary.TheConstants.{FEW_ENTRIES};
-ghost use Rattle.rounds.specs.PendingRuns.{blind_run, left_by, listed_net, IsListed, AreSumsOf};
+ghost use Rattle.rounds.specs.PendingRuns.{left_by, listed_net, IsListed, AreSumsOf};
 ghost use Rattle.rounds.specs.Spans.{AreIn};
 
 use crate::span::Span;
 use batch::Record;
-use blind::Blind;
 use intentions::{Entry, FEW_ENTRIES, MarkedEntry, summarize};
 use meaning::End;
 use speculate::{NoMemory, Run};
@@ -70,9 +69,6 @@ impl Sums {
     }
 }
 
-/// How often a run is made again without a trial after a trial failed.
-const WAIT: u8 = 7;
-
 /// Up to how many entries of a net are listed. A longer list would take more memory than all else
 /// that is kept of a run.
 const MOST_LISTED: usize = 256;
@@ -106,8 +102,6 @@ pub(crate) struct PendingRun {
     pub(crate) net: Net,
     /// Between which objects its net is.
     pub(crate) span: Span,
-    /// How often it is made again before its replies are tried.
-    pub(crate) wait: u8,
 }
 
 // The entries, in a list that has no more memory than they need, unless the spare one has.
@@ -134,46 +128,7 @@ impl PendingRun {
             sums: Sums::empty(alloc),
             net: Net::Summed,
             span: Span::of(&[]),
-            wait: 0,
         }
-    }
-
-    /// Whether the replies of the run are to be tried on other objects. It has entries then, its net
-    /// is all of them, and isn't only in its record.
-    pub(crate) fn is_to_be_tried(&self) -> bool
-        ensures entries { IsTrue result → ¬ (self.now.sums.entries.items ≡ []) }
-        ensures whole { IsTrue result → self.now.sums.of_net ≡ None }
-        ensures listed { IsTrue result → IsListed self.now.net }
-    {
-        self.wait == 0
-            && self.is_listed()
-            && self.sums.of_net.is_none()
-            && !self.sums.entries.is_empty()
-    }
-
-    /// The blind call, where the run is one and nothing else.
-    pub(crate) fn blind(&self) -> Option<Blind>
-        ensures { result ≡ blind_run self.now }
-    {
-        match (&self.sums.entries[..], &self.sums.of_net, &self.net) {
-            ([marked], None, Net::Summed) => Blind::of(&marked.entry),
-            _ => None,
-        }
-    }
-
-    // Whether its net isn't only in its record.
-    fn is_listed(&self) -> bool
-        ensures { IsTrue result → IsListed self.now.net }
-    {
-        !matches!(self.net, Net::Recorded)
-    }
-
-    /// The wait of the run that is made in place of this one.
-    pub(crate) fn next_wait(&self) -> u8 {
-        if self.is_to_be_tried() {
-            return WAIT;
-        }
-        self.wait.saturating_sub(1)
     }
 
     /// Puts this run in the place of the one before it, whose memory it leaves in its own.

@@ -1,34 +1,36 @@
 //! The window: runs of the transactions that the rounds have come to.
-ghost use Rattle.std.specs.Prelude.{◌≡◌, ◌<◌, ◌≤◌, [], length, take, option_map, box_value, slice_index_or, IfOk, OnOk, IsTrue};
+ghost use Rattle.std.specs.Prelude.{◌≡◌, ◌+◌, ◌<◌, ◌≤◌, ℕ, [], length, set, take, slice_index_or, IfOk, OnOk, IsTrue, true, false};
 ghost use Rattle.std.specs.List.{All};
 ghost use Rattle.objects.specs.Entries.{kinds};
+ghost use Rattle.meaning.specs.Batch.{state_at};
 ghost use Rattle.rounds.specs.Desks.{IsDeskOn};
 ghost use Rattle.rounds.specs.Passes.{CanBeMade};
-ghost use Rattle.rounds.specs.Views.{start_of, blocks_of};
-ghost use Rattle.meaning.specs.Batch.{state_at};
-ghost use Rattle.rounds.specs.Windows.{IsValid, IsWindowAt, HasGrown, AreFallen, AreBlank, AreKept, AreSettled, AreMissing, with_valid};
-ghost use Rattle.rounds.specs.PendingRuns.{with_run, HoldsPast};
+ghost use Rattle.rounds.specs.PendingRuns.{IsPendingOf, HoldsPast};
+ghost use Rattle.rounds.specs.Views.{start_of, blocks_of, meaning};
+ghost use Rattle.rounds.specs.Windows.{IsValid, AllValid, IsWindowAt, HasGrown, AreFallen, AreStale, AreKept, AreSettled, AreMissing, IsDecided};
 ghost use Rattle.rounds.specs.declared.pending_run.PendingRun.{PendingRun as OnePending};
 ghost use Rattle.meaning.specs.declared.limits.TheConstants.{MAX_TRANSACTIONS};
 ghost use Rattle.plan.specs.declared.plan.TheConstants.{MAX_WORKERS};
 
 use crate::check::stands_past;
-use crate::crew::{Crew, makers};
+use crate::crew::{Crew, checkers, makers};
 use crate::desk::Desk;
 use crate::make::{Made, make_all};
 use crate::pending_run::PendingRun;
 use batch::Batch;
 use intentions::Committed;
+use meaning::limits::MAX_TRANSACTIONS;
 use speculate::{Gate, NoMemory, Objects};
 use std::alloc::Global;
 use std::thread::Threads;
+use workers::{Bench, give_all};
 
 /// The runs of the first transactions: those that are committed, and those that a round came to.
 #[derive(Drop)]
 pub(crate) struct Window {
     pub(crate) runs: Vec<PendingRun>,
     /// Which of the runs are those of their transactions on the objects of the opening. The others
-    /// are committed, or are still to be made and have no steps.
+    /// are committed, or are still to be made.
     pub(crate) valid: Vec<bool>,
 }
 
@@ -60,6 +62,7 @@ impl Window {
         ensures window { OnOk result (IsWindowAt batch.now opened objects.now self.new) }
         ensures grown { OnOk result (HasGrown opened self.old self.new) }
         ensures reached { OnOk result (end ≤ length self.new.runs.items) }
+        ensures flags { OnOk result ((i : ℕ) → slice_index_or self.new.valid.items i false ≡ slice_index_or self.old.valid.items i false) }
     {
         'reaching: while self.runs.len() < end {
             self.runs.push(PendingRun::empty(alloc))?;
@@ -94,17 +97,114 @@ impl Window {
     {
         if !self.valid[place] {
             let run = &mut self.runs[place];
-            desk.make(crew.threads, crew.alloc, batch, place, width, crew.gate, run)?;
+            desk.make(
+                crew.threads,
+                crew.alloc,
+                batch,
+                place,
+                width,
+                crew.gate,
+                run,
+            )?;
             self.valid[place] = true;
         }
         Ok(())
     }
 
+    // Makes the runs of these numbers at one desk, those that aren't valid.
+    fn make_in_turn<R: Threads + Sync, G: Gate>(
+        &mut self,
+        crew: &Crew<R, G>,
+        batch: &Batch,
+        opened: usize,
+        objects: &Objects,
+        numbers: &[usize],
+    ) -> Result<(), NoMemory>
+        requires opening { objects.now ≡ state_at (start_of batch.now) (blocks_of batch.now) opened }
+        requires within { opened ≤ length (blocks_of batch.now) }
+        requires window { IsWindowAt batch.now opened objects.now self.old }
+        requires places { All (λ n. (opened ≤ n) × (n < length self.old.runs.items)) numbers.now }
+        requires few { length numbers.now ≤ MAX_TRANSACTIONS }
+        ensures window { OnOk result (IsWindowAt batch.now opened objects.now self.new) }
+        ensures grown { OnOk result (HasGrown opened self.old self.new) }
+        ensures reached { OnOk result (length self.new.runs.items ≡ length self.old.runs.items) }
+        ensures valid { OnOk result (All (λ n. IsValid self.new n) numbers.now) }
+    {
+        let width = crew.plan.width(numbers.len() as u32);
+        let mut desk = Desk::open(crew.alloc, objects)?;
+        for number in numbers {
+            self.make_at(crew, batch, opened, *number, width, &mut desk)?;
+        }
+        Ok(())
+    }
+
+    // Puts a run into the place of its number.
+    fn put(&mut self, made: Made)
+        requires { (made.number < length self.old.runs.items) × (made.number < length self.old.valid.items) }
+        ensures runs { self.new.runs.items ≡ set self.old.runs.items made.number made.run.value }
+        ensures valid { self.new.valid.items ≡ set self.old.valid.items made.number true }
+    {
+        let Made { number, run } = made;
+        self.runs[number] = Box::into_inner(run);
+        self.valid[number] = true;
+    }
+
+    // Makes the runs of these numbers by several workers.
+    fn make_at_once<R: Threads + Sync, G: Gate>(
+        &mut self,
+        crew: &Crew<R, G>,
+        batch: &Batch,
+        opened: usize,
+        objects: &Objects,
+        numbers: &[usize],
+    ) -> Result<(), NoMemory>
+        requires opening { objects.now ≡ state_at (start_of batch.now) (blocks_of batch.now) opened }
+        requires within { opened ≤ length (blocks_of batch.now) }
+        requires window { IsWindowAt batch.now opened objects.now self.old }
+        requires places { All (λ n. (opened ≤ n) × (n < length self.old.runs.items)) numbers.now }
+        requires few { length numbers.now ≤ MAX_TRANSACTIONS }
+        ensures window { OnOk result (IsWindowAt batch.now opened objects.now self.new) }
+        ensures grown { OnOk result (HasGrown opened self.old self.new) }
+        ensures reached { OnOk result (length self.new.runs.items ≡ length self.old.runs.items) }
+        ensures valid { OnOk result (All (λ n. IsValid self.new n) numbers.now) }
+    {
+        let mut made = make_all(crew, batch, objects, numbers)?;
+        'putting: while let Some(next) = made.pop() {
+            self.put(next);
+        }
+        Ok(())
+    }
+
+    // The same, by as many workers as pay.
+    fn make<R: Threads + Sync, G: Gate>(
+        &mut self,
+        crew: &Crew<R, G>,
+        batch: &Batch,
+        opened: usize,
+        objects: &Objects,
+        numbers: &[usize],
+    ) -> Result<(), NoMemory>
+        requires opening { objects.now ≡ state_at (start_of batch.now) (blocks_of batch.now) opened }
+        requires within { opened ≤ length (blocks_of batch.now) }
+        requires window { IsWindowAt batch.now opened objects.now self.old }
+        requires places { All (λ n. (opened ≤ n) × (n < length self.old.runs.items)) numbers.now }
+        requires few { length numbers.now ≤ MAX_TRANSACTIONS }
+        ensures window { OnOk result (IsWindowAt batch.now opened objects.now self.new) }
+        ensures grown { OnOk result (HasGrown opened self.old self.new) }
+        ensures reached { OnOk result (length self.new.runs.items ≡ length self.old.runs.items) }
+        ensures valid { OnOk result (All (λ n. IsValid self.new n) numbers.now) }
+    {
+        if makers(crew, numbers.len()) == 1 {
+            return self.make_in_turn(crew, batch, opened, objects, numbers);
+        }
+        self.make_at_once(crew, batch, opened, objects, numbers)
+    }
+
     // The numbers from one on and before another whose runs aren't valid.
     fn missing(&self, alloc: Global, from: usize, end: usize) -> Result<Vec<usize>, NoMemory>
-        requires { end ≤ length self.now.valid.items }
+        requires from { from ≤ end }
+        requires end { end ≤ length self.now.valid.items }
         ensures missing { IfOk result (λ numbers. AreMissing self.now from end numbers.items) }
-        ensures few { IfOk result (λ numbers. length numbers.items ≤ end) }
     {
         let mut numbers = Vec::new(alloc);
         for number in from..end {
@@ -115,24 +215,11 @@ impl Window {
         Ok(numbers)
     }
 
-    // Puts a run into the place of its number, where one was made.
-    fn put(&mut self, made: Made)
-        requires { (made.number < length self.old.runs.items) × (made.number < length self.old.valid.items) }
-        ensures runs { self.new.runs.items ≡ with_run self.old.runs.items made.number (option_map box_value made.run) }
-        ensures valid { self.new.valid.items ≡ with_valid self.old.valid.items made.number (option_map box_value made.run) }
-    {
-        let Made { number, run } = made;
-        if let Some(run) = run {
-            self.runs[number] = Box::into_inner(run);
-            self.valid[number] = true;
-        }
-    }
-
-    /// Makes those of the runs from one number on and before another that aren't valid, where several
-    /// workers pay for so many.
+    /// Makes those of the runs from one number on and before another that aren't valid. Returns their
+    /// numbers.
     ///
     /// Returns `NoMemory` where a request for memory was refused.
-    pub(crate) fn make_block<R: Threads + Sync, G: Gate>(
+    pub(crate) fn make_missing<R: Threads + Sync, G: Gate>(
         &mut self,
         crew: &Crew<R, G>,
         batch: &Batch,
@@ -140,91 +227,127 @@ impl Window {
         objects: &Objects,
         from: usize,
         end: usize,
-    ) -> Result<(), NoMemory>
+    ) -> Result<Vec<usize>, NoMemory>
         requires opening { objects.now ≡ state_at (start_of batch.now) (blocks_of batch.now) opened }
         requires window { IsWindowAt batch.now opened objects.now self.old }
         requires places { (opened ≤ from) × (from ≤ end) × (end ≤ length self.old.runs.items) }
         ensures window { OnOk result (IsWindowAt batch.now opened objects.now self.new) }
         ensures grown { OnOk result (HasGrown opened self.old self.new) }
         ensures reached { OnOk result (length self.new.runs.items ≡ length self.old.runs.items) }
+        ensures valid { OnOk result (AllValid self.new from end) }
+        ensures missing { IfOk result (λ numbers. AreMissing self.old from end numbers.items) }
     {
-        if makers(crew, end - from) == 1 {
+        let numbers = self.missing(crew.alloc, from, end)?;
+        self.make(crew, batch, opened, objects, &numbers)?;
+        Ok(numbers)
+    }
+
+    // Adds the number of the run at this place, where it is valid and doesn't stand past what was
+    // committed, which is the first `upto` entries of the nets. It is so many places after the first
+    // that is left.
+    fn tell<G: Gate>(
+        &self,
+        gate: &G,
+        piece: u32,
+        place: usize,
+        nets: &Committed,
+        upto: usize,
+        told: &mut Vec<usize>,
+    ) -> Result<(), NoMemory>
+        requires flags { length self.now.valid.items ≡ length self.now.runs.items }
+        requires place { place < length self.now.runs.items }
+        requires piece { piece ≤ MAX_TRANSACTIONS }
+        requires upto { upto ≤ length nets.now }
+        ensures { OnOk result (IsDecided self.now (take upto nets.now) place told.old.items told.new.items) }
+    {
+        if !self.valid[place] {
             return Ok(());
         }
-        let numbers = self.missing(crew.alloc, from, end)?;
-        let mut made = make_all(crew, batch, objects, &numbers, &self.runs)?;
-        'putting: while let Some(next) = made.pop() {
-            self.put(next);
+        gate.pass(0, MAX_TRANSACTIONS as u32 + piece + 1);
+        if !stands_past(&self.runs, place, nets, upto) {
+            told.push(place)?;
         }
         Ok(())
     }
 
-    // Whether the run at this place is valid and doesn't stand past what was committed, which is the
-    // first `upto` entries of the nets.
-    fn has_fallen(&self, place: usize, nets: &Committed, upto: usize) -> bool
-        requires flags { length self.now.valid.items ≡ length self.now.runs.items }
-        requires place { place < length self.now.runs.items }
-        requires upto { upto ≤ length nets.now }
-        ensures falls { IsTrue result → IsValid self.now place × ((d : OnePending) → ¬ HoldsPast (take upto nets.now) (slice_index_or self.now.runs.items place d)) }
-        ensures stands { ¬ IsTrue result → (d : OnePending) → IsValid self.now place → HoldsPast (take upto nets.now) (slice_index_or self.now.runs.items place d) }
-    {
-        self.valid[place] && !stands_past(&self.runs, place, nets, upto)
-    }
-
     // The numbers of the valid runs from one place on that don't stand past what was committed, which
-    // is the first `upto` entries of the nets.
-    fn fallen(
+    // is the first `upto` entries of the nets. The workers decide the runs side by side, a run as a
+    // piece.
+    fn fallen<R: Threads + Sync, G: Gate>(
         &self,
-        alloc: Global,
+        crew: &Crew<R, G>,
         from: usize,
         nets: &Committed,
         upto: usize,
     ) -> Result<Vec<usize>, NoMemory>
         requires flags { length self.now.valid.items ≡ length self.now.runs.items }
+        requires few { length self.now.runs.items ≤ MAX_TRANSACTIONS }
         requires upto { upto ≤ length nets.now }
         requires from { from ≤ length self.now.runs.items }
         ensures { IfOk result (λ numbers. AreFallen self.now (take upto nets.now) from (length self.now.runs.items) numbers.items) }
     {
-        let mut numbers = Vec::new(alloc);
-        for place in from..self.runs.len() {
-            if self.has_fallen(place, nets, upto) {
-                numbers.push(place)?;
-            }
-        }
-        Ok(numbers)
+        let Crew {
+            threads,
+            alloc,
+            gate,
+            ..
+        } = *crew;
+        let count = self.runs.len() - from;
+        give_all(
+            threads,
+            alloc,
+            count as u32,
+            checkers(crew, count),
+            &|piece: u32, bench: Bench<(), usize>| -> Result<Bench<(), usize>, NoMemory>
+                requires { (from + piece < length self.now.runs.items) × (length self.now.valid.items ≡ length self.now.runs.items) × (length self.now.runs.items ≤ MAX_TRANSACTIONS) × (upto ≤ length nets.now) }
+                ensures { IfOk result (λ after. IsDecided self.entry.now (take upto nets.entry.now) (from + piece) bench.items.items after.items.items) }
+            {
+                let Bench { desk, mut items } = bench;
+                self.tell(gate, piece, from + piece as usize, nets, upto, &mut items)?;
+                Ok(Bench { desk, items })
+            },
+        )
     }
 
-    // Puts runs that are still to be made in the places of these numbers.
-    fn blank(&mut self, alloc: Global, numbers: &[usize])
-        requires flags { length self.old.valid.items ≡ length self.old.runs.items }
-        requires within { All (λ n. n < length self.old.runs.items) numbers.now }
-        ensures { AreBlank numbers.now self.old self.new }
+    // The runs of these numbers aren't valid any more.
+    fn forget(&mut self, numbers: &[usize])
+        requires within { All (λ n. n < length self.old.valid.items) numbers.now }
+        ensures { AreStale numbers.now self.old self.new }
     {
         for number in numbers {
-            self.runs[*number] = PendingRun::empty(alloc);
             self.valid[*number] = false;
         }
     }
 
-    /// Drops the valid runs from one place on that don't stand past what was committed, which is the
-    /// first `upto` entries of the nets.
+    /// Keeps of the runs from one place on those that stand past what was committed, which is the
+    /// first `upto` entries of the nets. The others aren't valid then.
     ///
     /// Returns `NoMemory` where a request for memory was refused.
-    pub(crate) fn keep(
+    pub(crate) fn keep<R: Threads + Sync, G: Gate>(
         &mut self,
-        alloc: Global,
+        crew: &Crew<R, G>,
         from: usize,
         nets: &Committed,
         upto: usize,
     ) -> Result<(), NoMemory>
         requires flags { length self.old.valid.items ≡ length self.old.runs.items }
+        requires few { length self.old.runs.items ≤ MAX_TRANSACTIONS }
         requires upto { upto ≤ length nets.now }
         requires from { from ≤ length self.old.runs.items }
         ensures { OnOk result (AreKept from (take upto nets.now) self.old self.new) }
     {
-        let fallen = self.fallen(alloc, from, nets, upto)?;
-        self.blank(alloc, &fallen);
+        let fallen = self.fallen(crew, from, nets, upto)?;
+        self.forget(&fallen);
         Ok(())
+    }
+
+    /// Drops the runs from one place on.
+    pub(crate) fn shorten(&mut self, end: usize)
+        ensures runs { self.new.runs.items ≡ take end self.old.runs.items }
+        ensures valid { self.new.valid.items ≡ take end self.old.valid.items }
+    {
+        self.runs.truncate(end);
+        self.valid.truncate(end);
     }
 
     /// Frees all but the records of the runs from one place on and before another.

@@ -181,6 +181,28 @@ fn runs_of_a_block_meet(rt: HostRuntime) {
     meets(&rt, objects.as_str(), transactions, (2, 1), (1, 0), (3, 0));
 }
 
+#[test]
+fn checks_of_a_block_meet(rt: HostRuntime) {
+    let objects = accounts(&rt, 2);
+    let transactions = "[{\"op\":[\"a0\",\"withdraw\",1]}],[{\"op\":[\"a1\",\"deposit\",1]}]";
+    meets(&rt, objects.as_str(), transactions, (2, 1), (0, 1), (0, 2));
+}
+
+#[test]
+fn decisions_meet(rt: HostRuntime) {
+    let objects = accounts(&rt, 2);
+    let transactions =
+        "[{\"op\":[\"a0\",\"withdraw\",3]}],[{\"op\":[\"a0\",\"withdraw\",5]}],[{\"op\":[\"a0\",\"withdraw\",1]}],[{\"op\":[\"a1\",\"deposit\",1]}]";
+    meets(
+        &rt,
+        objects.as_str(),
+        transactions,
+        (2, 1),
+        (0, 10001),
+        (0, 10002),
+    );
+}
+
 // Four workers and a cut of 16 are what `ordtx run` has without options.
 #[test]
 fn long_runs_meet_under_the_default_plan(rt: HostRuntime) {

@@ -41,7 +41,7 @@ impl Counting {
         counts(&self.begun)
     }
 
-    /// How many runs of each transaction were made or repeated.
+    /// How many runs of each transaction were made.
     pub fn made(&self) -> [u32; COUNTED] {
         counts(&self.made)
     }
@@ -88,12 +88,6 @@ impl Gate for Counting {
         let before = self.made[i].fetch_add(1, Ordering::SeqCst);
         if let Some(Taken::Op(Reply::Account(AccountReply::No))) = run.tree.taken.first() {
             self.refused[i].store(before.saturating_add(1), Ordering::SeqCst);
-        }
-    }
-
-    fn repeated(&self, transaction: u32) {
-        if let Some(i) = place(transaction) {
-            self.made[i].fetch_add(1, Ordering::SeqCst);
         }
     }
 

@@ -1,7 +1,7 @@
 //! Tests of the passes of a round on two workers. Two of their calls meet, runs are made as often
 //! as they must be, and the first conflict is the same for any number of workers.
 use crate::documents::{batch_of, copies_of};
-use crate::{Counting, Meeting};
+use crate::{Counting, Meeting, Tally};
 use batch::{Record, Taken};
 use intentions::Entry;
 use objects::{AccountCall, AccountReply, Amount, Call, Reply};
@@ -107,7 +107,7 @@ fn a_run_that_still_stands_is_not_made_again(rt: HostRuntime) {
 }
 
 #[test]
-fn an_enqueue_is_repeated_for_each_round_that_conflicts_with_it(rt: HostRuntime) {
+fn an_enqueue_is_made_again_for_each_round_that_conflicts_with_it(rt: HostRuntime) {
     let queue = "{\"name\":\"q\",\"kind\":\"queue\",\"start\":[]}";
     let transactions =
         "[{\"op\":[\"q\",\"enq\",\"x\"]}],[{\"op\":[\"q\",\"enq\",\"y\"]}],[{\"op\":[\"q\",\"enq\",\"x\"]}],[{\"op\":[\"q\",\"enq\",\"z\"]}]";
@@ -119,7 +119,24 @@ fn an_enqueue_is_repeated_for_each_round_that_conflicts_with_it(rt: HostRuntime)
 }
 
 #[test]
-fn deposits_are_repeated_after_a_balance(rt: HostRuntime) {
+fn enqueues_of_different_items_are_made_until_their_round(rt: HostRuntime) {
+    let queue = "{\"name\":\"q\",\"kind\":\"queue\",\"start\":[]}";
+    let transactions =
+        "[{\"op\":[\"q\",\"enq\",\"a\"]}],[{\"op\":[\"q\",\"enq\",\"b\"]}],[{\"op\":[\"q\",\"enq\",\"c\"]}],[{\"op\":[\"q\",\"enq\",\"d\"]}],[{\"op\":[\"q\",\"enq\",\"e\"]}],[{\"op\":[\"q\",\"enq\",\"f\"]}]";
+    let Ok(tally) = Tally::new(rt.alloc(), 6) else {
+        panic!(rt; "no memory")
+    };
+    assert_eq!(rt; rounds_of(&rt, queue, transactions, &tally), 6);
+    for counts in [tally.begun(rt.alloc()), tally.made(rt.alloc())] {
+        let Ok(counts) = counts else {
+            panic!(rt; "no memory")
+        };
+        assert!(rt; counts.as_slice() == [1, 2, 3, 4, 5, 6].as_slice());
+    }
+}
+
+#[test]
+fn deposits_are_made_again_after_a_balance(rt: HostRuntime) {
     let transactions =
         "[{\"op\":[\"a\",\"deposit\",1]}],[{\"op\":[\"a\",\"balance\"]}],[{\"op\":[\"a\",\"deposit\",2]}],[{\"op\":[\"a\",\"deposit\",3]}]";
     let gate = Counting::new();

@@ -3,7 +3,7 @@ use speculate::{Gate, Progress, Run};
 use std::alloc::{AllocError, Global};
 use std::sync::atomic::{AtomicU32, Ordering};
 
-/// Counts, for each transaction of a batch, the runs that began and those that were made or repeated.
+/// Counts, for each transaction of a batch, the runs that began and those that were made.
 #[derive(Drop)]
 pub struct Tally {
     begun: Vec<AtomicU32>,
@@ -24,7 +24,7 @@ impl Tally {
         counts(alloc, &self.begun)
     }
 
-    /// How many runs of each transaction were made or repeated.
+    /// How many runs of each transaction were made.
     pub fn made(&self, alloc: Global) -> Result<Vec<u32>, AllocError> {
         counts(alloc, &self.made)
     }
@@ -61,10 +61,6 @@ impl Gate for Tally {
     }
 
     fn made(&self, transaction: u32, _run: &Run) {
-        add(&self.made, transaction);
-    }
-
-    fn repeated(&self, transaction: u32) {
         add(&self.made, transaction);
     }
 

@@ -10,10 +10,9 @@ pub returns : goal.returns
 returns g c =
     let batch = c.args.batch.now in
     let objects = c.args.objects.now in
-    let runs = c.args.runs.now in
     let numbers = c.args.numbers.now in
     let cut = c.group_size-cut.result in
-    let groups = given_by _ _ (λ piece. AreMade batch objects runs (slice_chunk numbers cut piece))
+    let groups = given_by _ _ (λ piece. AreMade batch objects (slice_chunk numbers cut piece))
     c.give_all.result c.give_all.ensures (λ k before after done. search rules) in
-    IfOk-weaker c.give_all.result _ _ (λ made given. all_groups batch objects runs numbers cut
+    IfOk-weaker c.give_all.result _ _ (λ made given. all_groups batch objects numbers cut
     c.div_ceil.result made.items (omega (arith, c.group_size-cut.ensures)) c.div_ceil.ensures given) groups

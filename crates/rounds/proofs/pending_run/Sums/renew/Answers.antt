@@ -9,7 +9,6 @@ returns-then-whole-clause-sums c =
     record {
       entries_are = c.in_ok-summarize.ensures.summary;
       net_is = subst (IsSummary (entries_of c.summarize.new.summary.items)) (sym same) c.in_ok-summarize.ensures.summary;
-      whole = λ none. same;
     }
 
 pub returns-then-whole-clause-few : goal.returns-then-whole-clause-few

@@ -1,5 +1,5 @@
 use Rattle.std.proofs.Common.{refl}
-use Rattle.rounds.proofs.AheadWindows.{one_made}
+use Rattle.rounds.proofs.WindowLemmas.{one_made}
 use Rattle.rounds.proofs.window.Window.make_at.Goals as goal
 
 pub returns-in_ok-make-clause-window : goal.returns-in_ok-make-clause-window

@@ -1,14 +1,15 @@
-use Rattle.std.proofs.Common.{◌≡◌, ◌+◌, length, ap, ◌∙◌, arith}
+use Rattle.std.proofs.Common.{length, refl, ap, ◌∙◌, arith}
 use Rattle.std.proofs.lemmas.List.{length_push}
 use Rattle.rounds.specs.declared.window.Window.{Window}
-use Rattle.rounds.proofs.AheadLemmas.{grown_on, not_grown}
-use Rattle.rounds.proofs.AheadWindows.{reached_more}
+use Rattle.rounds.proofs.Listing.{grown_on, not_grown}
+use Rattle.rounds.proofs.WindowLemmas.{reached_more}
 use Rattle.rounds.proofs.window.Window.reach.Goals as goal
 
 pub reaching-init : goal.reaching-init
 reaching-init c = record {
   window = c.requires.window;
   grown = not_grown c.args.opened c.args.self.now;
+  flags = λ i. refl;
 }
 
 pub reaching-smaller : goal.reaching-smaller
@@ -25,8 +26,9 @@ reaching-preserved c =
     let len = c.len.ensures in
     let end = c.requires.end in
     let more = reached_more c.args.batch.now c.args.opened c.args.objects.now c.reaching.self new c.empty.result
-    c.reaching.invariant.window (omega arith) c.empty.ensures c.in_ok-push.ensures.items c.in_ok-push-2.ensures.items in
+    c.reaching.invariant.window (omega arith) c.in_ok-push.ensures.items c.in_ok-push-2.ensures.items in
     record {
       window = more.0;
       grown = grown_on c.args.opened c.args.self.now c.reaching.self new c.reaching.invariant.grown more.1;
+      flags = λ i. more.2 i ∙ c.reaching.invariant.flags i;
     }

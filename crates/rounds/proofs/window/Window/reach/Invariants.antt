@@ -1,4 +1,4 @@
-use Rattle.std.proofs.Common.{◌-◌, length}
+use Rattle.std.proofs.Common.{◌≡◌, ℕ, ◌-◌, false, length, get_or}
 use Rattle.rounds.specs.Windows.{IsWindowAt, HasGrown}
 use Rattle.rounds.proofs.window.Window.reach.Given as goal
 
@@ -6,6 +6,7 @@ abbrev pub invariant-reaching : goal.invariant-reaching
 invariant-reaching l = record {
   window : IsWindowAt l.batch l.opened l.objects l.self;
   grown : HasGrown l.opened l.initial.self l.self;
+  flags : (i : ℕ) → get_or l.self.valid.items i false ≡ get_or l.initial.self.valid.items i false;
 }
 
 abbrev pub decreases-reaching : goal.decreases-reaching

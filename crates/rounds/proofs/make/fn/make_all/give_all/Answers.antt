@@ -1,4 +1,4 @@
-use Rattle.std.proofs.Common.{◌≡◌, ℕ, ◌*◌, get_or, slice_index_or, drop, ap, sym, subst, ◌∙◌, rules}
+use Rattle.std.proofs.Common.{◌≡◌, ℕ, ◌*◌, get_or, drop, ap, sym, subst, ◌∙◌, rules}
 use Rattle.std.proofs.lemmas.List.Elements.{All-drop, All-take, All-same}
 use Rattle.std.specs.Fork.{slice_chunk}
 use Rattle.std.specs.List.{All}
@@ -6,8 +6,7 @@ use Rattle.intentions.specs.Levels.{Intentions as View}
 use Rattle.rounds.specs.Desks.{IsDeskOn}
 use Rattle.rounds.specs.declared.desk.Desk.{Desk}
 use Rattle.rounds.specs.Passes.{CanBeMade}
-use Rattle.rounds.specs.PendingRuns.{AreAdded, WasMade}
-use Rattle.rounds.specs.declared.pending_run.PendingRun.{PendingRun as OnePending}
+use Rattle.rounds.specs.PendingRuns.{AreAdded}
 use Rattle.rounds.proofs.make.fn.make_all.give_all.Goals as goal
 
 pub make_group-requires-clause-within : goal.make_group-requires-clause-within
@@ -24,17 +23,6 @@ make_group-requires-clause-within g c κs within k d lt =
     ap (λ (d : Desk). d.view.snapshot) c.as_mut.ensures.value ∙ ap (λ (v : View). v.snapshot) c.in_ok-desk.ensures.opened in
     subst (λ s. CanBeMade batch s (get_or c.group_at-group.result.now k d)) (sym shown) (each_of k d lt)
 
-pub make_group-requires-clause-earlier : goal.make_group-requires-clause-earlier
-make_group-requires-clause-earlier g c κs within =
-    let batch = c.captures.batch.now in
-    let runs = c.captures.runs.now in
-    let numbers = c.captures.numbers.now in
-    let Was : ℕ → Type 0 = λ n. (d : OnePending) → WasMade batch n (slice_index_or runs n d) in
-    let each : All Was numbers = search rules in
-    All-same Was c.group_at-group.result.now (slice_chunk numbers c.captures.cut c.args.piece) c.group_at-group.ensures
-    (All-take Was c.captures.cut (drop (c.args.piece * c.captures.cut) numbers)
-    (All-drop Was (c.args.piece * c.captures.cut) numbers each))
-
 pub returns : goal.returns
 returns g c =
     let batch = c.captures.batch.now in
@@ -44,6 +32,6 @@ returns g c =
     let shown : c.as_mut.result.now.view.snapshot ≡ objects =
     ap (λ (d : Desk). d.view.snapshot) c.as_mut.ensures.value ∙ ap (λ (v : View). v.snapshot) c.in_ok-desk.ensures.opened in
     let ready = subst (λ s. IsDeskOn s c.make_group.new.desk) shown c.in_ok-make_group.ensures.ready in
-    let added = subst (λ s. AreAdded batch s c.captures.runs.now c.group_at-group.result.now before after) shown
+    let added = subst (λ s. AreAdded batch s c.group_at-group.result.now before after) shown
     c.in_ok-make_group.ensures.added in
-    (ready, subst (λ ns. AreAdded batch objects c.captures.runs.now ns before after) c.group_at-group.ensures added)
+    (ready, subst (λ ns. AreAdded batch objects ns before after) c.group_at-group.ensures added)

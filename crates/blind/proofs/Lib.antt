@@ -1,5 +1,0 @@
-pub mod BlindLemmas
-pub mod TallyLemmas
-pub mod GatheredLemmas
-pub mod CountingLemmas
-pub mod BegunLemmas

@@ -1,9 +1,0 @@
-use Rattle.std.proofs.Common.{◌-◌, length}
-use Rattle.rounds.specs.Windows.{IsAheadAt}
-use Rattle.rounds.proofs.ahead.execute_ahead.Given as goal
-
-abbrev pub invariant-opening : goal.invariant-opening
-invariant-opening g l = IsAheadAt l.batch l.at
-
-abbrev pub decreases-opening : goal.decreases-opening
-decreases-opening g l = length l.batch.transactions.items - l.at.opened

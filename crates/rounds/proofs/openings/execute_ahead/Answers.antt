@@ -1,0 +1,78 @@
+use Rattle.std.proofs.Common.{◌≡◌, ◌≤◌, length, sym, ◌∙◌, subst, arith}
+use Rattle.std.proofs.lemmas.List.{length-map}
+use Rattle.std.proofs.lemmas.Result.{IfOk-weaker}
+use Rattle.meaning.specs.Rounds.{Rounds}
+use Rattle.rounds.specs.Views.{start_of, blocks_of}
+use Rattle.batch.specs.Views.{block_view}
+use Rattle.rounds.proofs.Ends.{all_are_shown, end_answers, end_rounds, end_state, end_few, end_nets}
+use Rattle.rounds.proofs.openings.execute_ahead.Goals as goal
+
+pub opening-init : goal.opening-init
+opening-init g c = c.in_ok-at.ensures.opening
+
+pub opening-preserved : goal.opening-preserved
+opening-preserved g c = c.drop_later.ensures.at c.args.batch.now c.in_ok-round.ensures.at
+
+pub opening-smaller : goal.opening-smaller
+opening-smaller g c =
+    let going = c.opening-test.true in
+    let count = c.len.ensures in
+    let on = c.in_ok-round.ensures.round.on in
+    let same = c.drop_later.ensures.same in
+    omega arith
+
+pub returns-clause-records : goal.returns-clause-records
+returns-clause-records g c =
+    let batch = c.args.batch.now in
+    let blocks : length (blocks_of batch) ≡ length batch.transactions.items = length-map batch.transactions.items block_view in
+    let over = c.opening-test.false in
+    let count = c.len.ensures in
+    let done : length (blocks_of batch) ≤ c.opening.at.opened = omega arith in
+    IfOk-weaker c.outcome_of.result _ _ (λ o same. all_are_shown batch o.records.items
+    (end_answers batch c.opening.at c.opening.invariant done o.records.items same)) c.outcome_of.ensures.records
+
+pub returns-clause-few_objects : goal.returns-clause-few_objects
+returns-clause-few_objects g c =
+    let batch = c.args.batch.now in
+    let blocks : length (blocks_of batch) ≡ length batch.transactions.items = length-map batch.transactions.items block_view in
+    let over = c.opening-test.false in
+    let count = c.len.ensures in
+    let done : length (blocks_of batch) ≤ c.opening.at.opened = omega arith in
+    IfOk-weaker c.outcome_of.result _ _ (λ o same. subst (λ s. length s ≤ 1000) (sym same)
+    (end_few batch c.opening.at c.opening.invariant done)) c.outcome_of.ensures.objects
+
+pub returns-clause-objects : goal.returns-clause-objects
+returns-clause-objects g c =
+    let batch = c.args.batch.now in
+    let blocks : length (blocks_of batch) ≡ length batch.transactions.items = length-map batch.transactions.items block_view in
+    let over = c.opening-test.false in
+    let count = c.len.ensures in
+    let done : length (blocks_of batch) ≤ c.opening.at.opened = omega arith in
+    IfOk-weaker c.outcome_of.result _ _ (λ o same. same ∙ end_state batch c.opening.at c.opening.invariant done)
+    c.outcome_of.ensures.objects
+
+pub returns-clause-net : goal.returns-clause-net
+returns-clause-net g c =
+    let batch = c.args.batch.now in
+    let blocks : length (blocks_of batch) ≡ length batch.transactions.items = length-map batch.transactions.items block_view in
+    let over = c.opening-test.false in
+    let count = c.len.ensures in
+    let done : length (blocks_of batch) ≤ c.opening.at.opened = omega arith in
+    IfOk-weaker c.outcome_of.result _ _ (λ o same. same ∙ end_nets batch c.opening.at c.opening.invariant done)
+    c.outcome_of.ensures.objects
+
+pub returns-clause-rounds : goal.returns-clause-rounds
+returns-clause-rounds g c =
+    let batch = c.args.batch.now in
+    let blocks : length (blocks_of batch) ≡ length batch.transactions.items = length-map batch.transactions.items block_view in
+    let over = c.opening-test.false in
+    let count = c.len.ensures in
+    let done : length (blocks_of batch) ≤ c.opening.at.opened = omega arith in
+    IfOk-weaker c.outcome_of.result _ _ (λ o same. subst (Rounds (start_of batch) (blocks_of batch)) (sym same)
+    (end_rounds batch c.opening.at c.opening.invariant done)) c.outcome_of.ensures.rounds
+
+pub returns-clause-few : goal.returns-clause-few
+returns-clause-few g c =
+    let few = c.opening.invariant.few_rounds in
+    let within = c.opening.invariant.within in
+    IfOk-weaker c.outcome_of.result _ _ (λ o same. omega (arith, same, few, within)) c.outcome_of.ensures.rounds

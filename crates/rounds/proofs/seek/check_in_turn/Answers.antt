@@ -1,0 +1,108 @@
+use Rattle.std.proofs.Common.{◌≡◌, ◌++◌, get_or, sym, ap, ◌∙◌, subst, arith, rules}
+use Rattle.objects.specs.Entries.{kinds}
+use Rattle.intentions.specs.Levels.{Intentions as View}
+use Rattle.speculate.proofs.Room.{kinds_at}
+use Rattle.rounds.specs.Desks.{IsDeskOn}
+use Rattle.rounds.specs.PendingRuns.{HoldsPast, left_by}
+use Rattle.rounds.specs.Passes.{CanBeMade}
+use Rattle.rounds.specs.Windows.{IsWindowAt, IsListedTo}
+use Rattle.rounds.specs.declared.pending_run.PendingRun.{PendingRun}
+use Rattle.rounds.proofs.Firsts.{all_taken}
+use Rattle.rounds.proofs.Room.{made_at}
+use Rattle.rounds.proofs.Listing.{keeps_where_holds, listed_more, still_listed, grown_on}
+use Rattle.rounds.proofs.seek.check_in_turn.Goals as goal
+
+pub make_at-requires-clause-can : goal.make_at-requires-clause-can
+make_at-requires-clause-can g c κs within =
+    let place = c.loop-place.place in
+    let shown = ap (λ (v : View). v.snapshot) c.loop-place.invariant.ready.opened in
+    let from = c.loop-place.invariant.listed.from in
+    let lt = c.loop-place-test.true in
+    let end = c.requires.places.1 in
+    let all = c.requires.window.within in
+    subst (λ s. CanBeMade c.args.batch.now s place) (sym (shown ∙ c.requires.opening))
+    (made_at c.args.batch.now c.args.opened (omega arith) place (omega arith) (omega arith))
+
+pub make_at-requires-clause-same_kinds : goal.make_at-requires-clause-same_kinds
+make_at-requires-clause-same_kinds g c κs within =
+    let shown = ap (λ (v : View). v.snapshot) c.loop-place.invariant.ready.opened in
+    let from = c.loop-place.invariant.listed.from in
+    let lt = c.loop-place-test.true in
+    let end = c.requires.places.1 in
+    let all = c.requires.window.within in
+    ap kinds (shown ∙ c.requires.opening) ∙ kinds_at c.args.batch.now c.args.opened (omega arith)
+
+pub returns-then-not-stands_past-clause-seen : goal.returns-then-not-stands_past-clause-seen
+returns-then-not-stands_past-clause-seen g c =
+    let batch = c.args.batch.now in
+    let opened = c.args.opened in
+    let place = c.loop-place.place in
+    let window = c.make_at.new.self in
+    let nets = c.loop-place.nets in
+    let upto = c.len-upto.result in
+    let low = c.loop-place-test.true in
+    let shown = ap (λ (v : View). v.snapshot) c.loop-place.invariant.ready.opened in
+    let so_far = still_listed batch opened place c.loop-place.window window nets c.in_ok-make_at.ensures.grown
+    c.loop-place.invariant.listed in
+    let listed = all_taken nets upto c.len-upto.ensures in
+    let failed = c.if-not-stands_past.true in
+    record {
+      within = omega arith;
+      upto = let size = c.len-upto.ensures in omega arith;
+      listed = subst (IsListedTo batch opened place window) (sym listed) so_far;
+      conflict = λ lt keeps.
+          let stands = c.stands_past.ensures.1 (λ d. subst (λ es. HoldsPast es (get_or c.deref.result.now place d)) (sym listed)
+          (subst (λ rs. HoldsPast nets (get_or rs place d)) (sym c.deref.ensures.value)
+          ((keeps_where_holds batch opened c.loop-place.desk.view.snapshot window (shown ∙ c.requires.opening)
+          c.in_ok-make_at.ensures.window place d nets so_far c.in_ok-make_at.ensures.valid).1 keeps))) in
+          search rules;
+      all = λ same. c.len-upto.ensures;
+    }
+
+pub loop-place-preserved : goal.loop-place-preserved
+loop-place-preserved g c =
+    let batch = c.args.batch.now in
+    let opened = c.args.opened in
+    let place = c.loop-place.place in
+    let window = c.make_at.new.self in
+    let nets = c.loop-place.nets in
+    let state = c.loop-place.desk.view.snapshot in
+    let shown = ap (λ (v : View). v.snapshot) c.loop-place.invariant.ready.opened in
+    let so_far = still_listed batch opened place c.loop-place.window window nets c.in_ok-make_at.ensures.grown
+    c.loop-place.invariant.listed in
+    let listed = all_taken nets c.len-upto.result c.len-upto.ensures in
+    let run = c.index.result.now in
+    let low = c.loop-place-test.true in
+    let end = c.requires.places.1 in
+    let all = c.loop-place.invariant.all in
+    let same = c.in_ok-make_at.ensures.reached in
+    let keeps = (keeps_where_holds batch opened state window (shown ∙ c.requires.opening) c.in_ok-make_at.ensures.window place run nets
+    so_far c.in_ok-make_at.ensures.valid).0
+    (subst (λ rs. HoldsPast nets (get_or rs place run)) c.deref.ensures.value
+    (subst (λ es. HoldsPast es (get_or c.deref.result.now place run)) listed (c.stands_past.ensures.0 c.if-not-stands_past.false run))) in
+    record {
+      window = subst (λ s. IsWindowAt batch opened s window) shown c.in_ok-make_at.ensures.window;
+      grown = grown_on opened c.args.window.now c.loop-place.window window c.loop-place.invariant.grown c.in_ok-make_at.ensures.grown;
+      all = c.in_ok-make_at.ensures.reached ∙ c.loop-place.invariant.all;
+      listed = listed_more batch opened state window (shown ∙ c.requires.opening) c.in_ok-make_at.ensures.window place run nets
+          c.append_marked.new.self so_far c.in_ok-make_at.ensures.valid keeps
+          (c.in_ok-append_marked.ensures.ok ∙ ap (λ es. nets ++ es) (c.net.ensures ∙ ap (λ (r : PendingRun). left_by r.sums)
+          c.index.ensures));
+      ready = subst (λ s. IsDeskOn s c.make_at.new.desk) shown c.in_ok-make_at.ensures.ready;
+    }
+
+pub returns-clause-seen : goal.returns-clause-seen
+returns-clause-seen g c =
+    let over = c.loop-place-test.false in
+    let is : c.loop-place.place ≡ c.args.end = omega arith in
+    let nets = c.loop-place.nets in
+    let upto = c.len-upto-2.result in
+    record {
+      within = omega arith;
+      upto = let size = c.len-upto-2.ensures in omega arith;
+      listed = subst (IsListedTo c.args.batch.now c.args.opened c.args.end c.loop-place.window)
+          (sym (all_taken nets upto c.len-upto-2.ensures))
+          (subst (λ n. IsListedTo c.args.batch.now c.args.opened n c.loop-place.window nets) is c.loop-place.invariant.listed);
+      conflict = λ lt. absurd (omega arith);
+      all = λ same. c.len-upto-2.ensures;
+    }

@@ -1,0 +1,13 @@
+use Rattle.std.proofs.Common.{◌≡◌, length}
+use Rattle.rounds.specs.Desks.{IsDeskOn}
+use Rattle.rounds.specs.Windows.{IsWindowAt, HasGrown, IsListedTo}
+use Rattle.rounds.proofs.seek.check_in_turn.Given as goal
+
+abbrev pub invariant-loop-place : goal.invariant-loop-place
+invariant-loop-place g l = record {
+  window : IsWindowAt l.batch l.opened l.initial.desk.view.snapshot l.window;
+  grown : HasGrown l.opened l.initial.window l.window;
+  all : length l.window.runs.items ≡ length l.initial.window.runs.items;
+  listed : IsListedTo l.batch l.opened l.place l.window l.nets;
+  ready : IsDeskOn l.initial.desk.view.snapshot l.desk;
+}

@@ -1,0 +1,86 @@
+use Rattle.std.proofs.Common.{◌≡◌, length, sym, subst, arith}
+use Rattle.std.proofs.lemmas.List.{length-map}
+use Rattle.batch.specs.Views.{block_view}
+use Rattle.rounds.specs.Views.{start_of, blocks_of}
+use Rattle.rounds.specs.Windows.{IsListedTo}
+use Rattle.rounds.proofs.Firsts.{all_taken}
+use Rattle.rounds.proofs.Listing.{grown_on, not_grown, none_listed, still_listed, opens_at_conflict, opens_at_end}
+use Rattle.rounds.proofs.seek.seek.Goals as goal
+
+pub looking-init : goal.looking-init
+looking-init g c = record {
+  window = c.requires.window;
+  grown = not_grown c.args.opened c.args.window.now;
+  listed = none_listed c.args.batch.now c.args.opened c.args.window.now c.args.nets.now c.requires.none;
+  ready = record { opened = c.in_ok-desk.ensures.opened; unlabelled = c.in_ok-desk.ensures.unlabelled };
+  within = c.requires.within;
+  reached = c.requires.reached;
+  some = c.requires.some;
+}
+
+pub check-requires-clause-listed : goal.check-requires-clause-listed
+check-requires-clause-listed g c κs within =
+    still_listed c.args.batch.now c.args.opened c.looking.from c.looking.window c.reach.new.self c.looking.nets c.in_ok-reach.ensures.grown
+    c.looking.invariant.listed
+
+pub returns-then-seen-end-clause-seen : goal.returns-then-seen-end-clause-seen
+returns-then-seen-end-clause-seen g c =
+    let batch = c.args.batch.now in
+    let opened = c.args.opened in
+    let blocks : length (blocks_of batch) ≡ length batch.transactions.items = length-map batch.transactions.items block_view in
+    let seen = c.in_ok-seen.seen in
+    let saw = c.in_ok-seen.ensures.seen in
+    let all = c.in_ok-seen.ensures.reached in
+    let inside = saw.within in
+    let within = c.in_ok-seen.ensures.window.within in
+    let end = c.in_ok-reach.ensures.reached in
+    record {
+      opening = opens_at_conflict (start_of batch) (blocks_of batch) opened seen.first saw.listed.from (omega arith) saw.listed.keep
+          (saw.conflict c.if-seen-end.true);
+      upto = saw.upto;
+      listed = saw.listed;
+      reached = omega arith;
+    }
+
+pub looking-preserved : goal.looking-preserved
+looking-preserved g c =
+    let batch = c.args.batch.now in
+    let opened = c.args.opened in
+    let window = c.check.new.window in
+    let nets = c.check.new.nets in
+    let so_far = c.looking.invariant in
+    let saw = c.in_ok-seen.ensures.seen in
+    let over = c.if-seen-end.false in
+    let within = saw.within in
+    let last : c.in_ok-seen.seen.first ≡ c.min-end.result = omega arith in
+    let blocks : length (blocks_of batch) ≡ length batch.transactions.items = length-map batch.transactions.items block_view in
+    record {
+      window = c.in_ok-seen.ensures.window;
+      grown = grown_on opened c.args.window.now c.reach.new.self window
+          (grown_on opened c.args.window.now c.looking.window c.reach.new.self so_far.grown c.in_ok-reach.ensures.grown)
+          c.in_ok-seen.ensures.grown;
+      listed = subst (λ n. IsListedTo batch opened n window nets) last
+          (subst (IsListedTo batch opened c.in_ok-seen.seen.first window) (all_taken nets c.in_ok-seen.seen.upto (saw.all last)) saw.listed);
+      ready = c.in_ok-seen.ensures.ready;
+      within = let end = c.min-end.ensures in let count = c.len-count.ensures in omega arith;
+      reached = let all = c.in_ok-seen.ensures.reached in let end = c.in_ok-reach.ensures.reached in omega arith;
+      some = let twice = c.saturating_mul-block.ensures in let some = so_far.some in omega arith;
+    }
+
+pub returns-clause-seen : goal.returns-clause-seen
+returns-clause-seen g c =
+    let batch = c.args.batch.now in
+    let opened = c.args.opened in
+    let blocks : length (blocks_of batch) ≡ length batch.transactions.items = length-map batch.transactions.items block_view in
+    let so_far = c.looking.invariant in
+    let over = c.looking-test.false in
+    let count = c.len-count.ensures in
+    let within = so_far.within in
+    let nets = c.looking.nets in
+    record {
+      opening = opens_at_end (start_of batch) (blocks_of batch) opened c.looking.from (omega arith) so_far.listed.keep;
+      upto = let size = c.len-upto.ensures in omega arith;
+      listed = subst (IsListedTo batch opened c.looking.from c.looking.window) (sym (all_taken nets c.len-upto.result c.len-upto.ensures))
+          so_far.listed;
+      reached = so_far.reached;
+    }

@@ -1,0 +1,19 @@
+use Rattle.std.proofs.Common.{◌≤◌, ◌-◌, length}
+use Rattle.rounds.specs.Desks.{IsDeskOn}
+use Rattle.rounds.specs.Views.{blocks_of}
+use Rattle.rounds.specs.Windows.{IsWindowAt, HasGrown, IsListedTo}
+use Rattle.rounds.proofs.seek.seek.Given as goal
+
+abbrev pub invariant-looking : goal.invariant-looking
+invariant-looking g l = record {
+  window : IsWindowAt l.batch l.opened l.objects l.window;
+  grown : HasGrown l.opened l.initial.window l.window;
+  listed : IsListedTo l.batch l.opened l.from l.window l.nets;
+  ready : IsDeskOn l.objects l.desk;
+  within : l.from ≤ length (blocks_of l.batch);
+  reached : l.from ≤ length l.window.runs.items;
+  some : 1 ≤ l.block;
+}
+
+abbrev pub decreases-looking : goal.decreases-looking
+decreases-looking g l = length l.batch.transactions.items - l.from

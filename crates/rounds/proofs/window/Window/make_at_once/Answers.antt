@@ -1,0 +1,103 @@
+use Rattle.std.proofs.Common.{◌≡◌, ◌∙◌, ⊎_elim, inl, inr, false, ◌+◌, ◌<◌, ◌≤◌, [], ◌∷◌, length, get_or, set, true, refl, sym, ap, subst, arith}
+use Rattle.std.specs.List.{All}
+use Rattle.std.proofs.lemmas.Bool.{false≢true}
+use native.Mathlib.Decide.{ℕ_discrete}
+use Rattle.std.proofs.lemmas.List.{length-set, get_or-set_same}
+use Rattle.objects.specs.Entries.{kinds}
+use Rattle.speculate.proofs.Room.{kinds_at}
+use Rattle.claims.specs.Views.{times}
+use Rattle.rounds.specs.Passes.{CanBeMade}
+use Rattle.rounds.specs.PendingRuns.{IsMade, numbers_of}
+use Rattle.rounds.specs.Windows.{IsValid}
+use Rattle.rounds.specs.declared.make.Made.{Made}
+use Rattle.rounds.proofs.Room.{made_at}
+use Rattle.rounds.proofs.Times.{times_none, times_read}
+use Rattle.rounds.proofs.Making.{all_front, times_numbers}
+use Rattle.rounds.proofs.Listing.{grown_on, not_grown}
+use Rattle.rounds.proofs.WindowLemmas.{one_made, put_grown, all_asked, some_made}
+use Rattle.rounds.proofs.window.Window.make_at_once.Goals as goal
+
+pub make_all-requires-clause-within : goal.make_all-requires-clause-within
+make_all-requires-clause-within g c κs lives k d lt =
+    let place = c.requires.places k d lt in
+    let low = place.0 in
+    let below = place.1 in
+    let all = c.requires.window.within in
+    let number = get_or c.args.numbers.now k d in
+    subst (λ s. CanBeMade c.args.batch.now s number) (sym c.requires.opening)
+    (made_at c.args.batch.now c.args.opened c.requires.within number low (omega arith))
+
+pub make_all-requires-clause-same_kinds : goal.make_all-requires-clause-same_kinds
+make_all-requires-clause-same_kinds g c κs within =
+    ap kinds c.requires.opening ∙ kinds_at c.args.batch.now c.args.opened c.requires.within
+
+pub putting-init : goal.putting-init
+putting-init g c =
+    let made = c.in_ok-made.ensures in
+    let numbers = c.args.numbers.now in
+    record {
+      window = c.requires.window;
+      grown = not_grown c.args.opened c.args.self.now;
+      all = refl;
+      left = made.each;
+      places = all_asked (λ n. (c.args.opened ≤ n) × (n < length c.args.self.now.runs.items)) numbers c.in_ok-made.made.items
+          c.requires.places made.dealt;
+      put = λ i some. let same = made.dealt i in inr (omega arith);
+    }
+
+pub put-requires : goal.put-requires
+put-requires g c =
+    let so_far = c.putting.invariant in
+    let Inside : Made → Type 0 = λ m. (c.args.opened ≤ m.number) × (m.number < length c.args.self.now.runs.items) in
+    let popped = all_front Inside c.pop.new.self.items c.in-Some.next (subst (All Inside) c.in-Some.ensures.items so_far.places) in
+    let below = popped.1.1 in
+    let all = so_far.all in
+    let flags = so_far.window.flags in (omega arith, omega arith)
+
+pub putting-preserved : goal.putting-preserved
+putting-preserved g c =
+    let batch = c.args.batch.now in
+    let state = c.args.objects.now in
+    let opened = c.args.opened in
+    let first = c.args.self.now in
+    let old = c.putting.self in
+    let new = c.put.new.self in
+    let next = c.in-Some.next in
+    let rest = c.pop.new.self.items in
+    let so_far = c.putting.invariant in
+    let Inside : Made → Type 0 = λ m. (opened ≤ m.number) × (m.number < length first.runs.items) in
+    let popped = all_front Inside rest next (subst (All Inside) c.in-Some.ensures.items so_far.places) in
+    let made = all_front (IsMade batch state) rest next (subst (All (IsMade batch state)) c.in-Some.ensures.items so_far.left) in
+    let below = popped.1.1 in
+    let all = so_far.all in
+    let flags = so_far.window.flags in
+    let run = next.run.value in
+    let inside : next.number < length old.runs.items = omega arith in
+    let put = put_grown opened old new next.number run popped.1.0 (omega arith) c.put.ensures.runs c.put.ensures.valid in
+    record {
+      window = one_made batch opened state old new next.number run so_far.window inside made.1 c.put.ensures.runs c.put.ensures.valid;
+      grown = grown_on opened first old new so_far.grown put;
+      all = ap length c.put.ensures.runs ∙ (length-set old.runs.items next.number run ∙ so_far.all);
+      left = made.0;
+      places = popped.0;
+      put = λ i some. elim (ℕ_discrete i next.number) [
+        | yes is ↦ inl (ap (λ v. get_or v i false) c.put.ensures.valid
+            ∙ (ap (λ j. get_or (set old.valid.items next.number true) j false) is
+            ∙ get_or-set_same old.valid.items next.number true false (omega arith)))
+        | no other ↦ ⊎_elim (λ (valid : IsValid old i). inl (put.still i valid))
+            (λ (left : 0 < times i (numbers_of c.putting.made.items)).
+            let split : times i (numbers_of c.putting.made.items) ≡ times i (numbers_of rest) + times i (next.number ∷ []) =
+            ap (λ ms. times i (numbers_of ms)) c.in-Some.ensures.items ∙ times_numbers i rest (next ∷ []) in
+            let none = times_none i next.number (λ h. other (sym h)) in
+            inr (omega arith))
+            (so_far.put i some)
+      ];
+    }
+
+pub returns-clause-valid : goal.returns-clause-valid
+returns-clause-valid g c k d lt =
+    let number = get_or c.args.numbers.now k d in
+    ⊎_elim (λ (valid : IsValid c.putting.self number). valid)
+    (λ (left : 0 < times number (numbers_of c.putting.made.items)).
+    absurd (false≢true (c.in_default.ensures.variant.1 (let some = some_made number c.putting.made.items left in omega arith))))
+    (c.putting.invariant.put number (times_read c.args.numbers.now k d lt))

@@ -1,0 +1,20 @@
+use Rattle.std.proofs.Common.{◌≡◌, ◌≤◌, ◌<◌, ◌⊎◌, ℕ, length, vec_len}
+use Rattle.std.specs.List.{All}
+use Rattle.claims.specs.Views.{times}
+use Rattle.rounds.specs.PendingRuns.{IsMade, numbers_of}
+use Rattle.rounds.specs.Windows.{IsValid, IsWindowAt, HasGrown}
+use Rattle.rounds.specs.declared.make.Made.{Made}
+use Rattle.rounds.proofs.window.Window.make_at_once.Given as goal
+
+abbrev pub invariant-putting : goal.invariant-putting
+invariant-putting g l = record {
+  window : IsWindowAt l.batch l.opened l.objects l.self;
+  grown : HasGrown l.opened l.initial.self l.self;
+  all : length l.self.runs.items ≡ length l.initial.self.runs.items;
+  left : All (IsMade l.batch l.objects) l.made.items;
+  places : All (λ (m : Made). (l.opened ≤ m.number) × (m.number < length l.initial.self.runs.items)) l.made.items;
+  put : (i : ℕ) → 0 < times i l.numbers → IsValid l.self i ⊎ (0 < times i (numbers_of l.made.items));
+}
+
+abbrev pub decreases-putting : goal.decreases-putting
+decreases-putting g l = vec_len l.made
