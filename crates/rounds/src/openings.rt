@@ -57,8 +57,9 @@ struct Opening {
     objects: Objects,
     window: Window,
     opened: usize,
-    // How many runs the next round looks at first.
+    // How many runs the next round looks at first, and how many entries it is expected to list.
     ahead: usize,
+    listed: usize,
     rounds: u32,
 }
 
@@ -73,6 +74,7 @@ fn begin(alloc: Global, batch: &Batch, plan: Plan) -> Result<Opening, NoMemory>
         window: Window::new(alloc),
         opened: 0,
         ahead: 2 * plan.workers as usize * plan.cut as usize,
+        listed: 0,
         rounds: 0,
     })
 }
@@ -91,6 +93,7 @@ fn round<R: Threads + Sync, G: Gate>(
     let opened = at.opened;
     let ahead = at.ahead.max(1);
     let mut nets = Committed::new(crew.alloc);
+    nets.expect(at.listed)?;
     let seen = seek(
         crew,
         batch,
@@ -111,6 +114,7 @@ fn round<R: Threads + Sync, G: Gate>(
     at.window.settle(crew.alloc, opened, first);
     at.window.keep(crew, first, &nets, seen.upto)?;
     at.ahead = (first - opened).saturating_mul(2);
+    at.listed = seen.upto;
     at.opened = first;
     at.rounds += 1;
     crew.gate.ended(&Progress {
