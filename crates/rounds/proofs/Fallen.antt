@@ -1,5 +1,5 @@
 -- The valid runs that a commit conflicts with are listed, each once, and aren't valid then.
-use Rattle.std.proofs.Common.{◌≡◌, ◌≢◌, ◌⊎◌, ⊎_elim, ℕ, zero, suc, ◌+◌, ◌-◌, ◌<◌, false, inl, inr, List, [], ◌∷◌, length, get_or, set, take}
+use Rattle.std.proofs.Common.{◌≡◌, ◌≢◌, ◌⊎◌, ⊎_elim, ℕ, zero, suc, ◌+◌, ◌-◌, ◌<◌, ◌≤◌, false, inl, inr, List, [], ◌∷◌, ◌++◌, length, get_or, set, take}
 use Rattle.std.proofs.Common.{refl, sym, ap, ◌∙◌, subst, arith}
 use Rattle.std.proofs.lemmas.Bool.{false≢true}
 use Rattle.std.proofs.lemmas.List.{get_or_past, get_or-set_same, get_or-set_other, length-set, take_more}
@@ -30,6 +30,40 @@ falls_at window since place valid falls = record {
   here = λ d. inr (valid, falls d, times_one place);
   elsewhere = λ i other. times_none i place (λ h. other (sym h));
 }
+
+-- nothing is listed of no run
+pub none_fallen : (window : Window) (since : List Entry) (from : ℕ) → AreFallen window since from from []
+none_fallen window since from = record {
+  before = λ i lt. refl;
+  beyond = λ i le. refl;
+  each = λ i d low high. absurd (omega arith);
+}
+
+-- one run more is decided
+pub fallen_more : (window : Window) (since : List Entry) (from place : ℕ) (numbers own more : List ℕ) → from ≤ place
+    → AreFallen window since from place numbers → more ≡ numbers ++ own → IsFallenAt window since place own
+    → AreFallen window since from (place + 1) more
+fallen_more window since from place numbers own more ordered told is decided =
+    let split : (i : ℕ) → times i more ≡ times i numbers + times i own = λ i. ap (times i) is ∙ times-append i numbers own in
+    record {
+      before = λ i lt. let s = split i in let apart : i ≢ place = omega arith in let none = decided.elsewhere i apart in
+          let old = told.before i lt in omega arith;
+      beyond = λ i le. let s = split i in let apart : i ≢ place = omega arith in let none = decided.elsewhere i apart in
+          let old = told.beyond i (omega arith) in omega arith;
+      each = λ i d low high. elim (ℕ_discrete place i) [
+        | yes here ↦
+            let s = split place in
+            let old = told.beyond place (omega arith) in
+            let same : times place more ≡ times place own = omega arith in
+            subst (λ j. Told window since j (times j more) d) here
+            (subst (λ n. Told window since place n d) (sym same) (decided.here d))
+        | no other ↦
+            let s = split i in
+            let none = decided.elsewhere i (λ h. other (sym h)) in
+            let same : times i more ≡ times i numbers = omega arith in
+            subst (λ n. Told window since i n d) (sym same) (told.each i d low (omega arith))
+      ];
+    }
 
 -- what one place lists is all that is listed of it
 told_at : (window : Window) (since : List Entry) (place i : ℕ) (own numbers : List ℕ) → place ≡ i → IsFallenAt window since place own

@@ -271,8 +271,30 @@ impl Window {
     }
 
     // The numbers of the valid runs from one place on that don't stand past what was committed, which
-    // is the first `upto` entries of the nets. The workers decide the runs side by side, a run as a
-    // piece.
+    // is the first `upto` entries of the nets. One worker decides them in turn.
+    fn fallen_in_turn<G: Gate>(
+        &self,
+        alloc: Global,
+        gate: &G,
+        from: usize,
+        nets: &Committed,
+        upto: usize,
+    ) -> Result<Vec<usize>, NoMemory>
+        requires flags { length self.now.valid.items ≡ length self.now.runs.items }
+        requires few { length self.now.runs.items ≤ MAX_TRANSACTIONS }
+        requires upto { upto ≤ length nets.now }
+        requires from { from ≤ length self.now.runs.items }
+        ensures { IfOk result (λ numbers. AreFallen self.now (take upto nets.now) from (length self.now.runs.items) numbers.items) }
+    {
+        let mut numbers = Vec::new(alloc);
+        for place in from..self.runs.len() {
+            let piece = (place - from) as u32;
+            self.tell(gate, piece, place, nets, upto, &mut numbers)?;
+        }
+        Ok(numbers)
+    }
+
+    // The same, by as many workers as pay. They decide the runs side by side, a run as a piece.
     fn fallen<R: Threads + Sync, G: Gate>(
         &self,
         crew: &Crew<R, G>,
@@ -293,11 +315,15 @@ impl Window {
             ..
         } = *crew;
         let count = self.runs.len() - from;
+        let workers = checkers(crew, count);
+        if workers == 1 {
+            return self.fallen_in_turn(alloc, gate, from, nets, upto);
+        }
         give_all(
             threads,
             alloc,
             count as u32,
-            checkers(crew, count),
+            workers,
             &|piece: u32, bench: Bench<(), usize>| -> Result<Bench<(), usize>, NoMemory>
                 requires { (from + piece < length self.now.runs.items) × (length self.now.valid.items ≡ length self.now.runs.items) × (length self.now.runs.items ≤ MAX_TRANSACTIONS) × (upto ≤ length nets.now) }
                 ensures { IfOk result (λ after. IsDecided self.entry.now (take upto nets.entry.now) (from + piece) bench.items.items after.items.items) }

@@ -39,13 +39,13 @@ returns-then-audit g c =
 pub returns : goal.returns
 returns g c =
     let given = c.args.batch.now in
-    let rounds = c.in_ok-outcome.outcome.rounds in
+    let rounds = c.in_ok-outcome-2.outcome.rounds in
     let of_parts : List Shown → State → List ℕ = λ shown objects. text (names_of given.names) (blocks_of given) shown objects rounds in
     IfOk-weaker c.render.result _ _ (λ written is bytes reads. report_shown c.args.audit bytes _ c.if-audit.false (record {
       document = document_of given;
       reads = reads;
       rounds = rounds;
-      counted = c.in_ok-outcome.ensures.rounds;
-      few = c.in_ok-outcome.ensures.few;
-      is = is ∙ ap₂ of_parts c.in_ok-outcome.ensures.records c.in_ok-outcome.ensures.objects;
+      counted = c.in_ok-outcome-2.ensures.rounds;
+      few = c.in_ok-outcome-2.ensures.few;
+      is = is ∙ ap₂ of_parts c.in_ok-outcome-2.ensures.records c.in_ok-outcome-2.ensures.objects;
     })) c.render.ensures
