@@ -8,7 +8,7 @@ _ordtx() {
             continue
         elif [[ -n $option ]]; then
             option=''
-        elif [[ $word == --workers || $word == --cut ]]; then
+        elif [[ $word == --workers || $word == --cut || $word == --into ]]; then
             option=$word
         elif [[ $word != -* && -z $command ]]; then
             command=$word
@@ -22,16 +22,17 @@ _ordtx() {
     case $command in
         '') options='--help --version -h -V' words='run serial carry check locate help' ;;
         run) options='--workers --cut --audit --why --progress --help --version -h -V' ;;
-        serial | carry | check | locate) options='--help --version -h -V' ;;
+        carry) options='--into --help --version -h -V' ;;
+        serial | check | locate) options='--help --version -h -V' ;;
         help) words='run serial carry check locate help' ;;
     esac
     if [[ $option == --workers ]]; then
         words='1 2 4 8 16 32 64'
     elif [[ $option == --cut ]]; then
         words='1 4 16 64 256 1000'
-    elif [[ $current == -* ]]; then
+    elif [[ $option != --into && $current == -* ]]; then
         words=$options
-    elif [[ -n $file ]]; then
+    elif [[ $option != --into && -n $file ]]; then
         words=''
     elif [[ $command == run || $command == serial || $command == carry || $command == check || $command == locate ]]; then
         compopt -o filenames 2> /dev/null

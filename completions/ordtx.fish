@@ -21,4 +21,5 @@ complete -c ordtx -n '__ordtx_command run' -l workers -x -a '1 2 4 8 16 32 64' -
 complete -c ordtx -n '__ordtx_command run' -l cut -x -a '1 4 16 64 256 1000' -d 'How many transactions a worker takes at a time'
 complete -c ordtx -n '__ordtx_command run' -l audit -d 'Print also how often each transaction was run'
 complete -c ordtx -n '__ordtx_command run' -l why -d 'Print also which operations ended each round'
+complete -c ordtx -n '__ordtx_command carry' -l into -r -F -d 'Print the document NEXT with each of these objects as it ends'
 complete -c ordtx -n '__ordtx_command run' -l progress -d 'Show on standard error how far the run is'

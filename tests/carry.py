@@ -2,6 +2,7 @@
 
 import json
 import pathlib
+import tempfile
 
 ROOT = pathlib.Path(__file__).resolve().parent.parent
 MOST = 10 ** 15
@@ -84,26 +85,120 @@ def try_kinds(program):
     program.expect("each kind, changed", ["carry"], document_of(every, changes), text_of(changed))
 
 
+def try_into(program, name, first, second, out, status=0, err=b""):
+    """The second document with the objects of the first, which is read from a file and from standard input."""
+    with tempfile.TemporaryDirectory() as folder:
+        paths = [pathlib.Path(folder, file) for file in ("day1.json", "day2.json")]
+        for path, document in zip(paths, (first, second)):
+            path.write_bytes(document)
+        one, two = (str(path).encode() for path in paths)
+        err = err.replace(b"DAY2", two)
+        program.expect(name, ["carry", str(paths[0]), "--into", str(paths[1])], b"", out, status, err.replace(b"DAY1", one))
+        program.expect(name, ["carry", "--into", str(paths[1])], first, out, status, err.replace(b"DAY1", b"standard input"))
+        program.expect(name, ["carry", str(paths[0]), "--into", "/dev/stdin"], second, out, status,
+                       err.replace(b"DAY1", one).replace(two, b"/dev/stdin"))
+
+
+def joined_text(objects, transactions):
+    """The text of these objects with these transactions, each as JSON without a space."""
+    lines = ['{"name": "%s", "kind": "%s", "start": %s}' % (name, kind, json.dumps(start)) for name, kind, start in objects]
+    return ('{"ordtx": 4,\n"objects": [\n%s\n],\n"transactions": [\n%s\n]}\n' % (
+        ",\n".join(lines), ",\n".join(json.dumps(block, separators=(",", ":")) for block in transactions))).encode()
+
+
+KINDS = (("account", 5, 7), ("counter", -3, 4), ("max", 9, 2), ("set", ["x", "y"], ["z"]), ("queue", ["y", "x", "y"], []),
+         ("directory", [["k", "x"]], [["x", "k"], ["k", "y"]]))
+
+
+def try_joined_kinds(program):
+    """Each kind in both documents, in the first alone, and in the next alone."""
+    for kind, old, new in KINDS:
+        ended, started = ("o", kind, old), ("o", kind, new)
+        try_into(program, kind + " in both", document_of([ended]), document_of([started]), joined_text([ended], []))
+        try_into(program, kind + " in the first", document_of([ended]), document_of([]), joined_text([ended], []))
+        try_into(program, kind + " in the next", document_of([]), document_of([started]), joined_text([started], []))
+        for other, start, _ in KINDS:
+            if other != kind:
+                try_into(program, "a %s and a %s" % (kind, other), document_of([("a", kind, old), ("o", kind, old)]),
+                         document_of([("n", other, start), ("o", other, start)]), b"", 1,
+                         b"ordtx: object 'o' has two kinds in the two documents\nfault 4 transaction 0\n")
+    try_into(program, "no object", document_of([]), document_of([]), joined_text([], []))
+    blocks = [[{"op": ["n", "deposit", 1], "as": "d"}, {"if": "d", "is": "ok", "then": []}], [{"abort": "late"}], []]
+    first = document_of([("b", "account", 1), ("a", "account", 2), ("c", "set", ["q", "p"])], [[{"op": ["a", "deposit", 3]}]])
+    try_into(program, "an order of objects", first, document_of([("n", "account", 8), ("a", "account", 9)], blocks),
+             joined_text([("n", "account", 8), ("a", "account", 5), ("b", "account", 1), ("c", "set", ["q", "p"])], blocks))
+
+
+def try_spelled(program):
+    """Transactions stand as they are: numbers, names and members; of a member that is there twice it is the last."""
+    head, objects = b'{"transactions": [[]], "ordtx": 1, ', b'"objects": [{"start": 1, "name": "a", "kind": "account"}], '
+    tail = b'"trans\\u0061ctions": [ [ {"as": "x", "op" : ["a", "depo\\u0073it", 10 ]} ] ,\n[] ] }'
+    try_into(program, "transactions as they are written", document_of([]), head + objects + tail,
+             joined_text([("a", "account", 1)], [[{"as": "x", "op": ["a", "deposit", 10]}], []]))
+
+
+def try_joined_faults(program):
+    """The faults in their order: the first document's, the next one's, two kinds, too many objects, and what is no start."""
+    bad, worse = b"{}", b"["
+    plain, clash = document_of([("a", "account", MOST)]), document_of([("a", "counter", 1)])
+    more = document_of([("a", "account", MOST)], [[{"op": ["a", "deposit", 1]}]])
+    full = [("q", "queue", ["x"] * 99_999)]
+    many = [("o%d" % number, "account", 0) for number in range(1000)]
+    for name, first, second, err in (
+            ("both documents are wrong", bad, worse, b"ordtx: this fault is of 'DAY1'\nfault 2 transaction 0\n"),
+            ("the next document is wrong", more, worse, b"ordtx: this fault is of 'DAY2'\nfault 1 transaction 0\n"),
+            ("two kinds, and a large number", more, clash,
+             b"ordtx: object 'a' has two kinds in the two documents\nfault 4 transaction 0\n"),
+            ("a large number", more, plain, b"ordtx: object 'a' ends with a number that is too large for a start\nfault 13 transaction 0\n"),
+            ("too many objects", document_of([("b", "account", 0)]), document_of(many),
+             b"ordtx: object 'b' is one too many, or its entries are\nfault 12 transaction 0\n"),
+            ("too many entries", document_of(full), document_of([("s", "set", ["x", "y"])]),
+             b"ordtx: object 'q' is one too many, or its entries are\nfault 12 transaction 0\n")):
+        try_into(program, name, first, second, b"", 1, err)
+    try_into(program, "as many objects as there may be", document_of(many[1:]), document_of(many), joined_text(many, []))
+    try_into(program, "as many entries as there may be", document_of(full), document_of([("s", "set", ["x"])]),
+             joined_text([("s", "set", ["x"])] + full, []))
+
+
+def try_second_days(program, name, document):
+    """Two days, of which the second has its own objects, end as the whole."""
+    given = json.loads(document)
+    whole = ends(program, name, document)
+    middle = len(given["transactions"]) // 2
+    first = json.dumps(dict(given, transactions=given["transactions"][:middle])).encode()
+    second = json.dumps(dict(given, transactions=given["transactions"][middle:])).encode()
+    with tempfile.TemporaryDirectory() as folder:
+        path = pathlib.Path(folder, "day2.json")
+        path.write_bytes(second)
+        out, status, err = program.run(["carry", "--into", str(path)], first)
+    program.compare(name, ["carry", "--into"], (status, err), (0, b""))
+    parts = json.loads(out)
+    program.compare(name, ["carry", "--into"], (parts["transactions"],), (given["transactions"][middle:],))
+    program.compare(name, ["carry", "--into"], (ends(program, name, out),), (whole,))
+
+
 def try_unfit(program):
     """Objects that end as none may start: the first of them is the fault."""
     large, small = ("a", "account", MOST), ("c", "counter", -MOST)
     full = ("q", "queue", ["x"] * 100_000)
     more, less, enq = {"op": ["a", "deposit", 1]}, {"op": ["c", "sub", 1]}, {"op": ["q", "enq", "x"]}
-    for name, objects, steps, fault in (
-            ("an account that is too large", [large], [more], 13),
-            ("a counter that is too small", [small], [less], 13),
-            ("a counter that is too large", [("c", "counter", MOST)], [{"op": ["c", "add", 1]}], 13),
-            ("too many entries", [full], [enq], 12),
-            ("too many entries of all", [full, ("s", "set", [])], [{"op": ["s", "insert", "x"]}], 12),
-            ("an account, and then too many entries", [large, full], [more, enq], 13),
-            ("too many entries, and then an account", [full, large], [more, enq], 12),
-            ("an account that is large for a while", [large], [more, {"op": ["a", "withdraw", 1]}], None),
-            ("an entry more for a while", [full], [enq, {"op": ["q", "deq"]}], None)):
+    for name, objects, steps, fault, unfit in (
+            ("an account that is too large", [large], [more], 13, b"a"),
+            ("a counter that is too small", [small], [less], 13, b"c"),
+            ("a counter that is too large", [("c", "counter", MOST)], [{"op": ["c", "add", 1]}], 13, b"c"),
+            ("too many entries", [full], [enq], 12, b"q"),
+            ("too many entries of all", [full, ("s", "set", [])], [{"op": ["s", "insert", "x"]}], 12, b"s"),
+            ("an account, and then too many entries", [large, full], [more, enq], 13, b"a"),
+            ("too many entries, and then an account", [full, large], [more, enq], 12, b"q"),
+            ("an account that is large for a while", [large], [more, {"op": ["a", "withdraw", 1]}], None, None),
+            ("an entry more for a while", [full], [enq, {"op": ["q", "deq"]}], None, None)):
         document = document_of(objects, [steps])
         if fault is None:
             program.expect(name, ["carry"], document, text_of(objects))
         else:
-            program.expect_fault(name, ["carry"], document, fault, 0)
+            why = b"ends with a number that is too large for a start" if fault == 13 else b"is one too many, or its entries are"
+            program.expect(name, ["carry"], document, b"", 1,
+                           b"ordtx: object '%s' %s\nfault %d transaction 0\n" % (unfit, why, fault))
 
 
 def try_all(program):
@@ -116,5 +211,9 @@ def try_all(program):
     for document in sorted((ROOT / "examples").glob("*.json")):
         try_document(program, document.stem, document.read_bytes())
         try_days(program, document.stem, document.read_bytes())
+        try_second_days(program, document.stem, document.read_bytes())
     try_kinds(program)
     try_unfit(program)
+    try_joined_kinds(program)
+    try_spelled(program)
+    try_joined_faults(program)

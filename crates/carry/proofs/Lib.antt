@@ -1,2 +1,4 @@
+pub mod Adding
+pub mod Reading
 pub mod Walking
 pub mod Written

@@ -11,17 +11,27 @@ use Rattle.meaning.specs.WellFormed.{size_of}
 use Rattle.meaning.specs.Words.{Names, joined, members}
 use Rattle.words.specs.Words.{kind_text}
 use Rattle.batch.specs.Limits.{entries_in}
+use Rattle.carry.specs.declared.document.Misfit.{Misfit}
 use Rattle.carry.specs.declared.document.Unfit.{Unfit}
 use Rattle.carry.specs.declared.document.Unfit.TheVariants.{Start, TooMany}
 use Rattle.meaning.specs.declared.limits.TheConstants.{MAX_ENTRIES, MAX_START}
 
--- Why objects can't all start as they are, by the first that can't, where so many entries start before them.
-abbrev pub first_unfit : ℕ → State → Option Unfit
-first_unfit entries [] = None
-first_unfit entries (v ∷ values) =
+-- Why an object can't start as it is, where so many entries start before it.
+abbrev pub unfit_after : ℕ → Value → Option Unfit
+unfit_after entries v =
     if nat_lt MAX_START (size_of v) then Some Start
     else if nat_lt MAX_ENTRIES (entries + entries_in v) then Some TooMany
-    else first_unfit (entries + entries_in v) values
+    else None
+
+-- an object at a place that is unfit, or what is found after it
+abbrev pub unfit_or : ℕ → Option Misfit → Option Unfit → Option Misfit
+unfit_or place later None = later
+unfit_or place later (Some unfit) = Some (record { place = place; unfit = unfit })
+
+-- The first object that can't start as it is, from a place on, where so many entries start before it.
+abbrev pub first_unfit : ℕ → ℕ → State → Option Misfit
+first_unfit place entries [] = None
+first_unfit place entries (v ∷ values) = unfit_or place (first_unfit (place + 1) (entries + entries_in v) values) (unfit_after entries v)
 
 -- JSON texts and lists. Names have ASCII letters, digits, `_` and `-` alone, so that nothing is escaped.
 abbrev pub quoted : List ℕ → List ℕ

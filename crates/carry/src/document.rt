@@ -1,11 +1,12 @@
 //! The document of objects as they are.
-ghost use Rattle.std.specs.Prelude.{◌≡◌, ◌<◌, ◌^◌, ◌++◌, IfOk, OnOk, codes, length, map, string_bytes};
+ghost use Rattle.std.specs.Prelude.{◌≡◌, ◌<◌, ◌≤◌, ◌+◌, ◌^◌, ◌++◌, IfOk, None, OnOk, codes, length, map, string_bytes};
 ghost use Rattle.std.specs.FinMap as finite_map;
 ghost use Rattle.meaning.specs.WellFormed.{size_of};
 ghost use Rattle.meaning.specs.Words.{joined, members};
 ghost use Rattle.batch.specs.Limits.{entries_in};
 ghost use Rattle.batch.specs.Names.{names_of};
-ghost use Rattle.carry.specs.Carried.{carried_text, first_unfit, item_text, object_text, object_texts, pair_text, start_text};
+ghost use Rattle.carry.specs.Carried.{carried_text, first_unfit, item_text, object_text, object_texts, pair_text, start_text, unfit_after};
+ghost use Rattle.meaning.specs.declared.limits.TheConstants.{MAX_ENTRIES};
 
 use batch::Names;
 use meaning::limits::{MAX_ENTRIES, MAX_START};
@@ -23,24 +24,44 @@ pub enum Unfit {
     TooMany,
 }
 
-/// Why the objects can't all start as they are, by the first that can't.
-pub fn first_unfit(objects: &Objects) -> Option<Unfit>
+/// An object that can't start as it is.
+#[derive(Clone, Copy, Debug, Drop, PartialEq, Eq)]
+pub struct Misfit {
+    /// Its place, from 0.
+    pub place: u32,
+    /// Why it can't.
+    pub unfit: Unfit,
+}
+
+/// The first of the objects that can't start as it is after those before it.
+pub fn first_unfit(objects: &Objects) -> Option<Misfit>
     requires { length objects.now < 2 ^ 32 }
-    ensures { result ≡ first_unfit 0 objects.now }
+    ensures { result ≡ first_unfit 0 0 objects.now }
 {
     let mut entries = 0;
     for place in 0..objects.len() as u32 {
         let Some(value) = objects.value(place) else {
             return None;
         };
-        if magnitude(value) > MAX_START {
-            return Some(Unfit::Start);
+        if let Some(unfit) = unfit_after(entries, value) {
+            return Some(Misfit { place, unfit });
         }
-        let more = entries_in(value);
-        if more > MAX_ENTRIES - entries {
-            return Some(Unfit::TooMany);
-        }
-        entries += more;
+        entries += entries_in(value);
+    }
+    None
+}
+
+/// Why an object can't start as it is, where so many entries start before it.
+pub(crate) fn unfit_after(entries: usize, value: &Value) -> Option<Unfit>
+    requires { entries ≤ MAX_ENTRIES }
+    ensures unfit { result ≡ unfit_after entries value.now }
+    ensures few { result ≡ None → entries + entries_in value.now ≤ MAX_ENTRIES }
+{
+    if magnitude(value) > MAX_START {
+        return Some(Unfit::Start);
+    }
+    if entries_in(value) > MAX_ENTRIES - entries {
+        return Some(Unfit::TooMany);
     }
     None
 }
@@ -57,7 +78,7 @@ fn magnitude(value: &Value) -> u64
 }
 
 // How many members, items or keys a value has.
-fn entries_in(value: &Value) -> usize
+pub(crate) fn entries_in(value: &Value) -> usize
     ensures { result ≡ entries_in value.now }
 {
     match value {
@@ -99,7 +120,12 @@ fn write_objects(out: &mut String, names: &Names, objects: &Objects) -> Result<(
     Ok(())
 }
 
-fn write_object(out: &mut String, names: &Names, object: u32, value: &Value) -> Result<(), NoMemory>
+pub(crate) fn write_object(
+    out: &mut String,
+    names: &Names,
+    object: u32,
+    value: &Value,
+) -> Result<(), NoMemory>
     ensures { OnOk result (string_bytes out.new ≡ string_bytes out.old ++ object_text (names_of names.now) object value.now) }
 {
     let name = object_name(names, object);

@@ -1,8 +1,12 @@
 //! Carrying objects over: the document of a batch's objects as they are at its end, for the next
-//! batch to start with.
+//! batch to start with, or with the transactions of the next batch.
 #![tactic(auto)]
 
 mod document;
+mod starts;
+mod transactions;
 
 pub use batch::{Names, NoMemory, Objects};
-pub use document::{Unfit, carried, first_unfit};
+pub use document::{Misfit, Unfit, carried, first_unfit};
+pub use starts::{NamedObjects, Start, first_clash, first_misfit, join, name_table, start_name};
+pub use transactions::carried_into;

@@ -13,7 +13,7 @@ use Rattle.meaning.specs.Words.{Names, members}
 use Rattle.batch.specs.Limits.{entries_in}
 use Rattle.batch.specs.Names.{AreNames, is_name}
 use Rattle.meaning.specs.WellFormed.{size_of}
-use Rattle.carry.specs.Carried.{first_unfit}
+use Rattle.carry.specs.Carried.{first_unfit, unfit_or}
 use Rattle.carry.specs.declared.document.Unfit.TheVariants.{Start, TooMany}
 use Rattle.carry_laws.specs.Carrying.{HasItem, SomeHasItem, object_names}
 use Rattle.carry_laws.proofs.Among.{Among, Apart, apart_map, among_from_map, contains_among, each_of}
@@ -21,16 +21,19 @@ use Rattle.carry_laws.proofs.ItemsOf.{among_bound, among_contained, keys_apart, 
 use Rattle.carry_laws.proofs.Listed.{AreNamedBoth, AreWritable, IsNamed, IsWritable}
 
 -- the first object can start, and so can the others after it
-pub record Fits (entries : ℕ) (v : Value) (values : State) : Type 0 where
+pub record Fits (place entries : ℕ) (v : Value) (values : State) : Type 0 where
   pub small : size_of v ≤ 1_000_000_000_000_000
   pub few : entries + entries_in v ≤ 100_000
-  pub rest : first_unfit (entries + entries_in v) values ≡ None
+  pub rest : first_unfit (place + 1) (entries + entries_in v) values ≡ None
 
-pub first_fits : (entries : ℕ) (v : Value) (values : State) → first_unfit entries (v ∷ values) ≡ None → Fits entries v values
-first_fits entries v values e = by (nat_lt 1_000_000_000_000_000 (size_of v)) (nat_lt 100_000 (entries + entries_in v)) refl refl e
+pub first_fits : (place entries : ℕ) (v : Value) (values : State) → first_unfit place entries (v ∷ values) ≡ None
+    → Fits place entries v values
+first_fits place entries v values e =
+    by (nat_lt 1_000_000_000_000_000 (size_of v)) (nat_lt 100_000 (entries + entries_in v)) refl refl e
   where
     by : (large many : Bool) → nat_lt 1_000_000_000_000_000 (size_of v) ≡ large → nat_lt 100_000 (entries + entries_in v) ≡ many
-        → cond large (Some Start) (cond many (Some TooMany) (first_unfit (entries + entries_in v) values)) ≡ None → Fits entries v values
+        → unfit_or place (first_unfit (place + 1) (entries + entries_in v) values)
+        (cond large (Some Start) (cond many (Some TooMany) None)) ≡ None → Fits place entries v values
     by true many l m none = cc
     by false true l m none = cc
     by false false l m none = record { small = ltb-false _ _ l; few = ltb-false _ _ m; rest = none }
@@ -42,7 +45,7 @@ IsApart names (value.Directory d) = Apart (map names.item (finite_map.keys d))
 IsApart names v = ⊤
 
 module _ (names : Names) where
-  writable : (v : Value) → size_of v ≤ 1_000_000_000_000_000 → ((x : Item) → HasItem v x → IsNamed names x) → IsWritable names v
+  pub writable : (v : Value) → size_of v ≤ 1_000_000_000_000_000 → ((x : Item) → HasItem v x → IsNamed names x) → IsWritable names v
   writable (value.Account n) small named = small
   writable (value.Counter n) small named = small
   writable (value.Set s) small named = each_of (IsNamed names) (members s) (λ x at. named x (among_contained s x at))
@@ -68,11 +71,11 @@ module _ (names : Names) where
       (λ x y at at'. one x y (key_of_map d x at) (key_of_map d y at')) (keys_apart d)
   apart (value.Max n) one = tt
 
-  pub all_writable : (n entries : ℕ) (values : State) → first_unfit entries values ≡ None → AreNames (object_names names n values)
+  pub all_writable : (n entries : ℕ) (values : State) → first_unfit n entries values ≡ None → AreNames (object_names names n values)
       → ((x : Item) → SomeHasItem values x → IsNamed names x) → AreWritable names n values
   all_writable n entries [] fit object named = tt
   all_writable n entries (v ∷ values) fit object named =
-      let fits = first_fits entries v values fit in
+      let fits = first_fits n entries v values fit in
       let both = and_parts (is_name (names.object n)) _ object in (
         both.0,
         writable v fits.small (λ x has. named x (inl has)),

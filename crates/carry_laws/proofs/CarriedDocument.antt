@@ -10,7 +10,7 @@ use Rattle.spelling.specs.Asked.{kind_in}
 use Rattle.spelling.specs.Scope.{Numbers, no_numbers}
 use Rattle.spelling.specs.Spelled.{document_in, parts_in, start_of, starts_of}
 use Rattle.carry.specs.Carried.{first_unfit}
-use Rattle.carry_laws.proofs.CarriedData.{carried_data, object_data, objects_data, start_data}
+use Rattle.carry_laws.specs.CarriedData.{carried_data, object_data, objects_data, start_data}
 use Rattle.carry_laws.specs.Carrying.{object_names}
 use Rattle.carry_laws.specs.Laws.{StartsWith}
 use Rattle.carry_laws.specs.Same.{AreSame}
@@ -28,11 +28,11 @@ record SpellsState (names : Names) (values : State) (before : Numbers) (spelled 
       → AreSame names values (names_of texts) spelled.0
 
 module _ (names : Names) where
-  state_spelled : (n entries : ℕ) (values : State) (numbers : Numbers) → first_unfit entries values ≡ None
+  state_spelled : (n entries : ℕ) (values : State) (numbers : Numbers) → first_unfit n entries values ≡ None
       → AllByRecursion (IsApart names) values → SpellsState names values numbers (starts_of 4 numbers (objects_data names n values))
   state_spelled n entries [] numbers fit apart = record { grows = grows_none numbers.items; few = omega arith; same = λ texts more few. tt }
   state_spelled n entries (v ∷ values) numbers fit apart =
-      let fits = first_fits entries v values fit in
+      let fits = first_fits n entries v values fit in
       let spelled = start_of (kind_in 4 (object_data names n v)) numbers (start_data names v) in
       let here : SpellsValue names v numbers spelled =
       subst (λ k. SpellsValue names v numbers (start_of k numbers (start_data names v))) (sym (kind_is names n v))
@@ -54,7 +54,7 @@ module _ (names : Names) where
   names_spelled n [] = refl
   names_spelled n (v ∷ values) = ap (λ ts. names.object n ∷ ts) (names_spelled (n + 1) values)
 
-  pub document_spelled : (values : State) → first_unfit 0 values ≡ None → AllByRecursion (IsApart names) values
+  pub document_spelled : (values : State) → first_unfit 0 0 values ≡ None → AllByRecursion (IsApart names) values
       → StartsWith names values (document_in (carried_data names values))
   unfolding document_in parts_in
   document_spelled values fit apart =
@@ -63,7 +63,7 @@ module _ (names : Names) where
       let document = document_in (carried_data names values) in
       record {
         objects = state.same document.texts (grows_none document.texts.items)
-            (omega (arith, fewer, all_few names 0 values (omega arith) fit));
+            (omega (arith, fewer, all_few names 0 0 values (omega arith) fit));
         named = names_spelled 0 values;
         no_transactions = refl;
       }

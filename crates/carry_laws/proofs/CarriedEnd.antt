@@ -26,10 +26,10 @@ use Rattle.carry_laws.proofs.NamedEnd.{end_named}
 use Rattle.carry_laws.proofs.NamedTexts.{named_objects_fit}
 
 -- a document that was read is that of a value with no fault
-record IsOf (document : Document) : Type 0 where
-  value : Data
-  faultless : first_fault (asked value) ≡ None
-  is : document_in value ≡ document
+pub record IsOf (document : Document) : Type 0 where
+  pub value : Data
+  pub faultless : first_fault (asked value) ≡ None
+  pub is : document_in value ≡ document
 
 of_value : (document : Document) (d : Data) (fault : Option Fault) → first_fault (asked d) ≡ fault → unless_fault d fault ≡ Ok document
     → IsOf document
@@ -42,18 +42,18 @@ of_bytes document true o e = cc
 of_bytes document false None e = cc
 of_bytes document false (Some d) e = of_value document d (first_fault (asked d)) refl e
 
-of_reading : (bytes : List ℕ) (document : Document) → reading bytes ≡ Ok document → IsOf document
+pub of_reading : (bytes : List ℕ) (document : Document) → reading bytes ≡ Ok document → IsOf document
 unfolding reading
 of_reading bytes document e = of_bytes document (nat_lt 67108864 (length bytes)) (value_of bytes) e
 
 -- as many objects at the end as at the start
-same_length : (start : State) (batch : List Block) → length (final_state start batch) ≡ length start
+pub same_length : (start : State) (batch : List Block) → length (final_state start batch) ≡ length start
 same_length start batch =
     let same = (batch_keeps start batch (length batch) (omega arith)).same_kinds in
     sym (length-map (final_state start batch) kind_of_value) ∙ ap length same ∙ length-map start kind_of_value
 
 can_be_carried : (d : Data) → first_fault (asked d) ≡ None
-    → first_unfit 0 (final_state (document_in d).start (document_in d).transactions) ≡ None
+    → first_unfit 0 0 (final_state (document_in d).start (document_in d).transactions) ≡ None
     → CanBeCarried (names_of (document_in d).texts) (final_state (document_in d).start (document_in d).transactions)
 can_be_carried d none fit =
     let document = document_in d in
@@ -75,5 +75,5 @@ pub end_is_read : CarriedEndLaw
 end_is_read bytes document reads fit =
     let source = of_reading bytes document reads in
     carried_is_read (names_of document.texts) (last document)
-    (subst (λ (read : Document). first_unfit 0 (last read) ≡ None → CanBeCarried (names_of read.texts) (last read)) source.is
+    (subst (λ (read : Document). first_unfit 0 0 (last read) ≡ None → CanBeCarried (names_of read.texts) (last read)) source.is
     (can_be_carried source.value source.faultless) fit)

@@ -30,7 +30,7 @@ use Rattle.words.specs.Words.{kind_of_text}
 use Rattle.spelling.proofs.Checks.{check_met}
 use Rattle.meaning.specs.WellFormed.{size_of}
 use Rattle.carry.specs.Carried.{first_unfit}
-use Rattle.carry_laws.proofs.CarriedData.{carried_data, items_data, object_data, objects_data, pairs_data, start_data}
+use Rattle.carry_laws.specs.CarriedData.{carried_data, items_data, object_data, objects_data, pairs_data, start_data}
 use Rattle.carry_laws.specs.Carrying.{object_names}
 use Rattle.carry_laws.proofs.Among.{Apart}
 use Rattle.carry_laws.proofs.Carriable.{IsApart, first_fits}
@@ -132,13 +132,13 @@ module _ (names : Names) where
       (meet_test _ true Shape _ refl (meet_test _ (is_name (names.object n)) Name _ named
       (meet_test _ (not (is_listed (names.object n) earlier)) DuplicateObject start (ap not new) started)))))
 
-  objects_met : (n entries : ℕ) (values : State) (earlier : Table) (c : Counts) → c.starts ≤ entries → first_unfit entries values ≡ None
+  objects_met : (n entries : ℕ) (values : State) (earlier : Table) (c : Counts) → c.starts ≤ entries → first_unfit n entries values ≡ None
       → AreWritable names n values → AllByRecursion (IsApart names) values → Apart (object_names names n values)
       → AreNew earlier (object_names names n values)
       → (next : Counts) × (check c (objects_asked 4 earlier (objects_data names n values)) ≡ Ok next)
   objects_met n entries [] earlier c few fit ok apart differ new = (c, refl)
   objects_met n entries (v ∷ values) earlier c few fit ok apart differ new =
-      let fits = first_fits entries v values fit in
+      let fits = first_fits n entries v values fit in
       let bound = fits.few in
       let here = (object_meets n v earlier ok.0 new.0 fits.small ok.1 apart.0).met c (omega arith) in
       let counted = here.2 in
@@ -160,7 +160,7 @@ module _ (names : Names) where
   unfolding document_shape_asked
   shape_met values few = rw (le-leb (items_len (objects_data names 0 values)) 1000 (omega (arith, objects_len 0 values)))
 
-  pub carried_faultless : (values : State) → length values ≤ 1000 → first_unfit 0 values ≡ None → AreWritable names 0 values
+  pub carried_faultless : (values : State) → length values ≤ 1000 → first_unfit 0 0 values ≡ None → AreWritable names 0 values
       → AllByRecursion (IsApart names) values → Apart (object_names names 0 values)
       → first_fault (asked (carried_data names values)) ≡ None
   unfolding asked

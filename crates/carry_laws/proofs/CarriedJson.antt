@@ -96,6 +96,21 @@ closed : (rest : List ℕ) → lex between (codes "}" ++ rest) ≡ token Token.e
 unfolding lex
 closed rest = refl
 
+pub version_key : (rest : List ℕ) → lex between (codes "{\"ordtx\": 4,\n\"objects\": [\n" ++ rest)
+    ≡ token Token.begin_object ∷ token (Token.string (codes "ordtx")) ∷ colon
+    ∷ lex between (codes "4" ++ (codes ",\n\"objects\": [\n" ++ rest))
+unfolding lex content
+version_key rest = refl
+
+pub objects_key : (rest : List ℕ) → lex between (codes ",\n\"objects\": [\n" ++ rest)
+    ≡ comma ∷ token (Token.string (codes "objects")) ∷ colon ∷ token Token.begin_array ∷ lex between rest
+unfolding lex content
+objects_key rest = refl
+
+pub four : IsNumber (codes "4")
+unfolding after_number
+four = refl
+
 module _ (names : Names) where
   items_written : (xs : List Item) → AllByRecursion (IsNamed names) xs → AllWrite (map (item_text names) xs) (items_json names xs)
   items_written [] named = tt
@@ -123,7 +138,7 @@ module _ (names : Names) where
   start_written (value.Directory d) ok = list_written _ _ (pairs_written (finite_map.entries d) ok)
   start_written (value.Max n) ok = number_written (decimal n) (IsNumber-decimal n (omega arith))
 
-  object_written : (n : ℕ) (v : Value) → is_name (names.object n) ≡ true → IsWritable names v
+  pub object_written : (n : ℕ) (v : Value) → is_name (names.object n) ≡ true → IsWritable names v
       → Writes (object_text names n v) (object_json names n v)
   object_written n v named ok rest ended =
       let name = names.object n in
@@ -144,21 +159,6 @@ module _ (names : Names) where
       → AllWrite (object_texts names n values) (objects_json names n values)
   objects_written n [] ok = tt
   objects_written n (v ∷ values) ok = (object_written n v ok.0 ok.1, objects_written (n + 1) values ok.2)
-
-  version_key : (rest : List ℕ) → lex between (codes "{\"ordtx\": 4,\n\"objects\": [\n" ++ rest)
-      ≡ token Token.begin_object ∷ token (Token.string (codes "ordtx")) ∷ colon
-      ∷ lex between (codes "4" ++ (codes ",\n\"objects\": [\n" ++ rest))
-  unfolding lex content
-  version_key rest = refl
-
-  objects_key : (rest : List ℕ) → lex between (codes ",\n\"objects\": [\n" ++ rest)
-      ≡ comma ∷ token (Token.string (codes "objects")) ∷ colon ∷ token Token.begin_array ∷ lex between rest
-  unfolding lex content
-  objects_key rest = refl
-
-  four : IsNumber (codes "4")
-  unfolding after_number
-  four = refl
 
   pub carried_lexed : (values : State) → AreWritable names 0 values
       → lex between (carried_text names values) ≡ json_lexemes (carried_json names values)

@@ -6,7 +6,7 @@ use Rattle.lang.specs.Reading.{reading, spelled_by, unless_fault, value_of}
 use Rattle.spelling.specs.Spelled.{document_in}
 use Rattle.faults.specs.declared.fault.Wrong.TheVariants.{TooMany}
 use Rattle.carry.specs.Carried.{carried_text}
-use Rattle.carry_laws.proofs.CarriedData.{carried_data}
+use Rattle.carry_laws.specs.CarriedData.{carried_data}
 use Rattle.carry_laws.specs.Carrying.{object_names}
 use Rattle.carry_laws.specs.Laws.{CarriedLaw}
 use Rattle.carry_laws.proofs.Carriable.{all_apart, all_writable}

@@ -17,11 +17,14 @@ use Rattle.objects.specs.declared.value.Value.{Value}
 use Rattle.objects.specs.declared.value.Value.TheVariants as value
 use Rattle.meaning.specs.Words.{Names, members}
 use Rattle.carry.specs.Carried.{carried_text}
-use Rattle.carry_laws.proofs.CarriedData.{carried_data, items_data, object_data, objects_data, pairs_data, start_data}
+use Rattle.carry_laws.specs.CarriedData.{carried_data, items_data, object_data, objects_data, pairs_data, start_data}
 use Rattle.carry_laws.proofs.CarriedJson.{carried_json, carried_lexed, items_json, object_json, objects_json, pairs_json, start_json}
 use Rattle.carry_laws.proofs.CarriedUtf8.{carried_utf8}
 use Rattle.carry_laws.proofs.Lexemes.{tokens_alone}
 use Rattle.carry_laws.proofs.Listed.{AreWritable, IsWritable}
+
+pub four : number_of (codes "4") ≡ Some (unsigned 4)
+four = ap number_of (sym (decimal_digit 4 (omega arith))) ∙ number_of-decimal 4 (omega arith)
 
 module _ (names : Names) where
   -- ---- the value
@@ -43,16 +46,13 @@ module _ (names : Names) where
   start_read (value.Directory d) ok = rw (pairs_read (finite_map.entries d))
   start_read (value.Max n) ok = rw (number_of-decimal n (omega arith))
 
-  object_read : (n : ℕ) (v : Value) → IsWritable names v → of_json (object_json names n v) ≡ Some (object_data names n v)
+  pub object_read : (n : ℕ) (v : Value) → IsWritable names v → of_json (object_json names n v) ≡ Some (object_data names n v)
   object_read n v ok = rw (start_read v ok)
 
   objects_read : (n : ℕ) (values : State) → AreWritable names n values
       → of_items (objects_json names n values) ≡ Some (objects_data names n values)
   objects_read n [] ok = refl
   objects_read n (v ∷ values) ok = rw (object_read n v ok.1, objects_read (n + 1) values ok.2)
-
-  four : number_of (codes "4") ≡ Some (unsigned 4)
-  four = ap number_of (sym (decimal_digit 4 (omega arith))) ∙ number_of-decimal 4 (omega arith)
 
   document_read : (values : State) → AreWritable names 0 values → of_json (carried_json names values) ≡ Some (carried_data names values)
   document_read values ok = rw (four, objects_read 0 values ok)
@@ -67,7 +67,7 @@ module _ (names : Names) where
   pairs_flat [] = omega arith
   pairs_flat (pair ∷ pairs) = omega (arith, pairs_flat pairs)
 
-  start_flat : (v : Value) → depth (start_json names v) ≤ 2
+  pub start_flat : (v : Value) → depth (start_json names v) ≤ 2
   start_flat (value.Account n) = omega arith
   start_flat (value.Counter n) = omega arith
   start_flat (value.Set s) = omega (arith, items_flat (members s))

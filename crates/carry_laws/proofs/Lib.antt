@@ -16,7 +16,12 @@ pub mod PutIn
 pub mod CarriedLaws
 pub mod SpelledStarts
 pub mod CarriedDocument
-pub mod CarriedData
 pub mod NamedTexts
 pub mod NamedEnd
 pub mod CarriedEnd
+pub mod Printed
+pub mod NextTree
+pub mod JoinedJson
+pub mod JoinedReads
+pub mod JoinedStarts
+pub mod JoinedLaws

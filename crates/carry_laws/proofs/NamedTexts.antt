@@ -62,7 +62,7 @@ names_from texts n (v ∷ values) size =
 
 -- ---- items
 
-value_has_text : (texts : Texts) (v : Value) (x : Item) → IsNamedValue texts v → HasItem v x → HasText texts x
+pub value_has_text : (texts : Texts) (v : Value) (x : Item) → IsNamedValue texts v → HasItem v x → HasText texts x
 value_has_text texts (value.Account n) x named has = absurd has
 value_has_text texts (value.Counter n) x named has = absurd has
 value_has_text texts (value.Set s) x named has = named x has

@@ -15,7 +15,7 @@ use Rattle.batch.specs.Names.{Texts, names_of}
 use Rattle.spelling.specs.Scope.{Numbers, with_item}
 use Rattle.spelling.specs.Spelled.{bind_all, entries_of, or_zero, pairs_of, put_all, start_of}
 use Rattle.meaning.specs.WellFormed.{size_of}
-use Rattle.carry_laws.proofs.CarriedData.{items_data, pairs_data, start_data}
+use Rattle.carry_laws.specs.CarriedData.{items_data, pairs_data, start_data}
 use Rattle.carry_laws.specs.Same.{IsSame}
 use Rattle.carry_laws.proofs.Among.{Among, Apart, among_from_map, among_map, apart_from_map}
 use Rattle.carry_laws.proofs.Carriable.{IsApart}

@@ -120,14 +120,14 @@ module _ (names : Names) where
   objects_length n [] ok = omega arith
   objects_length n (v ∷ values) ok = omega (arith, objects_length (n + 1) values ok.2, object_length n v ok.0 ok.1)
 
-  pub all_few : (entries : ℕ) (values : State) → entries ≤ 100_000 → first_unfit entries values ≡ None
+  pub all_few : (n entries : ℕ) (values : State) → entries ≤ 100_000 → first_unfit n entries values ≡ None
       → entries + all_entries_in values ≤ 100_000
-  all_few entries [] few fit = omega arith
-  all_few entries (v ∷ values) few fit =
-      let fits = first_fits entries v values fit in
-      omega (arith, all_few (entries + entries_in v) values fits.few fits.rest)
+  all_few n entries [] few fit = omega arith
+  all_few n entries (v ∷ values) few fit =
+      let fits = first_fits n entries v values fit in
+      omega (arith, all_few (n + 1) (entries + entries_in v) values fits.few fits.rest)
 
-  pub carried_length : (values : State) → length values ≤ 1000 → first_unfit 0 values ≡ None → AreWritable names 0 values
+  pub carried_length : (values : State) → length values ≤ 1000 → first_unfit 0 0 values ≡ None → AreWritable names 0 values
       → length (carried_text names values) ≤ 67_108_864
   carried_length values few fit ok =
       let head = codes "{\"ordtx\": 4,\n\"objects\": [\n" in
@@ -138,7 +138,7 @@ module _ (names : Names) where
         arith,
         joined_length (codes ",\n") (object_texts names 0 values) two,
         objects_length 0 values ok,
-        all_few 0 values (omega arith) fit,
+        all_few 0 0 values (omega arith) fit,
         length-append (head ++ objects) tail,
         length-append head objects,
       )

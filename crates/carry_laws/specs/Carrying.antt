@@ -32,7 +32,7 @@ object_names names n (v ∷ values) = names.object n ∷ object_names names (n +
 -- Objects that may start a document: few, none of them unfit, and what they name has a name of its own.
 pub record CanBeCarried (names : Names) (values : State) : Type 0 where
   pub few : length values ≤ MAX_OBJECTS
-  pub fit : first_unfit 0 values ≡ None
+  pub fit : first_unfit 0 0 values ≡ None
   pub objects_named : AreNames (object_names names 0 values)
   pub objects_apart : IsDistinct bytes_eq (object_names names 0 values)
   pub items_named : (x : Item) → SomeHasItem values x → is_name (names.item x) ≡ true

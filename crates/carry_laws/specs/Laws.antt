@@ -1,10 +1,16 @@
 -- The laws of carrying over, as statements.
-use Rattle.std.specs.Prelude.{◌≡◌, ◌≤◌, ℕ, List, [], length, None, Ok}
+use Rattle.std.specs.Prelude.{◌≡◌, ◌≤◌, ℕ, List, [], length, map, None, Ok, Some}
 use Rattle.objects.specs.Entries.{State}
 use Rattle.meaning.specs.Words.{Names}
 use Rattle.meaning.specs.Batch.{final_state}
-use Rattle.lang.specs.Reading.{Document, reading}
+use Rattle.lang.specs.Reading.{Document, reading, value_of}
+use Rattle.serde_json.specs.Data.{Data}
+use Rattle.spelling.specs.Asked.{transactions_in}
 use Rattle.carry.specs.Carried.{carried_text, first_unfit}
+use Rattle.carry.specs.Joined.{value_of as start_value}
+use Rattle.carry.specs.Transactions.{joined_text}
+use Rattle.carry_laws.specs.Joined.{joined_data, starts_into}
+use Rattle.std.specs.Str.{IsUtf8}
 use Rattle.std.specs.List.{IsDistinct}
 use Rattle.std.specs.Str.{bytes_eq}
 use Rattle.batch.specs.Named.{AllNamedValues}
@@ -30,12 +36,21 @@ AreDistinctNames texts = AreNames texts × IsDistinct bytes_eq texts
 -- Objects can be carried over under the texts of a batch, where each object and each item has a text of its own.
 abbrev pub NamedLaw : Type 0
 NamedLaw = (texts : Texts) (values : State) → AreDistinctNames texts.objects → AreDistinctNames texts.items
-    → length texts.objects ≡ length values → AllNamedValues texts values → length values ≤ MAX_OBJECTS → first_unfit 0 values ≡ None
+    → length texts.objects ≡ length values → AllNamedValues texts values → length values ≤ MAX_OBJECTS → first_unfit 0 0 values ≡ None
     → CanBeCarried (names_of texts) values
 
 -- Where the objects with which a document ends may all start, what is printed of them is read as a document that starts with them.
 abbrev pub CarriedEndLaw : Type 0
 CarriedEndLaw = (bytes : List ℕ) (document : Document) → reading bytes ≡ Ok document
-    → first_unfit 0 (final_state document.start document.transactions) ≡ None
+    → first_unfit 0 0 (final_state document.start document.transactions) ≡ None
     → (next : Document) × (reading (carried_text (names_of document.texts) (final_state document.start document.transactions)) ≡ Ok next)
     × StartsWith (names_of document.texts) (final_state document.start document.transactions) next
+
+-- Two documents are read, and the objects with which the first ends may start the next. Then what is printed is the value of the
+-- next with these starts: its transactions are the next's.
+abbrev pub JoinedLaw : Type 0
+JoinedLaw = (first next : List ℕ) (document next_document : Document) → reading first ≡ Ok document → reading next ≡ Ok next_document
+    → first_unfit 0 0 (map start_value (starts_into document next_document)) ≡ None
+    → IsUtf8 (joined_text (starts_into document next_document) next)
+    → (d : Data) × (value_of next ≡ Some d) × (value_of (joined_text (starts_into document next_document) next)
+    ≡ Some (joined_data (starts_into document next_document) (transactions_in d)))

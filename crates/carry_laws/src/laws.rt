@@ -1,5 +1,5 @@
 //! Laws of the document of objects as they are.
-ghost use Rattle.carry_laws.specs.Laws.{CarriedEndLaw, CarriedLaw, NamedLaw};
+ghost use Rattle.carry_laws.specs.Laws.{CarriedEndLaw, CarriedLaw, JoinedLaw, NamedLaw};
 
 /// What is printed of objects that can be carried over is read as a document that starts with them.
 pub fn carried_objects_are_read()
@@ -16,4 +16,10 @@ pub fn named_objects_can_be_carried()
 /// them, where they may all start.
 pub fn carried_ends_are_read()
     ensures { CarriedEndLaw }
+{}
+
+/// What is printed of a next document, into which the objects at the end of a first are carried, is the
+/// value of version 4 with these starts and the next document's own transactions.
+pub fn joined_documents_are_read()
+    ensures { JoinedLaw }
 {}

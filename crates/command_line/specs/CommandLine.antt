@@ -28,6 +28,10 @@ number_rule name most = record (new_rule name) {
   parser = Some (Signed (pos 1) most);
 }
 
+-- `--NAME TEXT`
+abbrev pub text_rule : Text → Rule
+text_rule name = record (new_rule name) { long = Some name; value_names = 1 }
+
 -- `--NAME`
 abbrev pub flag_rule : Text → Rule
 flag_rule name = record (new_rule name) { long = Some name; action = Some SetTrue }
@@ -41,13 +45,16 @@ run_app =
     with_rule (with_rule (with_rule (with_rule (with_rule (file_app (codes "run")) (number_rule (codes "workers") (pos MAX_WORKERS)))
     (number_rule (codes "cut") (pos MAX_CUT))) (flag_rule (codes "audit"))) (flag_rule (codes "why"))) (flag_rule (codes "progress"))
 
+abbrev pub carry_app : App
+carry_app = with_rule (file_app (codes "carry")) (text_rule (codes "into"))
+
 abbrev pub titled : App → App
 titled app = record app { top = record app.top { has_version = true; propagate_version = true; subcommand_required = true } }
 
 abbrev pub ordtx_app : App
 ordtx_app =
     with_subcommand (with_subcommand (with_subcommand (with_subcommand (with_subcommand (titled (new_app (codes "ordtx"))) run_app.top)
-    (file_app (codes "serial")).top) (file_app (codes "carry")).top) (file_app (codes "check")).top) (file_app (codes "locate")).top
+    (file_app (codes "serial")).top) carry_app.top) (file_app (codes "check")).top) (file_app (codes "locate")).top
 
 abbrev pub command_name : Command → Text
 command_name Run = codes "run"
@@ -68,6 +75,7 @@ HoldsNumber (Some text) default n = IsNumeral 10 (without_leading_plus text) × 
 pub record HoldsLine (name : Text) (rows : List Row) (line : Line) : Type 0 where
   pub command : name ≡ command_name line.command
   pub file : option_map (λ file. string_bytes file) line.file ≡ first_of (codes "file") rows
+  pub into : option_map (λ file. string_bytes file) line.into ≡ first_of (codes "into") rows
   pub workers : HoldsNumber (one_of (codes "workers") rows) 4 line.plan.workers
   pub cut : HoldsNumber (one_of (codes "cut") rows) 16 line.plan.cut
   pub audit : IsTrue line.audit ↔ first_of (codes "audit") rows ≡ Some (codes "true")

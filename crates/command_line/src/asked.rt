@@ -12,7 +12,8 @@ pub enum Command {
     Run,
     /// Run them by number on one thread, and print the report without the number of rounds.
     Serial,
-    /// Run them so, and print the document of the objects at their end, without a transaction.
+    /// Run them so, and print the document of the objects at their end, without a transaction, or
+    /// with those of a next document.
     Carry,
     /// Read a document, and print how much it holds.
     Check,
@@ -27,6 +28,8 @@ pub struct Line {
     pub command: Command,
     /// The document's file, or standard input.
     pub file: Option<String>,
+    /// The file of the next document, into which `carry` carries the objects.
+    pub into: Option<String>,
     /// How many workers there are, and how many transactions a piece of their work has. The
     /// commands without workers have the default plan.
     pub plan: Plan,

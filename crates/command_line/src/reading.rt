@@ -2,7 +2,7 @@
 ghost use Rattle.std.specs.Prelude.{◌≡◌, ◌↔◌, [], Some, codes, map, option_map, pos, IfErr, IfOk, IsTrue, OnOk, OnSome, false, string_bytes};
 ghost use Rattle.clap.specs.Words.{IsAmong, app_of, first_of, found_of, kind_of, new_app, one_of, rows_of, rule_of, with_rule, with_subcommand};
 ghost use Rattle.clap.specs.declared.builder.command.Command.TheViews.{out-Command};
-ghost use Rattle.command_line.specs.CommandLine.{CanBeMatched, HoldsFrom1, HoldsLine, HoldsNumber, IsAboutHelp, IsLineOf, IsRefusalBy, IsRefusalOf, IsTaken, NamesCommand, command_name, faults_of, file_app, flag_rule, number_rule, ordtx_app, run_app, titled};
+ghost use Rattle.command_line.specs.CommandLine.{CanBeMatched, HoldsFrom1, HoldsLine, HoldsNumber, IsAboutHelp, IsLineOf, IsRefusalBy, IsRefusalOf, IsTaken, NamesCommand, carry_app, command_name, faults_of, file_app, flag_rule, number_rule, ordtx_app, run_app, text_rule, titled};
 ghost use Rattle.plan.specs.declared.plan.TheConstants.{MAX_CUT, MAX_WORKERS};
 
 use crate::asked::{Command, Line, Refused};
@@ -83,6 +83,7 @@ fn line_of(alloc: Global, name: &str, held: &ArgMatches<'_>) -> Result<Line, All
 {
     let command = command_named(name);
     let file = held_text(alloc, held, "file")?;
+    let into = held_text(alloc, held, "into")?;
     let plan = held_plan(held);
     let audit = is_held(held, "audit");
     let why = is_held(held, "why");
@@ -90,6 +91,7 @@ fn line_of(alloc: Global, name: &str, held: &ArgMatches<'_>) -> Result<Line, All
     Ok(Line {
         command,
         file,
+        into,
         plan,
         audit,
         why,
@@ -251,7 +253,7 @@ fn ordtx_command<'a>(alloc: Global) -> Result<clap::Command<'a>, AllocError>
 fn command_to_carry<'a>(alloc: Global) -> Result<clap::Command<'a>, AllocError>
     ensures { IfOk result (λ command. app_of command
         ≡ with_subcommand (with_subcommand (with_subcommand (titled (new_app (codes "ordtx"))) run_app.top) (file_app (codes "serial")).top)
-        (file_app (codes "carry")).top) }
+        carry_app.top) }
 {
     let run = command_to_run(alloc)?;
     let serial = add_file_command(
@@ -260,12 +262,24 @@ fn command_to_carry<'a>(alloc: Global) -> Result<clap::Command<'a>, AllocError>
         "serial",
         "Runs the transactions by number on one thread, and prints the report without the rounds",
     )?;
-    add_file_command(
+    serial.subcommand(carry_command(alloc)?)
+}
+
+fn carry_command<'a>(alloc: Global) -> Result<clap::Command<'a>, AllocError>
+    ensures app { IfOk result (λ command. app_of command ≡ carry_app) }
+    ensures local { IfOk result (λ command. (out-Command command).has_globals ≡ false) }
+{
+    file_command(
         alloc,
-        serial,
         "carry",
         "Runs the transactions by number on one thread, and prints a document of the objects as they end",
-    )
+    )?
+    .arg(text_argument(
+        alloc,
+        "into",
+        "NEXT",
+        "Print the document NEXT in its place, with each of these objects as it ends",
+    ))
 }
 
 // The program's command with `run` alone.
@@ -363,6 +377,17 @@ fn flag_argument<'a>(alloc: Global, name: &'a str, help: &'a str) -> Arg<'a>
     Arg::new(alloc, name)
         .long(name)
         .action(ArgAction::SetTrue)
+        .help(help)
+}
+
+// An option that takes a text.
+fn text_argument<'a>(alloc: Global, name: &'a str, value: &'a str, help: &'a str) -> Arg<'a>
+    ensures rule { rule_of result ≡ text_rule name.entry.now }
+    ensures local { result.global ≡ false }
+{
+    Arg::new(alloc, name)
+        .long(name)
+        .value_name(value)
         .help(help)
 }
 

@@ -1,3 +1,5 @@
 mod Known
 mod Placing
 mod OneAnswer
+mod NamesApart
+mod JoinedSize

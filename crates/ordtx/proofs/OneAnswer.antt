@@ -1,5 +1,5 @@
 -- What is written is one function of the bytes.
-use Rattle.std.proofs.Common.{◌≡◌, ℕ, ◌<◌, Bool, true, false, List, ◌++◌, Option, Some, None, Result, Ok, Err, inl, inr, length, sym, ap}
+use Rattle.std.proofs.Common.{◌≡◌, ◌⊎◌, ℕ, ◌<◌, ◌≤◌, Bool, true, false, List, ◌++◌, Option, Some, None, Result, Ok, Err, inl, inr, length, sym, ap, ap₂}
 use Rattle.std.proofs.Common.{subst, ◌∙◌, arith}
 use Rattle.std.specs.Prelude.{slice_index_or}
 use Rattle.std.proofs.lemmas.Grind.{same_number_lists}
@@ -11,14 +11,19 @@ use Rattle.meaning.specs.Texts.{report, plain_report, audit_report, check_text}
 use Rattle.meaning.proofs.Openings.{one_number, one_count}
 use Rattle.batch.specs.Names.{names_of}
 use Rattle.carry.specs.Carried.{carried_text, first_unfit}
-use Rattle.carry.specs.declared.document.Unfit.{Unfit}
+use Rattle.carry.specs.Joined.{StartOf}
+use Rattle.carry.specs.Transactions.{joined_text}
+use Rattle.carry.specs.declared.document.Misfit.{Misfit}
+use Rattle.faults.specs.declared.fault.Wrong.{Wrong}
 use Rattle.why.specs.Why.{IsWhyText}
 use Rattle.why.proofs.Determined.{determined}
 use Rattle.faults.specs.Faults.{wrong_outside}
 use Rattle.lang.specs.Reading.{Document, reading}
 use Rattle.faults.specs.declared.fault.Fault.{Fault}
 use Rattle.ordtx.specs.Answers.{IsReportOf, IsAuditOf, IsPlainReportOf, IsCheckOf, IsFaultOf, IsCarriedOf, IsUnfitOf, IsCarryFaultOf}
-use Rattle.ordtx.specs.Answers.{end_of, unfit_wrong, IsShownOf, IsWhyOf, IsExplainedOf}
+use Rattle.ordtx.specs.Answers.{end_of, unfit_wrong, IsShownOf, IsWhyOf, IsExplainedOf, Refusal, of_first, of_next, of_object, AreRead}
+use Rattle.ordtx.specs.Answers.{IsCarriedIntoOf, IsCarryIntoFaultOf, IsNextFaultOf, IsTooLongInto, IsUnfitInto, name_at, starts_into}
+use Rattle.ordtx.specs.Answers.{wrong_start}
 use Rattle.ordtx.specs.Laws.{OneTextLaw, OneFaultLaw, FaultlessLaw}
 
 -- one document
@@ -121,26 +126,115 @@ pub check_faultless : FaultlessLaw IsCheckOf IsFaultOf
 check_faultless bytes text fault a refused = read_no_fault (reading bytes) a.document fault a.reads refused
 
 -- one fault of the objects at the end
-unfits_alike : (o : Option Unfit) (u v : Unfit) → o ≡ Some u → o ≡ Some v → u ≡ v
-unfits_alike o u v is also = cc
+some_alike : {A : Type 0} (o : Option A) (x y : A) → o ≡ Some x → o ≡ Some y → x ≡ y
+some_alike o x y is also = cc
 
-one_unfit : OneFaultLaw IsUnfitOf
-one_unfit bytes first second a b =
+none_or_some : {A : Type 0} (o : Option A) (x : A) → o ≡ None → o ≡ Some x → ⊥
+none_or_some o x is also = cc
+
+one_unfit : (bytes : List ℕ) (fault other : Fault) (name second : List ℕ) → IsUnfitOf bytes fault name → IsUnfitOf bytes other second
+    → of_object fault name ≡ of_object other second
+one_unfit bytes fault other name second a b =
     let same : b.document ≡ a.document = documents_alike (reading bytes) b.document a.document b.reads a.reads in
-    let found : first_unfit 0 (end_of a.document) ≡ Some b.unfit = ap (λ e. first_unfit 0 (end_of e)) (sym same) ∙ b.first in
-    a.is ∙ ap (λ unfit. wrong_outside (unfit_wrong unfit)) (unfits_alike _ a.unfit b.unfit a.first found) ∙ sym b.is
+    let found : first_unfit 0 0 (end_of a.document) ≡ Some b.misfit = ap (λ e. first_unfit 0 0 (end_of e)) (sym same) ∙ b.first in
+    let misfit : a.misfit ≡ b.misfit = some_alike _ a.misfit b.misfit a.first found in
+    ap₂ of_object (a.is ∙ ap (λ (m : Misfit). wrong_outside (unfit_wrong m.unfit)) misfit ∙ sym b.is)
+    (a.named ∙ ap (λ (m : Misfit). (names_of a.document.texts).object m.place) misfit
+    ∙ ap (λ (d : Document). (names_of d.texts).object b.misfit.place) (sym same) ∙ sym b.named)
 
 pub one_carry_fault : OneFaultLaw IsCarryFaultOf
-one_carry_fault bytes first second (inl a) (inl b) = one_fault bytes first second a b
-one_carry_fault bytes first second (inl a) (inr b) = absurd (read_no_fault (reading bytes) b.document first b.reads a)
-one_carry_fault bytes first second (inr a) (inl b) = absurd (read_no_fault (reading bytes) a.document second a.reads b)
-one_carry_fault bytes first second (inr a) (inr b) = one_unfit bytes first second a b
-
-fits_or_not : (o : Option Unfit) (unfit : Unfit) → o ≡ None → o ≡ Some unfit → ⊥
-fits_or_not o unfit is also = cc
+one_carry_fault bytes (of_first f) (of_first g) a b = ap of_first (one_fault bytes f g a b)
+one_carry_fault bytes (of_first f) (of_object g name) a b = absurd (read_no_fault (reading bytes) b.document f b.reads a)
+one_carry_fault bytes (of_object f name) (of_first g) a b = absurd (read_no_fault (reading bytes) a.document g a.reads b)
+one_carry_fault bytes (of_object f name) (of_object g second) a b = one_unfit bytes f g name second a b
+one_carry_fault bytes (of_next f) second a b = absurd a
+one_carry_fault bytes (of_first f) (of_next g) a b = absurd b
+one_carry_fault bytes (of_object f name) (of_next g) a b = absurd b
 
 pub carried_faultless : FaultlessLaw IsCarriedOf IsCarryFaultOf
-carried_faultless bytes text fault a (inl refused) = read_no_fault (reading bytes) a.document fault a.reads refused
-carried_faultless bytes text fault a (inr b) =
+carried_faultless bytes text (of_first fault) a b = read_no_fault (reading bytes) a.document fault a.reads b
+carried_faultless bytes text (of_next fault) a b = b
+carried_faultless bytes text (of_object fault name) a b =
     let same : b.document ≡ a.document = documents_alike (reading bytes) b.document a.document b.reads a.reads in
-    fits_or_not (first_unfit 0 (end_of b.document)) b.unfit (ap (λ e. first_unfit 0 (end_of e)) same ∙ a.fits) b.first
+    none_or_some (first_unfit 0 0 (end_of b.document)) b.misfit (ap (λ e. first_unfit 0 0 (end_of e)) same ∙ a.fits) b.first
+
+-- ---- carrying into a next document
+
+-- the same bytes spell the same documents, so they give the same starts
+module _ (first next : List ℕ) where
+  abbrev Pair : Type 0
+  Pair = Document × Document
+
+  abbrev pair_of : AreRead first next → Pair
+  pair_of both = (both.document, both.next_document)
+
+  both_alike : (a b : AreRead first next) → pair_of a ≡ pair_of b
+  both_alike a b =
+      ap₂ (λ (d e : Document). (d, e)) (documents_alike (reading first) a.document b.document a.reads b.reads)
+      (documents_alike (reading next) a.next_document b.next_document a.next_reads b.next_reads)
+
+  abbrev starts_at : Pair → List StartOf
+  starts_at p = starts_into p.0 p.1
+
+  abbrev wrong_at : Pair → Option (Wrong × ℕ)
+  wrong_at p = wrong_start p.1.start (starts_at p)
+
+  pub one_into : (text other : List ℕ) → IsCarriedIntoOf first next text → IsCarriedIntoOf first next other → text ≡ other
+  one_into text other a b = a.is ∙ ap (λ p. joined_text (starts_at p) next) (both_alike a.both b.both) ∙ sym b.is
+
+  unfit_and_fits : (fault : Fault) (name : List ℕ) → IsUnfitInto first next fault name → (both : AreRead first next)
+      → wrong_at (pair_of both) ≡ None → ⊥
+  unfit_and_fits fault name a both fits =
+      none_or_some _ (a.wrong, a.place) (ap wrong_at (both_alike a.both both) ∙ fits) a.first_wrong
+
+  one_unfit_into : (fault other : Fault) (name second : List ℕ) → IsUnfitInto first next fault name
+      → IsUnfitInto first next other second → of_object fault name ≡ of_object other second
+  one_unfit_into fault other name second a b =
+      let same = both_alike a.both b.both in
+      let found = some_alike _ (a.wrong, a.place) (b.wrong, b.place) a.first_wrong (ap wrong_at same ∙ b.first_wrong) in
+      ap₂ of_object (a.is ∙ ap (λ (p : Wrong × ℕ). wrong_outside p.0) found ∙ sym b.is)
+      (a.named ∙ ap₂ (λ p (q : Wrong × ℕ). name_at (starts_at p) q.1) same found ∙ sym b.named)
+
+  first_is_read : (fault : Fault) (d : Document) → IsFaultOf first fault → reading first ≡ Ok d → ⊥
+  first_is_read fault d refused reads = read_no_fault (reading first) d fault reads refused
+
+  next_is_read : (fault : Fault) (d : Document) → IsFaultOf next fault → reading next ≡ Ok d → ⊥
+  next_is_read fault d refused reads = read_no_fault (reading next) d fault reads refused
+
+  one_next : (fault other : Fault) → (IsNextFaultOf first next fault ⊎ IsTooLongInto first next fault)
+      → (IsNextFaultOf first next other ⊎ IsTooLongInto first next other) → fault ≡ other
+  one_next fault other (inl a) (inl b) = faults_alike (reading next) fault other a.refuses b.refuses
+  one_next fault other (inl a) (inr b) = absurd (next_is_read fault b.both.next_document a.refuses b.both.next_reads)
+  one_next fault other (inr a) (inl b) = absurd (next_is_read other a.both.next_document b.refuses a.both.next_reads)
+  one_next fault other (inr a) (inr b) = a.is ∙ sym b.is
+
+  next_and_unfit : (fault other : Fault) (name : List ℕ) → (IsNextFaultOf first next fault ⊎ IsTooLongInto first next fault)
+      → IsUnfitInto first next other name → ⊥
+  next_and_unfit fault other name (inl a) b = next_is_read fault b.both.next_document a.refuses b.both.next_reads
+  next_and_unfit fault other name (inr a) b = unfit_and_fits other name b a.both a.fits
+
+  first_and_next : (fault other : Fault) → IsFaultOf first fault → (IsNextFaultOf first next other ⊎ IsTooLongInto first next other) → ⊥
+  first_and_next fault other a (inl b) = first_is_read fault b.document a b.reads
+  first_and_next fault other a (inr b) = first_is_read fault b.both.document a b.both.reads
+
+  pub one_into_fault : (one other : Refusal) → IsCarryIntoFaultOf first next one → IsCarryIntoFaultOf first next other → one ≡ other
+  one_into_fault (of_first f) (of_first g) a b = ap of_first (faults_alike (reading first) f g a b)
+  one_into_fault (of_first f) (of_next g) a b = absurd (first_and_next f g a b)
+  one_into_fault (of_first f) (of_object g name) a b = absurd (first_is_read f b.both.document a b.both.reads)
+  one_into_fault (of_next f) (of_first g) a b = absurd (first_and_next g f b a)
+  one_into_fault (of_next f) (of_next g) a b = ap of_next (one_next f g a b)
+  one_into_fault (of_next f) (of_object g name) a b = absurd (next_and_unfit f g name a b)
+  one_into_fault (of_object f name) (of_first g) a b = absurd (first_is_read g a.both.document b a.both.reads)
+  one_into_fault (of_object f name) (of_next g) a b = absurd (next_and_unfit g f name b a)
+  one_into_fault (of_object f name) (of_object g second) a b = one_unfit_into f g name second a b
+
+  long_or_not : (n : ℕ) → 67_108_864 < n → n ≤ 67_108_864 → ⊥
+  long_or_not n long short = omega arith
+
+  pub into_faultless : (text : List ℕ) (refusal : Refusal) → IsCarriedIntoOf first next text → ¬ IsCarryIntoFaultOf first next refusal
+  into_faultless text (of_first f) a b = first_is_read f a.both.document b a.both.reads
+  into_faultless text (of_next f) a (inl b) = next_is_read f a.both.next_document b.refuses a.both.next_reads
+  into_faultless text (of_next f) a (inr b) =
+      long_or_not _ b.long (subst (λ t. length t ≤ 67_108_864)
+      (a.is ∙ ap (λ p. joined_text (starts_at p) next) (both_alike a.both b.both)) a.short)
+  into_faultless text (of_object f name) a b = unfit_and_fits f name b a.both a.fits

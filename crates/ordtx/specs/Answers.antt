@@ -1,7 +1,8 @@
 -- What is written for a document, and its fault.
-use Rattle.std.specs.Prelude.{◌≡◌, ℕ, Bool, true, false, ◌<◌, ◌≤◌, ◌⊎◌, ◌++◌, List, [], codes, length, slice_index_or, string_bytes, Ok}
-use Rattle.std.specs.Prelude.{Err, Some, None}
+use Rattle.std.specs.Prelude.{◌≡◌, ℕ, Bool, true, false, ◌<◌, ◌≤◌, ◌⊎◌, ◌++◌, List, [], codes, length, map, slice_get, slice_index_or}
+use Rattle.std.specs.Prelude.{Err, Ok, Option, Some, None, if◌then◌else◌, nat_lt, option_map, string_bytes, unwrap_or}
 use Rattle.std.specs.Fmt.{decimal}
+use Rattle.std.specs.Str.{IsUtf8}
 use Rattle.objects.specs.Entries.{State}
 use Rattle.meaning.specs.Batch.{final_state}
 use Rattle.meaning.specs.Rounds.{Rounds, Count}
@@ -10,6 +11,9 @@ use Rattle.meaning.specs.Texts.{report, plain_report, audit_report, check_text, 
 use Rattle.batch.specs.Names.{names_of}
 use Rattle.lang.specs.Reading.{Document, reading}
 use Rattle.carry.specs.Carried.{carried_text, first_unfit}
+use Rattle.carry.specs.Joined.{StartOf, first_clash, joined, name_of, value_of}
+use Rattle.carry.specs.Transactions.{joined_text}
+use Rattle.carry.specs.declared.document.Misfit.{Misfit}
 use Rattle.carry.specs.declared.document.Unfit.{Unfit}
 use Rattle.carry.specs.declared.document.Unfit.TheVariants as unfit
 use Rattle.faults.specs.Faults.{code_number, wrong_outside}
@@ -18,8 +22,12 @@ use Rattle.lang.specs.Found.{IsPlaceOf}
 use Rattle.faults.specs.declared.fault.Wrong.{Wrong}
 use Rattle.faults.specs.declared.fault.Wrong.TheVariants as wrong
 use Rattle.faults.specs.declared.fault.Fault.{Fault}
+use Rattle.lang.specs.declared.document.TheConstants.{MAX_BYTES}
 use Rattle.lang.specs.declared.places.Place.{Place}
 use Rattle.lang.specs.declared.places.Place.TheVariants.{Whole, Pointer, LineColumn}
+use Rattle.meaning.specs.declared.limits.TheConstants.{MAX_OBJECTS}
+use Rattle.ordtx.specs.declared.carrying.Uncarried.{Uncarried}
+use Rattle.ordtx.specs.declared.carrying.Uncarried.TheVariants as uncarried
 
 -- The bytes spell a document, and the text is the report of running its transactions by number, depth
 -- first, on one thread, with the number of rounds that is defined for it, which is at most that of its transactions.
@@ -82,7 +90,7 @@ end_of document = final_state document.start document.transactions
 pub record IsCarriedOf (bytes text : List ℕ) : Type 0 where
   pub document : Document
   pub reads : reading bytes ≡ Ok document
-  pub fits : first_unfit 0 (end_of document) ≡ None
+  pub fits : first_unfit 0 0 (end_of document) ≡ None
   pub is : text ≡ carried_text (names_of document.texts) (end_of document)
 
 -- the first fault of what the bytes spell
@@ -94,17 +102,104 @@ abbrev pub unfit_wrong : Unfit → Wrong
 unfit_wrong unfit.Start = wrong.Start
 unfit_wrong unfit.TooMany = wrong.TooMany
 
--- The bytes spell a document with an object that ends as none may start, and the fault is that of the first such object.
-pub record IsUnfitOf (bytes : List ℕ) (fault : Fault) : Type 0 where
+-- The bytes spell a document with an object that ends as none may start. The fault is that of the first such object, and
+-- the name is its name.
+pub record IsUnfitOf (bytes : List ℕ) (fault : Fault) (name : List ℕ) : Type 0 where
   pub document : Document
   pub reads : reading bytes ≡ Ok document
-  pub unfit : Unfit
-  pub first : first_unfit 0 (end_of document) ≡ Some unfit
-  pub is : fault ≡ wrong_outside (unfit_wrong unfit)
+  pub misfit : Misfit
+  pub first : first_unfit 0 0 (end_of document) ≡ Some misfit
+  pub is : fault ≡ wrong_outside (unfit_wrong misfit.unfit)
+  pub named : name ≡ (names_of document.texts).object misfit.place
+
+-- Why nothing is carried: a fault of the document whose objects are carried, of the next document, or of an object by its name.
+pub data Refusal : Type 0 where
+  of_first : Fault → Refusal
+  of_next : Fault → Refusal
+  of_object : Fault → List ℕ → Refusal
+
+abbrev pub refusal_of : Uncarried → Refusal
+refusal_of (uncarried.First fault) = of_first fault
+refusal_of (uncarried.Next fault) = of_next fault
+refusal_of (uncarried.Object fault name) = of_object fault (string_bytes name)
+
+abbrev pub fault_of : Uncarried → Fault
+fault_of (uncarried.First fault) = fault
+fault_of (uncarried.Next fault) = fault
+fault_of (uncarried.Object fault name) = fault
 
 -- the first fault of the bytes, or else of the objects at their end
-abbrev pub IsCarryFaultOf : List ℕ → Fault → Type 0
-IsCarryFaultOf bytes fault = IsFaultOf bytes fault ⊎ IsUnfitOf bytes fault
+abbrev pub IsCarryFaultOf : List ℕ → Refusal → Type 0
+IsCarryFaultOf bytes (of_first fault) = IsFaultOf bytes fault
+IsCarryFaultOf bytes (of_next fault) = ⊥
+IsCarryFaultOf bytes (of_object fault name) = IsUnfitOf bytes fault name
+
+-- the objects that a next document starts with, where those at the end of a first are carried into it
+abbrev pub starts_into : Document → Document → List StartOf
+starts_into first next =
+    joined (record { texts = first.texts; values = end_of first }) (record { texts = next.texts; values = next.start })
+
+abbrev pub clash_or : Option (Wrong × ℕ) → Option ℕ → Option (Wrong × ℕ)
+clash_or others None = others
+clash_or others (Some place) = Some (wrong.DuplicateObject, place)
+
+-- What is wrong with starts for a document with these objects, and the place of it: an object of two kinds, or else one too many,
+-- or else the first that can't start so.
+abbrev pub wrong_start : State → List StartOf → Option (Wrong × ℕ)
+wrong_start objects starts =
+    clash_or (if nat_lt MAX_OBJECTS (length starts) then Some (wrong.TooMany, MAX_OBJECTS)
+    else option_map (λ misfit. (unfit_wrong misfit.unfit, misfit.place)) (first_unfit 0 0 (map value_of starts)))
+    (first_clash 0 objects starts)
+
+abbrev pub name_at : List StartOf → ℕ → List ℕ
+name_at starts place = unwrap_or (option_map name_of (slice_get starts place)) []
+
+-- Two documents are spelled, the first by these bytes and the next by those.
+pub record AreRead (first next : List ℕ) : Type 0 where
+  pub document : Document
+  pub reads : reading first ≡ Ok document
+  pub next_document : Document
+  pub next_reads : reading next ≡ Ok next_document
+
+abbrev pub starts_of : {first next : List ℕ} → AreRead first next → List StartOf
+starts_of both = starts_into both.document both.next_document
+
+-- The first document's objects end as they may start the next document, and the text is the next document with these starts and
+-- its own transactions.
+pub record IsCarriedIntoOf (first next text : List ℕ) : Type 0 where
+  pub both : AreRead first next
+  pub fits : wrong_start both.next_document.start (starts_of both) ≡ None
+  pub is : text ≡ joined_text (starts_of both) next
+  pub short : length text ≤ MAX_BYTES
+  pub utf8 : IsUtf8 text
+
+-- The text would be longer than a document may be.
+pub record IsTooLongInto (first next : List ℕ) (fault : Fault) : Type 0 where
+  pub both : AreRead first next
+  pub fits : wrong_start both.next_document.start (starts_of both) ≡ None
+  pub long : MAX_BYTES < length (joined_text (starts_of both) next)
+  pub is : fault ≡ wrong_outside wrong.TooMany
+
+-- An object can't start the next document so. The fault is that of the first such object, and the name is its name.
+pub record IsUnfitInto (first next : List ℕ) (fault : Fault) (name : List ℕ) : Type 0 where
+  pub both : AreRead first next
+  pub wrong : Wrong
+  pub place : ℕ
+  pub first_wrong : wrong_start both.next_document.start (starts_of both) ≡ Some (wrong, place)
+  pub is : fault ≡ wrong_outside wrong
+  pub named : name ≡ name_at (starts_of both) place
+
+-- The next document has the fault, and the first has none.
+pub record IsNextFaultOf (first next : List ℕ) (fault : Fault) : Type 0 where
+  pub document : Document
+  pub reads : reading first ≡ Ok document
+  pub refuses : IsFaultOf next fault
+
+-- the first fault of the first document, or else of the next, or else of the objects that are carried into it
+abbrev pub IsCarryIntoFaultOf : List ℕ → List ℕ → Refusal → Type 0
+IsCarryIntoFaultOf first next (of_first fault) = IsFaultOf first fault
+IsCarryIntoFaultOf first next (of_next fault) = IsNextFaultOf first next fault ⊎ IsTooLongInto first next fault
+IsCarryIntoFaultOf first next (of_object fault name) = IsUnfitInto first next fault name
 
 -- where a fault is, as it is written after `at`
 abbrev pub place_text : Place → List ℕ

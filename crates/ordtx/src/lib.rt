@@ -1,17 +1,19 @@
 //! Running documents from a source to a sink: the document is read, and its report is written.
 #![tactic(auto)]
 
+mod carrying;
 pub mod laws;
 mod location;
 mod streams;
 mod texts;
 
+pub use carrying::Uncarried;
 pub use command_line::{Command, Line, Refused, line};
 pub use devices::{Failed, Marked, Sink, Source};
 pub use lang::{Code, Fault, Wrong};
 pub use plan::Plan;
 pub use speculate::{Gate, NoGate, Progress, Run};
 pub use streams::{
-    audit_stream, carry_stream, check_stream, explain_stream, locate_stream, run_stream,
-    serial_stream,
+    audit_stream, carry_into_stream, carry_stream, check_stream, explain_stream, locate_stream,
+    run_stream, serial_stream,
 };

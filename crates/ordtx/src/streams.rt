@@ -1,11 +1,13 @@
 //! Whole calls, from a source to a sink.
 ghost use Rattle.std.specs.Prelude.{◌≡◌, ◌≢◌, ◌↔◌, ◌⊎◌, true, false, Err, OnOk, IfErr};
 ghost use Rattle.faults.specs.Faults.{input_fault, memory_fault, output_fault};
-ghost use Rattle.ordtx.specs.Answers.{IsAuditOf, IsCarriedOf, IsCarryFaultOf, IsCheckOf, IsExplainedOf, IsFaultOf, IsLocationOf, IsPlainReportOf, IsReportOf};
-ghost use Rattle.ordtx.specs.Streams.{IsRead, WritesAnswer, WritesBeginning, ReadsFault};
+ghost use Rattle.ordtx.specs.Answers.{IsAuditOf, IsCarriedIntoOf, IsCarriedOf, IsCarryFaultOf, IsCarryIntoFaultOf, IsCheckOf, IsExplainedOf, IsFaultOf, IsLocationOf, IsPlainReportOf, IsReportOf, fault_of, refusal_of};
+ghost use Rattle.ordtx.specs.Streams.{IsOfDocuments, IsRead, OfFirst, ReadsFault, WritesAnswer, WritesBeginning};
+ghost use Rattle.ordtx.specs.declared.carrying.Uncarried.TheVariants as uncarried;
 
+use crate::carrying::{Uncarried, carried_into_of, carried_of};
 use crate::location::location_of;
-use crate::texts::{audit_of, carried_of, check_of, explanation_of, plain_report_of, report_of};
+use crate::texts::{audit_of, check_of, explanation_of, plain_report_of, report_of};
 use devices::{Sink, Source, read_input, write_text};
 use lang::{Fault, MAX_BYTES};
 use rounds::Plan;
@@ -168,36 +170,99 @@ pub fn serial_stream<R: Source, W: Sink>(
 /// Does as [`serial_stream`], and writes a document of the objects at the end, without a transaction,
 /// in place of the report. A next batch can start with it.
 ///
-/// Two errors are of the objects at the end: `Start` where an object's number is too large for a
-/// start, and `TooMany` where there are more entries than a document may start with. The source was
-/// read, and nothing was written. The other errors are those of [`run_stream`], and leave the same.
+/// The error [`Uncarried::Object`] is of the first object at the end that no document may start with:
+/// `Start` where its number is too large for a start, and `TooMany` where there are more entries with
+/// it than a document may start with. The source was read, and nothing was written. The other errors
+/// are [`Uncarried::First`] of those of [`run_stream`], and leave the same.
 pub fn carry_stream<R: Source, W: Sink>(
     alloc: Global,
     source: &mut R,
     sink: &mut W,
-) -> Result<(), Fault>
+) -> Result<(), Uncarried>
     requires unended { R.has_ended source.old ≡ false }
     requires unread { R.has_failed source.old ≡ false }
     requires unwritten { W.has_failed sink.old ≡ false }
     // All bytes were read, but at most 67,108,865. After a fault of memory or of the input there may be more.
-    ensures read { result ≢ Err memory_fault → result ≢ Err input_fault
+    ensures read { result ≢ Err (uncarried.First memory_fault) → result ≢ Err (uncarried.First input_fault)
         → IsRead (R.remaining source.old) (R.remaining source.new) }
     // Exactly the document of the objects at the end of what was read was written.
     ensures written { OnOk result (WritesAnswer IsCarriedOf (R.remaining source.old) (W.taken sink.old) (W.taken sink.new)) }
     // A fault of the document, or of its objects at the end, is that of what was read.
-    ensures fault { IfErr result (λ fault. fault ≢ memory_fault → fault ≢ input_fault → fault ≢ output_fault
-        → ReadsFault IsCarryFaultOf (R.remaining source.old) fault) }
-    ensures input { R.has_failed source.new ≡ true ↔ result ≡ Err input_fault }
-    ensures output { W.has_failed sink.new ≡ true ↔ result ≡ Err output_fault }
+    ensures fault { IfErr result (λ refused. IsOfDocuments (fault_of refused)
+        → ReadsFault IsCarryFaultOf (R.remaining source.old) (refusal_of refused)) }
+    ensures input { R.has_failed source.new ≡ true ↔ result ≡ Err (uncarried.First input_fault) }
+    ensures output { W.has_failed sink.new ≡ true ↔ result ≡ Err (uncarried.First output_fault) }
     // After any fault but that of the output nothing was written.
-    ensures untouched { IfErr result (λ fault. fault ≢ output_fault → sink.new ≡ sink.old) }
+    ensures untouched { IfErr result (λ refused. refused ≢ uncarried.First output_fault → sink.new ≡ sink.old) }
     // After that of the output a beginning of it was written.
-    ensures beginning { result ≡ Err output_fault
+    ensures beginning { result ≡ Err (uncarried.First output_fault)
         → WritesBeginning IsCarriedOf (R.remaining source.old) (W.taken sink.old) (W.taken sink.new) }
 {
     let document = read_input(alloc, source, MOST_READ)?;
     let text = carried_of(alloc, document)?;
-    write_text(sink, text.as_bytes())
+    write_text(sink, text.as_bytes())?;
+    Ok(())
+}
+
+/// Does as [`carry_stream`], and reads a next document, too. It writes the next document with each
+/// object of the first as it starts, and with its own transactions.
+///
+/// An object that both have, by name, starts as the first's ends. One that the next document lacks is
+/// added after its own. The first source is read before the next one, and both before anything else.
+///
+/// The errors, and what each leaves:
+///
+/// - `First`: `Memory` where a growth of memory was refused, `Input` where the first source failed, `Output` where the
+///   sink failed, or the first fault of the first document.
+/// - `Next`: `Memory`, `Input` where the next source failed, or the first fault of the next
+///   document. `TooMany` is also that what would be written is longer than a document may be.
+/// - `Object`: an object that can't start so, with its name. `DuplicateObject`: the documents have it with
+///   two kinds. `TooMany`: there are too many objects or entries with it. `Start`: its number is too large.
+///
+/// After `Output` a beginning was written, after any other error nothing.
+pub fn carry_into_stream<R: Source, S: Source, W: Sink>(
+    alloc: Global,
+    source: &mut R,
+    next: &mut S,
+    sink: &mut W,
+) -> Result<(), Uncarried>
+    requires unended { R.has_ended source.old ≡ false }
+    requires unread { R.has_failed source.old ≡ false }
+    requires next_unended { S.has_ended next.old ≡ false }
+    requires next_unread { S.has_failed next.old ≡ false }
+    requires unwritten { W.has_failed sink.old ≡ false }
+    // All bytes of the first were read, but at most 67,108,865. After a fault of memory or of its input there may be more.
+    ensures read { result ≢ Err (uncarried.First memory_fault) → result ≢ Err (uncarried.First input_fault)
+        → IsRead (R.remaining source.old) (R.remaining source.new) }
+    // So were those of the next.
+    ensures next_read { result ≢ Err (uncarried.First memory_fault) → result ≢ Err (uncarried.First input_fault)
+        → result ≢ Err (uncarried.Next memory_fault) → result ≢ Err (uncarried.Next input_fault)
+        → IsRead (S.remaining next.old) (S.remaining next.new) }
+    // Exactly the next document of what was read was written, with the objects at the end of the first.
+    ensures written { OnOk result (OfFirst (λ first. WritesAnswer (IsCarriedIntoOf first)
+        (S.remaining next.old) (W.taken sink.old) (W.taken sink.new)) (R.remaining source.old)) }
+    // A fault of a document, or of the objects that are carried, is that of what was read.
+    ensures fault { IfErr result (λ refused. IsOfDocuments (fault_of refused)
+        → OfFirst (λ first. ReadsFault (IsCarryIntoFaultOf first) (S.remaining next.old) (refusal_of refused))
+        (R.remaining source.old)) }
+    ensures input { R.has_failed source.new ≡ true ↔ result ≡ Err (uncarried.First input_fault) }
+    ensures next_input { S.has_failed next.new ≡ true ↔ result ≡ Err (uncarried.Next input_fault) }
+    ensures output { W.has_failed sink.new ≡ true ↔ result ≡ Err (uncarried.First output_fault) }
+    // After any fault but that of the output nothing was written.
+    ensures untouched { IfErr result (λ refused. refused ≢ uncarried.First output_fault → sink.new ≡ sink.old) }
+    // After that of the output a beginning of it was written.
+    ensures beginning { result ≡ Err (uncarried.First output_fault)
+        → OfFirst (λ first. WritesBeginning (IsCarriedIntoOf first)
+        (S.remaining next.old) (W.taken sink.old) (W.taken sink.new)) (R.remaining source.old) }
+{
+    let first = read_input(alloc, source, MOST_READ)?;
+    let next = match read_input(alloc, next, MOST_READ) {
+        Ok(document) => document,
+        Err(fault) => return Err(Uncarried::Next(fault)),
+    };
+    let text = carried_into_of(alloc, first, next)?;
+    write_text(sink, text.as_bytes())?;
+    Ok(())
 }
 
 /// Reads a document from the source, and writes how many objects, transactions and operations it has

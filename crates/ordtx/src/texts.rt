@@ -2,11 +2,10 @@
 ghost use Rattle.std.specs.Prelude.{◌≡◌, ◌≢◌, true, ℕ, List, IfErr, IfOk, Ok, string_bytes};
 ghost use Rattle.faults.specs.Faults.{is_of_reading, memory_fault};
 ghost use Rattle.lang.specs.Reading.{document_of, reading};
-ghost use Rattle.ordtx.specs.Answers.{IsAuditOf, IsCarriedOf, IsCarryFaultOf, IsCheckOf, IsExplainedOf, IsFaultOf, IsPlainReportOf, IsReportOf, IsShownOf, IsUnfitOf, unfit_wrong};
+ghost use Rattle.ordtx.specs.Answers.{IsAuditOf, IsCheckOf, IsExplainedOf, IsFaultOf, IsPlainReportOf, IsReportOf, IsShownOf};
 
 use batch::Batch;
-use carry::{Unfit, carried, first_unfit};
-use lang::{Fault, Wrong, read};
+use lang::{Fault, read};
 use report::{render, render_audit, render_check, render_plain};
 use rounds::{Plan, execute, execute_ahead};
 use speculate::{Gate, NoMemory, plain};
@@ -15,7 +14,7 @@ use std::thread::Threads;
 use why::render_why;
 
 // The batch of a document, whose bytes are freed: what comes next takes memory.
-fn batch_of(alloc: Global, document: Vec<u8>) -> Result<Batch, Fault>
+pub(crate) fn batch_of(alloc: Global, document: Vec<u8>) -> Result<Batch, Fault>
     ensures batch { IfOk result (λ batch. reading document.items ≡ Ok (document_of batch)) }
     ensures fault { IfErr result (λ fault. fault ≢ memory_fault → IsFaultOf document.items fault) }
     ensures code { IfErr result (λ fault. is_of_reading fault.code ≡ true) }
@@ -129,40 +128,6 @@ fn plain_report_of_batch(alloc: Global, batch: &Batch) -> Result<String, NoMemor
 {
     let answer = plain(alloc, batch)?;
     render_plain(alloc, batch, &answer)
-}
-
-// The document of the objects at the end.
-pub(crate) fn carried_of(alloc: Global, document: Vec<u8>) -> Result<String, Fault>
-    ensures text { IfOk result (λ text. IsCarriedOf document.items (string_bytes text)) }
-    ensures fault { IfErr result (λ fault. fault ≢ memory_fault → IsCarryFaultOf document.items fault) }
-    ensures code { IfErr result (λ fault. is_of_reading fault.code ≡ true) }
-{
-    let batch = batch_of(alloc, document)?;
-    carried_of_batch(alloc, &batch)
-}
-
-// The same of a batch that was read.
-fn carried_of_batch(alloc: Global, batch: &Batch) -> Result<String, Fault>
-    ensures text { IfOk result (λ text. (bytes : List ℕ) → reading bytes ≡ Ok (document_of batch.now) → IsCarriedOf bytes (string_bytes text)) }
-    ensures fault { IfErr result (λ fault. fault ≢ memory_fault → (bytes : List ℕ) → reading bytes ≡ Ok (document_of batch.now) → IsUnfitOf bytes fault) }
-    ensures code { IfErr result (λ fault. is_of_reading fault.code ≡ true) }
-{
-    let objects = plain(alloc, batch)?.objects;
-    if let Some(unfit) = first_unfit(&objects) {
-        return Err(wrong_of(unfit).outside());
-    }
-    let text = carried(alloc, &batch.names, &objects)?;
-    Ok(text)
-}
-
-// What is wrong with a document whose objects start so.
-fn wrong_of(unfit: Unfit) -> Wrong
-    ensures { result ≡ unfit_wrong unfit }
-{
-    match unfit {
-        Unfit::Start => Wrong::Start,
-        Unfit::TooMany => Wrong::TooMany,
-    }
 }
 
 // How much a document holds.

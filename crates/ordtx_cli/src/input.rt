@@ -1,5 +1,6 @@
 //! Where a document comes from: standard input, or a file.
-use crate::words::bytes_of;
+use crate::words::{bytes_of, shown};
+use ordtx::{Code, Fault};
 use std::alloc::Global;
 use std::fs::File;
 use std::io::{Error, Read, Stdin};
@@ -19,23 +20,52 @@ enum Device {
 }
 
 impl Input {
-    /// Opens the file of this name, where a text stands for its bytes (`words`). No name, or `-`,
-    /// stands for standard input.
-    pub fn open(rt: &HostRuntime, name: Option<&str>) -> io::Result<Input> {
+    // The input of this name.
+    fn of(rt: &HostRuntime, name: Option<&str>) -> io::Result<Input> {
         let device = match name {
-            None | Some("-") => Device::Standard(rt.stdin()),
-            Some(name) => Device::Named(open_file(rt, rt.alloc(), name)?),
+            Some(file) if !is_standard(name) => Device::Named(open_file(rt, rt.alloc(), file)?),
+            _ => Device::Standard(rt.stdin()),
         };
         Ok(Input {
             device,
             refused: None,
         })
     }
+}
 
-    /// Why the last read failed, if one did.
-    pub fn refused(&self) -> Option<&Error> {
-        self.refused.as_ref()
+/// Whether a name stands for standard input, as no name and `-` do.
+pub fn is_standard(name: Option<&str>) -> bool {
+    matches!(name, None | Some("-"))
+}
+
+/// Opens standard input, or the file of this name. The name is a text that stands for its bytes
+/// (`words`). Why it can't be opened is written to standard error.
+pub fn open(rt: &HostRuntime, name: Option<&str>) -> Result<Input, Fault> {
+    match Input::of(rt, name) {
+        Ok(input) => Ok(input),
+        Err(error) => {
+            tell(rt, "cannot open", name, &error);
+            Err(Code::Input.outside())
+        }
     }
+}
+
+/// Writes to standard error why a read of this input failed, if one did.
+pub fn tell_refused(rt: &HostRuntime, name: Option<&str>, input: &Input) {
+    if let Some(error) = &input.refused {
+        tell(rt, "cannot read", name, error);
+    }
+}
+
+// Writes to standard error what could not be done with an input, and why.
+fn tell(rt: &HostRuntime, what: &str, name: Option<&str>, error: &Error) {
+    let _ = match name {
+        Some(file) if !is_standard(name) => match shown(rt.alloc(), file) {
+            Ok(file) => eprintln!(rt; "ordtx: {what} '{file}': {error}"),
+            Err(_) => eprintln!(rt; "ordtx: {what} a file: {error}"),
+        },
+        _ => eprintln!(rt; "ordtx: {what} standard input: {error}"),
+    };
 }
 
 fn open_file(rt: &HostRuntime, alloc: Global, name: &str) -> io::Result<File> {

@@ -2,6 +2,7 @@
 //! from a file or standard input, and writes the report to standard output.
 #![tactic(auto)]
 
+mod carrying;
 mod input;
 mod program;
 mod progress;

@@ -1,15 +1,15 @@
 //! What the program does with its words, and how it ends.
 ghost use Rattle.std.specs.Prelude.{◌≡◌, false};
 
-use crate::input::Input;
+use crate::carrying::{carry_alone, carry_into};
+use crate::input::{is_standard, open, tell_refused};
 use crate::progress::ProgressLine;
 use crate::words::{shown, text_of};
 use ordtx::{
     Code, Command, Fault, Gate, Line, Marked, NoGate, Refused, Sink, Source, audit_stream,
-    carry_stream, check_stream, explain_stream, line, locate_stream, run_stream, serial_stream,
+    check_stream, explain_stream, line, locate_stream, run_stream, serial_stream,
 };
 use std::alloc::{AllocError, Global};
-use std::io;
 use std::process::ExitCode;
 use std::rt::Env;
 use std::thread::Threads;
@@ -41,7 +41,15 @@ fn asked(rt: &HostRuntime) -> Result<Line, Refused> {
     let alloc = rt.alloc();
     let texts = word_texts(rt, alloc)?;
     let words: Vec<&str> = texts.iter().map(|word| word.as_str()).collect(alloc)?;
-    line(alloc, words.as_slice())
+    let asked = line(alloc, words.as_slice())?;
+    if asked.into.is_some()
+        && is_standard(text_in(&asked.file))
+        && is_standard(text_in(&asked.into))
+    {
+        let message = "error: FILE and NEXT are both standard input\n";
+        return Err(Refused::Words(String::from_str(alloc, message)?));
+    }
+    Ok(asked)
 }
 
 // The texts that stand for the words.
@@ -58,32 +66,18 @@ fn word_texts(rt: &HostRuntime, alloc: Global) -> Result<Vec<String>, AllocError
 }
 
 fn answer_line<T: Threads + Sync>(rt: &HostRuntime, threads: &T, line: &Line) -> Result<(), Fault> {
-    let name = line.file.as_ref().map(|name| name.as_str());
-    match Input::open(rt, name) {
-        Ok(input) => {
-            let mut source = Marked::new(input);
-            let answer = answer_source(rt, threads, line, &mut source);
-            if let Some(error) = source.into_inner().refused() {
-                tell(rt, "cannot read", name, error);
-            }
-            answer
-        }
-        Err(error) => {
-            tell(rt, "cannot open", name, &error);
-            Err(Code::Input.outside())
-        }
-    }
+    let name = text_in(&line.file);
+    let mut source = Marked::new(open(rt, name)?);
+    let answer = match text_in(&line.into) {
+        Some(next) => carry_into(rt, name, &mut source, next),
+        None => answer_source(rt, threads, line, &mut source),
+    };
+    tell_refused(rt, name, &source.into_inner());
+    answer
 }
 
-// Says on standard error what could not be done with an input, and why.
-fn tell(rt: &HostRuntime, what: &str, name: Option<&str>, error: &io::Error) {
-    let _ = match name {
-        None | Some("-") => eprintln!(rt; "ordtx: {what} standard input: {error}"),
-        Some(name) => match shown(rt.alloc(), name) {
-            Ok(name) => eprintln!(rt; "ordtx: {what} '{name}': {error}"),
-            Err(_) => eprintln!(rt; "ordtx: {what} a file: {error}"),
-        },
-    };
+fn text_in(text: &Option<String>) -> Option<&str> {
+    text.as_ref().map(|text| text.as_str())
 }
 
 fn answer_source<T: Threads + Sync, R: Source>(
@@ -106,7 +100,7 @@ fn answer_source<T: Threads + Sync, R: Source>(
         }
         Command::Run => run_seen(threads, alloc, line, source, &mut sink, &NoGate),
         Command::Serial => serial_stream(alloc, source, &mut sink),
-        Command::Carry => carry_stream(alloc, source, &mut sink),
+        Command::Carry => carry_alone(rt, source),
         Command::Check => check_stream(alloc, source, &mut sink),
         Command::Locate => locate_stream(alloc, source, &mut sink),
     }

@@ -1,5 +1,5 @@
 //! Tests of the documents that carry objects over.
-use carry::{Names, Objects, Unfit, carried, first_unfit};
+use carry::{Misfit, Names, Objects, Unfit, carried, first_unfit};
 use objects::{Directory, Item, ItemSet, Queue, Value};
 use std::alloc::AllocGlobal;
 use std::process::Abort;
@@ -84,9 +84,9 @@ fn objects_of(rt: &(impl Abort + AllocGlobal)) -> Objects {
 }
 
 /// Stops the test where another is the first unfit. The objects are so few that each has a number.
-fn unfit_is(rt: &impl Abort, objects: &Objects, unfit: Option<Unfit>) {
+fn unfit_is(rt: &impl Abort, objects: &Objects, misfit: Option<Misfit>) {
     assert!(rt; objects.len() <= 1000);
-    assert_eq!(rt; first_unfit(objects), unfit);
+    assert_eq!(rt; first_unfit(objects), misfit);
 }
 
 /// Stops the test where the document that carries these few objects over is another.
@@ -120,7 +120,8 @@ fn finds_the_first_unfit(rt: HostRuntime) {
     push(&rt, &mut objects, Value::Counter(-1_000_000_000_000_000));
     unfit_is(&rt, &objects, None);
     push(&rt, &mut objects, Value::Counter(-1_000_000_000_000_001));
-    unfit_is(&rt, &objects, Some(Unfit::Start));
+    let unfit = Unfit::Start;
+    unfit_is(&rt, &objects, Some(Misfit { place: 2, unfit }));
 }
 
 /// Adds a queue of so many items.
@@ -139,5 +140,6 @@ fn counts_all_entries(rt: HostRuntime) {
     unfit_is(&rt, &objects, None);
     push_queue(&rt, &mut objects, 1);
     push(&rt, &mut objects, Value::Account(1_000_000_000_000_001));
-    unfit_is(&rt, &objects, Some(Unfit::TooMany));
+    let unfit = Unfit::TooMany;
+    unfit_is(&rt, &objects, Some(Misfit { place: 8, unfit }));
 }

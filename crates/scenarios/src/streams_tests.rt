@@ -4,8 +4,8 @@ ghost use Rattle.std.specs.Prelude.{◌≡◌, false};
 use crate::Meeting;
 use crate::memory::{TestSink, TestSource};
 use ordtx::{
-    Code, Fault, Marked, NoGate, Plan, Sink, Source, Wrong, audit_stream, carry_stream,
-    check_stream, run_stream, serial_stream,
+    Code, Fault, Marked, NoGate, Plan, Sink, Source, Uncarried, Wrong, audit_stream,
+    carry_into_stream, carry_stream, check_stream, run_stream, serial_stream,
 };
 use std::alloc::AllocGlobal;
 use std::io;
@@ -34,6 +34,17 @@ const CARRIED: &[u8] =
 // An account that ends as none may start.
 const UNFIT: &[u8] =
     b"{\"ordtx\":1,\"objects\":[{\"name\":\"a\",\"kind\":\"account\",\"start\":1000000000000000}],\"transactions\":[[{\"op\":[\"a\",\"deposit\",1]}]]}";
+
+// A next document with an object of its own, and what `carry --into` writes.
+const NEXT: &[u8] =
+    b"{\"ordtx\":1,\"objects\":[{\"name\":\"b\",\"kind\":\"set\",\"start\":[\"x\"]},{\"name\":\"a\",\"kind\":\"account\",\"start\":0}],\"transactions\":[[], [ {\"op\":[\"a\", \"deposit\", 7]}]]}";
+
+const JOINED: &[u8] =
+    b"{\"ordtx\": 4,\n\"objects\": [\n{\"name\": \"b\", \"kind\": \"set\", \"start\": [\"x\"]},\n{\"name\": \"a\", \"kind\": \"account\", \"start\": 90}\n],\n\"transactions\": [\n[],\n[{\"op\":[\"a\",\"deposit\",7]}]\n]}\n";
+
+// A next document with another kind of object.
+const CLASH: &[u8] =
+    b"{\"ordtx\":1,\"objects\":[{\"name\":\"a\",\"kind\":\"counter\",\"start\":0}],\"transactions\":[]}";
 
 const ALWAYS: usize = usize::MAX;
 
@@ -114,7 +125,34 @@ fn carries_objects_over(rt: HostRuntime) {
 fn carries_no_unfit_object(rt: HostRuntime) {
     let mut sink = TestSink::new(&rt, ALWAYS, ALWAYS);
     let answer = carry_stream(rt.alloc(), &mut Marked::new(UNFIT), &mut sink);
-    assert!(rt; answer == Err(Wrong::Start.outside()));
+    refuses_object(&rt, answer, Wrong::Start);
+    assert!(rt; sink.taken().is_empty());
+}
+
+/// Stops the test where an answer isn't that the object `a` is wrong so.
+fn refuses_object(rt: &impl Abort, answer: Result<(), Uncarried>, wrong: Wrong) {
+    let Err(Uncarried::Object(fault, name)) = answer else {
+        panic!(rt; "no object is refused")
+    };
+    assert!(rt; fault == wrong.outside());
+    assert_eq!(rt; name.as_str(), "a");
+}
+
+#[test]
+fn carries_objects_into_the_next_document(rt: HostRuntime) {
+    let mut sink = TestSink::new(&rt, ALWAYS, ALWAYS);
+    let mut first = Marked::new(DOCUMENT);
+    let answer = carry_into_stream(rt.alloc(), &mut first, &mut Marked::new(NEXT), &mut sink);
+    assert!(rt; answer.is_ok());
+    assert!(rt; sink.taken() == JOINED);
+}
+
+#[test]
+fn carries_no_object_of_two_kinds(rt: HostRuntime) {
+    let mut sink = TestSink::new(&rt, ALWAYS, ALWAYS);
+    let mut first = Marked::new(DOCUMENT);
+    let answer = carry_into_stream(rt.alloc(), &mut first, &mut Marked::new(CLASH), &mut sink);
+    refuses_object(&rt, answer, Wrong::DuplicateObject);
     assert!(rt; sink.taken().is_empty());
 }
 

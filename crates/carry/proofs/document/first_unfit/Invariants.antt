@@ -3,4 +3,4 @@ use Rattle.carry.specs.Carried.{first_unfit}
 use Rattle.carry.proofs.document.first_unfit.Given as goal
 
 abbrev pub invariant-loop-place : goal.invariant-loop-place
-invariant-loop-place l = (l.entries ≤ 100_000) × (first_unfit l.entries (drop l.place l.objects) ≡ first_unfit 0 l.fn.objects)
+invariant-loop-place l = (l.entries ≤ 100_000) × (first_unfit l.place l.entries (drop l.place l.objects) ≡ first_unfit 0 0 l.fn.objects)

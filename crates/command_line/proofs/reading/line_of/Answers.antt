@@ -4,6 +4,7 @@ pub returns : goal.returns
 returns c = record {
   command = c.command_named-command.ensures;
   file = c.in_ok-file.ensures;
+  into = c.in_ok-into.ensures;
   workers = c.held_plan-plan.ensures.workers;
   cut = c.held_plan-plan.ensures.cut;
   audit = c.is_held-audit.ensures;

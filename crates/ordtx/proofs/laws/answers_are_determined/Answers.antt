@@ -1,4 +1,4 @@
-use Rattle.ordtx.proofs.OneAnswer.{one_report, one_audit, one_explained, one_plain, one_carried, one_check}
+use Rattle.ordtx.proofs.OneAnswer.{one_report, one_audit, one_explained, one_plain, one_carried, one_check, one_into}
 use Rattle.ordtx.proofs.laws.answers_are_determined.Goals as goal
 
 pub returns-clause-reports : goal.returns-clause-reports
@@ -18,3 +18,6 @@ returns-clause-carried c = one_carried
 
 pub returns-clause-checks : goal.returns-clause-checks
 returns-clause-checks c = one_check
+
+pub returns-clause-into : goal.returns-clause-into
+returns-clause-into c = one_into

@@ -1,5 +1,5 @@
 use Rattle.ordtx.proofs.OneAnswer.{one_fault, report_faultless, audit_faultless, plain_faultless, check_faultless, one_carry_fault}
-use Rattle.ordtx.proofs.OneAnswer.{carried_faultless, explained_faultless}
+use Rattle.ordtx.proofs.OneAnswer.{carried_faultless, explained_faultless, into_faultless, one_into_fault}
 use Rattle.ordtx.proofs.laws.faults_are_determined.Goals as goal
 
 pub returns-clause-faults : goal.returns-clause-faults
@@ -25,3 +25,9 @@ returns-clause-carry_faults c = one_carry_fault
 
 pub returns-clause-carried : goal.returns-clause-carried
 returns-clause-carried c = carried_faultless
+
+pub returns-clause-into_faults : goal.returns-clause-into_faults
+returns-clause-into_faults c = one_into_fault
+
+pub returns-clause-into : goal.returns-clause-into
+returns-clause-into c = into_faultless

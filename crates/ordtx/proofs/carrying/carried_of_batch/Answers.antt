@@ -2,7 +2,7 @@ use Rattle.std.proofs.Common.{◌∙◌, rules, ap}
 use Rattle.batch.specs.Names.{names_of}
 use Rattle.carry.specs.Carried.{carried_text}
 use Rattle.lang.specs.Reading.{document_of}
-use Rattle.ordtx.proofs.texts.carried_of_batch.Goals as goal
+use Rattle.ordtx.proofs.carrying.carried_of_batch.Goals as goal
 
 pub returns-clause-text : goal.returns-clause-text
 returns-clause-text c = λ bytes reads. record {

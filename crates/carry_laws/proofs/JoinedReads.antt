@@ -1,0 +1,51 @@
+-- The document with carried objects is read as its value.
+use Rattle.std.proofs.Common.{◌≡◌, ℕ, ◌+◌, ◌≤◌, true, List, [], ◌∷◌, Some, None, refl, sym, ap, ◌∙◌, arith, append-nil, IsUtf8}
+use Rattle.std.specs.Prelude.{codes, cond, option_and_then, if◌then◌else◌}
+use Rattle.std.specs.List.{AllByRecursion}
+use Rattle.std.specs.Str.{is_utf8}
+use Rattle.std.proofs.lemmas.Str.{is_utf8-from_IsUtf8}
+use Rattle.json.specs.Json as json
+use Rattle.json.specs.Tree.{depth, items_depth}
+use Rattle.json.proofs.Printed.Trees.{value-json_tokens}
+use Rattle.serde_json.specs.Data.{Items}
+use Rattle.serde_json.specs.Read.{max_depth, of_items, of_json, read}
+use Rattle.lang.specs.Reading.{value_of}
+use Rattle.carry.specs.Joined.{StartOf}
+use Rattle.carry.specs.Transactions.{joined_text, transactions_of, tree_of}
+use Rattle.carry_laws.specs.Joined.{joined_data, starts_data}
+use Rattle.carry_laws.proofs.CarriedReads.{four, object_read, start_flat}
+use Rattle.carry_laws.proofs.JoinedJson.{CanStart, joined_json, starts_json, text_lexed}
+use Rattle.carry_laws.proofs.Lexemes.{tokens_alone}
+use Rattle.carry_laws.proofs.NextTree.{AreTransactions}
+
+starts_read : (starts : List StartOf) → AllByRecursion CanStart starts → of_items (starts_json starts) ≡ Some (starts_data starts)
+starts_read [] ok = refl
+starts_read (start ∷ starts) ok = rw (object_read start.names start.place start.value ok.0.1, starts_read starts ok.1)
+
+starts_flat : (starts : List StartOf) → items_depth (starts_json starts) ≤ 3
+starts_flat [] = omega arith
+starts_flat (start ∷ starts) = omega (arith, start_flat start.names start.value, starts_flat starts)
+
+module _ (starts : List StartOf) (js : json.Items) (ds : Items) (ok : AllByRecursion CanStart starts) (t : AreTransactions js ds) where
+  document_read : of_json (joined_json starts js) ≡ Some (joined_data starts ds)
+  document_read = rw (four, starts_read starts ok, t.is)
+
+  shallow : depth (joined_json starts js) ≤ 127
+  shallow = let flat = t.flat in omega (arith, starts_flat starts, flat)
+
+pub joined_read : (starts : List StartOf) (bytes : List ℕ) (ds : Items) → AllByRecursion CanStart starts
+    → AreTransactions (transactions_of (tree_of bytes)) ds → read (joined_text starts bytes) ≡ Some (joined_data starts ds)
+joined_read starts bytes ds ok t =
+    let js = transactions_of (tree_of bytes) in
+    let j = joined_json starts js in
+    let tokens_are = tokens_alone (joined_text starts bytes) j (text_lexed starts bytes ok t.numbers) in
+    ap (λ o. option_and_then of_json (option_and_then (λ p. json.if_last p.0 p.1) o))
+    (ap (json.value max_depth) (tokens_are ∙ sym (append-nil _)) ∙ value-json_tokens j max_depth [] (shallow starts js ds ok t))
+    ∙ document_read starts js ds ok t
+
+pub joined_value : (starts : List StartOf) (bytes : List ℕ) (ds : Items) → AllByRecursion CanStart starts
+    → AreTransactions (transactions_of (tree_of bytes)) ds → IsUtf8 (joined_text starts bytes)
+    → value_of (joined_text starts bytes) ≡ Some (joined_data starts ds)
+joined_value starts bytes ds ok t utf8 =
+    ap (λ b. cond b (read (joined_text starts bytes)) None) (is_utf8-from_IsUtf8 (joined_text starts bytes) utf8)
+    ∙ joined_read starts bytes ds ok t

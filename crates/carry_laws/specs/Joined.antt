@@ -1,0 +1,21 @@
+-- The value of a document with objects that were carried into it.
+use Rattle.std.specs.Prelude.{List, [], ◌∷◌, codes}
+use Rattle.serde_json.specs.Data.{Data, array, member, no_items, item, Items, no_members, number, object, unsigned}
+use Rattle.meaning.specs.Batch.{final_state}
+use Rattle.lang.specs.Reading.{Document}
+use Rattle.carry.specs.Joined.{StartOf, joined}
+use Rattle.carry_laws.specs.CarriedData.{object_data}
+
+-- the objects that a next document starts with, where those at the end of a first are carried into it
+abbrev pub starts_into : Document → Document → List StartOf
+starts_into first next = joined (record { texts = first.texts; values = final_state first.start first.transactions })
+    (record { texts = next.texts; values = next.start })
+
+abbrev pub starts_data : List StartOf → Items
+starts_data [] = no_items
+starts_data (start ∷ starts) = item (object_data start.names start.place start.value) (starts_data starts)
+
+-- version 4, these starts and these transactions
+abbrev pub joined_data : List StartOf → Items → Data
+joined_data starts transactions = object (member (codes "objects") (array (starts_data starts))
+    (member (codes "ordtx") (number (unsigned 4)) (member (codes "transactions") (array transactions) no_members)))

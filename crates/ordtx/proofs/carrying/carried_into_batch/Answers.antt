@@ -1,0 +1,77 @@
+use Rattle.std.proofs.Common.{◌≡◌, ◌<◌, ◌≤◌, ◌∙◌, Some, None, ap, arith, inr, length, map, refl, rules, string_bytes, subst, sym}
+use Rattle.std.proofs.lemmas.List.{length-map}
+use Rattle.std.proofs.lemmas.Str.{IsUtf8-string_bytes}
+use Rattle.faults.specs.Faults.{wrong_outside}
+use Rattle.lang.specs.Reading.{document_of}
+use Rattle.carry.specs.Joined.{Named, joined, start_view}
+use Rattle.carry.specs.Transactions.{joined_text}
+use Rattle.ordtx.specs.Answers.{IsCarryIntoFaultOf, end_of, name_at, starts_into, wrong_start}
+use Rattle.ordtx.proofs.JoinedSize.{joined_length}
+use Rattle.ordtx.proofs.carrying.carried_into_batch.Goals as goal
+
+pub wrong_start-requires-clause-starts : goal.wrong_start-requires-clause-starts
+wrong_start-requires-clause-starts c =
+    let starts = ap (map start_view) c.as_slice.ensures.value ∙ c.in_ok-starts.ensures in
+    let first : Named = record { texts = c.args.first.now.names; values = c.in_ok-end.field-0.objects } in
+    let next : Named = record { texts = c.args.next.now.names; values = c.args.next.now.objects } in
+    let size = length-map c.as_slice.result.now start_view in
+    let all : length (map start_view c.as_slice.result.now) ≡ length (joined first next) = ap length starts in
+    let few_first = c.in_ok-end.ensures.few_objects in
+    let few_next = c.args.next.now.is_batch.few_objects in
+    omega (arith, size, all, joined_length first next, few_first, few_next)
+
+pub returns-in-Some-clause-fault : goal.returns-in-Some-clause-fault
+returns-in-Some-clause-fault c = λ refused before reads next_reads.
+    let first = document_of c.args.first.now in
+    let next = document_of c.args.next.now in
+    let joined_is = c.in_ok-starts.ensures
+    ∙ ap (λ end. joined (record { texts = first.texts; values = end }) (record { texts = next.texts; values = next.start }))
+    c.in_ok-end.ensures.objects in
+    let starts = ap (map start_view) c.as_slice.ensures.value ∙ joined_is in
+    let again = ap (map start_view) c.as_slice-in-Some.ensures.value ∙ joined_is in
+    let found : c.wrong_start.result ≡ Some (c.in-Some.wrong, c.in-Some.place) = search rules in
+    subst (IsCarryIntoFaultOf before c.args.bytes.now) (sym (c.object_refused.ensures.object refused)) (record {
+      both = record { document = first; reads = reads; next_document = next; next_reads = next_reads };
+      wrong = c.in-Some.wrong;
+      place = c.in-Some.place;
+      first_wrong = ap (wrong_start next.start) (sym starts) ∙ sym c.wrong_start.ensures ∙ found;
+      is = refl;
+      named = c.name_at.ensures ∙ ap (λ s. name_at s c.in-Some.place) again;
+    })
+
+pub returns-then-len-gt-MAX_BYTES-clause-fault : goal.returns-then-len-gt-MAX_BYTES-clause-fault
+returns-then-len-gt-MAX_BYTES-clause-fault c = λ refused before reads next_reads.
+    let first = document_of c.args.first.now in
+    let next = document_of c.args.next.now in
+    let joined_is = c.in_ok-starts.ensures
+    ∙ ap (λ end. joined (record { texts = first.texts; values = end }) (record { texts = next.texts; values = next.start }))
+    c.in_ok-end.ensures.objects in
+    let starts = ap (map start_view) c.as_slice.ensures.value ∙ joined_is in
+    let again = ap (map start_view) c.as_slice-2.ensures.value ∙ joined_is in
+    let text_is : string_bytes c.in_ok-text.text ≡ joined_text (starts_into first next) c.args.bytes.now =
+    c.in_ok-text.ensures ∙ ap (λ s. joined_text s c.args.bytes.now) again in
+    let long : 67_108_864 < length (string_bytes c.in_ok-text.text) = omega (arith, c.if-len-gt-MAX_BYTES.true, c.len.ensures) in
+    inr (record {
+      both = record { document = first; reads = reads; next_document = next; next_reads = next_reads };
+      fits = ap (wrong_start next.start) (sym starts) ∙ sym c.wrong_start.ensures ∙ c.in_default.is;
+      long = subst (λ t. 67_108_864 < length t) text_is long;
+      is = c.outside.ensures;
+    })
+
+pub returns-clause-text : goal.returns-clause-text
+returns-clause-text c = λ before reads next_reads.
+    let first = document_of c.args.first.now in
+    let next = document_of c.args.next.now in
+    let joined_is = c.in_ok-starts.ensures
+    ∙ ap (λ end. joined (record { texts = first.texts; values = end }) (record { texts = next.texts; values = next.start }))
+    c.in_ok-end.ensures.objects in
+    let starts = ap (map start_view) c.as_slice.ensures.value ∙ joined_is in
+    let again = ap (map start_view) c.as_slice-2.ensures.value ∙ joined_is in
+    let short : length (string_bytes c.in_ok-text.text) ≤ 67_108_864 = omega (arith, c.if-len-gt-MAX_BYTES.false, c.len.ensures) in
+    record {
+      both = record { document = first; reads = reads; next_document = next; next_reads = next_reads };
+      fits = ap (wrong_start next.start) (sym starts) ∙ sym c.wrong_start.ensures ∙ c.in_default.is;
+      is = c.in_ok-text.ensures ∙ ap (λ s. joined_text s c.args.bytes.now) again;
+      short = short;
+      utf8 = IsUtf8-string_bytes c.in_ok-text.text;
+    }

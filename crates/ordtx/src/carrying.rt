@@ -1,0 +1,206 @@
+//! The documents that carry objects over, and why there is none.
+ghost use Rattle.std.specs.Prelude.{◌≡◌, ◌≢◌, ◌<◌, ◌^◌, true, List, ℕ, IfErr, IfOk, Ok, length, map, string_bytes};
+ghost use Rattle.batch.specs.Names.{texts_of};
+ghost use Rattle.faults.specs.Faults.{is_of_reading, memory_fault, wrong_outside};
+ghost use Rattle.carry.specs.Joined.{start_view};
+ghost use Rattle.lang.specs.Reading.{document_of, reading};
+ghost use Rattle.ordtx.specs.Answers.{IsCarriedIntoOf, IsCarriedOf, IsCarryFaultOf, IsCarryIntoFaultOf, fault_of, name_at, of_object, refusal_of, unfit_wrong, wrong_start};
+
+use crate::texts::batch_of;
+use batch::Batch;
+use carry::{
+    NamedObjects, Start, Unfit, carried, carried_into, first_clash, first_misfit, first_unfit,
+    join, name_table, start_name,
+};
+use lang::{Code, Fault, MAX_BYTES, Wrong, read};
+use meaning::limits::MAX_OBJECTS;
+use objects::{NoMemory, Objects};
+use report::object_name;
+use speculate::plain;
+use spelling::hashing::{NameHashing, Texts};
+use std::alloc::Global;
+
+/// Why no objects are carried.
+#[derive(Debug, Drop)]
+pub enum Uncarried {
+    /// The fault of the document whose objects are carried, or one of memory, the input or the output.
+    First(Fault),
+    /// The fault of the next document, or one of memory or of its input.
+    Next(Fault),
+    /// The object of this name can't start as it ends.
+    Object(Fault, String),
+}
+
+impl Uncarried {
+    /// The fault alone.
+    pub fn fault(&self) -> Fault
+        ensures { result ≡ fault_of self.now }
+    {
+        match self {
+            Uncarried::First(fault) | Uncarried::Next(fault) | Uncarried::Object(fault, _) => *fault,
+        }
+    }
+}
+
+impl From<Fault> for Uncarried {
+    ghost use Rattle.ordtx.specs.declared.carrying.Uncarried.TheVariants as uncarried;
+
+    ghost from_gives = { λ fault result. result ≡ uncarried.First fault };
+
+    fn from(fault: Fault) -> Uncarried {
+        Uncarried::First(fault)
+    }
+}
+
+impl From<NoMemory> for Uncarried {
+    ghost use Rattle.faults.specs.Faults.{memory_fault};
+    ghost use Rattle.ordtx.specs.declared.carrying.Uncarried.TheVariants as uncarried;
+
+    ghost from_gives = { λ _ result. result ≡ uncarried.First memory_fault };
+
+    fn from(_refused: NoMemory) -> Uncarried {
+        Uncarried::First(Code::Memory.outside())
+    }
+}
+
+// The document of the objects at the end.
+pub(crate) fn carried_of(alloc: Global, document: Vec<u8>) -> Result<String, Uncarried>
+    ensures text { IfOk result (λ text. IsCarriedOf document.items (string_bytes text)) }
+    ensures fault { IfErr result (λ refused. fault_of refused ≢ memory_fault
+        → IsCarryFaultOf document.items (refusal_of refused)) }
+    ensures code { IfErr result (λ refused. is_of_reading (fault_of refused).code ≡ true) }
+{
+    let batch = batch_of(alloc, document)?;
+    carried_of_batch(alloc, &batch)
+}
+
+// The same of a batch that was read.
+fn carried_of_batch(alloc: Global, batch: &Batch) -> Result<String, Uncarried>
+    ensures text { IfOk result (λ text. (bytes : List ℕ) → reading bytes ≡ Ok (document_of batch.now) → IsCarriedOf bytes (string_bytes text)) }
+    ensures fault { IfErr result (λ refused. fault_of refused ≢ memory_fault
+        → (bytes : List ℕ) → reading bytes ≡ Ok (document_of batch.now) → IsCarryFaultOf bytes (refusal_of refused)) }
+    ensures code { IfErr result (λ refused. is_of_reading (fault_of refused).code ≡ true) }
+{
+    let objects = plain(alloc, batch)?.objects;
+    if let Some(misfit) = first_unfit(&objects) {
+        let name = object_name(&batch.names, misfit.place);
+        return Err(object_refused(alloc, wrong_of(misfit.unfit), name));
+    }
+    let text = carried(alloc, &batch.names, &objects)?;
+    Ok(text)
+}
+
+// That the object of a name is wrong so.
+fn object_refused(alloc: Global, wrong: Wrong, name: &str) -> Uncarried
+    ensures object { fault_of result ≢ memory_fault → refusal_of result ≡ of_object (wrong_outside wrong) name.now }
+    ensures code { is_of_reading (fault_of result).code ≡ true }
+{
+    match String::from_str(alloc, name) {
+        Ok(name) => Uncarried::Object(wrong.outside(), name),
+        Err(_) => Uncarried::First(Code::Memory.outside()),
+    }
+}
+
+// What is wrong with a document whose objects start so.
+fn wrong_of(unfit: Unfit) -> Wrong
+    ensures { result ≡ unfit_wrong unfit }
+{
+    match unfit {
+        Unfit::Start => Wrong::Start,
+        Unfit::TooMany => Wrong::TooMany,
+    }
+}
+
+// The next document with the objects at the end of the first.
+pub(crate) fn carried_into_of(
+    alloc: Global,
+    first: Vec<u8>,
+    next: Vec<u8>,
+) -> Result<String, Uncarried>
+    ensures text { IfOk result (λ text. IsCarriedIntoOf first.items next.items (string_bytes text)) }
+    ensures fault { IfErr result (λ refused. fault_of refused ≢ memory_fault
+        → IsCarryIntoFaultOf first.items next.items (refusal_of refused)) }
+    ensures code { IfErr result (λ refused. is_of_reading (fault_of refused).code ≡ true) }
+{
+    let hashing = NameHashing::of(first.as_slice());
+    let batch = batch_of(alloc, first)?;
+    let next_batch = match read(alloc, next.as_slice()) {
+        Ok(batch) => batch,
+        Err(fault) => return Err(Uncarried::Next(fault)),
+    };
+    let names = name_table(alloc, &batch.names, batch.objects.len() as u32, hashing)?;
+    let next_hashing = NameHashing::of(next.as_slice());
+    let next_names = name_table(
+        alloc,
+        &next_batch.names,
+        next_batch.objects.len() as u32,
+        next_hashing,
+    )?;
+    carried_into_batch(alloc, &batch, &names, &next_batch, &next_names, next.as_slice())
+}
+
+// The same of batches that were read, with the tables of their objects' names.
+fn carried_into_batch(
+    alloc: Global,
+    first: &Batch,
+    first_names: &Texts,
+    next: &Batch,
+    next_names: &Texts,
+    bytes: &[u8],
+) -> Result<String, Uncarried>
+    requires first_named { texts_of first_names.now.keys ≡ first.now.names.objects }
+    requires next_named { texts_of next_names.now.keys ≡ next.now.names.objects }
+    ensures text { IfOk result (λ text. (before : List ℕ) → reading before ≡ Ok (document_of first.now)
+        → reading bytes.now ≡ Ok (document_of next.now) → IsCarriedIntoOf before bytes.now (string_bytes text)) }
+    ensures fault { IfErr result (λ refused. fault_of refused ≢ memory_fault
+        → (before : List ℕ) → reading before ≡ Ok (document_of first.now)
+        → reading bytes.now ≡ Ok (document_of next.now) → IsCarryIntoFaultOf before bytes.now (refusal_of refused)) }
+    ensures code { IfErr result (λ refused. is_of_reading (fault_of refused).code ≡ true) }
+{
+    let end = plain(alloc, first)?.objects;
+    let ended = NamedObjects {
+        names: &first.names,
+        objects: &end,
+    };
+    let started = NamedObjects {
+        names: &next.names,
+        objects: &next.objects,
+    };
+    let starts = join(alloc, ended, started, first_names, next_names)?;
+    if let Some((wrong, place)) = wrong_start(&next.objects, starts.as_slice()) {
+        return Err(object_refused(alloc, wrong, name_at(starts.as_slice(), place)));
+    }
+    let text = carried_into(alloc, starts.as_slice(), bytes)?;
+    if text.len() > MAX_BYTES {
+        return Err(Uncarried::Next(Wrong::TooMany.outside()));
+    }
+    Ok(text)
+}
+
+// What is wrong with the starts of a document with these objects, and at which place.
+fn wrong_start(objects: &Objects, starts: &[Start<'_>]) -> Option<(Wrong, u32)>
+    requires objects { length objects.now < 2 ^ 32 }
+    requires starts { length starts.now < 2 ^ 32 }
+    ensures { result ≡ wrong_start objects.now (map start_view starts.now) }
+{
+    if let Some(place) = first_clash(objects, starts) {
+        return Some((Wrong::DuplicateObject, place));
+    }
+    if starts.len() > MAX_OBJECTS {
+        return Some((Wrong::TooMany, MAX_OBJECTS as u32));
+    }
+    match first_misfit(starts) {
+        Some(misfit) => Some((wrong_of(misfit.unfit), misfit.place)),
+        None => None,
+    }
+}
+
+// The name of the object at a place, or the empty name.
+fn name_at<'a>(starts: &[Start<'a>], place: u32) -> &'a str
+    ensures { result.now ≡ name_at (map start_view starts.now) place }
+{
+    match starts.get(place as usize) {
+        Some(start) => start_name(start),
+        None => "",
+    }
+}
