@@ -91,12 +91,12 @@ def try_into(program, name, first, second, out, status=0, err=b""):
         paths = [pathlib.Path(folder, file) for file in ("day1.json", "day2.json")]
         for path, document in zip(paths, (first, second)):
             path.write_bytes(document)
-        one, two = (str(path).encode() for path in paths)
-        err = err.replace(b"DAY2", two)
-        program.expect(name, ["carry", str(paths[0]), "--into", str(paths[1])], b"", out, status, err.replace(b"DAY1", one))
-        program.expect(name, ["carry", "--into", str(paths[1])], first, out, status, err.replace(b"DAY1", b"standard input"))
-        program.expect(name, ["carry", str(paths[0]), "--into", "/dev/stdin"], second, out, status,
-                       err.replace(b"DAY1", one).replace(two, b"/dev/stdin"))
+        one, two = map(str, paths)
+        for words, given, names in ((["carry", one, "--into", two], b"", ("'%s'" % one, "'%s'" % two)),
+                                    (["carry", "--into", two], first, ("standard input", "'%s'" % two)),
+                                    (["carry", one, "--into", "-"], second, ("'%s'" % one, "standard input"))):
+            told = err.replace(b"DAY1", names[0].encode()).replace(b"DAY2", names[1].encode())
+            program.expect(name, words, given, out, status, told)
 
 
 def joined_text(objects, transactions):
@@ -145,8 +145,8 @@ def try_joined_faults(program):
     full = [("q", "queue", ["x"] * 99_999)]
     many = [("o%d" % number, "account", 0) for number in range(1000)]
     for name, first, second, err in (
-            ("both documents are wrong", bad, worse, b"ordtx: this fault is of 'DAY1'\nfault 2 transaction 0\n"),
-            ("the next document is wrong", more, worse, b"ordtx: this fault is of 'DAY2'\nfault 1 transaction 0\n"),
+            ("both documents are wrong", bad, worse, b"ordtx: this fault is of DAY1\nfault 2 transaction 0\n"),
+            ("the next document is wrong", more, worse, b"ordtx: this fault is of DAY2\nfault 1 transaction 0\n"),
             ("two kinds, and a large number", more, clash,
              b"ordtx: object 'a' has two kinds in the two documents\nfault 4 transaction 0\n"),
             ("a large number", more, plain, b"ordtx: object 'a' ends with a number that is too large for a start\nfault 13 transaction 0\n"),

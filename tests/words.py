@@ -21,6 +21,8 @@ REFUSED = (
     ["carry", "--workers", "1"],
     ["carry", "a", "b"],
     ["carry", "--into"],
+    ["carry", "--into", "-"],
+    ["carry", "-", "--into", "-"],
     ["carry", "--into", "a", "--into", "b"],
     ["serial", "--into", "a"],
     ["check", "--cut", "1"],
