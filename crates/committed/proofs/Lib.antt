@@ -6,6 +6,4 @@ pub mod StrengthLemmas
 pub mod FilterLemmas
 pub mod StandsLemmas
 pub mod IndexLemmas
-pub mod NumberSetLemmas
-pub mod WatchLemmas
 pub mod SummaryLemmas

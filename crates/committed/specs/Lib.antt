@@ -4,7 +4,4 @@ pub mod Strictness
 pub mod Index
 pub mod Marks
 pub mod Filter
-pub mod NumberSets
-pub mod Chains
-pub mod Watching
 pub mod Summaries

@@ -10,16 +10,11 @@ mod filter;
 mod index;
 mod items;
 mod marks;
-mod number_set;
 mod strength;
 mod strictness;
 mod summary;
-mod watch;
-mod watching;
 
 pub use committed::Committed;
 pub use marks::{Mark, MarkedEntry};
-pub use number_set::NumberSet;
 pub use objects::{Call, Entry, NoMemory, Reply};
 pub use summary::{FEW_ENTRIES, mark_all, summarize};
-pub use watch::Watch;

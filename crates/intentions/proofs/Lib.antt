@@ -3,4 +3,3 @@ pub mod EntriesLemmas
 pub mod DraftTableLemmas
 pub mod LayersLemmas
 pub mod ViewLemmas
-pub mod TrialLemmas

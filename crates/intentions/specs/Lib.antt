@@ -2,4 +2,3 @@ pub mod Levels
 pub mod Starts
 pub mod DraftTables
 pub mod Layers
-pub mod Trials

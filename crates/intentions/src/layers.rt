@@ -112,19 +112,6 @@ impl<'s> Layers<'s> {
         Ok(reply)
     }
 
-    /// The reply of a call on the object. An object without a draft is only asked, which takes no
-    /// memory. Else the call is performed. So what is shown afterwards is of no further use.
-    pub fn reply(&mut self, object: u32, call: &Call) -> Result<Reply, NoMemory>
-        requires fits { Fits self.old.shown object call.now }
-        requires room { ObjectHasRoom self.old.shown object call.now }
-        ensures { IfOk result (λ reply. objects.reply self.old.shown (object, call.now) ≡ Some reply) }
-    {
-        if let Some(Shown::Lent(value)) = self.value(object) {
-            return Ok(value.reply(call));
-        }
-        self.perform(object, call)
-    }
-
     /// Performs the calls of entries, one after the other. On `NoMemory` some may have been
     /// performed.
     fn perform_all(&mut self, entries: &[Entry]) -> Result<(), NoMemory>

@@ -8,12 +8,8 @@
 
 mod draft_table;
 mod layers;
-mod trial;
 mod view;
 
-pub use committed::{
-    Committed, FEW_ENTRIES, Mark, MarkedEntry, NumberSet, Watch, mark_all, summarize,
-};
+pub use committed::{Committed, FEW_ENTRIES, Mark, MarkedEntry, mark_all, summarize};
 pub use objects::{Call, Entry, NoMemory, Objects, Reply, Value};
-pub use trial::Trial;
 pub use view::{Lists, View, perform_each};

@@ -1,9 +1,7 @@
 //! Tests of the committed list.
 ghost use Rattle.std.specs.Prelude.{◌≡◌, ◌<◌};
 
-use committed::{
-    Call, Committed, Entry, Mark, MarkedEntry, NumberSet, Reply, Watch, mark_all, summarize,
-};
+use committed::{Call, Committed, Entry, Mark, MarkedEntry, Reply, mark_all, summarize};
 use objects::{
     AccountCall, AccountReply, Amount, DirectoryCall, DirectoryReply, Item, MaxCall, MaxReply,
     QueueCall, QueueReply, SetCall, SetReply,
@@ -384,116 +382,6 @@ fn crowded_slots_are_searched(rt: HostRuntime) {
         refuted_in(&rt, &committed, &[other], keys.len());
         valid_in(&rt, &committed, &[same, next], keys.len());
     }
-}
-
-/// Puts a run with these entries in.
-fn puts(rt: &(impl Abort + AllocGlobal), watch: &mut Watch, run: usize, entries: &[Entry])
-    requires { run < watch.old.count }
-    ensures { watch.new.count ≡ watch.old.count }
-{
-    let Ok(marked) = mark_all(rt.alloc(), entries) else {
-        panic!(rt; "no memory")
-    };
-    let Ok(()) = watch.put(run, &marked) else {
-        panic!(rt; "no memory")
-    };
-}
-
-/// Stops the test where other runs from one on are found than those expected.
-fn finds(
-    rt: &(impl Abort + AllocGlobal),
-    watch: &Watch,
-    from: usize,
-    entries: &[Entry],
-    expected: &[usize],
-) {
-    let Ok(marked) = mark_all(rt.alloc(), entries) else {
-        panic!(rt; "no memory")
-    };
-    let mut found = NumberSet::new(rt.alloc());
-    let Ok(()) = watch.find(from, &marked, &mut found) else {
-        panic!(rt; "no memory")
-    };
-    assert_eq!(rt; found.members().len(), expected.len());
-    for run in expected {
-        assert!(rt; found.contains(*run));
-    }
-}
-
-#[test]
-fn runs_that_may_conflict_are_found(rt: HostRuntime) -> Result<(), Fail> {
-    let set = |call: SetCall, reply: SetReply| -> Entry {
-        Entry {
-            object: 2,
-            call: Call::Set(call),
-            reply: Reply::Set(reply),
-        }
-    };
-    let insert = |item: u32| -> Entry { set(SetCall::Insert(Item(item)), SetReply::Added) };
-    let absent = |item: u32| -> Entry { set(SetCall::Has(Item(item)), SetReply::No) };
-    let size = set(SetCall::Size, SetReply::Number(0));
-    let mut watch = Watch::new(rt.alloc(), 4, 6)?;
-    puts(&rt, &mut watch, 0, &[insert(1)]);
-    puts(&rt, &mut watch, 1, &[insert(2), absent(3)]);
-    puts(&rt, &mut watch, 2, &[absent(1), absent(4)]);
-    puts(&rt, &mut watch, 3, &[size]);
-    finds(&rt, &watch, 1, &[insert(4), absent(1)], &[2, 3]);
-    finds(&rt, &watch, 1, &[insert(1), insert(3)], &[1, 2, 3]);
-    assert!(rt; !watch.is_stale());
-    Ok(())
-}
-
-#[test]
-fn a_run_put_in_again_is_found_by_what_it_had(rt: HostRuntime) -> Result<(), Fail> {
-    let insert = |item: u32| -> Entry {
-        Entry {
-            object: 2,
-            call: Call::Set(SetCall::Insert(Item(item))),
-            reply: Reply::Set(SetReply::Added),
-        }
-    };
-    let mut watch = Watch::new(rt.alloc(), 8, 2)?;
-    puts(&rt, &mut watch, 5, &[insert(1)]);
-    puts(&rt, &mut watch, 5, &[insert(2)]);
-    finds(&rt, &watch, 5, &[insert(1)], &[5]);
-    finds(&rt, &watch, 5, &[insert(2)], &[5]);
-    finds(&rt, &watch, 5, &[insert(3)], &[]);
-    finds(&rt, &watch, 6, &[insert(1)], &[]);
-    Ok(())
-}
-
-// A watch for two entries is stale after a thousand more.
-#[test]
-fn a_run_with_the_headings_it_had_takes_no_room(rt: HostRuntime) -> Result<(), Fail> {
-    let insert = |item: u32, reply: SetReply| -> Entry {
-        Entry {
-            object: 2,
-            call: Call::Set(SetCall::Insert(Item(item))),
-            reply: Reply::Set(reply),
-        }
-    };
-    let mut watch = Watch::new(rt.alloc(), 2, 2)?;
-    assert!(rt; watch.is_empty());
-    for _ in 0..2000 {
-        puts(&rt, &mut watch, 0, &[insert(1, SetReply::Added)]);
-        puts(&rt, &mut watch, 1, &[insert(2, SetReply::Added)]);
-    }
-    assert!(rt; !watch.is_empty() && !watch.is_stale());
-    finds(&rt, &watch, 0, &[insert(2, SetReply::Added)], &[1]);
-    for item in 0..2000 {
-        puts(&rt, &mut watch, 0, &[insert(item, SetReply::Added)]);
-    }
-    assert!(rt; watch.is_stale());
-    Ok(())
-}
-
-#[test]
-fn a_cleared_set_has_no_number(rt: HostRuntime) -> Result<(), Fail> {
-    let mut numbers = NumberSet::new(rt.alloc());
-    numbers.insert(2)?;
-    numbers.clear();
-    assert!(rt; numbers.members().is_empty() && !numbers.contains(2));
-    Ok(())
 }
 
 /// Stops the test where a summary of two and the entries that it stands for differ: whether they

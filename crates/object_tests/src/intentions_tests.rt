@@ -1,9 +1,7 @@
-//! Tests of views and of trials.
+//! Tests of views.
 ghost use Rattle.std.specs.Prelude.{◌≡◌};
 
-use intentions::{
-    Call, Entry, Lists, MarkedEntry, Objects, Reply, Trial, Value, View, perform_each,
-};
+use intentions::{Call, Entry, Lists, Objects, Reply, Value, View, perform_each};
 use objects::{
     AccountCall, AccountReply, Amount, CounterCall, CounterReply, Directory, DirectoryCall,
     DirectoryReply, Item, ItemSet, MaxCall, MaxReply, Queue, QueueCall, QueueReply, SetCall,
@@ -308,40 +306,4 @@ fn entries_are_performed_in_place(rt: HostRuntime) {
         .ok()
         .expect(&rt, "memory");
     assert!(rt; matches!(state.value(0), Some(Value::Account(105))));
-}
-
-/// Whether a withdrawal of 50 gets the reply, with its mark and without.
-fn tried(
-    rt: &impl Abort,
-    snapshot: &Objects,
-    trial: &mut Trial<'_>,
-    reply: AccountReply,
-) -> (bool, bool)
-    requires { trial.old ≡ snapshot.now }
-    ensures { trial.new ≡ trial.old }
-{
-    let call = Call::Account(AccountCall::Withdraw(amount(rt, 50)));
-    let entry = Entry {
-        object: 0,
-        call,
-        reply: Reply::Account(reply),
-    };
-    assert!(rt; snapshot.fits(0, &call) && snapshot.has_room(0, &call));
-    (
-        trial.repeats(&[entry]).ok().expect(rt, "memory"),
-        trial
-            .repeats_marked(&[MarkedEntry::of(&entry)])
-            .ok()
-            .expect(rt, "memory"),
-    )
-}
-
-#[test]
-fn replies_are_tried(rt: HostRuntime) {
-    let snapshot = objects(&rt, rt.alloc());
-    let mut trial = Trial::open(rt.alloc(), &snapshot);
-    assert!(rt; tried(&rt, &snapshot, &mut trial, AccountReply::Ok) == (true, true));
-    assert!(rt; tried(&rt, &snapshot, &mut trial, AccountReply::No) == (false, false));
-    // The account has 100 still.
-    assert!(rt; tried(&rt, &snapshot, &mut trial, AccountReply::Ok) == (true, true));
 }

@@ -17,7 +17,7 @@ pub struct Progress {
 /// Sees runs and checks begin, and runs end, from the threads that they are made on. It sees rounds
 /// end. It changes no result.
 ///
-/// - `pass(t, 0)` is called as a run of transaction `t` starts, or just before `repeated`.
+/// - `pass(t, 0)` is called as a run of transaction `t` starts.
 /// - `pass(t, c)` is called as child `c` (from 1) of one of its parallel blocks starts, and once
 ///   more where the child is run again.
 /// - `pass(0, i)` is called as the check of the `i`-th run of a round (from 1) starts.
@@ -28,11 +28,6 @@ pub trait Gate: Sync {
 
     /// Called when a run of the transaction has been made.
     fn made(&self, transaction: u32, run: &Run);
-
-    /// Called in place of `made` where a transaction was run again and its calls got the replies of
-    /// the run before it. The run is then the same one. It does nothing where a gate has no body for
-    /// it.
-    fn repeated(&self, _transaction: u32) {}
 
     /// Called as a round ends, from the thread that runs the batch.
     fn ended(&self, progress: &Progress);
