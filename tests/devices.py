@@ -49,22 +49,29 @@ def try_failing_input(program):
 
 
 def try_file_names(program, document, report):
-    """A file's name is bytes. What can't be shown of it is shown as bytes."""
+    """A file's name is any text. What can't be shown of a name is shown as bytes, and one that is no text is refused."""
     with tempfile.TemporaryDirectory() as folder:
         for name, shown in (
-                (b"a b", "a b"), ("äöü".encode(), "äöü"), (b"\xff", "\\xff"),
-                (b"a\xc3", "a\\xc3"), (b"\xe4\xf6.json", "\\xe4\\xf6.json"),
-                (b"a\n\x1b[1m\x7f", "a\\x0a\\x1b[1m\\x7f"), (b"\xc2\x85", "\\xc2\\x85"),
+                (b"a b", "a b"), ("äöü".encode(), "äöü"), (b"a\n\x1b[1m\x7f", "a\\x0a\\x1b[1m\\x7f"),
+                (b"\xc2\x85", "\\xc2\\x85"), (b"\xff", "\\xff"), (b"a\xc3", "a\\xc3"), (b"\xe4\xf6.json", "\\xe4\\xf6.json"),
                 (bytes(byte for byte in range(1, 256) if byte != ord("/")), None)):
             file = os.path.join(folder.encode(), name)
-            if shown is not None:
-                message = ("ordtx: cannot open '%s/%s': "
-                           "No such file or directory (os error 2)\n" % (folder, shown))
-                program.expect("an absent file of any name", ["run", file], b"", b"", 1,
-                               message.encode() + NO_INPUT)
+            absent = "No such file or directory (os error 2)"
+            try:
+                name.decode()
+            except UnicodeDecodeError:
+                absent = "the name is not UTF-8: give the file as standard input"
+            message = ("ordtx: cannot open '%s/%s': %s\n" % (folder, shown, absent)).encode() + NO_INPUT
+            program.expect("an absent file of any name", ["run", file], b"", b"", 1, message if shown else None)
             with open(file, "wb") as out:
                 out.write(document)
-            program.expect("a file of any name", ["run", file], b"", report)
+            if "UTF-8" in absent:
+                program.expect("a file whose name is no text", ["run", file], b"", b"", 1, message if shown else None)
+            else:
+                program.expect("a file of any name", ["run", file], b"", report)
+            with open(file, "rb") as given:
+                done = subprocess.run([program.path, "run", "-"], stdin=given, stdout=subprocess.PIPE, stderr=subprocess.PIPE)
+            program.compare("a file of any name as standard input", ["run", "-"], (done.stdout, done.returncode, done.stderr), (report, 0, b""))
 
 
 def try_failing_output(program, document):

@@ -71,7 +71,8 @@ def try_places(program, library, case):
 
 def try_carry(program, library, case):
     document = case.with_suffix(".json").read_bytes()
-    try_document(program, library, ["carry"], case.name, document, program.run(["carry"], document)[0])
+    for words in (["carry"], ["carry", "--into", str(case.with_suffix(".json"))]):
+        try_document(program, library, words, case.name, document, program.run(words, document)[0])
 
 
 def try_reasons(program, library):

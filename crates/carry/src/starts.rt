@@ -10,9 +10,9 @@ ghost use Rattle.carry.specs.Joined.{added, are_of_one_kind, ended, first_clash,
 
 use crate::document::{Misfit, entries_in, unfit_after, write_object};
 use batch::Names;
+use indexmap::IndexSet;
 use objects::{NoMemory, Objects, Value};
 use report::object_name;
-use indexmap::IndexSet;
 use spelling::hashing::{NameHashing, Texts};
 use std::alloc::Global;
 use words::kind_text;

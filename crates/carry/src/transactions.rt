@@ -17,7 +17,11 @@ use std::alloc::Global;
 ///
 /// The transactions are written without spaces. Their numbers, names and members stay as they are.
 /// Returns `NoMemory` where a request for memory was refused.
-pub fn carried_into(alloc: Global, starts: &[Start<'_>], document: &[u8]) -> Result<String, NoMemory>
+pub fn carried_into(
+    alloc: Global,
+    starts: &[Start<'_>],
+    document: &[u8],
+) -> Result<String, NoMemory>
     ensures { IfOk result (λ t. string_bytes t ≡ joined_text (map start_view starts.now) document.now) }
 {
     let mut out = String::new(alloc);
@@ -43,11 +47,7 @@ fn write_transactions(alloc: Global, out: &mut String, document: &[u8]) -> Resul
 }
 
 // Writes the transactions of the document that a value is.
-fn write_transactions_of(
-    alloc: Global,
-    out: &mut String,
-    tree: &Value<'_>,
-) -> Result<(), NoMemory>
+fn write_transactions_of(alloc: Global, out: &mut String, tree: &Value<'_>) -> Result<(), NoMemory>
     requires { HasNumbers (value_view tree.now) }
     ensures { OnOk result (string_bytes out.new
         ≡ string_bytes out.old ++ joined (codes ",\n") (item_texts (transactions_of (Some (value_view tree.now))))) }

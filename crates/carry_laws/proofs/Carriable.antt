@@ -61,7 +61,7 @@ module _ (names : Names) where
       let found = among_from_map (λ (e : Item × Item). e.0) (finite_map.entries d) x at in
       (found.0.0, found.0.1, among_bound d found.0.0 found.0.1 found.1, inl (sym found.2))
 
-  apart : (v : Value) → ((x y : Item) → HasItem v x → HasItem v y → names.item x ≡ names.item y → x ≡ y) → IsApart names v
+  pub apart : (v : Value) → ((x y : Item) → HasItem v x → HasItem v y → names.item x ≡ names.item y → x ≡ y) → IsApart names v
   apart (value.Account n) one = tt
   apart (value.Counter n) one = tt
   apart (value.Set s) one = apart_map names.item (members s) (λ x y at at'. one x y (among_contained s x at) (among_contained s y at'))

@@ -1,9 +1,9 @@
 -- The document with carried objects, as JSON.
-use Rattle.std.proofs.Common.{◌≡◌, ℕ, false, true, List, [], ◌∷◌, ◌++◌, map, refl, sym, ap, ◌∙◌, append_assoc}
+use Rattle.std.proofs.Common.{◌≡◌, ℕ, false, true, List, [], ◌∷◌, ◌++◌, map, refl, ap, ◌∙◌, append_assoc}
 use Rattle.std.specs.Prelude.{codes}
 use Rattle.std.specs.List.{AllByRecursion}
 use Rattle.json.specs.Json as json
-use Rattle.json.specs.Lex.{Lexeme, between, colon, comma, lex, token}
+use Rattle.json.specs.Lex.{between, colon, comma, lex, token}
 use Rattle.json.specs.Text.{content}
 use Rattle.json.specs.Token.{Token}
 use Rattle.json.specs.Tree.{ItemsHaveNumbers}

@@ -1,8 +1,7 @@
 -- The document with carried objects is read as its value.
-use Rattle.std.proofs.Common.{◌≡◌, ℕ, ◌+◌, ◌≤◌, true, List, [], ◌∷◌, Some, None, refl, sym, ap, ◌∙◌, arith, append-nil, IsUtf8}
-use Rattle.std.specs.Prelude.{codes, cond, option_and_then, if◌then◌else◌}
+use Rattle.std.proofs.Common.{◌≡◌, ℕ, ◌≤◌, List, [], ◌∷◌, Some, None, refl, sym, ap, ◌∙◌, arith, append-nil, IsUtf8}
+use Rattle.std.specs.Prelude.{cond, option_and_then}
 use Rattle.std.specs.List.{AllByRecursion}
-use Rattle.std.specs.Str.{is_utf8}
 use Rattle.std.proofs.lemmas.Str.{is_utf8-from_IsUtf8}
 use Rattle.json.specs.Json as json
 use Rattle.json.specs.Tree.{depth, items_depth}

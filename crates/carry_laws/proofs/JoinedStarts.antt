@@ -1,25 +1,26 @@
 -- The objects that a next document starts with can start it.
-use Rattle.std.proofs.Common.{◌≡◌, ℕ, zero, suc, ◌+◌, ◌<◌, ◌≤◌, Bool, true, false, cond, List, [], ◌∷◌, ◌++◌, length, map, Option, Some, None}
-use Rattle.std.proofs.Common.{refl, sym, ap, subst, ◌∙◌, arith}
-use Rattle.std.specs.Prelude.{option_and_then, option_map, slice_get, unwrap_or, ⊤}
+use Rattle.std.proofs.Common.{◌≡◌, ℕ, zero, suc, ◌+◌, Bool, true, false, cond, List, [], ◌∷◌, ◌++◌, length, map, Option, Some, None}
+use Rattle.std.proofs.Common.{refl, subst, arith}
+use Rattle.std.specs.Prelude.{option_and_then, option_map, slice_get, unwrap_or}
 use Rattle.std.specs.List.{AllByRecursion}
 use Rattle.std.proofs.lemmas.List.Sums.{AllPass-from_list_all}
 use Rattle.std.proofs.lemmas.Option.{slice_get_within}
 use Rattle.atoms.specs.declared.item.Item.{Item}
 use Rattle.objects.specs.Entries.{State}
 use Rattle.objects.specs.declared.value.Value.{Value}
-use Rattle.meaning.specs.WellFormed.{size_of}
 use Rattle.batch.specs.Limits.{entries_in}
 use Rattle.batch.specs.Named.{AllNamedValues, IsNamedValue}
 use Rattle.batch.specs.Names.{AreNames, Texts, is_name, names_of}
 use Rattle.spelling.specs.Scope.{Table, is_listed, place_of}
 use Rattle.carry.specs.Carried.{first_unfit}
-use Rattle.carry.specs.Joined.{Named, StartOf, added, ended, joined, name_of, own, start_at, start_of, value_of}
+use Rattle.carry.specs.Joined.{Named, StartOf, added, joined, name_of, own, start_at, start_of, value_of}
 use Rattle.carry_laws.specs.Carrying.{HasItem}
-use Rattle.carry_laws.proofs.Carriable.{first_fits, writable}
+use Rattle.atoms.proofs.Items.{one_item}
+use Rattle.carry_laws.proofs.Among.{Apart}
+use Rattle.carry_laws.proofs.Carriable.{IsApart, apart, first_fits, writable}
 use Rattle.carry_laws.proofs.JoinedJson.{CanStart}
 use Rattle.carry_laws.proofs.Listed.{IsNamed}
-use Rattle.carry_laws.proofs.NamedTexts.{value_has_text}
+use Rattle.carry_laws.proofs.NamedTexts.{one_place, value_has_text}
 
 -- ---- what holds of each object of both holds of each start
 
@@ -74,7 +75,7 @@ module _ (P : StartOf → Type 0) (first next : Named)
   pub each_joined : ((n : ℕ) (v : Value) → slice_get next.values n ≡ Some v → P (start_of next n v))
       → AllByRecursion P (joined first next)
   each_joined of_next =
-      both_all (own first next 0 next.values) (added first next.texts.objects 0 first.values) 
+      both_all (own first next 0 next.values) (added first next.texts.objects 0 first.values)
       (each_own 0 next.values (λ i v there. subst (λ m. P (start_of next m v)) (none_before i) (of_next i v there)))
       (each_added next.texts.objects 0 first.values (λ i v there. subst (λ m. P (start_of first m v)) (none_before i) (of_first i v there)))
     where
@@ -89,10 +90,14 @@ pub record AreAllNamed (texts : Texts) (values : State) : Type 0 where
   pub items : AreNames texts.items
   pub size : length texts.objects ≡ length values
   pub named : AllNamedValues texts values
+  pub apart : Apart texts.items
 
 -- a start has a name, and so have its items
 abbrev IsNamedStart : StartOf → Type 0
 IsNamedStart start = (is_name (name_of start) ≡ true) × ((x : Item) → HasItem start.value x → IsNamed start.names x)
+
+abbrev pub IsApartStart : StartOf → Type 0
+IsApartStart start = IsApart start.names start.value
 
 value_at_named : (texts : Texts) (values : State) (n : ℕ) (v : Value) → AllNamedValues texts values → slice_get values n ≡ Some v
     → IsNamedValue texts v
@@ -112,6 +117,20 @@ start_named named all n v there =
       λ x has. AllPass-from_list_all is_name named.texts.items all.items x.0 []
           (value_has_text named.texts v x (value_at_named named.texts named.values n v all.named there) has),
     )
+
+-- the items of a start have names of their own
+start_apart : (named : Named) → AreAllNamed named.texts named.values → (n : ℕ) (v : Value) → slice_get named.values n ≡ Some v
+    → IsApartStart (start_of named n v)
+start_apart named all n v there =
+    let texts = named.texts in
+    let has_text = value_has_text texts v in
+    let is_named = value_at_named texts named.values n v all.named there in
+    apart (names_of texts) v (λ x y has had e. one_item x y (one_place [] texts.items x.0 y.0 all.apart (has_text x is_named has)
+    (has_text y is_named had) e))
+
+pub joined_apart : (first next : Named) → AreAllNamed first.texts first.values → AreAllNamed next.texts next.values
+    → AllByRecursion IsApartStart (joined first next)
+joined_apart first next one other = each_joined IsApartStart first next (start_apart first one) (start_apart next other)
 
 can_start : (place entries : ℕ) (starts : List StartOf) → first_unfit place entries (map value_of starts) ≡ None
     → AllByRecursion IsNamedStart starts → AllByRecursion CanStart starts

@@ -24,4 +24,5 @@ pub mod NextTree
 pub mod JoinedJson
 pub mod JoinedReads
 pub mod JoinedStarts
+pub mod JoinedSpelled
 pub mod JoinedLaws

@@ -41,7 +41,7 @@ module _ {A : Type 0} (d : A) where
   among_at (x ∷ xs) (suc n) below = inr (among_at xs n (omega arith))
 
   -- elements that differ are at one place each
-  one_place : (xs : List A) (n m : ℕ) → Apart xs → n < length xs → m < length xs → get_or xs n d ≡ get_or xs m d → n ≡ m
+  pub one_place : (xs : List A) (n m : ℕ) → Apart xs → n < length xs → m < length xs → get_or xs n d ≡ get_or xs m d → n ≡ m
   one_place [] n m apart below under same = absurd (omega arith)
   one_place (x ∷ xs) zero zero apart below under same = refl
   one_place (x ∷ xs) zero (suc m) apart below under same =

@@ -1,6 +1,6 @@
 -- The tree of a document whose transactions are written over.
-use Rattle.std.proofs.Common.{◌≡◌, ℕ, suc, ◌≤◌, Bool, true, false, cond, List, [], ◌∷◌, ◌++◌, max, Option, Some, None, refl, sym, ap, subst, ◌∙◌, arith}
-use Rattle.std.proofs.Common.{append-nil}
+use Rattle.std.proofs.Common.{◌≡◌, ℕ, ◌≤◌, Bool, true, false, cond, List, [], ◌∷◌, max, Option, Some}
+use Rattle.std.proofs.Common.{None, refl, sym, ap, subst, ◌∙◌, arith}
 use Rattle.std.specs.Prelude.{codes, option_and_then, option_map, unwrap_or}
 use Rattle.std.specs.Str.{bytes_eq, is_utf8}
 use Rattle.std.proofs.lemmas.Slice.Eq.{bytes_eq-Decides}
@@ -82,8 +82,12 @@ module _ (name : List ℕ) where
   after_put None k j e found after is finds = by (bytes_eq k name) refl
     where
       by : (b : Bool) → bytes_eq k name ≡ b → Finds (cond b (Some j) None) (looked.get_member name found) after
-      by true same = (e, is, finds ∙ ap (λ n. looked.get_member n (put k e found)) (sym ((bytes_eq-Decides k name).0 same))
-          ∙ get_member-put k e found)
+      by true same = (
+        e,
+        is,
+        finds ∙ ap (λ n. looked.get_member n (put k e found)) (sym ((bytes_eq-Decides k name).0 same))
+            ∙ get_member-put k e found,
+      )
       by false other = finds ∙ get_member-put_other name k e found (λ same. apart other ((bytes_eq-Decides k name).1 (sym same)))
         where
           apart : bytes_eq k name ≡ false → bytes_eq k name ≡ true → ⊥

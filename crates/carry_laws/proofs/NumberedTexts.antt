@@ -6,7 +6,7 @@ use Rattle.std.specs.Str.{bytes_eq}
 use Rattle.std.proofs.lemmas.List.{get_or_append_left, get_or_push}
 use Rattle.std.proofs.lemmas.Slice.Eq.{bytes_eq-Decides}
 use Rattle.batch.specs.Names.{Texts, names_of}
-use Rattle.spelling.specs.Scope.{Numbers, Table, fit, is_listed, number_of, with_text}
+use Rattle.spelling.specs.Scope.{Numbers, Table, is_listed, number_of, with_text}
 use Rattle.spelling.specs.Spelled.{item_of}
 use Rattle.spelling.proofs.TableLemmas.{unlisted_text}
 use Rattle.lang.proofs.Bound.{fit_same}

@@ -3,9 +3,8 @@ use Rattle.std.proofs.Common.{◌≡◌, ℕ, Bool, true, false, cond, List, [],
 use Rattle.json.specs.Json.{Json, null, boolean, number, string, array, object, Items, no_items, item, Members, no_members, member}
 use Rattle.json.specs.Token.{Token}
 use Rattle.json.specs.Token as tokens
-use Rattle.json.specs.Text.{content, plain}
 use Rattle.json.specs.Word.{ends_word, word}
-use Rattle.json.specs.Lex.{Lexeme, token, comma, colon, string_token, lex, between, in_string}
+use Rattle.json.specs.Lex.{token, comma, colon, string_token, lex, between}
 use Rattle.json.specs.Print.{ends, escape, print, print_from, quoted, separator, token_text}
 use Rattle.json.specs.Tree.{json_tokens, items_tokens, members_tokens, HasNumbers, ItemsHaveNumbers, MembersHaveNumbers}
 use Rattle.json.proofs.Printed.Strings.{content-escape, lex-escape}

@@ -1,7 +1,12 @@
 -- The value of a document with objects that were carried into it.
 use Rattle.std.specs.Prelude.{List, [], ◌∷◌, codes}
 use Rattle.serde_json.specs.Data.{Data, array, member, no_items, item, Items, no_members, number, object, unsigned}
+use Rattle.objects.specs.Entries.{State}
 use Rattle.meaning.specs.Batch.{final_state}
+use Rattle.meaning.specs.Words.{Names}
+use Rattle.batch.specs.Names.{names_of}
+use Rattle.spelling.specs.Scope.{Numbers, no_numbers}
+use Rattle.spelling.specs.Spelled.{starts_of}
 use Rattle.lang.specs.Reading.{Document}
 use Rattle.carry.specs.Joined.{StartOf, joined}
 use Rattle.carry_laws.specs.CarriedData.{object_data}
@@ -14,6 +19,13 @@ starts_into first next = joined (record { texts = first.texts; values = final_st
 abbrev pub starts_data : List StartOf → Items
 starts_data [] = no_items
 starts_data (start ∷ starts) = item (object_data start.names start.place start.value) (starts_data starts)
+
+-- what these starts spell, with the texts that they number
+abbrev pub spelled_starts : List StartOf → State × Numbers
+spelled_starts starts = starts_of 4 no_numbers (starts_data starts)
+
+abbrev pub names_after : Numbers → Names
+names_after numbers = names_of (record { objects = []; items = numbers.items; reasons = numbers.reasons })
 
 -- version 4, these starts and these transactions
 abbrev pub joined_data : List StartOf → Items → Data

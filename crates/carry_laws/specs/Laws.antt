@@ -5,18 +5,19 @@ use Rattle.meaning.specs.Words.{Names}
 use Rattle.meaning.specs.Batch.{final_state}
 use Rattle.lang.specs.Reading.{Document, reading, value_of}
 use Rattle.serde_json.specs.Data.{Data}
+use Rattle.spelling.specs.Asked as asked
 use Rattle.spelling.specs.Asked.{transactions_in}
 use Rattle.carry.specs.Carried.{carried_text, first_unfit}
-use Rattle.carry.specs.Joined.{value_of as start_value}
+use Rattle.carry.specs.Joined.{name_of, value_of as start_value}
 use Rattle.carry.specs.Transactions.{joined_text}
-use Rattle.carry_laws.specs.Joined.{joined_data, starts_into}
+use Rattle.carry_laws.specs.Joined.{joined_data, names_after, spelled_starts, starts_data, starts_into}
 use Rattle.std.specs.Str.{IsUtf8}
 use Rattle.std.specs.List.{IsDistinct}
 use Rattle.std.specs.Str.{bytes_eq}
 use Rattle.batch.specs.Named.{AllNamedValues}
 use Rattle.batch.specs.Names.{AreNames, Texts, names_of}
 use Rattle.carry_laws.specs.Carrying.{CanBeCarried, object_names}
-use Rattle.carry_laws.specs.Same.{AreSame}
+use Rattle.carry_laws.specs.Same.{AreSame, AreSameStarts}
 use Rattle.meaning.specs.declared.limits.TheConstants.{MAX_OBJECTS}
 
 -- The document starts with the same objects under the same names, and has no transaction.
@@ -54,3 +55,11 @@ JoinedLaw = (first next : List ℕ) (document next_document : Document) → read
     → IsUtf8 (joined_text (starts_into document next_document) next)
     → (d : Data) × (value_of next ≡ Some d) × (value_of (joined_text (starts_into document next_document) next)
     ≡ Some (joined_data (starts_into document next_document) (transactions_in d)))
+
+-- What is spelled of its objects are these starts, under the same names.
+abbrev pub JoinedStartsLaw : Type 0
+JoinedStartsLaw = (first next : List ℕ) (document next_document : Document) → reading first ≡ Ok document
+    → reading next ≡ Ok next_document → first_unfit 0 0 (map start_value (starts_into document next_document)) ≡ None
+    → (asked.names_of (starts_data (starts_into document next_document)) ≡ map name_of (starts_into document next_document))
+    × AreSameStarts (starts_into document next_document) (names_after (spelled_starts (starts_into document next_document)).1)
+    (spelled_starts (starts_into document next_document)).0

@@ -8,6 +8,7 @@ use Rattle.objects.specs.Entries.{State}
 use Rattle.objects.specs.declared.value.Value.{Value}
 use Rattle.objects.specs.declared.value.Value.TheVariants as value
 use Rattle.meaning.specs.Words.{Names}
+use Rattle.carry.specs.Joined.{StartOf}
 
 -- a member of the set has this name
 abbrev pub HasMember : Names → finite_set.FinSet item_cmp → List ℕ → Type 0
@@ -32,3 +33,9 @@ abbrev pub AreSame : Names → State → Names → State → Type 0
 AreSame old [] new [] = ⊤
 AreSame old (v ∷ values) new (w ∷ others) = IsSame old v new w × AreSame old values new others
 AreSame old values new others = ⊥
+
+-- as many as starts, each the same as that in its place, under its own names
+abbrev pub AreSameStarts : List StartOf → Names → State → Type 0
+AreSameStarts [] new [] = ⊤
+AreSameStarts (start ∷ starts) new (w ∷ others) = IsSame start.names start.value new w × AreSameStarts starts new others
+AreSameStarts starts new others = ⊥

@@ -1,5 +1,5 @@
 //! Laws of the document of objects as they are.
-ghost use Rattle.carry_laws.specs.Laws.{CarriedEndLaw, CarriedLaw, JoinedLaw, NamedLaw};
+ghost use Rattle.carry_laws.specs.Laws.{CarriedEndLaw, CarriedLaw, JoinedLaw, JoinedStartsLaw, NamedLaw};
 
 /// What is printed of objects that can be carried over is read as a document that starts with them.
 pub fn carried_objects_are_read()
@@ -22,4 +22,9 @@ pub fn carried_ends_are_read()
 /// value of version 4 with these starts and the next document's own transactions.
 pub fn joined_documents_are_read()
     ensures { JoinedLaw }
+{}
+
+/// What is spelled of its objects are these starts, under the same names.
+pub fn joined_starts_are_read()
+    ensures { JoinedStartsLaw }
 {}

@@ -37,7 +37,8 @@ impl Uncarried {
         ensures { result ≡ fault_of self.now }
     {
         match self {
-            Uncarried::First(fault) | Uncarried::Next(fault) | Uncarried::Object(fault, _) => *fault,
+            Uncarried::First(fault) | Uncarried::Next(fault) | Uncarried::Object(fault, _) =>
+                *fault,
         }
     }
 }
@@ -136,7 +137,14 @@ pub(crate) fn carried_into_of(
         next_batch.objects.len() as u32,
         next_hashing,
     )?;
-    carried_into_batch(alloc, &batch, &names, &next_batch, &next_names, next.as_slice())
+    carried_into_batch(
+        alloc,
+        &batch,
+        &names,
+        &next_batch,
+        &next_names,
+        next.as_slice(),
+    )
 }
 
 // The same of batches that were read, with the tables of their objects' names.

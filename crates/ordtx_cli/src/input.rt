@@ -3,7 +3,7 @@ use crate::words::{bytes_of, shown};
 use ordtx::{Code, Fault};
 use std::alloc::Global;
 use std::fs::File;
-use std::io::{Error, Read, Stdin};
+use std::io::{Error, ErrorKind, Read, Stdin};
 use std::{io, str};
 
 /// An input that was opened. It keeps why the last read failed, if one did.
@@ -68,27 +68,16 @@ fn tell(rt: &HostRuntime, what: &str, name: Option<&str>, error: &Error) {
     };
 }
 
+// `std` opens only files whose names are texts.
 fn open_file(rt: &HostRuntime, alloc: Global, name: &str) -> io::Result<File> {
     let bytes = bytes_of(alloc, name)?;
     match str::from_utf8(&bytes) {
         Ok(name) => File::open(rt, name),
-        Err(_) => open_bytes(rt, alloc, &bytes),
+        Err(_) => Err(Error::new(
+            ErrorKind::InvalidInput,
+            "the name is not UTF-8: give the file as standard input",
+        )),
     }
-}
-
-// Opens a file whose name is no text. `File` opens only names that are texts, as that of the
-// descriptor by which the file was opened first.
-fn open_bytes(rt: &HostRuntime, alloc: Global, name: &[u8]) -> io::Result<File> {
-    let descriptor = os::open_read(name);
-    if descriptor < 0 {
-        return Err(Error::from_raw_os_error(os::errno()));
-    }
-    let opened = match format!(in alloc; "/dev/fd/{descriptor}") {
-        Ok(name) => File::open(rt, name.as_str()),
-        Err(error) => Err(Error::from(error)),
-    };
-    libc::close(descriptor);
-    opened
 }
 
 impl Read for Input {

@@ -1,4 +1,4 @@
-use Rattle.std.proofs.Common.{sym, ap, ◌∙◌, is_some}
+use Rattle.std.proofs.Common.{sym, ◌∙◌}
 use Rattle.spelling.proofs.TableLemmas.{is_listed-keys}
 use Rattle.carry.proofs.starts.is_listed.Goals as goal
 

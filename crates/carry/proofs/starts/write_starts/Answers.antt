@@ -1,4 +1,4 @@
-use Rattle.std.proofs.Common.{◌<◌, ◌+◌, [], ◌∷◌, ◌++◌, ap, append_assoc, arith, drop, length, refl, sym, ◌∙◌, map, string_bytes}
+use Rattle.std.proofs.Common.{◌<◌, ◌+◌, [], ◌∷◌, ◌++◌, ap, append_assoc, arith, drop, length, refl, ◌∙◌, map, string_bytes}
 use Rattle.std.specs.Prelude.{codes}
 use Rattle.batch.proofs.CountLemmas.{left}
 use Rattle.report.proofs.Joined.{joined_behind-nothing, next_text}

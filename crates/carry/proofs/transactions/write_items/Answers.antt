@@ -1,4 +1,4 @@
-use Rattle.std.proofs.Common.{◌≡◌, ◌<◌, ◌+◌, [], ◌∷◌, ◌++◌, ap, arith, drop, length, refl, subst, sym, ◌∙◌, string_bytes}
+use Rattle.std.proofs.Common.{◌≡◌, ◌<◌, ◌+◌, [], ◌∷◌, ◌++◌, ap, arith, drop, length, refl, subst, ◌∙◌, string_bytes}
 use Rattle.std.specs.Prelude.{codes}
 use Rattle.json.specs.Print.{print}
 use Rattle.json.specs.Tree.{ItemsHaveNumbers, json_tokens}

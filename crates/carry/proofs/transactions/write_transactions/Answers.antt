@@ -1,4 +1,4 @@
-use Rattle.std.proofs.Common.{◌≡◌, ◌++◌, ap, sym, subst, append-nil, refl, string_bytes, ◌∙◌, rules}
+use Rattle.std.proofs.Common.{◌≡◌, ◌++◌, ap, sym, subst, append-nil, string_bytes, ◌∙◌, rules}
 use Rattle.std.specs.Prelude.{codes, OnOk}
 use Rattle.json.specs.Value.{value_view}
 use Rattle.meaning.specs.Words.{joined}

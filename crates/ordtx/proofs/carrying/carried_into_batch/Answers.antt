@@ -1,11 +1,10 @@
-use Rattle.std.proofs.Common.{◌≡◌, ◌<◌, ◌≤◌, ◌∙◌, Some, None, ap, arith, inr, length, map, refl, rules, string_bytes, subst, sym}
+use Rattle.std.proofs.Common.{◌≡◌, ◌<◌, ◌≤◌, ◌∙◌, Some, ap, arith, inr, length, map, refl, rules, string_bytes, subst, sym}
 use Rattle.std.proofs.lemmas.List.{length-map}
 use Rattle.std.proofs.lemmas.Str.{IsUtf8-string_bytes}
-use Rattle.faults.specs.Faults.{wrong_outside}
 use Rattle.lang.specs.Reading.{document_of}
 use Rattle.carry.specs.Joined.{Named, joined, start_view}
 use Rattle.carry.specs.Transactions.{joined_text}
-use Rattle.ordtx.specs.Answers.{IsCarryIntoFaultOf, end_of, name_at, starts_into, wrong_start}
+use Rattle.ordtx.specs.Answers.{IsCarryIntoFaultOf, name_at, starts_into, wrong_start}
 use Rattle.ordtx.proofs.JoinedSize.{joined_length}
 use Rattle.ordtx.proofs.carrying.carried_into_batch.Goals as goal
 

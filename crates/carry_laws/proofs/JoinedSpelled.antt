@@ -1,0 +1,76 @@
+-- What is spelled of the objects of a document into which objects are carried.
+use Rattle.std.proofs.Common.{◌≡◌, ℕ, ◌+◌, ◌*◌, ◌≤◌, List, [], ◌∷◌, length, map, None, refl, sym, ap, subst, arith}
+use Rattle.std.specs.List.{AllByRecursion}
+use Rattle.objects.specs.Entries.{State}
+use Rattle.batch.specs.Limits.{all_entries_in, entries_in}
+use Rattle.batch.specs.Names.{Texts, names_of}
+use Rattle.spelling.specs.Asked as asked
+use Rattle.spelling.specs.Asked.{kind_in}
+use Rattle.spelling.specs.Scope.{Numbers, no_numbers}
+use Rattle.spelling.specs.Spelled.{start_of, starts_of}
+use Rattle.carry.specs.Carried.{first_unfit}
+use Rattle.carry.specs.Joined.{StartOf, name_of, value_of}
+use Rattle.carry_laws.specs.CarriedData.{object_data, start_data}
+use Rattle.carry_laws.specs.Joined.{names_after, spelled_starts, starts_data}
+use Rattle.carry_laws.specs.Same.{AreSameStarts}
+use Rattle.carry_laws.proofs.Carriable.{first_fits}
+use Rattle.carry_laws.proofs.CarriedFaultless.{kind_is}
+use Rattle.carry_laws.proofs.JoinedStarts.{IsApartStart}
+use Rattle.carry_laws.proofs.NumberedTexts.{Grows, grows_both, grows_none}
+use Rattle.carry_laws.proofs.SpelledStarts.{SpellsValue, value_spelled}
+
+-- By later tables the objects are the same. So many texts are new at most.
+record SpellsStarts (starts : List StartOf) (before : Numbers) (spelled : State × Numbers) : Type 0 where
+  grows : Grows before.items spelled.1.items
+  few : length spelled.1.items ≤ length before.items + 2 * all_entries_in (map value_of starts)
+  same : (texts : Texts) → Grows spelled.1.items texts.items → length texts.items ≤ 4294967295
+      → AreSameStarts starts (names_of texts) spelled.0
+
+starts_spelled : (n entries : ℕ) (starts : List StartOf) (numbers : Numbers) → first_unfit n entries (map value_of starts) ≡ None
+    → AllByRecursion IsApartStart starts → SpellsStarts starts numbers (starts_of 4 numbers (starts_data starts))
+starts_spelled n entries [] numbers fit apart = record {
+  grows = grows_none numbers.items;
+  few = omega arith;
+  same = λ texts more few. tt;
+}
+starts_spelled n entries (start ∷ starts) numbers fit apart =
+    let v = start.value in
+    let fits = first_fits n entries v (map value_of starts) fit in
+    let written = start_data start.names v in
+    let spelled = start_of (kind_in 4 (object_data start.names start.place v)) numbers written in
+    let here : SpellsValue start.names v numbers spelled =
+    subst (λ k. SpellsValue start.names v numbers (start_of k numbers written)) (sym (kind_is start.names start.place v))
+    (value_spelled start.names v numbers fits.small apart.0) in
+    let last = (starts_of 4 spelled.1 (starts_data starts)).1 in
+    let rest = starts_spelled (n + 1) (entries + entries_in v) starts spelled.1 fits.rest apart.1 in
+    let first_few = here.few in
+    let rest_few = rest.few in
+    record {
+      grows = grows_both numbers.items spelled.1.items last.items here.grows rest.grows;
+      few = omega (arith, first_few, rest_few);
+      same = λ texts more few. (
+        here.same texts (grows_both spelled.1.items last.items texts.items rest.grows more) few,
+        rest.same texts more few,
+      );
+    }
+
+-- so many entries may start
+few_entries : (n entries : ℕ) (values : State) → entries ≤ 100_000 → first_unfit n entries values ≡ None
+    → entries + all_entries_in values ≤ 100_000
+few_entries n entries [] few fit = omega arith
+few_entries n entries (v ∷ values) few fit =
+    let fits = first_fits n entries v values fit in
+    omega (arith, few_entries (n + 1) (entries + entries_in v) values fits.few fits.rest)
+
+pub starts_same : (starts : List StartOf) → first_unfit 0 0 (map value_of starts) ≡ None → AllByRecursion IsApartStart starts
+    → AreSameStarts starts (names_after (spelled_starts starts).1) (spelled_starts starts).0
+starts_same starts fit apart =
+    let state = starts_spelled 0 0 starts no_numbers fit apart in
+    let fewer = state.few in
+    let numbers = (spelled_starts starts).1 in
+    state.same (record { objects = []; items = numbers.items; reasons = numbers.reasons }) (grows_none numbers.items)
+    (omega (arith, fewer, few_entries 0 0 (map value_of starts) (omega arith) fit))
+
+pub starts_names : (starts : List StartOf) → asked.names_of (starts_data starts) ≡ map name_of starts
+starts_names [] = refl
+starts_names (start ∷ starts) = ap (λ names. name_of start ∷ names) (starts_names starts)
