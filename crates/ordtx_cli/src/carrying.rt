@@ -1,8 +1,8 @@
 //! Carrying objects over, alone or into a next document, and what is said where none are carried.
 ghost use Rattle.std.specs.Prelude.{◌≡◌, false};
 
+use crate::arguments::shown;
 use crate::input::{is_standard, open, tell_refused};
-use crate::words::shown;
 use ordtx::{Code, Fault, Marked, Source, Uncarried, Wrong, carry_into_stream, carry_stream};
 
 /// Carries the objects at the end of a document.

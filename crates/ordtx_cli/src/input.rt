@@ -1,5 +1,5 @@
 //! Where a document comes from: standard input, or a file.
-use crate::words::{bytes_of, shown};
+use crate::arguments::{bytes_of, shown};
 use ordtx::{Code, Fault};
 use std::alloc::Global;
 use std::fs::File;
@@ -39,7 +39,7 @@ pub fn is_standard(name: Option<&str>) -> bool {
 }
 
 /// Opens standard input, or the file of this name. The name is a text that stands for its bytes
-/// (`words`). Why it can't be opened is written to standard error.
+/// (`arguments`). Why it can't be opened is written to standard error.
 pub fn open(rt: &HostRuntime, name: Option<&str>) -> Result<Input, Fault> {
     match Input::of(rt, name) {
         Ok(input) => Ok(input),

@@ -2,11 +2,11 @@
 //! from a file or standard input, and writes the report to standard output.
 #![tactic(auto)]
 
+mod arguments;
 mod carrying;
 mod input;
 mod program;
 mod progress;
-mod words;
 
 use program::answer_words;
 use std::process::ExitCode;

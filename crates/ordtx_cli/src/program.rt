@@ -1,10 +1,10 @@
 //! What the program does with its words, and how it ends.
 ghost use Rattle.std.specs.Prelude.{◌≡◌, false};
 
+use crate::arguments::{shown, text_of};
 use crate::carrying::{carry_alone, carry_into};
 use crate::input::{is_standard, open, tell_refused};
 use crate::progress::ProgressLine;
-use crate::words::{shown, text_of};
 use ordtx::{
     Code, Command, Fault, Gate, Line, Marked, NoGate, Refused, Sink, Source, audit_stream,
     check_stream, explain_stream, line, locate_stream, run_stream, serial_stream,
