@@ -16,8 +16,8 @@ use std::alloc::Global;
 use std::thread::Threads;
 use workers::first_failing;
 
-/// What a check found: the first conflict, and a list that begins with the nets of the runs before
-/// it, which are its first `upto` entries.
+/// What a check found: the first conflict, or the end, and how many entries of the list are from
+/// before it.
 #[derive(Drop)]
 pub(crate) struct Seen {
     pub(crate) first: usize,
