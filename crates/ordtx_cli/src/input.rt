@@ -43,6 +43,7 @@ pub fn is_standard(name: Option<&str>) -> bool {
 pub fn open(rt: &HostRuntime, name: Option<&str>) -> Result<Input, Fault> {
     match Input::of(rt, name) {
         Ok(input) => Ok(input),
+        Err(error) if error.kind() == ErrorKind::OutOfMemory => Err(Code::Memory.outside()),
         Err(error) => {
             tell(rt, "cannot open", name, &error);
             Err(Code::Input.outside())
