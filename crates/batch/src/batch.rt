@@ -6,7 +6,7 @@ ghost use Rattle.batch.specs.LimitsProps.{IsBatch-prop};
 
 use crate::names::Names;
 use crate::tree::Block;
-use objects::Objects;
+use objects::{EntryHashing, Objects};
 
 /// Objects, the names of what the batch numbers, and transactions, which are numbered from 1.
 ///
@@ -21,21 +21,30 @@ pub struct Batch {
     pub names: Names,
     /// The transactions, by number.
     pub transactions: Vec<Block>,
+    /// How tables of its entries are hashed.
+    pub hashing: EntryHashing,
     pub ghost is_batch: { IsBatch objects names (map block_view transactions.items) } by { IsBatch-prop objects names (map block_view transactions.items) },
 }
 
 impl Batch {
     /// The batch of these objects, names and transactions.
-    pub fn new(objects: Objects, names: Names, transactions: Vec<Block>) -> Batch
+    pub fn new(
+        objects: Objects,
+        names: Names,
+        transactions: Vec<Block>,
+        hashing: EntryHashing,
+    ) -> Batch
         requires { IsBatch objects names (map block_view transactions.items) }
         ensures objects { result.objects ≡ objects }
         ensures names { result.names ≡ names }
         ensures transactions { result.transactions ≡ transactions }
+        ensures hashing { result.hashing ≡ hashing }
     {
         Batch {
             objects,
             names,
             transactions,
+            hashing,
         }
     }
 }

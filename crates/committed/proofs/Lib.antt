@@ -1,3 +1,4 @@
+pub mod HeadingsLemmas
 pub mod ListsLemmas
 pub mod SameLemmas
 pub mod ClassesLemmas

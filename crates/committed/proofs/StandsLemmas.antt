@@ -1,17 +1,19 @@
 -- Which entries stand past a part of a list.
-use Rattle.std.proofs.Common.{◌≡◌, ℕ, suc, zero, ◌-◌, ◌<◌, ◌≤◌, ◌^◌, arith, Bool, true, false, None, List, [], ◌∷◌, length, drop, take}
+use Rattle.std.proofs.Common.{◌≡◌, ℕ, suc, zero, ◌-◌, ◌<◌, ◌≤◌, arith, Bool, true, false, Option, None, List, [], ◌∷◌, length, drop, take}
 use Rattle.std.proofs.Common.{get_or, refl, sym, subst, inl, inr}
 use Rattle.std.proofs.lemmas.List.{get_or-take, length-take, length-drop}
 use Rattle.std.specs.Prelude.{slice_range, if◌then◌else◌}
+use Rattle.atoms.specs.declared.item.Item.{Item}
 use Rattle.objects.specs.declared.entry.Entry.{Entry}
 use Rattle.objects.specs.Entries.{CommutesWith, CommuteForward}
 use Rattle.committed.specs.declared.classes.Class.{Class}
-use Rattle.committed.specs.declared.index.Link.{Link}
-use Rattle.committed.specs.Classes.{class_of, class_number, is_by_item}
-use Rattle.committed.specs.Items.{is_compared}
-use Rattle.committed.specs.Marks.{hash_of, mark_of}
-use Rattle.committed.specs.Index.{key_of, key_against, IsLinked, IsListed}
-use Rattle.committed.proofs.FilterLemmas.{same_hash, same_object}
+use Rattle.committed.specs.declared.heading.Heading.{Heading}
+use Rattle.committed.specs.declared.index.Index.{Index}
+use Rattle.committed.specs.Classes.{class_of, is_by_item}
+use Rattle.committed.specs.Headings.{heading_against}
+use Rattle.committed.specs.Items.{operation_item, is_compared}
+use Rattle.committed.specs.Index.{IsLinked, IsListed}
+use Rattle.committed.proofs.FilterLemmas.{same_item, same_object}
 
 -- of two entries that commute one after the other, each does
 pub commute_turned : (p q : Entry) → CommuteForward p q → CommuteForward q p
@@ -46,23 +48,24 @@ pub each_first : (e : Entry) (es : List Entry) (upto : ℕ) → upto ≤ length 
 each_first e es upto within h k before =
     subst (CommuteForward e) (get_or-take upto es k e before) (one_commutes e (take upto es) k (omega (arith, length-take upto es)) h)
 
--- the key under which an entry looks for another's class is one of the other's two, where they are compared
-pub key_is : (P : ℕ → Type 0) (p q : Entry) → is_compared p q ≡ true → P (key_of (mark_of q).of_object (mark_of q).class)
-    → P (key_of (mark_of q).of_item (mark_of q).class) → P (key_against (mark_of p) (class_of q.call q.reply))
-key_is P p q compared by_object by_item = by_class (is_by_item class) refl
+-- what an entry is compared with is linked where it looks for the class
+pub linked_against : (index : Index) (p q : Entry) (k : ℕ) → is_compared p q ≡ true → IsListed index k q
+    → IsLinked index k (heading_against p (class_of q.call q.reply))
+linked_against index p q k compared listed = by_class (is_by_item class) refl
   where
     class : Class
     class = class_of q.call q.reply
 
-    by_class : (b : Bool) → is_by_item class ≡ b
-        → P (key_of (if b then (mark_of p).of_item else (mark_of p).of_object) (2 ^ class_number class))
-    by_class true of_item = elim (same_hash p q compared of_item) [
-      | inl same ↦ subst (λ h. P (key_of h (2 ^ class_number class))) (sym same) by_object
-      | inr same ↦ subst (λ h. P (key_of h (2 ^ class_number class))) (sym same) by_item
-    ]
-    by_class false of_object = subst (λ o. P (key_of (hash_of o None) (2 ^ class_number class))) (same_object p q compared) by_object
+    IsUnder : ℕ → Option Item → Type 0
+    IsUnder o i = (let heading : Heading = record { object = o; item = i; class = class } in IsLinked index k heading)
 
--- what an entry is compared with is linked where it looks for the class
-pub linked_against : (links : List Link) (p q : Entry) (k : ℕ) → is_compared p q ≡ true → IsListed links k q
-    → IsLinked links k (key_against (mark_of p) (class_of q.call q.reply))
-linked_against links p q k compared listed = key_is (IsLinked links k) p q compared listed.0 listed.1
+    by_object : IsUnder p.object None
+    by_object = subst (λ o. IsUnder o None) (same_object p q compared) listed.0
+
+    by_class : (b : Bool) → is_by_item class ≡ b → IsUnder p.object (if b then operation_item p.call p.reply else None)
+    by_class true of_item = elim (same_item p q compared of_item) [
+      | inl none ↦ subst (IsUnder p.object) (sym none) by_object
+      | inr same ↦ subst (IsUnder p.object) same
+          (subst (λ o. IsUnder o (operation_item q.call q.reply)) (same_object p q compared) listed.1)
+    ]
+    by_class false of_object = by_object

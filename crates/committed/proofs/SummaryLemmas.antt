@@ -1,6 +1,6 @@
 -- Entries that stand for many: what commutes forward with them.
 use Rattle.std.proofs.Common.{◌≡◌, ℕ, suc, zero, ◌<◌, ◌≤◌, ◌↔◌, arith, List, [], ◌∷◌, ◌++◌, length, set, get_or, sym, ap, ◌∙◌, subst}
-use Rattle.std.proofs.lemmas.List.{get_or-map, get_or-set_other, length-map, length-set, map-append, map-set}
+use Rattle.std.proofs.lemmas.List.{get_or-map, get_or-set_other, length-map, length-set, map-set}
 use Rattle.objects.specs.declared.entry.Entry.{Entry}
 use Rattle.committed.specs.declared.marks.MarkedEntry.{MarkedEntry}
 use Rattle.objects.specs.Entries.{CommutesWith, AllCommute, CommuteForward}
@@ -160,13 +160,10 @@ module _ (marked : List MarkedEntry) (before last : ℕ) (earlier later e : Entr
       (sym (map-set (λ (k : MarkedEntry). k.entry) marked last next ∙ ap (set (entries_of marked) last) own)) (set_there less strict)
 
 -- an entry is put at the end
-pub summary_pushed : (marked : List MarkedEntry) (next : MarkedEntry) (e : Entry) (entries : List Entry) → next.entry ≡ e
-    → IsSummary (entries_of marked) entries
-    → IsSummary (entries_of (marked ++ next ∷ [])) (entries ++ e ∷ [])
-summary_pushed marked next e entries own summary =
-    subst (λ xs. IsSummary xs (entries ++ e ∷ [])) (sym (map-append (λ (k : MarkedEntry). k.entry) marked (next ∷ [])
-    ∙ ap (λ x. entries_of marked ++ x ∷ []) own))
-    (summary-append (entries_of marked) entries (e ∷ []) (e ∷ []) summary (summary_itself (e ∷ [])))
+pub summary_more : (summary more entries : List Entry) (e : Entry) → more ≡ summary ++ e ∷ [] → IsSummary summary entries
+    → IsSummary more (entries ++ e ∷ [])
+summary_more summary more entries e is sums = subst (λ xs. IsSummary xs (entries ++ e ∷ [])) (sym is)
+    (summary-append summary entries (e ∷ []) (e ∷ []) sums (summary_itself (e ∷ [])))
 
 -- ---- a summary that leaves nothing out
 

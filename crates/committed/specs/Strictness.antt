@@ -1,5 +1,5 @@
 -- Which of two entries commutes forward with less. No public contract names it.
-use Rattle.std.specs.Prelude.{ℕ, ◌+◌, ◌&&◌, ◌==◌, Bool, nat_le, IsTrue}
+use Rattle.std.specs.Prelude.{ℕ, ◌+◌, ◌&&◌, ◌==◌, Bool, nat_le, if◌then◌else◌, IsTrue}
 use Rattle.atoms.specs.Account.{account_effect}
 use Rattle.atoms.specs.Counter.{counter_effect}
 use Rattle.atoms.specs.ItemSet.{set_effect}
@@ -26,6 +26,7 @@ use Rattle.objects.specs.declared.call.Reply.TheVariants as reply
 use Rattle.objects.specs.declared.entry.Entry.{Entry}
 use Rattle.objects.specs.Entries.{CommuteForward}
 use Rattle.committed.specs.declared.strength.Strength.{Strength}
+use Rattle.committed.specs.declared.strength.Topic.{Topic}
 
 -- what commutes forward with the first commutes forward with the second
 abbrev pub IsAsStrict : Entry → Entry → Type 0
@@ -126,3 +127,7 @@ is_within s t = s.variant == t.variant && (s.item == t.item && (nat_le s.least t
 
 abbrev pub covers : Strength → Strength → Bool
 covers s t = s.object == t.object && (s.kind == t.kind && is_within s t)
+
+-- what an entry of the strength is about: its object and its item, or its object and effect where it is about no item
+abbrev pub topic_of : Strength → Topic
+topic_of s = record { object = s.object; item = s.item; variant = if s.item == 0 then s.variant else 0 }

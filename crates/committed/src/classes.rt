@@ -11,7 +11,7 @@ use objects::{
 
 /// What an operation did, as far as it decides with which others it always commutes forward. It
 /// depends on the operation's effect.
-#[derive(Clone, Copy)]
+#[derive(Clone, Copy, PartialEq, Eq, Hash)]
 pub enum Class {
     Deposit,
     Withdrawal,

@@ -8,10 +8,11 @@ ghost use Rattle.committed.specs.Index.{IsIndexOf, IsAllListed, IndexHasRoom};
 
 use crate::classes::Class;
 use crate::filter::Filter;
-use crate::index::{Index, key_against};
+use crate::heading::Heading;
+use crate::index::Index;
 use crate::marks::{Mark, MarkedEntry};
 use crate::summary::mark_all;
-use objects::{Entry, NoMemory, commute};
+use objects::{Entry, EntryHashing, NoMemory, commute};
 use std::alloc::Global;
 use std::marker::Model;
 
@@ -54,9 +55,16 @@ impl Committed {
     pub fn new(alloc: Global) -> Self
         ensures { result ≡ [] }
     {
+        Committed::hashed_by(alloc, EntryHashing::of(0))
+    }
+
+    /// An empty list, whose tables are hashed so. It takes no memory.
+    pub fn hashed_by(alloc: Global, hashing: EntryHashing) -> Self
+        ensures { result ≡ [] }
+    {
         Committed {
             entries: Vec::new(alloc),
-            index: Index::new(alloc),
+            index: Index::new(alloc, hashing),
             filter: Filter::new(alloc),
         }
     }
@@ -67,7 +75,7 @@ impl Committed {
         ensures { self.new ≡ self.old }
     {
         self.filter.reserve(&self.entries, more)?;
-        self.index.reserve(&self.entries, more)?;
+        self.index.expect(more)?;
         Ok(())
     }
 
@@ -101,7 +109,7 @@ impl Committed {
     {
         self.entries.reserve(entries.len())?;
         self.filter.reserve(&self.entries, entries.len())?;
-        self.index.reserve(&self.entries, entries.len())?;
+        self.index.reserve(entries.len())?;
         put_all(
             &mut self.entries,
             &mut self.filter,
@@ -147,8 +155,8 @@ impl Committed {
     {
         let mut rest = met;
         while let Some(class) = Class::first_of(rest) {
-            let key = key_against(mark, class);
-            if !self.index.commutes(entry, &self.entries, key, upto) {
+            let heading = Heading::against(entry, class);
+            if !self.index.commutes(entry, &self.entries, heading, upto) {
                 return false;
             }
             rest = class.taken_from(rest);
@@ -172,7 +180,7 @@ fn put_all(entries: &mut Vec<Entry>, filter: &mut Filter, index: &mut Index, mor
     for marked in more {
         filter.mark(&marked.mark);
         entries.push_reserved(marked.entry);
-        index.push(entries, &marked.mark);
+        index.push(entries);
     }
 }
 

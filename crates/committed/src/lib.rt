@@ -7,6 +7,7 @@
 mod classes;
 mod committed;
 mod filter;
+mod heading;
 mod index;
 mod items;
 mod marks;

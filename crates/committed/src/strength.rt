@@ -5,7 +5,7 @@
 //! range goes up to it. An item or a size is a range of one number, so that only the same one is as
 //! strict. Where numbers make no difference, the range is that of 0.
 ghost use Rattle.std.specs.Prelude.{◌≡◌, ◌+◌};
-ghost use Rattle.committed.specs.Strictness.{strength_of, account_strength, counter_strength, set_strength, queue_strength, directory_strength, key_strength, max_strength, digest, covers};
+ghost use Rattle.committed.specs.Strictness.{strength_of, account_strength, counter_strength, set_strength, queue_strength, directory_strength, key_strength, max_strength, digest, covers, topic_of};
 
 use objects::{
     Account, AccountEffect, Call, Counter, CounterEffect, Directory, DirectoryEffect, Entry, Item,
@@ -90,19 +90,27 @@ impl Strength {
         matches!(self.kind, SET | QUEUE | DIRECTORY)
     }
 
-    /// A hash of its object and its item, or of its object and effect where it is about no item.
-    pub fn hash(&self) -> u64 {
-        let heading = if self.item == 0 {
-            self.kind as u64 * 8 + self.variant as u64
-        } else {
-            self.item << 6
-        };
-        (self.object as u64)
-            .wrapping_mul(0x9E3779B97F4A7C15)
-            .wrapping_add(heading)
-            .wrapping_mul(0xD6E8FEB86659FD93)
-            >> 32
+    /// What it is about: its object and its item, or its object and effect where it is about no
+    /// item.
+    pub fn topic(&self) -> Topic
+        ensures { result ≡ topic_of self.now }
+    {
+        Topic {
+            object: self.object,
+            item: self.item,
+            variant: if self.item == 0 { self.variant } else { 0 },
+        }
     }
+}
+
+/// What an entry is about.
+#[derive(Clone, Copy, PartialEq, Eq, Hash)]
+pub struct Topic {
+    object: u32,
+    /// A number of the item, or 0.
+    item: u64,
+    /// Which effect of the object it is, or 0 where there is an item.
+    variant: u8,
 }
 
 fn digest(object: u32, kind: u8, variant: u8, item: u64, least: u64, most: u64) -> Strength

@@ -1,17 +1,16 @@
 //! Entries with their marks: all of them, or a summary.
-ghost use Rattle.std.specs.Prelude.{◌≡◌, ◌<◌, ◌≤◌, ◌++◌, ◌∷◌, [], List, length, get_or, IfOk, OnOk};
+ghost use Rattle.std.specs.Prelude.{◌≡◌, ◌<◌, ◌≤◌, ◌++◌, ◌∷◌, [], List, length, get_or, IfOk, IfSome, OnOk};
 ghost use Rattle.objects.specs.declared.entry.Entry.{Entry as OneEntry};
-ghost use Rattle.committed.specs.Summaries.{entries_of, strengths_of, IsSummary};
+ghost use Rattle.committed.specs.Strictness.{strength_of};
+ghost use Rattle.committed.specs.Summaries.{entries_of, strengths_of, HasMore, IsSummary};
 
 use crate::marks::MarkedEntry;
-use crate::strength::Strength;
+use crate::strength::{Strength, Topic};
 use crate::strictness::{Measured, are_as_strict};
-use objects::{Entry, NoMemory};
+use indexmap::IndexMap;
+use objects::{Entry, EntryHashing, NoMemory};
 use std::alloc::Global;
 use std::mem::replace;
-
-/// How many slots a table has at most.
-const MOST: usize = 4096;
 
 /// For how many entries a summary has room at first.
 const ROOM: usize = 32;
@@ -44,14 +43,15 @@ fn mark_into(entries: &[Entry], marked: &mut Vec<MarkedEntry>) -> Result<(), NoM
 /// Puts a summary of the entries into the list, in place of what it had: what commutes forward with
 /// all of the summary commutes forward with all of these, and the other way round.
 ///
-/// It has an entry or two for each different heading (object and item, or object and class where
-/// there is no item), as far as the table distinguishes them. Those are the strictest under the
-/// heading, where one or two of them are. A few entries are all kept, in their order. So a run of
-/// many operations on one object is checked and listed by a few entries.
+/// An entry is left out where two that are kept with its topic (object and item, or object and
+/// effect where there is no item) are as strict. So it mostly has an entry or two for each topic,
+/// and a run of many operations on one object is checked and listed by a few entries. A few entries
+/// are all kept, in their order.
 ///
 /// Returns `NoMemory` where a request for memory was refused. The list is of no further use then.
 pub fn summarize(
     alloc: Global,
+    hashing: EntryHashing,
     entries: &[Entry],
     summary: &mut Vec<MarkedEntry>,
 ) -> Result<(), NoMemory>
@@ -61,7 +61,8 @@ pub fn summarize(
     if entries.len() <= FEW_ENTRIES {
         return mark_into(entries, summary);
     }
-    let mut table = Table::new(alloc, entries.len(), replace(summary, Vec::new(alloc)))?;
+    let spare = replace(summary, Vec::new(alloc));
+    let mut table = Table::new(alloc, hashing, entries.len(), spare)?;
     for entry in entries {
         table.add(entry)?;
     }
@@ -69,80 +70,106 @@ pub fn summarize(
     Ok(())
 }
 
-/// Where a summary has the two entries that were last put in it at one slot.
+/// Where a summary has the two entries that were last put in it with one topic.
 #[derive(Clone, Copy)]
 struct Places {
     last: usize,
     before: usize,
 }
 
-/// A summary, and where it has entries of a heading. The places only save looks: an entry is left
-/// out or replaced after it is compared with those at the places.
+/// A summary, and where it has entries of each topic. The places only save looks: an entry is
+/// left out or replaced after it is compared with those at the places.
 #[derive(Drop)]
 struct Table {
-    slots: Vec<Places>,
+    places: IndexMap<Topic, Places, EntryHashing>,
     summary: Vec<MarkedEntry>,
     /// The strengths of the entries of the summary.
     strengths: Vec<Strength>,
-    ghost some: { 0 < length slots.items },
     ghost told: { strengths.items ≡ strengths_of summary.items },
 }
 
 impl Table {
     /// A table for so many entries, and an empty summary in the memory of the spare list.
-    fn new(alloc: Global, count: usize, spare: Vec<MarkedEntry>) -> Result<Table, NoMemory>
+    fn new(
+        alloc: Global,
+        hashing: EntryHashing,
+        count: usize,
+        spare: Vec<MarkedEntry>,
+    ) -> Result<Table, NoMemory>
         ensures { IfOk result (λ table. table.summary.items ≡ []) }
     {
-        let mut size = 1;
-        while size < MOST && size / 2 < count {
-            size *= 2;
-        }
-        let slots = vec![in alloc; Places { last: 0, before: 0 }; size]?;
         let mut summary = spare;
         summary.clear();
         let room = count.min(ROOM);
         summary.reserve_exact(room)?;
         let strengths = Vec::with_capacity(alloc, room)?;
         Ok(Table {
-            slots,
+            places: IndexMap::with_capacity_and_hasher(alloc, room, hashing)?,
             summary,
             strengths,
         })
     }
 
-    /// Adds an entry, unless the two at its slot are as strict. Where the earlier of them is as strict
-    /// with it as with the later, it takes the place of the later.
+    /// Adds an entry, unless the two at the places of its topic are as strict. Where the earlier
+    /// of them is as strict with it as with the later, it takes the place of the later.
     fn add(&mut self, entry: &Entry) -> Result<(), NoMemory>
         ensures { OnOk result ((entries : List OneEntry) → IsSummary (entries_of self.old.summary.items) entries → IsSummary (entries_of self.new.summary.items) (entries ++ entry.now ∷ [])) }
     {
         let strength = Strength::of(entry);
-        let slot = self.slot(&strength);
-        let Places { last, before } = self.slots[slot];
-        if before <= last && last < self.summary.len() {
+        let places = self.places(&strength.topic());
+        if let Some(found) = places {
+            let later = self.measured(found.last);
+            let earlier = self.measured(found.before);
             let own = Measured {
                 entry,
                 strength: &strength,
             };
-            let later = self.measured(last);
-            let earlier = self.measured(before);
             if are_as_strict(earlier, later, own) {
                 return Ok(());
             }
-            if before < last && are_as_strict(earlier, own, later) {
-                self.summary[last] = MarkedEntry::of(entry);
-                self.strengths[last] = strength;
+            if found.before < found.last && are_as_strict(earlier, own, later) {
+                self.summary[found.last] = MarkedEntry::of(entry);
+                self.strengths[found.last] = strength;
                 return Ok(());
             }
         }
+        self.put(entry, strength, places)?;
+        Ok(())
+    }
+
+    /// Puts an entry at the end. The two that were last put there with its topic are at these
+    /// places.
+    fn put(
+        &mut self,
+        entry: &Entry,
+        strength: Strength,
+        places: Option<Places>,
+    ) -> Result<(), NoMemory>
+        requires { strength ≡ strength_of entry.now }
+        ensures { OnOk result (HasMore self.old.summary.items entry.now self.new.summary.items) }
+    {
         self.summary.reserve(1)?;
         self.strengths.reserve(1)?;
-        self.slots[slot] = Places {
-            last: self.summary.len(),
-            before: last,
-        };
+        let last = self.summary.len();
+        let before = places.map_or(last, |places| places.last);
+        let topic = strength.topic();
+        self.places.insert(topic, Places { last, before })?;
         self.summary.push_reserved(MarkedEntry::of(entry));
         self.strengths.push_reserved(strength);
         Ok(())
+    }
+
+    /// The places of a topic, which the summary has.
+    fn places(&self, topic: &Topic) -> Option<Places>
+        ensures ordered { IfSome result (λ found. found.before ≤ found.last) }
+        ensures within { IfSome result (λ found. found.last < length self.now.summary.items) }
+    {
+        let places = *self.places.get(topic)?;
+        if places.before <= places.last && places.last < self.summary.len() {
+            Some(places)
+        } else {
+            None
+        }
     }
 
     /// The entry at this place of the summary.
@@ -154,13 +181,5 @@ impl Table {
             entry: &self.summary[place].entry,
             strength: &self.strengths[place],
         }
-    }
-
-    /// The slot of a strength: one for all entries about an item, and for those about none one for
-    /// each effect.
-    fn slot(&self, strength: &Strength) -> usize
-        ensures { result < length self.now.slots.items }
-    {
-        strength.hash() as usize & (self.slots.len() - 1)
     }
 }

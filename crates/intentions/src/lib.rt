@@ -11,5 +11,5 @@ mod layers;
 mod view;
 
 pub use committed::{Committed, FEW_ENTRIES, Mark, MarkedEntry, mark_all, summarize};
-pub use objects::{Call, Entry, NoMemory, Objects, Reply, Value};
+pub use objects::{Call, Entry, EntryHashing, NoMemory, Objects, Reply, Value};
 pub use view::{Lists, View, perform_each};

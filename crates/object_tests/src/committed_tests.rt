@@ -3,8 +3,8 @@ ghost use Rattle.std.specs.Prelude.{◌≡◌, ◌<◌};
 
 use committed::{Call, Committed, Entry, Mark, MarkedEntry, Reply, mark_all, summarize};
 use objects::{
-    AccountCall, AccountReply, Amount, DirectoryCall, DirectoryReply, Item, MaxCall, MaxReply,
-    QueueCall, QueueReply, SetCall, SetReply,
+    AccountCall, AccountReply, Amount, DirectoryCall, DirectoryReply, EntryHashing, Item, MaxCall,
+    MaxReply, QueueCall, QueueReply, SetCall, SetReply,
 };
 use std::alloc::AllocGlobal;
 use std::process::Abort;
@@ -328,17 +328,8 @@ fn entries_of_one_hash_are_told_apart(rt: HostRuntime) -> Result<(), Fail> {
     Ok(())
 }
 
-/// A slot of the first tables, as an index finds it.
-fn slot(entry: &Entry) -> u64 {
-    let mark = Mark::of(entry);
-    let key = mark
-        .of_item
-        .wrapping_add((mark.class as u32).wrapping_mul(0x9E3779B9));
-    ((key as u64).wrapping_mul(0x9E3779B97F4A7C15) >> 32) & 4095
-}
-
-/// A put under a key of the directory whose slots are crowded.
-fn put_in_crowd(key: u32, value: u32) -> Entry {
+/// A put under a key of one directory.
+fn put_under(key: u32, value: u32) -> Entry {
     Entry {
         object: 3,
         call: Call::Directory(DirectoryCall::Put(Item(key), Item(value))),
@@ -346,42 +337,23 @@ fn put_in_crowd(key: u32, value: u32) -> Entry {
     }
 }
 
-/// The keys of one slot.
-fn crowd(rt: &(impl Abort + AllocGlobal)) -> Vec<u32> {
-    let mut keys = Vec::new(rt.alloc());
-    for key in 0..1500000u32 {
-        if slot(&put_in_crowd(key, 1)) == 5 {
-            keys.push(key).ok().expect(rt, "memory");
-        }
-    }
-    keys
-}
-
-/// A list of a put under each key.
-fn list_of_puts(rt: &(impl Abort + AllocGlobal), keys: &[u32]) -> Committed {
-    let mut committed = Committed::new(rt.alloc());
-    for key in keys {
-        committed
-            .append(&[put_in_crowd(*key, 1)])
-            .ok()
-            .expect(rt, "memory");
-    }
-    committed
-}
-
 #[test]
-fn crowded_slots_are_searched(rt: HostRuntime) {
-    let keys = crowd(&rt);
-    assert!(rt; keys.len() > 300);
-    let committed = list_of_puts(&rt, &keys);
-    for (place, key) in keys.iter().enumerate() {
-        let other = put_in_crowd(*key, 2);
-        let same = put_in_crowd(*key, 1);
-        let next = put_in_crowd(key.wrapping_add(1), 2);
-        valid_in(&rt, &committed, &[other], place);
-        refuted_in(&rt, &committed, &[other], keys.len());
-        valid_in(&rt, &committed, &[same, next], keys.len());
+fn each_key_is_searched_by_itself(rt: HostRuntime) -> Result<(), Fail> {
+    let keys: usize = 400;
+    let mut committed = Committed::hashed_by(rt.alloc(), EntryHashing::of(7));
+    for key in 0..keys {
+        committed.append(&[put_under(key as u32, 1)])?;
     }
+    for place in 0..keys {
+        let key = place as u32;
+        let other = put_under(key, 2);
+        let same = put_under(key, 1);
+        let new = put_under(key + 400, 2);
+        valid_in(&rt, &committed, &[other], place);
+        refuted_in(&rt, &committed, &[other], keys);
+        valid_in(&rt, &committed, &[same, new], keys);
+    }
+    Ok(())
 }
 
 /// Stops the test where a summary of two and the entries that it stands for differ: whether they
@@ -420,7 +392,7 @@ fn many_operations_have_a_short_summary(rt: HostRuntime) -> Result<(), Fail> {
         entries.push(account(AccountCall::Withdraw(some), AccountReply::Ok))?;
     }
     let mut summary = Vec::new(alloc);
-    summarize(alloc, &entries, &mut summary)?;
+    summarize(alloc, EntryHashing::of(7), &entries, &mut summary)?;
     assert_eq!(rt; summary.len(), 2);
     let few = amount(&rt, 1);
     let mut others = Vec::new(alloc);
@@ -440,7 +412,7 @@ fn many_operations_have_a_short_summary(rt: HostRuntime) -> Result<(), Fail> {
 fn summary_has(rt: &(impl Abort + AllocGlobal), entries: &[Entry], expected: usize) {
     let alloc = rt.alloc();
     let mut summary = Vec::new(alloc);
-    summarize(alloc, entries, &mut summary)
+    summarize(alloc, EntryHashing::of(7), entries, &mut summary)
         .ok()
         .expect(rt, "memory");
     assert_eq!(rt; summary.len(), expected);

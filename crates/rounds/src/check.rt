@@ -9,7 +9,7 @@ ghost use Rattle.plan.specs.declared.plan.TheConstants.{MAX_WORKERS};
 
 use crate::crew::Crew;
 use crate::pending_run::PendingRun;
-use intentions::Committed;
+use intentions::{Committed, EntryHashing};
 use plan::Plan;
 use speculate::{Gate, NoMemory, Run};
 use std::alloc::Global;
@@ -122,7 +122,8 @@ fn summed(alloc: Global, runs: &[Run]) -> Result<Vec<PendingRun>, NoMemory>
     for run in runs {
         let mut next = PendingRun::empty(alloc);
         let whole = run.net == run.entries;
-        next.sums.renew(alloc, &run.entries, &run.net, whole)?;
+        next.sums
+            .renew(alloc, EntryHashing::of(0), &run.entries, &run.net, whole)?;
         pending.push(next)?;
     }
     Ok(pending)

@@ -73,7 +73,7 @@ impl<'s> Desk<'s> {
             gate,
             &mut self.run,
         )?;
-        pending.put(alloc, &mut self.run)?;
+        pending.put(alloc, batch.hashing, &mut self.run)?;
         Ok(())
     }
 }

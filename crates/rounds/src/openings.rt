@@ -92,7 +92,7 @@ fn round<R: Threads + Sync, G: Gate>(
 {
     let opened = at.opened;
     let ahead = at.ahead.max(1);
-    let mut nets = Committed::new(crew.alloc);
+    let mut nets = Committed::hashed_by(crew.alloc, batch.hashing);
     nets.expect(at.listed)?;
     let seen = seek(
         crew,

@@ -7,7 +7,7 @@ ghost use Rattle.rounds.specs.Spans.{AreIn};
 
 use crate::span::Span;
 use batch::Record;
-use intentions::{Entry, FEW_ENTRIES, MarkedEntry, summarize};
+use intentions::{Entry, EntryHashing, FEW_ENTRIES, MarkedEntry, summarize};
 use meaning::End;
 use speculate::{NoMemory, Run};
 use std::alloc::Global;
@@ -39,6 +39,7 @@ impl Sums {
     pub(crate) fn renew(
         &mut self,
         alloc: Global,
+        hashing: EntryHashing,
         entries: &[Entry],
         net: &[Entry],
         whole: bool,
@@ -47,13 +48,13 @@ impl Sums {
         ensures sums { OnOk result (AreSumsOf self.new entries.now net.now) }
         ensures few { OnOk result (length net.now ≤ FEW_ENTRIES → left_by self.new ≡ net.now) }
     {
-        summarize(alloc, entries, &mut self.entries)?;
+        summarize(alloc, hashing, entries, &mut self.entries)?;
         if whole {
             self.of_net = None;
             return Ok(());
         }
         let mut summary = self.of_net.take().unwrap_or(Vec::new(alloc));
-        summarize(alloc, net, &mut summary)?;
+        summarize(alloc, hashing, net, &mut summary)?;
         self.of_net = Some(summary);
         Ok(())
     }
@@ -134,7 +135,12 @@ impl PendingRun {
     /// Puts this run in the place of the one before it, whose memory it leaves in its own.
     ///
     /// Returns `NoMemory` where a request for memory was refused. Both are of no further use then.
-    pub(crate) fn put(&mut self, alloc: Global, run: &mut Run) -> Result<(), NoMemory>
+    pub(crate) fn put(
+        &mut self,
+        alloc: Global,
+        hashing: EntryHashing,
+        run: &mut Run,
+    ) -> Result<(), NoMemory>
         requires whole { length run.old.net.items ≡ length run.old.entries.items → run.old.net.items ≡ run.old.entries.items }
         ensures tree { OnOk result (self.new.tree ≡ run.old.tree) }
         ensures sums { OnOk result (AreSumsOf self.new.sums run.old.entries.items run.old.net.items) }
@@ -142,7 +148,8 @@ impl PendingRun {
         ensures span { OnOk result (AreIn self.new.span run.old.net.items) }
     {
         let whole = run.net.len() == run.entries.len();
-        self.sums.renew(alloc, &run.entries, &run.net, whole)?;
+        self.sums
+            .renew(alloc, hashing, &run.entries, &run.net, whole)?;
         self.span = Span::of(&run.net);
         let spare = replace(&mut self.net, Net::Recorded).into_list(alloc);
         self.net = if run.net.len() <= FEW_ENTRIES {

@@ -8,16 +8,26 @@ ghost use Rattle.speculate.specs.Ahead.{IsKept};
 
 use crate::worth::is_worth;
 use batch::{Subaction, Tried};
-use intentions::{Committed, Entry, Lists, MarkedEntry, NoMemory, Objects, View, summarize};
+use intentions::{
+    Committed, Entry, EntryHashing, Lists, MarkedEntry, NoMemory, Objects, View, summarize,
+};
 use meaning::Held;
 use std::alloc::Global;
 
-/// What those children of a parallel step share that are run ahead: the labels and the state that
-/// their parent sees at the step.
+/// What all parts of a transaction's run share: its number, the allocator, and how tables of its
+/// entries are hashed.
+#[derive(Clone, Copy, Drop)]
+pub(crate) struct Shared {
+    pub(crate) number: u32,
+    pub(crate) alloc: Global,
+    pub(crate) hashing: EntryHashing,
+}
+
+/// What those children of a parallel step share that are run ahead: also the labels and the state
+/// that their parent sees at the step.
 #[derive(Drop)]
 pub(crate) struct Fork {
-    pub(crate) alloc: Global,
-    pub(crate) number: u32,
+    pub(crate) shared: Shared,
     pub(crate) labels: Vec<Held>,
     pub(crate) state: Objects,
 }
@@ -26,8 +36,7 @@ impl Fork {
     /// A copy of the labels and of the state that the parent shows, where its children are to be run
     /// ahead: there are several, the width is for more than one, and they are worth the copies.
     pub(crate) fn if_wide(
-        alloc: Global,
-        number: u32,
+        shared: Shared,
         children: &[Subaction],
         labels: &[Held],
         view: &View<'_>,
@@ -40,9 +49,8 @@ impl Fork {
             return Ok(None);
         }
         Ok(Some(Fork {
-            alloc,
-            number,
-            labels: Vec::from_slice(alloc, labels)?,
+            shared,
+            labels: Vec::from_slice(shared.alloc, labels)?,
             state: view.state()?,
         }))
     }
@@ -60,7 +68,7 @@ pub(crate) struct Ahead {
 
 impl Ahead {
     /// What a child did that was run in this view, with all that the view recorded.
-    pub(crate) fn of(alloc: Global, tried: Tried, view: View<'_>) -> Result<Ahead, NoMemory>
+    pub(crate) fn of(shared: Shared, tried: Tried, view: View<'_>) -> Result<Ahead, NoMemory>
         requires { length view.outer ≡ 0 }
         ensures tried { IfOk result (λ run. run.tried ≡ tried) }
         ensures entries { IfOk result (λ run. run.entries.items ≡ view.entry.entries) }
@@ -68,8 +76,8 @@ impl Ahead {
         ensures summary { IfOk result (λ run. IsSummary (entries_of run.summary.items) run.entries.items) }
     {
         let Lists { entries, net } = view.into_run();
-        let mut summary = Vec::new(alloc);
-        summarize(alloc, &entries, &mut summary)?;
+        let mut summary = Vec::new(shared.alloc);
+        summarize(shared.alloc, shared.hashing, &entries, &mut summary)?;
         Ok(Ahead {
             tried,
             entries,

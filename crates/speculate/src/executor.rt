@@ -12,7 +12,7 @@ ghost use Rattle.batch.specs.Shows.{ShowsRun, ShowsStep, ShowsTried, ShowsChildr
 ghost use Rattle.speculate.specs.Running.{in_view, IsNoOperation};
 ghost use Rattle.speculate.specs.Ahead.{CanAllTry, IsRunAhead, AreRunAhead, IsRunBefore};
 
-use crate::ahead::{Ahead, Fork, both_halves, list_since};
+use crate::ahead::{Ahead, Fork, Shared, both_halves, list_since};
 use crate::gate::Gate;
 use crate::reached::Reached;
 use crate::spare::{Spare, boxed, list_of, make_room, put_at, record_of, spare_at};
@@ -27,16 +27,15 @@ use std::thread::{Threads, join};
 #[derive(Drop)]
 pub(crate) struct Making<'a, T: Threads + Sync, G: Gate> {
     pub(crate) threads: &'a T,
-    pub(crate) alloc: Global,
     pub(crate) gate: &'a G,
-    pub(crate) number: u32,
+    pub(crate) shared: Shared,
 }
 
 impl<T: Threads + Sync, G: Gate> Making<'_, T, G> {
     // Calls the gate as the child at this place (from 0) of its step starts.
     fn pass(&self, place: usize) {
         let child = u32::try_from(place).unwrap_or(u32::MAX);
-        self.gate.pass(self.number, child.saturating_add(1));
+        self.gate.pass(self.shared.number, child.saturating_add(1));
     }
 }
 
@@ -132,18 +131,18 @@ fn run_other_step<T: Threads + Sync, G: Gate>(
             let holds = test_holds(test, &labels[*label as usize]);
             let branch = branch_of(holds, then, otherwise);
             let mut spare = spare_at(taken, place);
-            let list = list_of(making.alloc, &mut spare.body);
+            let list = list_of(making.shared.alloc, &mut spare.body);
             let record = run_block(making, branch, labels, view, width, list)?;
             let end = record.outcome;
             Ok((
-                Taken::If(holds, boxed(making.alloc, &mut spare.body, record)?),
+                Taken::If(holds, boxed(making.shared.alloc, &mut spare.body, record)?),
                 end,
             ))
         }
         Step::Sub(child) => {
             let mut spare = spare_at(taken, place);
             let tried = run_subaction(making, child, labels, view, width, &mut spare)?;
-            let (done, end) = spare.into_step(making.alloc, labels, child.labelled, tried)?;
+            let (done, end) = spare.into_step(making.shared.alloc, labels, child.labelled, tried)?;
             Ok((done, end))
         }
         Step::Abort(reason) => Ok((Taken::Abort, End::Aborted(*reason))),
@@ -170,7 +169,7 @@ fn run_subaction<T: Threads + Sync, G: Gate>(
     ensures labels { OnOk result (labels.new.items ≡ labels.old.items) }
 {
     view.begin()?;
-    let list = list_of(making.alloc, &mut spare.body);
+    let list = list_of(making.shared.alloc, &mut spare.body);
     let body = run_block(making, &child.body, labels, view, width, list)?;
     match body.outcome {
         End::Ended => {
@@ -183,7 +182,7 @@ fn run_subaction<T: Threads + Sync, G: Gate>(
         }
         End::Aborted(reason) => match undo(child, reason, view) {
             Ok(block) => {
-                let list = list_of(making.alloc, &mut spare.handler);
+                let list = list_of(making.shared.alloc, &mut spare.handler);
                 let done = run_block(making, block, labels, view, width, list)?;
                 let (handler, end) = handled(done);
                 Ok(Tried { body, handler, end })
@@ -212,9 +211,9 @@ fn run_children<T: Threads + Sync, G: Gate>(
         (λ r. ShowsChildren in_view (one_children (children_view children.now) labels.old.items (state_of_view view.old)) r.0.all.items r.1 r.0.outcomes.items view.old view.new) }
     ensures labels { OnOk result (labels.new.items ≡ labels.old.items) }
 {
-    let mut reached = Reached::new(making.alloc, children.len())?;
+    let mut reached = Reached::new(making.shared.alloc, children.len())?;
     let mut ahead = run_if_wide(making, children, labels, view, width)?.into_iter();
-    let mut kept = Committed::new(making.alloc);
+    let mut kept = Committed::hashed_by(making.shared.alloc, making.shared.hashing);
     for (place, child) in children.iter().enumerate() {
         let run = ahead.next();
         let tried = run_child(making, child, place, run, &mut kept, labels, view, width)?;
@@ -295,9 +294,9 @@ fn run_if_wide<T: Threads + Sync, G: Gate>(
     requires { CanAllTry children.now labels.now (state_of_view view.now) }
     ensures { IfOk result (λ runs. AreRunAhead children.now labels.now (state_of_view view.now) runs.items) }
 {
-    let fork = Fork::if_wide(making.alloc, making.number, children, labels, view, width)?;
+    let fork = Fork::if_wide(making.shared, children, labels, view, width)?;
     let Some(fork) = fork else {
-        return Ok(Vec::new(making.alloc));
+        return Ok(Vec::new(making.shared.alloc));
     };
     run_ahead(
         making.threads,
@@ -369,11 +368,10 @@ fn run_part<T: Threads + Sync, G: Gate>(
 {
     let making = Making {
         threads,
-        alloc: fork.alloc,
         gate,
-        number: fork.number,
+        shared: fork.shared,
     };
-    let mut runs = Vec::with_capacity(fork.alloc, upto - from)?;
+    let mut runs = Vec::with_capacity(fork.shared.alloc, upto - from)?;
     for place in from..upto {
         let run = run_alone(&making, fork, &children[place], place, width)?;
         runs.push(run)?;
@@ -394,8 +392,8 @@ fn run_alone<T: Threads + Sync, G: Gate>(
     ensures { IfOk result (λ run. IsRunAhead (subaction_view child.now) fork.now.labels.items fork.now.state run) }
 {
     making.pass(place);
-    let mut labels = Vec::from_slice(making.alloc, &fork.labels)?;
-    let mut view = View::open(making.alloc, &fork.state)?;
+    let mut labels = Vec::from_slice(making.shared.alloc, &fork.labels)?;
+    let mut view = View::open(making.shared.alloc, &fork.state)?;
     let tried = run_subaction(
         making,
         child,
@@ -404,5 +402,5 @@ fn run_alone<T: Threads + Sync, G: Gate>(
         width,
         &mut Spare::none(),
     )?;
-    Ok(Ahead::of(making.alloc, tried, view)?)
+    Ok(Ahead::of(making.shared, tried, view)?)
 }

@@ -8,6 +8,7 @@ ghost use Rattle.meaning.specs.Batch.{block_at};
 ghost use Rattle.speculate.specs.Runs.{IsRunOf, IsWithinOthers};
 ghost use Rattle.plan.specs.declared.plan.TheConstants.{MAX_WORKERS};
 
+use crate::ahead::Shared;
 use crate::executor::{Making, run_block};
 use crate::gate::Gate;
 use crate::speculated::Run;
@@ -90,9 +91,12 @@ pub fn run_in<T: Threads + Sync, G: Gate>(
     let block = &batch.transactions[number as usize - 1];
     let making = Making {
         threads,
-        alloc,
         gate,
-        number,
+        shared: Shared {
+            number,
+            alloc,
+            hashing: batch.hashing,
+        },
     };
     view.reserve(block.steps.len())?;
     let spare = replace(&mut run.tree.taken, Vec::new(alloc));

@@ -1,9 +1,12 @@
 //! How the names of a document are hashed.
 ghost use Rattle.std.specs.Prelude.{◌≡◌};
+ghost use Rattle.objects.specs.Hashing.{begun_with};
+ghost use Rattle.std.specs.Hash.DefaultHasher.{finish};
 ghost use Rattle.spelling.specs.Hashing.{behind};
 
 use crate::subject::Subject;
 use indexmap::{IndexMap, IndexSet};
+use objects::EntryHashing;
 use std::hash::{BuildHasher, DefaultHasher, Hasher};
 
 /// Hashes each name as what follows the whole document.
@@ -33,6 +36,13 @@ impl NameHashing {
         // Up to a whole word, so that each name begins a word.
         document.write(&[0; 8][bytes.len() % 8..]);
         NameHashing { document }
+    }
+
+    /// How tables of the document's entries are hashed.
+    pub fn of_entries(&self) -> EntryHashing
+        ensures { result.begun ≡ begun_with (finish self.now.document) }
+    {
+        EntryHashing::of(self.document.finish())
     }
 }
 

@@ -34,7 +34,7 @@ pub(crate) fn round_from<T: Threads + Sync>(
     ensures { IfOk result (IsRound batch.now opened) }
 {
     let mut passed = Vec::new(alloc);
-    let mut nets = Committed::new(alloc);
+    let mut nets = Committed::hashed_by(alloc, batch.hashing);
     for place in opened..batch.transactions.len() {
         let run = run(threads, alloc, objects, batch, place as u32 + 1, 1, &NoGate)?;
         let marked = mark_all(alloc, &run.entries)?;

@@ -30,7 +30,8 @@ loop-marked-preserved c =
           ∙ ap (λ xs. c.args.entries.now.items ++ xs) (sym (map-append (λ (k : MarkedEntry). k.entry) (take at more) (m ∷ []))
           ∙ ap entries_of (ap (λ x. take at more ++ x ∷ []) (sym read) ∙ sym (take_more more at m c.loop-marked-test.true)));
       room = omega (arith, was.room, c.push_reserved.ensures.len, c.push_reserved.ensures.capacity, c.loop-marked-test.true);
-      index_room = c.push.ensures.room _ (omega (arith, was.index_room.0, c.loop-marked-test.true), was.index_room.1);
+      index_room = c.push.ensures.room _
+          (omega (arith, was.index_room.0, c.loop-marked-test.true), omega (arith, was.index_room.1, c.loop-marked-test.true));
       filter = λ k d l. elim (cases_lt k (length es)) [
         | inl before ↦ subst (IsMarked c.mark.new.self) (sym (ap (λ xs. get_or xs k d) c.push_reserved.ensures.items
             ∙ get_or_append_left es (e ∷ []) d k before))

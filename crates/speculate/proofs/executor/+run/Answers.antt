@@ -219,7 +219,7 @@ run_children-loop-place-init g t c = record {
   same = refl;
   part = rw (c.in_ok-reached.ensures.all, c.in_ok-reached.ensures.outcomes)
       (part_tried-start ground c.args.children.now c.args.labels.now.items c.args.view.now c.requires);
-  left = λ some. rw (c.new-kept.ensures, c.into_iter-ahead.ensures.rest) (left-start c.args.children.now c.args.labels.now.items
+  left = λ some. rw (c.hashed_by-kept.ensures, c.into_iter-ahead.ensures.rest) (left-start c.args.children.now c.args.labels.now.items
       (state_of_view c.args.view.now) c.in_ok-run_if_wide.field-0.items (rw c.deref.ensures.value at c.in_ok-run_if_wide.ensures));
 }
 

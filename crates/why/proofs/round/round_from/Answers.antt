@@ -13,8 +13,8 @@ use Rattle.why.proofs.round.round_from.Goals as goal
 pub loop-place-init : goal.loop-place-init
 loop-place-init g c =
     let within = c.requires.within in
-    none_passed c.args.batch.now c.args.opened c.new-passed.result.items c.new-nets.result (omega arith) c.new-passed.ensures.items
-    c.new-nets.ensures
+    none_passed c.args.batch.now c.args.opened c.new-passed.result.items c.hashed_by-nets.result (omega arith) c.new-passed.ensures.items
+    c.hashed_by-nets.ensures
 
 pub run-requires-clause-same_kinds : goal.run-requires-clause-same_kinds
 run-requires-clause-same_kinds g c κs lives =

@@ -23,7 +23,8 @@ invariant_of-self-in_err-reserve-2 c = record {
 
 pub invariant_of-self-in_err-reserve-3 : goal.invariant_of-self-in_err-reserve-3
 invariant_of-self-in_err-reserve-3 c = record {
-  index = subst (λ es. IsIndexOf es c.reserve-3.new.self) c.deref-2.ensures.value c.reserve-3.ensures.index;
+  index = c.reserve-3.ensures.index c.reserve.new.self.items
+      (subst (λ es. IsIndexOf es c.self.inside.index) (sym c.reserve.ensures.items) c.self.invariant.index);
   all = c.reserve-3.ensures.listed ∙ subst (λ es. IsAllListed es c.self.inside.index) (sym c.reserve.ensures.items) c.self.invariant.all;
   filter = subst (λ es. IsFilterOf es c.reserve-2.new.self) c.deref.ensures.value c.reserve-2.ensures.filter;
 }

@@ -2,11 +2,10 @@ use Rattle.std.proofs.Common.{◌≡◌, List, Bool, true, false, arith, refl, s
 use Rattle.std.proofs.lemmas.Bool.{cases_lt, false≢true}
 use Rattle.objects.specs.declared.entry.Entry.{Entry}
 use Rattle.committed.specs.declared.classes.Class.{Class}
-use Rattle.committed.specs.declared.marks.Mark.{Mark}
 use Rattle.committed.specs.Classes.{class_of}
 use Rattle.committed.specs.Items.{is_compared}
-use Rattle.committed.specs.Marks.{mark_of}
-use Rattle.committed.specs.Index.{key_against, IsLinked, IsListed}
+use Rattle.committed.specs.Headings.{heading_against}
+use Rattle.committed.specs.Index.{IsLinked, IsListed}
 use Rattle.objects.specs.Entries.{CommuteForward}
 use Rattle.committed.proofs.ClassesLemmas.{elsewhere}
 use Rattle.committed.proofs.StandsLemmas.{all_first, each_first, linked_against}
@@ -17,7 +16,7 @@ returns-then-not-commutes c =
     let e = c.args.entry.now in
     let read : c.deref.result.now ≡ c.args.self.now = c.deref.ensures.value ∙ c.self.view_is in (
       λ h. absurd (false≢true h),
-      λ h. absurd (false≢true (sym c.if-not-commutes.true ∙ c.commutes.ensures.all (λ k before.
+      λ h. absurd (false≢true (sym c.if-not-commutes.true ∙ c.commutes.ensures.all (λ k before linked.
           subst (λ es. CommuteForward e (get_or es k e)) (sym read)
           (each_first e c.args.self.now c.args.upto c.requires.within h k before)))),
     )
@@ -46,19 +45,16 @@ loop-class-preserved c k before listed gone = elim (c.taken_from-rest.ensures.ot
     class : Class
     class = class_of other.call other.reply
 
-    inside_listed : IsListed c.self.inside.index.links.items k other
-    inside_listed = subst (λ xs. IsListed c.self.inside.index.links.items k (get_or xs k e)) c.self.view_is
-        (c.self.invariant.index.listed k e listed)
+    inside_listed : IsListed c.self.inside.index k other
+    inside_listed = subst (λ xs. IsListed c.self.inside.index k (get_or xs k e)) c.self.view_is
+        (c.self.invariant.index.listed k listed e)
 
     by_compared : class ≡ c.in-Some.class → (b : Bool) → is_compared e other ≡ b → CommuteForward e other
     by_compared here false compared = elsewhere e other compared
     by_compared here true compared =
-        let key : key_against (mark_of e) class ≡ c.key_against-key.result =
-        ap (key_against (mark_of e)) here
-        ∙ ap (λ (m : Mark). key_against m c.in-Some.class) (sym c.requires.mark) ∙ sym c.key_against-key.ensures in
-        let linked : IsLinked c.self.inside.index.links.items k c.key_against-key.result =
-        subst (IsLinked c.self.inside.index.links.items k) key
-        (linked_against c.self.inside.index.links.items e other k compared inside_listed) in
+        let linked : IsLinked c.self.inside.index k c.against-heading.result =
+        subst (IsLinked c.self.inside.index k) (ap (heading_against e) here ∙ sym c.against-heading.ensures)
+        (linked_against c.self.inside.index e other k compared inside_listed) in
         subst (λ xs. CommuteForward e (get_or xs k e)) (c.deref.ensures.value
         ∙ c.self.view_is) (c.commutes.ensures.found c.if-not-commutes.false k before linked)
 

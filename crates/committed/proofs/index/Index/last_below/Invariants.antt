@@ -1,12 +1,12 @@
 use Rattle.std.proofs.Common.{◌≡◌, ℕ, ◌<◌, ◌≤◌, length}
-use Rattle.committed.specs.Index.{slot_in, key_at, place_at, IsEnd}
+use Rattle.committed.specs.Index.{number_of, heading_at, place_at, IsInChain}
 use Rattle.committed.proofs.index.Index.last_below.Given as goal
 
 abbrev pub invariant-loop-at : goal.invariant-loop-at
 invariant-loop-at l = record {
-  end : IsEnd (slot_in l.self) l.self.links.items (length l.self.links.items) (slot_in l.self l.key) l.at;
+  end : IsInChain l.self.links.items (number_of l.self l.fn.heading) l.at;
   after : (m : ℕ) → l.at ≤ m → m < length l.self.links.items
-      → slot_in l.self (key_at l.self.links.items m) ≡ slot_in l.self l.key → l.upto ≤ place_at l.self.links.items m;
+      → heading_at l.self.links.items m ≡ number_of l.self l.fn.heading → l.upto ≤ place_at l.self.links.items m;
 }
 
 abbrev pub decreases-loop-at : goal.decreases-loop-at

@@ -1,8 +1,8 @@
-use Rattle.std.proofs.Common.{◌≡◌, ◌<◌, ◌≤◌, ◌-◌, ℕ, arith, get_or, length, sym, ap, ◌∙◌, subst}
+use Rattle.std.proofs.Common.{◌≡◌, ◌<◌, ◌≤◌, ◌-◌, ℕ, arith, get_or, length, refl, sym, ap, ◌∙◌, subst, inl, inr}
 use Rattle.std.proofs.lemmas.List.{get_or_default}
 use Rattle.objects.specs.declared.entry.Entry.{Entry}
 use Rattle.committed.specs.declared.index.Link.{Link}
-use Rattle.committed.specs.Index.{slot_in, link_at, IsSpan}
+use Rattle.committed.specs.Index.{link_at, IsSpan}
 use Rattle.committed.specs.Strictness.{IsAsStrict}
 use Rattle.committed.proofs.IndexLemmas.{span_joined}
 use Rattle.committed.proofs.index.Index.next.Goals as goal
@@ -14,8 +14,8 @@ returns-then-is_as_strict-clause-span c =
     let last : ℕ = c.args.last in
     let some : 0 < last = omega (arith, c.if-last-eq0.false) in
     let found : Link = link_at links (last - 1) in
-    let was : IsSpan es (slot_in c.args.self.now) links (last - 1) found =
-    c.requires.spans (last - 1) (omega (arith, some, c.requires.end.0)) in
+    let was : IsSpan es links (last - 1) found =
+    c.requires.spans (last - 1) (omega (arith, some, c.requires.end.end.0)) in
     let read : c.get-found.result.now ≡ found = c.get-found.ensures in
     let place_read : (d : Entry) → get_or es c.args.place d ≡ c.index-entries-place.result =
     λ d. get_or_default es c.args.place d c.index-entries-place.result c.requires.within ∙ sym c.index-entries-place.is in
@@ -26,8 +26,8 @@ returns-then-is_as_strict-clause-span c =
     let strict : (d : Entry) → IsAsStrict (get_or es c.args.place d) (get_or es found.strictest d) =
     λ d. subst (λ p. IsAsStrict p (get_or es found.strictest d)) (sym (place_read d))
     (subst (IsAsStrict c.index-entries-place.result) (sym (found_read d)) (c.is_as_strict.ensures.strict c.if-is_as_strict.true)) in
-    span_joined es (slot_in c.args.self.now) links last _ some c.requires.end.0 (c.requires.end.1 some) c.requires.after was
-    (ap (λ (y : Link). y.span) read) c.requires.within (omega arith) (λ d e commutes. commutes) strict
+    span_joined es links last _ some c.requires.end.end.0 (c.requires.end.end.1 some) c.requires.end.after was
+    (ap (λ (y : Link). y.span) read) c.requires.within (omega arith) (inl refl) (λ d e commutes. commutes) strict
 
 pub returns-then-is_as_strict-2-clause-span : goal.returns-then-is_as_strict-2-clause-span
 returns-then-is_as_strict-2-clause-span c =
@@ -36,8 +36,8 @@ returns-then-is_as_strict-2-clause-span c =
     let last : ℕ = c.args.last in
     let some : 0 < last = omega (arith, c.if-last-eq0.false) in
     let found : Link = link_at links (last - 1) in
-    let was : IsSpan es (slot_in c.args.self.now) links (last - 1) found =
-    c.requires.spans (last - 1) (omega (arith, some, c.requires.end.0)) in
+    let was : IsSpan es links (last - 1) found =
+    c.requires.spans (last - 1) (omega (arith, some, c.requires.end.end.0)) in
     let read : c.get-found.result.now ≡ found = c.get-found.ensures in
     let place_read : (d : Entry) → get_or es c.args.place d ≡ c.index-entries-place.result =
     λ d. get_or_default es c.args.place d c.index-entries-place.result c.requires.within ∙ sym c.index-entries-place.is in
@@ -50,8 +50,8 @@ returns-then-is_as_strict-2-clause-span c =
     (subst (IsAsStrict c.index-entries-found.result) (sym (place_read d))
     (c.is_as_strict-else-is_as_strict.ensures.strict c.if-is_as_strict-2.true)) in
     let same : found.strictest ≡ c.get-found.result.now.strictest = ap (λ (y : Link). y.strictest) (sym read) in
-    let earlier : found.place ≤ c.args.place = c.requires.last (last - 1) (omega (arith, some, c.requires.end.0)) in
-    span_joined es (slot_in c.args.self.now) links last _ some c.requires.end.0 (c.requires.end.1 some) c.requires.after was
-    (ap (λ (y : Link). y.span) read) c.requires.within (omega (arith, was.strictest, earlier, same))
+    let earlier : found.place ≤ c.args.place = c.requires.last (last - 1) (omega (arith, some, c.requires.end.end.0)) in
+    span_joined es links last _ some c.requires.end.end.0 (c.requires.end.end.1 some) c.requires.end.after was
+    (ap (λ (y : Link). y.span) read) c.requires.within (omega (arith, was.strictest, earlier, same)) (inr (sym same))
     (λ d. subst (λ n. IsAsStrict (get_or es n d) (get_or es c.args.place d)) same (strict d))
     (λ d. subst (λ n. IsAsStrict (get_or es n d) (get_or es found.strictest d)) same (λ e commutes. commutes))
