@@ -102,16 +102,26 @@ def try_threads_of_nested(program, library):
 
 
 def try_workers(program, library):
-    """Of much work that is independent each worker has its part. One worker starts no thread."""
+    """Of much work that is independent each worker has its part, and so of its report. One worker starts no thread."""
     accounts = ['{"name":"a%d","kind":"account","start":0}' % i for i in range(500)]
     independent = document(accounts, [
         block(*(op("a%d" % (i % 500), "deposit", 1) for i in range(first, first + 20)))
         for first in range(0, 100_000, 20)])
-    for workers, least, most in (("1", 0, 0), ("2", 1, 1_000), ("4", 3, 1_000)):
+    for workers, least, most in (("1", 0, 0), ("2", 2, 1_000), ("4", 6, 1_000)):
         words = ["run", "--workers", workers]
         got, _, started = preloaded.run(library, 0, words, program.path, independent, together=True)
         program.compare("threads of independent work: %d" % started, words,
                         (got[1], least <= started <= most, None), (0, True, None))
+
+
+def try_rendering(program, library):
+    """Each worker renders a part of a long report. Nothing else starts a thread here, and a short report none."""
+    for count, workers, expected in ((9_000, "1", 0), (9_000, "2", 1), (9_000, "4", 3), (1_000, "4", 0)):
+        words = ["run", "--workers", workers]
+        deposits = document([ACCOUNT], [block(op("a", "deposit", 1))] * count)
+        got, _, started = preloaded.run(library, 0, words, program.path, deposits, together=True)
+        program.compare("threads of a report of %d transactions: %d" % (count, started), words,
+                        (got[1], started, None), (0, expected, None))
 
 
 # A step, and how many requests for memory its reading may take. By a tree it takes three times as many.
@@ -168,3 +178,4 @@ def try_all(program, library):
     try_reading(program, library)
     try_threads_of_nested(program, library)
     try_workers(program, library)
+    try_rendering(program, library)

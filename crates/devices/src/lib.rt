@@ -1,4 +1,4 @@
-//! Devices: where bytes come from and where they go; all bytes read, and a text written whole.
+//! Devices: where bytes come from and where they go; all bytes read, and texts written whole.
 #![tactic(auto)]
 
 mod input;
@@ -9,6 +9,6 @@ mod source;
 
 pub use input::read_input;
 pub use marked::Marked;
-pub use output::write_text;
+pub use output::{write_text, write_texts};
 pub use sink::Sink;
 pub use source::{Failed, Source};

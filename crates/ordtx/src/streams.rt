@@ -8,7 +8,7 @@ ghost use Rattle.ordtx.specs.declared.carrying.Uncarried.TheVariants as uncarrie
 use crate::carrying::{Uncarried, carried_into_of, carried_of};
 use crate::location::location_of;
 use crate::texts::{audit_of, check_of, explanation_of, plain_report_of, report_of};
-use devices::{Sink, Source, read_input, write_text};
+use devices::{Sink, Source, read_input, write_text, write_texts};
 use lang::{Fault, MAX_BYTES};
 use rounds::Plan;
 use speculate::Gate;
@@ -58,8 +58,8 @@ pub fn run_stream<T: Threads + Sync, R: Source, W: Sink, G: Gate>(
         → WritesBeginning IsReportOf (R.remaining source.old) (W.taken sink.old) (W.taken sink.new) }
 {
     let document = read_input(alloc, source, MOST_READ)?;
-    let text = report_of(threads, alloc, document, plan, gate)?;
-    write_text(sink, text.as_bytes())
+    let parts = report_of(threads, alloc, document, plan, gate)?;
+    write_texts(sink, &parts)
 }
 
 /// Does as [`run_stream`], and writes after the report how often each transaction was run.
@@ -93,8 +93,8 @@ pub fn audit_stream<T: Threads + Sync, R: Source, W: Sink, G: Gate>(
         → WritesBeginning IsAuditOf (R.remaining source.old) (W.taken sink.old) (W.taken sink.new) }
 {
     let document = read_input(alloc, source, MOST_READ)?;
-    let text = audit_of(threads, alloc, document, plan, gate)?;
-    write_text(sink, text.as_bytes())
+    let parts = audit_of(threads, alloc, document, plan, gate)?;
+    write_texts(sink, &parts)
 }
 
 /// Does as [`run_stream`], or with an audit as [`audit_stream`], and writes after it which operations
@@ -130,8 +130,8 @@ pub fn explain_stream<T: Threads + Sync, R: Source, W: Sink, G: Gate>(
         → WritesBeginning (IsExplainedOf audit) (R.remaining source.old) (W.taken sink.old) (W.taken sink.new) }
 {
     let document = read_input(alloc, source, MOST_READ)?;
-    let text = explanation_of(threads, alloc, document, plan, audit, gate)?;
-    write_text(sink, text.as_bytes())
+    let parts = explanation_of(threads, alloc, document, plan, audit, gate)?;
+    write_texts(sink, &parts)
 }
 
 /// Reads a document from the source, runs its transactions by number on one thread, and writes the

@@ -1,12 +1,13 @@
 //! The texts that a document gives.
 ghost use Rattle.std.specs.Prelude.{◌≡◌, ◌≢◌, true, ℕ, List, IfErr, IfOk, Ok, string_bytes};
+ghost use Rattle.std.specs.List.{flat_map};
 ghost use Rattle.faults.specs.Faults.{is_of_reading, memory_fault};
 ghost use Rattle.lang.specs.Reading.{document_of, reading};
 ghost use Rattle.ordtx.specs.Answers.{IsAuditOf, IsCheckOf, IsExplainedOf, IsFaultOf, IsPlainReportOf, IsReportOf, IsShownOf};
 
 use batch::Batch;
 use lang::{Fault, read};
-use report::{render, render_audit, render_check, render_plain};
+use report::{render_audit_parts, render_check, render_parts, render_plain};
 use rounds::{Plan, execute, execute_ahead};
 use speculate::{Gate, NoMemory, plain};
 use std::alloc::Global;
@@ -22,7 +23,8 @@ pub(crate) fn batch_of(alloc: Global, document: Vec<u8>) -> Result<Batch, Fault>
     read(alloc, document.as_slice())
 }
 
-// The report, or the report with the run counts, of a batch that was read.
+// The report, or the report with the run counts, of a batch that was read. It is in parts, which follow
+// one another.
 fn report_of_batch<T: Threads + Sync, G: Gate>(
     threads: &T,
     alloc: Global,
@@ -30,15 +32,15 @@ fn report_of_batch<T: Threads + Sync, G: Gate>(
     plan: Plan,
     audit: bool,
     gate: &G,
-) -> Result<String, NoMemory>
-    ensures { IfOk result (λ text. (bytes : List ℕ) → reading bytes ≡ Ok (document_of batch.now) → IsShownOf audit bytes (string_bytes text)) }
+) -> Result<Vec<String>, NoMemory>
+    ensures { IfOk result (λ parts. (bytes : List ℕ) → reading bytes ≡ Ok (document_of batch.now) → IsShownOf audit bytes (flat_map string_bytes parts.items)) }
 {
     if audit {
         let outcome = execute(threads, alloc, batch, plan, gate)?;
-        return render_audit(alloc, batch, &outcome);
+        return render_audit_parts(threads, alloc, plan.workers, batch, &outcome);
     }
     let outcome = execute_ahead(threads, alloc, batch, plan, gate)?;
-    render(alloc, batch, &outcome)
+    render_parts(threads, alloc, plan.workers, batch, &outcome)
 }
 
 // The report of a document.
@@ -48,14 +50,14 @@ pub(crate) fn report_of<T: Threads + Sync, G: Gate>(
     document: Vec<u8>,
     plan: Plan,
     gate: &G,
-) -> Result<String, Fault>
-    ensures text { IfOk result (λ text. IsReportOf document.items (string_bytes text)) }
+) -> Result<Vec<String>, Fault>
+    ensures text { IfOk result (λ parts. IsReportOf document.items (flat_map string_bytes parts.items)) }
     ensures fault { IfErr result (λ fault. fault ≢ memory_fault → IsFaultOf document.items fault) }
     ensures code { IfErr result (λ fault. is_of_reading fault.code ≡ true) }
 {
     let batch = batch_of(alloc, document)?;
-    let text = report_of_batch(threads, alloc, &batch, plan, false, gate)?;
-    Ok(text)
+    let parts = report_of_batch(threads, alloc, &batch, plan, false, gate)?;
+    Ok(parts)
 }
 
 // The report, and how often each transaction was run.
@@ -65,14 +67,14 @@ pub(crate) fn audit_of<T: Threads + Sync, G: Gate>(
     document: Vec<u8>,
     plan: Plan,
     gate: &G,
-) -> Result<String, Fault>
-    ensures text { IfOk result (λ text. IsAuditOf document.items (string_bytes text)) }
+) -> Result<Vec<String>, Fault>
+    ensures text { IfOk result (λ parts. IsAuditOf document.items (flat_map string_bytes parts.items)) }
     ensures fault { IfErr result (λ fault. fault ≢ memory_fault → IsFaultOf document.items fault) }
     ensures code { IfErr result (λ fault. is_of_reading fault.code ≡ true) }
 {
     let batch = batch_of(alloc, document)?;
-    let text = report_of_batch(threads, alloc, &batch, plan, true, gate)?;
-    Ok(text)
+    let parts = report_of_batch(threads, alloc, &batch, plan, true, gate)?;
+    Ok(parts)
 }
 
 // The report, with the run counts where an audit is asked for, and which operations ended the
@@ -84,14 +86,14 @@ pub(crate) fn explanation_of<T: Threads + Sync, G: Gate>(
     plan: Plan,
     audit: bool,
     gate: &G,
-) -> Result<String, Fault>
-    ensures text { IfOk result (λ text. IsExplainedOf audit document.items (string_bytes text)) }
+) -> Result<Vec<String>, Fault>
+    ensures text { IfOk result (λ parts. IsExplainedOf audit document.items (flat_map string_bytes parts.items)) }
     ensures fault { IfErr result (λ fault. fault ≢ memory_fault → IsFaultOf document.items fault) }
     ensures code { IfErr result (λ fault. is_of_reading fault.code ≡ true) }
 {
     let batch = batch_of(alloc, document)?;
-    let text = explanation_of_batch(threads, alloc, &batch, plan, audit, gate)?;
-    Ok(text)
+    let parts = explanation_of_batch(threads, alloc, &batch, plan, audit, gate)?;
+    Ok(parts)
 }
 
 // The same of a batch that was read.
@@ -102,13 +104,13 @@ fn explanation_of_batch<T: Threads + Sync, G: Gate>(
     plan: Plan,
     audit: bool,
     gate: &G,
-) -> Result<String, NoMemory>
-    ensures { IfOk result (λ text. (bytes : List ℕ) → reading bytes ≡ Ok (document_of batch.now) → IsExplainedOf audit bytes (string_bytes text)) }
+) -> Result<Vec<String>, NoMemory>
+    ensures { IfOk result (λ parts. (bytes : List ℕ) → reading bytes ≡ Ok (document_of batch.now) → IsExplainedOf audit bytes (flat_map string_bytes parts.items)) }
 {
-    let mut text = report_of_batch(threads, alloc, batch, plan, audit, gate)?;
+    let mut parts = report_of_batch(threads, alloc, batch, plan, audit, gate)?;
     let why = render_why(threads, alloc, batch)?;
-    text.push_str(why.as_str())?;
-    Ok(text)
+    parts.push(why)?;
+    Ok(parts)
 }
 
 // The report of one thread.

@@ -4,3 +4,4 @@ pub mod Joined
 pub mod NameLemmas
 pub mod SortedLemmas
 pub mod TextLemmas
+pub mod PartLemmas

@@ -1,13 +1,14 @@
 //! The texts of results: the whole reports that the program prints.
-ghost use Rattle.std.specs.Prelude.{◌≡◌, ◌++◌, ◌^◌, ◌<◌, [], OnOk, IfOk, codes, length, map, string_bytes};
+ghost use Rattle.std.specs.Prelude.{◌≡◌, ◌++◌, ◌^◌, ◌<◌, ◌≤◌, [], OnOk, IfOk, codes, length, map, string_bytes};
 ghost use Rattle.std.specs.Fmt.{decimal};
 ghost use Rattle.objects.specs.Objects.{kind_of_value};
 ghost use Rattle.meaning.specs.Running.{all_operations};
 ghost use Rattle.meaning.specs.Words.{value_text};
 ghost use Rattle.words.specs.Words.{kind_text};
-ghost use Rattle.meaning.specs.Texts.{line, outcome_text, steps_text, transactions_text, objects_text, counts_text, plain_text, text, audit_text, check_text};
+ghost use Rattle.meaning.specs.Texts.{line, outcome_text, steps_text, counts_text, plain_text, text, audit_text, check_text};
 ghost use Rattle.batch.specs.Names.{names_of};
 ghost use Rattle.batch.specs.Views.{block_view, record_view};
+ghost use Rattle.report.specs.Parts.{entries, lines_from, objects_from, transactions_from};
 
 use crate::lines::{write_block, write_end};
 use crate::names::object_name;
@@ -29,7 +30,7 @@ pub fn render(alloc: Global, batch: &Batch, outcome: &Outcome) -> Result<String,
     requires { length outcome.now.objects < 2 ^ 32 }
     ensures { IfOk result (λ t. string_bytes t ≡ text (names_of batch.now.names) (map block_view batch.now.transactions.items) (map record_view outcome.now.records.items) outcome.now.objects outcome.now.rounds) }
 {
-    let mut out = render_parts(alloc, batch, &outcome.records, &outcome.objects)?;
+    let mut out = render_entries(alloc, batch, &outcome.records, &outcome.objects)?;
     let rounds = outcome.rounds;
     write!(&mut out, "rounds {rounds}\n")?;
     Ok(out)
@@ -42,7 +43,7 @@ pub fn render_plain(alloc: Global, batch: &Batch, plain: &Plain) -> Result<Strin
     requires { length plain.now.objects < 2 ^ 32 }
     ensures { IfOk result (λ t. string_bytes t ≡ plain_text (names_of batch.now.names) (map block_view batch.now.transactions.items) (map record_view plain.now.records.items) plain.now.objects) }
 {
-    render_parts(alloc, batch, &plain.records, &plain.objects)
+    render_entries(alloc, batch, &plain.records, &plain.objects)
 }
 
 /// The report of `render`, and below it a line `runs NUMBER COUNT` for each transaction: how often
@@ -77,19 +78,32 @@ pub fn render_check(alloc: Global, batch: &Batch) -> Result<String, NoMemory>
 /// About how many bytes a line has.
 const LINE: usize = 32;
 
+// How many outermost steps these records have, added to a count.
+pub(crate) fn add_steps(count: usize, records: &[Record]) -> usize {
+    records.iter().fold(count, |sum, record| sum.saturating_add(record.taken.len()))
+}
+
 // An empty text, with room for a line for each outermost step of the records where that is to be had.
 // A text without room is copied as it grows.
 fn text_for(alloc: Global, records: &[Record]) -> String
     ensures { string_bytes result ≡ [] }
 {
-    let steps = records.iter().fold(0usize, |sum, record| sum.saturating_add(record.taken.len()));
     let mut text = String::new(alloc);
     // Where this is refused, the text grows as it is written.
-    let _ = text.reserve(steps.saturating_mul(LINE));
+    let _ = text.reserve(add_steps(0, records).saturating_mul(LINE));
     text
 }
 
-fn render_parts(
+// How many entries a report has.
+pub(crate) fn count_entries(batch: &Batch, records: &[Record], objects: &Objects) -> usize
+    requires { length objects.now < 2 ^ 32 }
+    ensures { result ≡ entries batch.now.transactions.items records.now objects.now }
+{
+    batch.transactions.len().min(records.len()) + objects.len()
+}
+
+// The lines of all entries.
+fn render_entries(
     alloc: Global,
     batch: &Batch,
     records: &[Record],
@@ -98,31 +112,69 @@ fn render_parts(
     requires { length objects.now < 2 ^ 32 }
     ensures { IfOk result (λ t. string_bytes t ≡ plain_text (names_of batch.now.names) (map block_view batch.now.transactions.items) (map record_view records.now) objects.now) }
 {
-    let mut out = text_for(alloc, records);
-    write_transactions(alloc, &mut out, &batch.names, &batch.transactions, records)?;
-    write_objects(&mut out, &batch.names, objects)?;
+    let count = count_entries(batch, records, objects);
+    render_between(alloc, batch, records, objects, 0, count)
+}
+
+// The lines of the entries from one on, and before another.
+pub(crate) fn render_between(
+    alloc: Global,
+    batch: &Batch,
+    records: &[Record],
+    objects: &Objects,
+    from: usize,
+    to: usize,
+) -> Result<String, NoMemory>
+    requires few { length objects.now < 2 ^ 32 }
+    requires rise { from ≤ to }
+    requires within { to ≤ entries batch.now.transactions.items records.now objects.now }
+    ensures { IfOk result (λ t. string_bytes t ++ lines_from (names_of batch.now.names) batch.now.transactions.items records.now objects.now to
+        ≡ lines_from (names_of batch.now.names) batch.now.transactions.items records.now objects.now from) }
+{
+    let transactions = batch.transactions.len().min(records.len());
+    let first = from.min(transactions);
+    let last = to.min(transactions);
+    let mut out = text_for(alloc, &records[first..last]);
+    write_transactions(alloc, &mut out, batch, records, first, last)?;
+    write_objects(
+        &mut out,
+        &batch.names,
+        objects,
+        (from - first) as u32,
+        (to - last) as u32,
+    )?;
     Ok(out)
 }
 
+// Writes the lines of the transactions from one place on, and before another.
 fn write_transactions(
     alloc: Global,
     out: &mut String,
-    names: &Names,
-    blocks: &[Block],
+    batch: &Batch,
     records: &[Record],
+    from: usize,
+    to: usize,
 ) -> Result<(), NoMemory>
-    ensures { OnOk result (string_bytes out.new ≡ string_bytes out.old ++ transactions_text (names_of names.now) 1 (map block_view blocks.now) (map record_view records.now)) }
+    requires rise { from ≤ to }
+    requires blocks { to ≤ length batch.now.transactions.items }
+    requires records { to ≤ length records.now }
+    ensures { OnOk result (string_bytes out.new ++ transactions_from (names_of batch.now.names) batch.now.transactions.items records.now to
+        ≡ string_bytes out.old ++ transactions_from (names_of batch.now.names) batch.now.transactions.items records.now from) }
 {
-    for (index, block) in blocks.iter().enumerate() {
-        if index >= records.len() {
-            return Ok(());
-        }
-        write_transaction(alloc, out, names, index + 1, block, &records[index])?;
+    for index in from..to {
+        write_transaction(
+            alloc,
+            out,
+            &batch.names,
+            index + 1,
+            &batch.transactions[index],
+            &records[index],
+        )?;
     }
     Ok(())
 }
 
-pub(crate) fn write_transaction(
+fn write_transaction(
     alloc: Global,
     out: &mut String,
     names: &Names,
@@ -140,11 +192,20 @@ pub(crate) fn write_transaction(
     Ok(())
 }
 
-fn write_objects(out: &mut String, names: &Names, objects: &Objects) -> Result<(), NoMemory>
-    requires { length objects.now < 2 ^ 32 }
-    ensures { OnOk result (string_bytes out.new ≡ string_bytes out.old ++ objects_text (names_of names.now) 0 objects.now) }
+// Writes the lines of the objects from one place on, and before another.
+fn write_objects(
+    out: &mut String,
+    names: &Names,
+    objects: &Objects,
+    from: u32,
+    to: u32,
+) -> Result<(), NoMemory>
+    requires rise { from ≤ to }
+    requires within { to ≤ length objects.now }
+    ensures { OnOk result (string_bytes out.new ++ objects_from (names_of names.now) objects.now to
+        ≡ string_bytes out.old ++ objects_from (names_of names.now) objects.now from) }
 {
-    for object in 0..objects.len() as u32 {
+    for object in from..to {
         match objects.value(object) {
             Some(value) => write_object(out, names, object, value)?,
             None => return Ok(()),
@@ -165,7 +226,7 @@ fn write_object(out: &mut String, names: &Names, object: u32, value: &Value) -> 
     Ok(())
 }
 
-fn write_counts(out: &mut String, counts: &[u32]) -> Result<(), NoMemory>
+pub(crate) fn write_counts(out: &mut String, counts: &[u32]) -> Result<(), NoMemory>
     ensures { OnOk result (string_bytes out.new ≡ string_bytes out.old ++ counts_text 1 counts.now) }
 {
     for (index, count) in counts.iter().enumerate() {

@@ -6,6 +6,7 @@ mod answer;
 mod calls;
 mod lines;
 mod names;
+mod parts;
 mod paths;
 mod values;
 
@@ -13,4 +14,5 @@ pub use answer::{render, render_audit, render_check, render_plain};
 pub use batch::{Batch, NoMemory, Outcome, Plain};
 pub use calls::{write_call, write_reply};
 pub use names::{item_name, object_name, reason_name};
+pub use parts::{render_audit_parts, render_parts};
 pub use paths::{branch_path, handler_place, part_path, reason_of};

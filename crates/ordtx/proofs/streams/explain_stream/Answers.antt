@@ -1,4 +1,6 @@
 use Rattle.std.proofs.Common.{rules}
+use Rattle.std.specs.Prelude.{string_bytes}
+use Rattle.std.specs.List.{flat_map}
 use Rattle.std.proofs.lemmas.Result.{IfOk-weaker}
 use Rattle.ordtx.specs.Answers.{IsExplainedOf}
 use Rattle.ordtx.proofs.Known.{writes_answer, writes_beginning}
@@ -6,13 +8,13 @@ use Rattle.ordtx.proofs.streams.explain_stream.Goals as goal
 
 pub returns-clause-written : goal.returns-clause-written
 returns-clause-written g c =
-    let is : IsExplainedOf c.args.audit c.in_ok-document.document.items c.as_bytes.result.now = search rules in
-    IfOk-weaker c.write_text.result _ _ (λ _ written. writes_answer (IsExplainedOf c.args.audit) _ _ _ _ _ _ c.in_ok-document.ensures.bytes
+    let is : IsExplainedOf c.args.audit c.in_ok-document.document.items (flat_map string_bytes c.deref.result.now) = search rules in
+    IfOk-weaker c.write_texts.result _ _ (λ _ written. writes_answer (IsExplainedOf c.args.audit) _ _ _ _ _ _ c.in_ok-document.ensures.bytes
     is written)
-    c.write_text.ensures.whole
+    c.write_texts.ensures.whole
 
 pub returns-clause-beginning : goal.returns-clause-beginning
 returns-clause-beginning g c = λ failed.
-    let is : IsExplainedOf c.args.audit c.in_ok-document.document.items c.as_bytes.result.now = search rules in
-    let written = rw failed at c.write_text.ensures.beginning in
+    let is : IsExplainedOf c.args.audit c.in_ok-document.document.items (flat_map string_bytes c.deref.result.now) = search rules in
+    let written = rw failed at c.write_texts.ensures.beginning in
     writes_beginning (IsExplainedOf c.args.audit) _ _ _ _ _ _ c.in_ok-document.ensures.bytes is written

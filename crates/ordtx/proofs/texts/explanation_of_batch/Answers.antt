@@ -1,5 +1,8 @@
 use Rattle.std.proofs.Common.{rules}
+use Rattle.lang.specs.Reading.{document_of}
+use Rattle.ordtx.proofs.Known.{explained}
 use Rattle.ordtx.proofs.texts.explanation_of_batch.Goals as goal
 
 pub returns : goal.returns
-returns c = search rules
+returns g c = λ bytes reads. explained c.args.audit bytes c.in_ok-parts.parts.items c.push.new.self.items c.in_ok-why.why (search rules)
+    (c.in_ok-parts.ensures bytes reads) (record { document = document_of c.args.batch.now; reads = reads; is = search rules })

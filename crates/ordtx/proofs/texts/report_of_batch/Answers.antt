@@ -24,7 +24,7 @@ returns-then-audit g c =
     let counts = c.in_ok-outcome.outcome.runs.items in
     let of_parts : List Shown → State → List ℕ = λ shown objects. audit_text (names_of given.names) (blocks_of given) shown objects rounds
     counts in
-    IfOk-weaker c.render_audit.result _ _ (λ written is bytes reads. audit_shown c.args.audit bytes _ c.if-audit.true (record {
+    IfOk-weaker c.render_audit_parts.result _ _ (λ written is bytes reads. audit_shown c.args.audit bytes _ c.if-audit.true (record {
       document = document_of given;
       reads = reads;
       rounds = rounds;
@@ -34,18 +34,18 @@ returns-then-audit g c =
       all = c.in_ok-outcome.ensures.runs.all;
       each = c.in_ok-outcome.ensures.runs.each;
       is = is ∙ ap₂ of_parts c.in_ok-outcome.ensures.records c.in_ok-outcome.ensures.objects;
-    })) c.render_audit.ensures
+    })) c.render_audit_parts.ensures
 
 pub returns : goal.returns
 returns g c =
     let given = c.args.batch.now in
     let rounds = c.in_ok-outcome-2.outcome.rounds in
     let of_parts : List Shown → State → List ℕ = λ shown objects. text (names_of given.names) (blocks_of given) shown objects rounds in
-    IfOk-weaker c.render.result _ _ (λ written is bytes reads. report_shown c.args.audit bytes _ c.if-audit.false (record {
+    IfOk-weaker c.render_parts.result _ _ (λ written is bytes reads. report_shown c.args.audit bytes _ c.if-audit.false (record {
       document = document_of given;
       reads = reads;
       rounds = rounds;
       counted = c.in_ok-outcome-2.ensures.rounds;
       few = c.in_ok-outcome-2.ensures.few;
       is = is ∙ ap₂ of_parts c.in_ok-outcome-2.ensures.records c.in_ok-outcome-2.ensures.objects;
-    })) c.render.ensures
+    })) c.render_parts.ensures
