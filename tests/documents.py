@@ -341,11 +341,12 @@ def try_steps(program):
 
 def try_long_transactions(program):
     """Transactions that leave more operations than are listed: they are performed by their blocks and records. Where each has
-    objects of its own, several workers commit them, and most of what they leave needs no list."""
-    for seed in range(4):
-        for name, apart in (("long random transactions", False), ("long random transactions apart", True)):
-            given = json.dumps(randoms.long(random.Random(seed), 16 if apart else 4, 400, apart)).encode()
-            program.expect_report("%s, %d" % (name, seed), given, program.run(["run"], given)[0])
+    objects of its own, several workers commit them, and most of what they leave needs no list. Of the last one, several
+    workers render the report."""
+    for seed, count, apart in (*((seed, 4, False) for seed in range(4)), *((seed, 16, True) for seed in range(4)), (4, 48, True)):
+        given = json.dumps(randoms.long(random.Random(seed), count, 400, apart)).encode()
+        program.expect_report("%d long random transactions%s, %d" % (count, " apart" if apart else "", seed), given,
+                              program.run(["run", "--workers", "1"], given)[0])
 
 
 def try_all(program, whole):

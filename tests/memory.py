@@ -75,6 +75,17 @@ def try_carry(program, library, case):
         try_document(program, library, words, case.name, document, program.run(words, document)[0])
 
 
+def try_long_report(program, library):
+    """The last requests, in which four workers render a long report."""
+    deposits = documents.document([documents.ACCOUNT], ['[{"op":["a","deposit",1]}]'] * 9_000)
+    words = ["run", "--workers", "4"]
+    (report, _, _), made = refuse(library, 0, words, program.path, deposits)
+    for number in range(made - 40, made + 1):
+        got, _ = refuse(library, number, words, program.path, deposits)
+        program.compare("a long report, request %d refused" % number, words, got,
+                        FAULT if got[1] == 1 else (report, 0, b""))
+
+
 def try_reasons(program, library):
     """Handlers whose reasons ascend, and others, for which the document is begun again."""
     for order in ("abc", "acb"):
@@ -85,6 +96,7 @@ def try_reasons(program, library):
 def try_all(program, library, loops, cases):
     try_loops(program, library, loops)
     try_reasons(program, library)
+    try_long_report(program, library)
     try_places(program, library, cases[0])
     for case in cases:
         try_carry(program, library, case)
