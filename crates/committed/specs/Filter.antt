@@ -1,4 +1,4 @@
--- A filter of a list of entries: sets of the classes that they have.
+-- A filter of a list of entries: sets of the classes that they have. No public contract names it.
 use Rattle.std.specs.Prelude.{◌≡◌, ◌⊎◌, List, ℕ, ◌-◌, ◌<◌, length, slice_index_or, bit_and}
 use Rattle.std.specs.Int.{bit_at}
 use Rattle.objects.specs.declared.entry.Entry.{Entry}

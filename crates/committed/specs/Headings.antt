@@ -1,4 +1,4 @@
--- Headings: what entries are listed under.
+-- Headings: what entries are listed under. No public contract names them.
 use Rattle.std.specs.Prelude.{None, if◌then◌else◌}
 use Rattle.objects.specs.declared.entry.Entry.{Entry}
 use Rattle.committed.specs.declared.classes.Class.{Class}

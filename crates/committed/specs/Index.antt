@@ -1,4 +1,4 @@
--- An index of a list of entries: for each heading, a chain of entries.
+-- An index of a list of entries: for each heading, a chain of entries. No public contract names it.
 use Rattle.std.specs.Prelude.{◌≡◌, ◌≢◌, ◌⊎◌, List, ℕ, ◌+◌, ◌-◌, ◌*◌, ◌^◌, ◌<◌, ◌≤◌, length, min, slice_index_or, vec_len, vec_capacity}
 use Rattle.indexmap.specs.IndexMap.{index_map_len, insert_index, spare, values}
 use Rattle.objects.specs.declared.entry.Entry.{Entry}

@@ -1,4 +1,5 @@
 -- The lines of a report from one of its entries on. Its entries are the transactions that have a record, and then the objects.
+-- No public contract names them.
 use Rattle.std.specs.Prelude.{◌≡◌, ℕ, ◌+◌, ◌-◌, ◌<◌, ◌≤◌, min, List, ◌++◌, drop, length, map, slice_index_or}
 use Rattle.objects.specs.Entries.{State}
 use Rattle.meaning.specs.Words.{Names}
