@@ -8,7 +8,8 @@ use crate::source::{Failed, Source};
 use faults::{Code, Fault};
 use std::alloc::{AllocError, Global};
 
-const FIRST_ROOM: usize = 65_536;
+/// How many bytes a fetch has room for, where as many may still be read.
+const PIECE: usize = 65_536;
 
 /// Reads all bytes to the end of the source, but at most `most`. The fault is one of memory, or of
 /// the input where a fetch failed.
@@ -33,7 +34,7 @@ pub fn read_input<R: Source>(alloc: Global, source: &mut R, most: usize) -> Resu
     Ok(bytes)
 }
 
-// Makes room for a fetch after the filled bytes, twice as much each time.
+// Makes room for a fetch after the filled bytes. Memory that no fetch comes to is not written.
 fn make_room(bytes: &mut Vec<u8>, filled: usize, most: usize) -> Result<(), AllocError>
     requires room { filled < most }
     requires within { filled ≤ vec_len bytes.old }
@@ -42,10 +43,7 @@ fn make_room(bytes: &mut Vec<u8>, filled: usize, most: usize) -> Result<(), Allo
     ensures front { take filled bytes.new.items ≡ take filled bytes.old.items }
     ensures room { OnOk result (filled < vec_len bytes.new) }
 {
-    if filled < bytes.len() {
-        return Ok(());
-    }
-    let wanted = filled.saturating_mul(2).max(FIRST_ROOM).min(most);
+    let wanted = filled.saturating_add(PIECE).min(most);
     bytes.resize(wanted, 0)
 }
 
