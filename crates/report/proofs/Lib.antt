@@ -1,4 +1,5 @@
 pub mod AnswerLemmas
+pub mod Digits
 pub mod HandlerPlaces
 pub mod Joined
 pub mod NameLemmas

@@ -1,5 +1,5 @@
 //! Writes calls and replies.
-ghost use Rattle.std.specs.Prelude.{◌≡◌, ◌++◌, OnOk, codes, string_bytes};
+ghost use Rattle.std.specs.Prelude.{◌≡◌, ◌++◌, ◌<◌, OnOk, codes, string_bytes};
 ghost use Rattle.std.specs.Fmt.{decimal, signed_decimal};
 ghost use Rattle.meaning.specs.Words.{call_text, reply_text};
 ghost use Rattle.words.specs.Verbs.{verb_text};
@@ -71,11 +71,29 @@ pub fn write_reply(out: &mut String, names: &Names, reply: &Reply) -> Result<(),
     }
 }
 
-// Writes a number of at least 0.
-fn write_natural(out: &mut String, number: u64) -> Result<(), NoMemory>
+/// Writes a number of at least 0. A short one costs less digit by digit.
+pub(crate) fn write_natural(out: &mut String, number: u64) -> Result<(), NoMemory>
     ensures { OnOk result (string_bytes out.new ≡ string_bytes out.old ++ decimal number) }
 {
+    if number < 10 {
+        return write_digit(out, number as u8);
+    }
+    if number < 100 {
+        write_digit(out, (number / 10) as u8)?;
+        write_digit(out, (number % 10) as u8)?;
+        return Ok(());
+    }
     write!(out, "{number}")?;
+    Ok(())
+}
+
+// Writes a number of one digit.
+#[tactic(auto, using(std::proofs::lemmas::Fmt::decimal_digit))]
+fn write_digit(out: &mut String, digit: u8) -> Result<(), NoMemory>
+    requires { digit < 10 }
+    ensures { OnOk result (string_bytes out.new ≡ string_bytes out.old ++ decimal digit) }
+{
+    out.push((b'0' + digit) as char)?;
     Ok(())
 }
 
@@ -97,17 +115,16 @@ fn write_word(out: &mut String, word: &str) -> Result<(), NoMemory>
 fn write_amount(out: &mut String, verb: Verb, amount: Amount) -> Result<(), NoMemory>
     ensures { OnOk result (string_bytes out.new ≡ string_bytes out.old ++ verb_text verb ++ codes " " ++ decimal amount.value) }
 {
-    let word = verb.text();
-    let size = amount.get();
-    write!(out, "{word} {size}")?;
-    Ok(())
+    out.push_str(verb.text())?;
+    out.push(' ')?;
+    write_natural(out, amount.get())
 }
 
 // The name of an item, after a space.
 fn write_item(out: &mut String, names: &Names, item: Item) -> Result<(), NoMemory>
     ensures { OnOk result (string_bytes out.new ≡ string_bytes out.old ++ codes " " ++ (names_of names.now).item item) }
 {
-    let name = item_name(names, item);
-    write!(out, " {name}")?;
+    out.push(' ')?;
+    out.push_str(item_name(names, item))?;
     Ok(())
 }

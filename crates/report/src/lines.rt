@@ -4,9 +4,9 @@ ghost use Rattle.meaning.specs.Texts.{line, part, reason_text, outcome_text, cho
 ghost use Rattle.batch.specs.Names.{names_of};
 ghost use Rattle.batch.specs.Views.{block_view, record_view, step_view, taken_view, subaction_view, tried_view, children_view, all_tried_view};
 
-use crate::calls::{write_call, write_reply};
+use crate::calls::{write_call, write_natural, write_reply};
 use crate::names::{object_name, reason_name};
-use crate::paths::{branch_path, handler_place, part_path, reason_of};
+use crate::paths::{branch_path, handler_place, longer_path, part_path, reason_of};
 use batch::{Block, Names, Record, Step, Subaction, Taken};
 use meaning::End;
 use objects::{Call, NoMemory, Reply};
@@ -104,7 +104,7 @@ fn write_child(
         string_bytes out.new ≡ string_bytes out.old ++ child_text (names_of names.now) path.now child.body child.handlers (tried_view (body.now, option_copied handler.entry))) }
 {
     write_outcome(out, names, path, body.outcome)?;
-    let body_path = format!(in alloc; "{path}.b")?;
+    let body_path = longer_path(alloc, path, ".b")?;
     write_block(alloc, out, names, body_path.as_str(), &child.body, body)?;
     let Some(done) = handler else {
         return Ok(());
@@ -159,12 +159,33 @@ fn write_operation(
 ) -> Result<(), NoMemory>
     ensures { OnOk result (string_bytes out.new ≡ string_bytes out.old ++ operation_line (names_of names.now) (part path.now number) object call.now reply.now) }
 {
-    let name = object_name(names, object);
-    write!(out, "O {path}.{number} {name} ")?;
+    write_place(out, path, number)?;
+    write_name(out, object_name(names, object))?;
     write_call(out, names, call)?;
     out.push_str(" = ")?;
     write_reply(out, names, reply)?;
-    out.push_str("\n")?;
+    out.push('\n')?;
+    Ok(())
+}
+
+// Begins the line of the operation of this number below a path.
+fn write_place(out: &mut String, path: &str, number: usize) -> Result<(), NoMemory>
+    ensures { OnOk result (string_bytes out.new ≡ string_bytes out.old ++ (codes "O " ++ part path.now number)) }
+{
+    out.push('O')?;
+    out.push(' ')?;
+    out.push_str(path)?;
+    out.push('.')?;
+    write_natural(out, number as u64)
+}
+
+// Writes a name between two spaces.
+fn write_name(out: &mut String, name: &str) -> Result<(), NoMemory>
+    ensures { OnOk result (string_bytes out.new ≡ string_bytes out.old ++ (codes " " ++ name.now ++ codes " ")) }
+{
+    out.push(' ')?;
+    out.push_str(name)?;
+    out.push(' ')?;
     Ok(())
 }
 

@@ -1,5 +1,5 @@
 //! The paths of the parts of a step, by which a report names them.
-ghost use Rattle.std.specs.Prelude.{◌≡◌, ◌<◌, IfNone, IfOk, IfSome, option_map, string_bytes};
+ghost use Rattle.std.specs.Prelude.{◌≡◌, ◌++◌, ◌<◌, IfNone, IfOk, IfSome, option_map, string_bytes};
 ghost use Rattle.std.specs.Option.{ForSome};
 ghost use Rattle.meaning.specs.Texts.{branch_path, handler_block, part, reason_of};
 ghost use Rattle.meaning.specs.Trees.{NoStep};
@@ -10,17 +10,35 @@ ghost use Rattle.batch.specs.Taking.{taker};
 ghost use Rattle.batch.specs.Views.{block_view, subaction_view};
 ghost use Rattle.report.specs.Paths.{handler_place};
 
+use crate::calls::write_natural;
 use crate::names::reason_name;
 use batch::{Block, Names, Otherwise, Subaction, handler_for};
 use meaning::End;
 use objects::NoMemory;
 use std::alloc::Global;
 
+/// Room for a dot and a number, which mostly have no more bytes.
+const DOT_AND_NUMBER: usize = 8;
+
 /// The path of the step or the child of this number (from 1) below a path.
 pub fn part_path(alloc: Global, path: &str, number: usize) -> Result<String, NoMemory>
     ensures { IfOk result (λ t. string_bytes t ≡ part path.now number) }
 {
-    Ok(format!(in alloc; "{path}.{number}")?)
+    let mut text = String::with_capacity(alloc, path.len().saturating_add(DOT_AND_NUMBER))?;
+    text.push_str(path)?;
+    text.push('.')?;
+    write_natural(&mut text, number as u64)?;
+    Ok(text)
+}
+
+// A path, and this behind it.
+pub(crate) fn longer_path(alloc: Global, path: &str, end: &str) -> Result<String, NoMemory>
+    ensures { IfOk result (λ t. string_bytes t ≡ path.now ++ end.now) }
+{
+    let mut text = String::with_capacity(alloc, path.len().saturating_add(end.len()))?;
+    text.push_str(path)?;
+    text.push_str(end)?;
+    Ok(text)
 }
 
 /// The path of the branch of an `if` that is taken where its test holds, or doesn't.
@@ -28,9 +46,9 @@ pub fn branch_path(alloc: Global, path: &str, holds: bool) -> Result<String, NoM
     ensures { IfOk result (λ t. string_bytes t ≡ branch_path path.now holds) }
 {
     if holds {
-        Ok(format!(in alloc; "{path}.t")?)
+        longer_path(alloc, path, ".t")
     } else {
-        Ok(format!(in alloc; "{path}.e")?)
+        longer_path(alloc, path, ".e")
     }
 }
 

@@ -6,7 +6,7 @@ ghost use Rattle.batch.specs.Names.{names_of};
 
 use crate::names::item_name;
 use batch::Names;
-use objects::{Directory, ItemSet, NoMemory, Queue, Value};
+use objects::{Directory, Item, ItemSet, NoMemory, Queue, Value};
 
 /// Writes the value of an object: members and keys in order.
 pub(crate) fn write_value(out: &mut String, names: &Names, value: &Value) -> Result<(), NoMemory>
@@ -63,10 +63,18 @@ fn write_bindings(out: &mut String, names: &Names, directory: &Directory) -> Res
 {
     let mut space = "";
     for (key, item) in directory.entries().iter() {
-        let key_name = item_name(names, *key);
-        let name = item_name(names, *item);
-        write!(out, "{space}{key_name}:{name}")?;
+        out.push_str(space)?;
+        write_binding(out, names, *key, *item)?;
         space = " ";
     }
+    Ok(())
+}
+
+fn write_binding(out: &mut String, names: &Names, key: Item, item: Item) -> Result<(), NoMemory>
+    ensures { OnOk result (string_bytes out.new ≡ string_bytes out.old ++ binding_text (names_of names.now) (key, item)) }
+{
+    out.push_str(item_name(names, key))?;
+    out.push(':')?;
+    out.push_str(item_name(names, item))?;
     Ok(())
 }

@@ -66,7 +66,7 @@ write_step-returns-in_ok-path-in-Parallel-Parallel t c =
 
 pub write_child-returns-in_default : goal.write_child-returns-in_default
 write_child-returns-in_default t c =
-    let path : c.as_str.result.now ≡ c.args.path.now ++ codes ".b" = c.as_str.ensures.value ∙ c.in_ok-body_path.ensures.ok in
+    let path : c.as_str.result.now ≡ c.args.path.now ++ codes ".b" = c.as_str.ensures.value ∙ c.in_ok-body_path.ensures in
     after_two _ _ _ _ _ c.in_ok-write_outcome.ensures (rw path at c.in_ok-write_block.ensures)
     ∙ ap (λ text. string_bytes c.args.out.now ++ text)
     (sym (child_text-body _ c.args.path.now c.args.child.now c.args.body.now (option_copied c.args.handler)
@@ -74,7 +74,7 @@ write_child-returns-in_default t c =
 
 pub write_child-returns-in_default-2 : goal.write_child-returns-in_default-2
 write_child-returns-in_default-2 t c =
-    let path : c.as_str.result.now ≡ c.args.path.now ++ codes ".b" = c.as_str.ensures.value ∙ c.in_ok-body_path.ensures.ok in
+    let path : c.as_str.result.now ≡ c.args.path.now ++ codes ".b" = c.as_str.ensures.value ∙ c.in_ok-body_path.ensures in
     after_two _ _ _ _ _ c.in_ok-write_outcome.ensures (rw path at c.in_ok-write_block.ensures)
     ∙ ap (λ text. string_bytes c.args.out.now ++ text)
     (sym (child_text-untaken _ c.args.path.now c.args.child.now c.args.body.now (option_copied c.args.handler) c.in-Some.done.now
@@ -86,7 +86,7 @@ write_child-returns t c =
     let here = c.args.path.now in
     let done = record_view c.in-Some.done.now in
     let handlers = (subaction_view c.args.child.now).handlers in
-    let path : c.as_str.result.now ≡ here ++ codes ".b" = c.as_str.ensures.value ∙ c.in_ok-body_path.ensures.ok in
+    let path : c.as_str.result.now ≡ here ++ codes ".b" = c.as_str.ensures.value ∙ c.in_ok-body_path.ensures in
     let lines = body_lines names here c.args.child.now c.args.body.now in
     let wrote : string_bytes c.write_block.new.out ≡ string_bytes c.args.out.now ++ lines =
     after_two _ _ _ _ _ c.in_ok-write_outcome.ensures (rw path at c.in_ok-write_block.ensures) in

@@ -1,4 +1,4 @@
-use Rattle.std.proofs.Common.{[], ◌∷◌, ◌++◌, map, ap, refl, sym, append_assoc, ◌∙◌, string_bytes}
+use Rattle.std.proofs.Common.{[], ◌∷◌, ◌++◌, map, ap, refl, sym, ◌∙◌, string_bytes}
 use Rattle.std.specs.FinMap as finite_map
 use Rattle.std.specs.Prelude.{codes}
 use Rattle.meaning.specs.Words.{spaced, binding_text}
@@ -8,6 +8,7 @@ use Rattle.atoms.specs.declared.item.Item.{Item}
 use Rattle.atoms.proofs.Items.{items_total, items_antisymmetric}
 use Rattle.report.proofs.SortedLemmas.{entries-sorted}
 use Rattle.report.proofs.Joined.{joined_behind-nothing, next_text}
+use Rattle.report.proofs.TextLemmas.{after_two}
 use Rattle.report.proofs.values.write_bindings.Goals as goal
 
 pub loop-key-init : goal.loop-key-init
@@ -26,11 +27,7 @@ loop-key-preserved c =
     let names = names_of c.args.names.now in
     let text = binding_text names in
     let binding : Item × Item = (c.in-Some.key.now, c.in-Some.item.now) in
-    let wrote = rw (
-      c.item_name-key_name.ensures,
-      c.item_name-name.ensures,
-      sym (append_assoc (names.item binding.0) (codes ":") (names.item binding.1)),
-    ) at c.in_ok-write.ensures.bytes in
+    let wrote = after_two _ _ _ _ _ c.in_ok-push_str.ensures.bytes c.in_ok-write_binding.ensures in
     let more = next_text (codes " ") (string_bytes c.loop-key.out) _ c.loop-key.space.now (text binding)
     (map text c.loop-key.key-iterator) (map text c.next.new.self) _ (ap (map text) c.in-Some.ensures.steps) wrote c.loop-key.invariant.1 in
     ((32 ∷ [], (refl, refl)), more)
