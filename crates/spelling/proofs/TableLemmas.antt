@@ -20,6 +20,12 @@ first_of_keys : (text : List ℕ) (keys : List (String Global)) → position_or_
 first_of_keys text [] = refl
 first_of_keys text (k ∷ keys) = simp (first_of_keys text keys)
 
+-- the place of a text that joins the keys of a set, or is there
+pub insert_index-texts : (text : List ℕ) (keys : List (String Global)) (k : String Global) → string_bytes k ≡ text
+    → position_or_len (string_eq k) keys ≡ position_or_len (bytes_eq text) (texts_of keys)
+insert_index-texts text keys k is =
+    sym (first_of_keys (string_bytes k) keys) ∙ ap (λ t. position_or_len (bytes_eq t) (texts_of keys)) is
+
 pub length-texts_of : (keys : List (String Global)) → length (texts_of keys) ≡ length keys
 length-texts_of [] = refl
 length-texts_of (k ∷ keys) = ap suc (length-texts_of keys)

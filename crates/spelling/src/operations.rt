@@ -14,9 +14,10 @@ ghost use Rattle.spelling.specs.Spelled.{call_of, item_of, items_of, operation_o
 
 use crate::counts::Counts;
 use crate::declared::Declared;
+use crate::hints::place_in;
 use crate::labels::{add_new_label, label_of};
 use crate::look::{count, has_only, text_item, whole_item};
-use crate::state::{Numbering, State, number_of};
+use crate::state::{Numbering, State, number_of_item};
 use crate::subject::Subject;
 use batch::{Call, Item, Kind, Step, is_name};
 use faults::{Fault, Wrong};
@@ -108,7 +109,7 @@ pub fn item_of(alloc: Global, name: &str, numbering: &mut Numbering) -> Result<I
     ensures numbers { OnOk result (numbers_of numbering.new ≡ with_item name.now (numbers_of numbering.old)) }
     ensures err { IfErr result (λ fault. fault ≡ memory_fault) }
 {
-    Ok(Item(number_of(alloc, &mut numbering.items, name)?))
+    Ok(Item(number_of_item(alloc, numbering, name)?))
 }
 
 /// The items of two names, the first of which joins the others first.
@@ -199,11 +200,8 @@ fn place_of(name: &str, declared: &Declared) -> Option<usize>
     ensures listed { is_some result ≡ is_listed name.now (texts_of declared.now.names.keys) }
     ensures within { IfSome result (λ place. place < length declared.now.names.keys) }
 {
-    let place = declared.hints.place(name);
-    match declared.names.as_slice().get(place) {
-        Some(known) if known.as_str() == name => Some(place),
-        _ => declared.names.get_index_of(name),
-    }
+    let guess = declared.hints.place(name).unwrap_or(0);
+    place_in(&declared.names, name, guess)
 }
 
 /// The place and the kind of the object of that name.

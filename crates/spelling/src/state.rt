@@ -1,21 +1,23 @@
 //! What has been seen of a document at a place.
-ghost use Rattle.std.specs.Prelude.{◌≡◌, [], not, IfErr, IfOk, OnOk};
+ghost use Rattle.std.specs.Prelude.{◌≡◌, [], not, Some, IfErr, IfOk, IfSome, OnOk};
 ghost use Rattle.batch.specs.Names.{texts_of};
 ghost use Rattle.spelling.specs.Demand.{no_counts};
 ghost use Rattle.faults.specs.Faults.{memory_fault};
-ghost use Rattle.spelling.specs.Scope.{fit, is_listed, no_numbers, number_of, numbers_of, scope_of, with_text};
+ghost use Rattle.spelling.specs.Scope.{fit, is_listed, no_numbers, number_of, numbers_of, place_of, scope_of, with_item, with_text};
 
 use crate::counts::Counts;
 use crate::hashing::{Labels, NameHashing, Texts};
+use crate::hints::{Hints, place_in};
 use faults::Fault;
 use indexmap::{IndexMap, IndexSet};
 use std::alloc::Global;
 
-/// The texts that are numbered so far.
+/// The texts that are numbered so far, with hints at the places of the items.
 #[derive(Drop)]
 pub struct Numbering {
     pub items: Texts,
     pub reasons: Texts,
+    pub(crate) hints: Hints,
 }
 
 /// What has been counted, what is numbered, and the labels that are seen here.
@@ -45,6 +47,7 @@ impl State {
             numbering: Numbering {
                 items: IndexSet::with_hasher(alloc, hashing),
                 reasons: IndexSet::with_hasher(alloc, hashing),
+                hints: Hints::new(alloc),
             },
             labels: IndexMap::with_hasher(alloc, hashing),
             any_order: false,
@@ -85,4 +88,42 @@ pub fn number_of(alloc: Global, table: &mut Texts, text: &str) -> Result<u32, Fa
     let number = table.len();
     table.insert(String::from_str(alloc, text)?)?;
     Ok(fit(number))
+}
+
+/// The place of an item's name, if it has one. Where no name fell on its slot, it is taken to be new.
+fn known_item(numbering: &Numbering, name: &str) -> Option<usize>
+    ensures { IfSome result (λ place. place_of name.now (texts_of numbering.now.items.keys) ≡ Some place) }
+{
+    let guess = numbering.hints.place(name)?;
+    place_in(&numbering.items, name, guess)
+}
+
+/// Adds an item's name to the others if it is new, and returns its place.
+fn add_item(alloc: Global, numbering: &mut Numbering, name: &str) -> Result<usize, Fault>
+    ensures place { IfOk result (λ place. fit place ≡ number_of name.now (texts_of numbering.old.items.keys)) }
+    ensures numbers { OnOk result (numbers_of numbering.new ≡ with_item name.now (numbers_of numbering.old)) }
+    ensures err { IfErr result (λ fault. fault ≡ memory_fault) }
+{
+    let (place, _) = numbering.items.insert_full(String::from_str(alloc, name)?)?;
+    numbering
+        .hints
+        .note_new(alloc, name, place, &numbering.items)?;
+    Ok(place)
+}
+
+/// The number of an item's name, which joins the others if it is new.
+pub(crate) fn number_of_item(
+    alloc: Global,
+    numbering: &mut Numbering,
+    name: &str,
+) -> Result<u32, Fault>
+    ensures number { IfOk result (λ number. number ≡ number_of name.now (texts_of numbering.old.items.keys)) }
+    ensures numbers { OnOk result (numbers_of numbering.new ≡ with_item name.now (numbers_of numbering.old)) }
+    ensures err { IfErr result (λ fault. fault ≡ memory_fault) }
+{
+    if let Some(place) = known_item(numbering, name) {
+        return Ok(fit(place));
+    }
+    let place = add_item(alloc, numbering, name)?;
+    Ok(fit(place))
 }
