@@ -116,12 +116,18 @@ def try_workers(program, library):
 
 def try_rendering(program, library):
     """Each worker renders a part of a long report. Nothing else starts a thread here, and a short report none."""
-    for count, workers, expected in ((9_000, "1", 0), (9_000, "2", 1), (9_000, "4", 3), (1_000, "4", 0)):
-        words = ["run", "--workers", workers]
-        deposits = document([ACCOUNT], [block(op("a", "deposit", 1))] * count)
-        got, _, started = preloaded.run(library, 0, words, program.path, deposits, together=True)
-        program.compare("threads of a report of %d transactions: %d" % (count, started), words,
-                        (got[1], started, None), (0, expected, None))
+    deposit = op("a", "deposit", 1)
+    child = '{"sub":[%s]}' % ",".join([deposit] * 10)
+    shapes = ((9_000, "transactions", lambda count: [block(deposit)] * count),
+              (18_000, "steps of one transaction", lambda count: [block(*[deposit] * count)]),
+              (1_800, "subactions of one transaction", lambda count: [block(*[child] * count)]))
+    for count, name, made_of in shapes:
+        for size, workers, expected in ((count, "1", 0), (count, "2", 1), (count, "4", 3), (count // 9, "4", 0)):
+            words = ["run", "--workers", workers]
+            deposits = document([ACCOUNT], made_of(size))
+            got, _, started = preloaded.run(library, 0, words, program.path, deposits, together=True)
+            program.compare("threads of a report of %d %s: %d" % (size, name, started), words,
+                            (got[1], started, None), (0, expected, None))
 
 
 # A step, and how many requests for memory its reading may take. By a tree it takes three times as many.

@@ -18,6 +18,7 @@ use Rattle.batch.specs.declared.record.Record.{Record}
 use Rattle.batch.specs.declared.record.Taken.{Taken}
 use Rattle.batch.proofs.ViewLemmas.{record_view-is, subaction_view-body}
 use Rattle.batch.proofs.CountLemmas.{left}
+use Rattle.report.specs.Parts.{steps_from}
 
 -- a record shows how its block ended
 end_of-before_end : (steps : List ShownStep) (outcome : End) → end_of (before_end steps (AtEnd outcome)) ≡ outcome
@@ -45,38 +46,33 @@ module _ (names : Names) (path : List ℕ) where
   end_children_text n NoChild = refl
   end_children_text n (meant.Child body handlers labelled younger) = refl
 
-  -- the lines of the steps from the i-th on, counted from 0
-  pub rest_text : ℕ → List Step → List Taken → End → List ℕ
-  rest_text i steps taken outcome = steps_text names path (i + 1) (steps_view (drop i steps))
-      (before_end (map taken_view (drop i taken)) (AtEnd outcome))
-
-  pub rest_text-start : (steps : List Step) (taken : List Taken) (outcome : End) → rest_text 0 steps taken outcome
+  pub steps_from-start : (steps : List Step) (taken : List Taken) (outcome : End) → steps_from names path 0 steps taken outcome
       ≡ steps_text names path 1 (steps_view steps) (before_end (map taken_view taken) (AtEnd outcome))
-  unfolding rest_text
-  rest_text-start steps taken outcome = refl
+  unfolding steps_from
+  steps_from-start steps taken outcome = refl
 
-  pub rest_text-more : (i : ℕ) (steps : List Step) (taken : List Taken) (outcome : End) (x : Step) (y : Taken) → i < length steps
+  pub steps_from-more : (i : ℕ) (steps : List Step) (taken : List Taken) (outcome : End) (x : Step) (y : Taken) → i < length steps
       → x ≡ get_or steps i x → i < length taken → y ≡ get_or taken i y
-      → rest_text i steps taken outcome ≡ step_text names (part path (i + 1)) (step_view x) (taken_view y) ++ rest_text
-      (i + 1) steps taken outcome
-  unfolding rest_text
-  rest_text-more i steps taken outcome x y lt is lt' is' =
+      → steps_from names path i steps taken outcome ≡ step_text names (part path (i + 1)) (step_view x) (taken_view y)
+      ++ steps_from names path (i + 1) steps taken outcome
+  unfolding steps_from
+  steps_from-more i steps taken outcome x y lt is lt' is' =
       ap (λ ts. steps_text names path (i + 1) (steps_view (drop i steps)) (before_end (map taken_view ts) (AtEnd outcome)))
       (left taken i y lt' is')
       ∙ ap (λ ss. steps_text names path (i + 1) (steps_view ss) (before_end (map taken_view (y ∷ drop (i + 1) taken)) (AtEnd outcome)))
       (left steps i x lt is)
 
-  pub rest_text-no_step : (i : ℕ) (steps : List Step) (taken : List Taken) (outcome : End) → length steps ≤ i
-      → rest_text i steps taken outcome ≡ []
-  unfolding rest_text
-  rest_text-no_step i steps taken outcome le =
+  pub steps_from-no_step : (i : ℕ) (steps : List Step) (taken : List Taken) (outcome : End) → length steps ≤ i
+      → steps_from names path i steps taken outcome ≡ []
+  unfolding steps_from
+  steps_from-no_step i steps taken outcome le =
       ap (λ ss. steps_text names path (i + 1) (steps_view ss) (before_end (map taken_view (drop i taken)) (AtEnd outcome)))
       (drop_of_length-le steps le) ∙ no_text (i + 1) (before_end (map taken_view (drop i taken)) (AtEnd outcome))
 
-  pub rest_text-end : (i : ℕ) (steps : List Step) (taken : List Taken) (outcome : End) → length taken ≤ i → rest_text i steps taken outcome
-      ≡ []
-  unfolding rest_text
-  rest_text-end i steps taken outcome le =
+  pub steps_from-end : (i : ℕ) (steps : List Step) (taken : List Taken) (outcome : End) → length taken ≤ i
+      → steps_from names path i steps taken outcome ≡ []
+  unfolding steps_from
+  steps_from-end i steps taken outcome le =
       ap (λ ts. steps_text names path (i + 1) (steps_view (drop i steps)) (before_end (map taken_view ts) (AtEnd outcome)))
       (drop_of_length-le taken le) ∙ end_text (i + 1) (steps_view (drop i steps)) outcome
 

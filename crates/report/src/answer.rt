@@ -5,15 +5,17 @@ ghost use Rattle.objects.specs.Objects.{kind_of_value};
 ghost use Rattle.meaning.specs.Running.{all_operations};
 ghost use Rattle.meaning.specs.Words.{value_text};
 ghost use Rattle.words.specs.Words.{kind_text};
-ghost use Rattle.meaning.specs.Texts.{line, outcome_text, steps_text, counts_text, plain_text, text, audit_text, check_text};
+ghost use Rattle.meaning.specs.Texts.{line, outcome_text, counts_text, plain_text, text, audit_text, check_text};
 ghost use Rattle.batch.specs.Names.{names_of};
 ghost use Rattle.batch.specs.Views.{block_view, record_view};
-ghost use Rattle.report.specs.Parts.{entries, lines_from, objects_from, transactions_from};
+ghost use Rattle.report.specs.Parts.{IsBefore, last_cut, lines_from, objects_from, transaction_from, transactions};
 
-use crate::lines::{write_block, write_end};
+use crate::cuts::Cut;
+use crate::lines::{write_end, write_step};
 use crate::names::object_name;
 use crate::values::write_value;
-use batch::{Batch, Block, Names, Outcome, Plain, Record};
+use batch::{Batch, Names, Outcome, Plain, Record};
+use meaning::End;
 use objects::{NoMemory, Objects, Value};
 use std::alloc::Global;
 use words::kind_text;
@@ -78,28 +80,38 @@ pub fn render_check(alloc: Global, batch: &Batch) -> Result<String, NoMemory>
 /// About how many bytes a line has.
 const LINE: usize = 32;
 
-// How many outermost steps these records have, added to a count.
-pub(crate) fn add_steps(count: usize, records: &[Record]) -> usize {
-    records.iter().fold(count, |sum, record| sum.saturating_add(record.taken.len()))
-}
-
-// An empty text, with room for a line for each outermost step of the records where that is to be had.
-// A text without room is copied as it grows.
-fn text_for(alloc: Global, records: &[Record]) -> String
+// An empty text, with room for the lines between two cuts where that is to be had. A text without room
+// is copied as it grows.
+fn text_between(alloc: Global, records: &[Record], from: Cut, to: Cut) -> String
+    requires rise { from.entry ≤ to.entry }
+    requires within { to.entry ≤ length records.now }
     ensures { string_bytes result ≡ [] }
 {
+    let whole = &records[from.entry..to.entry];
+    let lines = whole.iter().fold(to.line, |lines, record| {
+        lines.saturating_add(record.taken.len()).saturating_add(1)
+    });
     let mut text = String::new(alloc);
     // Where this is refused, the text grows as it is written.
-    let _ = text.reserve(add_steps(0, records).saturating_mul(LINE));
+    let _ = text.reserve(lines.saturating_sub(from.line).saturating_mul(LINE));
     text
 }
 
-// How many entries a report has.
-pub(crate) fn count_entries(batch: &Batch, records: &[Record], objects: &Objects) -> usize
-    requires { length objects.now < 2 ^ 32 }
-    ensures { result ≡ entries batch.now.transactions.items records.now objects.now }
+// How many transactions have a record.
+fn count_shown(batch: &Batch, records: &[Record]) -> usize
+    ensures { result ≡ transactions batch.now.transactions.items records.now }
 {
-    batch.transactions.len().min(records.len()) + objects.len()
+    batch.transactions.len().min(records.len())
+}
+
+/// Where a report ends.
+pub(crate) fn last_cut(batch: &Batch, records: &[Record], objects: &Objects) -> Cut
+    ensures { result ≡ last_cut batch.now.transactions.items records.now objects.now }
+{
+    Cut {
+        entry: count_shown(batch, records),
+        line: objects.len(),
+    }
 }
 
 // The lines of all entries.
@@ -112,84 +124,96 @@ fn render_entries(
     requires { length objects.now < 2 ^ 32 }
     ensures { IfOk result (λ t. string_bytes t ≡ plain_text (names_of batch.now.names) (map block_view batch.now.transactions.items) (map record_view records.now) objects.now) }
 {
-    let count = count_entries(batch, records, objects);
-    render_between(alloc, batch, records, objects, 0, count)
+    let first = Cut { entry: 0, line: 0 };
+    let last = last_cut(batch, records, objects);
+    render_between(alloc, batch, records, objects, first, last)
 }
 
-// The lines of the entries from one on, and before another.
+// The lines from one cut on, and before another.
 pub(crate) fn render_between(
     alloc: Global,
     batch: &Batch,
     records: &[Record],
     objects: &Objects,
-    from: usize,
-    to: usize,
+    from: Cut,
+    to: Cut,
 ) -> Result<String, NoMemory>
     requires few { length objects.now < 2 ^ 32 }
-    requires rise { from ≤ to }
-    requires within { to ≤ entries batch.now.transactions.items records.now objects.now }
-    ensures { IfOk result (λ t. string_bytes t ++ lines_from (names_of batch.now.names) batch.now.transactions.items records.now objects.now to
-        ≡ lines_from (names_of batch.now.names) batch.now.transactions.items records.now objects.now from) }
+    requires rise { IsBefore from to }
+    requires within { IsBefore to (last_cut batch.now.transactions.items records.now objects.now) }
+    ensures { IfOk result (λ t.
+        let lines = lines_from (names_of batch.now.names) batch.now.transactions.items records.now
+        objects.now in
+        string_bytes t ++ lines to ≡ lines from) }
 {
-    let transactions = batch.transactions.len().min(records.len());
-    let first = from.min(transactions);
-    let last = to.min(transactions);
-    let mut out = text_for(alloc, &records[first..last]);
-    write_transactions(alloc, &mut out, batch, records, first, last)?;
-    write_objects(
-        &mut out,
-        &batch.names,
-        objects,
-        (from - first) as u32,
-        (to - last) as u32,
-    )?;
+    let mut out = text_between(alloc, records, from, to);
+    let mut line = from.line;
+    for entry in from.entry..to.entry {
+        let all = (records[entry].taken.len() + 1).max(line);
+        write_transaction(alloc, &mut out, batch, records, Cut { entry, line }, all)?;
+        line = 0;
+    }
+    if to.entry < count_shown(batch, records) {
+        let begun = Cut {
+            entry: to.entry,
+            line,
+        };
+        write_transaction(alloc, &mut out, batch, records, begun, to.line)?;
+    } else {
+        write_objects(&mut out, &batch.names, objects, line as u32, to.line as u32)?;
+    }
     Ok(out)
 }
 
-// Writes the lines of the transactions from one place on, and before another.
-fn write_transactions(
+// Writes the lines of a transaction from a cut in it on, and before the line of this number.
+fn write_transaction(
     alloc: Global,
     out: &mut String,
     batch: &Batch,
     records: &[Record],
-    from: usize,
+    from: Cut,
     to: usize,
 ) -> Result<(), NoMemory>
-    requires rise { from ≤ to }
-    requires blocks { to ≤ length batch.now.transactions.items }
-    requires records { to ≤ length records.now }
-    ensures { OnOk result (string_bytes out.new ++ transactions_from (names_of batch.now.names) batch.now.transactions.items records.now to
-        ≡ string_bytes out.old ++ transactions_from (names_of batch.now.names) batch.now.transactions.items records.now from) }
+    requires rise { from.line ≤ to }
+    requires blocks { from.entry < length batch.now.transactions.items }
+    requires records { from.entry < length records.now }
+    ensures { OnOk result (
+        let lines = transaction_from (names_of batch.now.names) batch.now.transactions.items
+        records.now from.entry in
+        string_bytes out.new ++ lines to ≡ string_bytes out.old ++ lines from.line) }
 {
-    for index in from..to {
-        write_transaction(
-            alloc,
-            out,
-            &batch.names,
-            index + 1,
-            &batch.transactions[index],
-            &records[index],
-        )?;
+    let (block, done) = (&batch.transactions[from.entry], &records[from.entry]);
+    let number = from.entry + 1;
+    let path = format!(in alloc; "{number}")?;
+    for line in from.line..to {
+        if line > block.steps.len() {
+            return Ok(());
+        }
+        if line > done.taken.len() {
+            return Ok(());
+        }
+        if line == 0 {
+            write_heading(out, &batch.names, number, done.outcome)?;
+        } else {
+            let (step, taken) = (&block.steps[line - 1], &done.taken[line - 1]);
+            write_step(alloc, out, &batch.names, path.as_str(), line, step, taken)?;
+        }
     }
     Ok(())
 }
 
-fn write_transaction(
-    alloc: Global,
+// Writes a transaction's own line.
+fn write_heading(
     out: &mut String,
     names: &Names,
     number: usize,
-    block: &Block,
-    done: &Record,
+    outcome: End,
 ) -> Result<(), NoMemory>
     ensures { OnOk result (string_bytes out.new ≡ string_bytes out.old
-        ++ (line (codes "T " ++ decimal number ++ outcome_text (names_of names.now) done.now.outcome) ++ steps_text (names_of names.now) (decimal number) 1 (block_view block.now) (record_view done.now))) }
+        ++ line (codes "T " ++ decimal number ++ outcome_text (names_of names.now) outcome)) }
 {
     write!(out, "T {number}")?;
-    write_end(out, names, done.outcome)?;
-    let path = format!(in alloc; "{number}")?;
-    write_block(alloc, out, names, path.as_str(), block, done)?;
-    Ok(())
+    write_end(out, names, outcome)
 }
 
 // Writes the lines of the objects from one place on, and before another.

@@ -4,6 +4,7 @@
 
 mod answer;
 mod calls;
+mod cuts;
 mod lines;
 mod names;
 mod parts;

@@ -12,9 +12,9 @@ use meaning::End;
 use objects::{Call, NoMemory, Reply};
 use std::alloc::Global;
 
-/// Writes the lines of the steps of a block at a path.
+// Writes the lines of the steps of a block at a path.
 #[cycle(lines)]
-pub(crate) fn write_block(
+fn write_block(
     alloc: Global,
     out: &mut String,
     names: &Names,
@@ -34,10 +34,10 @@ pub(crate) fn write_block(
     Ok(())
 }
 
-// Writes the lines of the step of this number (from 1) below a path. An operation's own path is part of
-// its line: no text is made for it.
+/// Writes the lines of the step of this number (from 1) below a path. An operation's own path is part
+/// of its line: no text is made for it.
 #[cycle(lines)]
-fn write_step(
+pub(crate) fn write_step(
     alloc: Global,
     out: &mut String,
     names: &Names,
@@ -170,7 +170,8 @@ fn write_operation(
 
 // Begins the line of the operation of this number below a path.
 fn write_place(out: &mut String, path: &str, number: usize) -> Result<(), NoMemory>
-    ensures { OnOk result (string_bytes out.new ≡ string_bytes out.old ++ (codes "O " ++ part path.now number)) }
+    ensures { OnOk result (string_bytes out.new
+        ≡ string_bytes out.old ++ (codes "O " ++ part path.now number)) }
 {
     out.push('O')?;
     out.push(' ')?;
@@ -181,7 +182,8 @@ fn write_place(out: &mut String, path: &str, number: usize) -> Result<(), NoMemo
 
 // Writes a name between two spaces.
 fn write_name(out: &mut String, name: &str) -> Result<(), NoMemory>
-    ensures { OnOk result (string_bytes out.new ≡ string_bytes out.old ++ (codes " " ++ name.now ++ codes " ")) }
+    ensures { OnOk result (string_bytes out.new
+        ≡ string_bytes out.old ++ (codes " " ++ name.now ++ codes " ")) }
 {
     out.push(' ')?;
     out.push_str(name)?;

@@ -71,7 +71,8 @@ fn write_bindings(out: &mut String, names: &Names, directory: &Directory) -> Res
 }
 
 fn write_binding(out: &mut String, names: &Names, key: Item, item: Item) -> Result<(), NoMemory>
-    ensures { OnOk result (string_bytes out.new ≡ string_bytes out.old ++ binding_text (names_of names.now) (key, item)) }
+    ensures { OnOk result (string_bytes out.new
+        ≡ string_bytes out.old ++ binding_text (names_of names.now) (key, item)) }
 {
     out.push_str(item_name(names, key))?;
     out.push(':')?;

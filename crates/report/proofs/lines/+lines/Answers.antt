@@ -4,7 +4,7 @@ use Rattle.meaning.specs.Texts.{handler_block, handler_path, part, reason_of, st
 use Rattle.batch.specs.Names.{names_of}
 use Rattle.batch.specs.Views.{block_view, record_view, subaction_view}
 use Rattle.batch.proofs.ViewLemmas.{block_view-is, record_view-is, step_view-Parallel, taken_view-Parallel}
-use Rattle.report.proofs.TextLemmas.{rest_text-start, rest_text-more, rest_text-no_step, rest_text-end, rest_children_text-start}
+use Rattle.report.proofs.TextLemmas.{steps_from-start, steps_from-more, steps_from-no_step, steps_from-end, rest_children_text-start}
 use Rattle.report.proofs.TextLemmas.{rest_children_text-more, rest_children_text-no_child, rest_children_text-end, after_text, after_two}
 use Rattle.report.proofs.TextLemmas.{body_lines, child_text-body, child_text-handler, child_text-untaken}
 use Rattle.report.proofs.lines.+lines.Goals as goal
@@ -12,7 +12,7 @@ use Rattle.report.proofs.lines.+lines.Goals as goal
 -- ---- steps one after the other
 
 pub write_block-loop-index-init : goal.write_block-loop-index-init
-write_block-loop-index-init t c = rw (rest_text-start, record_view-is c.args.done.now, block_view-is c.args.block.now) refl
+write_block-loop-index-init t c = rw (steps_from-start, record_view-is c.args.done.now, block_view-is c.args.block.now) refl
 
 pub write_block-loop-index-preserved : goal.write_block-loop-index-preserved
 write_block-loop-index-preserved t c =
@@ -20,7 +20,7 @@ write_block-loop-index-preserved t c =
     let lt : c.loop-index.index < length c.args.done.now.taken.items = rw c.deref-taken-items.ensures.value at c.loop-index-test.true in
     let is = rw c.deref-taken-items.ensures.value at c.taken-item.is in
     let lt' : c.loop-index.index < length steps.items = omega (arith, c.if-index-len.false, c.len.ensures, steps.ok.0) in
-    let splits = rest_text-more _ c.args.path.now c.loop-index.index steps.items _ c.args.done.now.outcome _ _ lt' c.index-step.ensures lt
+    let splits = steps_from-more _ c.args.path.now c.loop-index.index steps.items _ c.args.done.now.outcome _ _ lt' c.index-step.ensures lt
     is in
     after_text _ _ _ _ _ _ c.loop-index.invariant c.in_ok-write_step.ensures splits
 
@@ -28,12 +28,12 @@ pub write_block-returns-then-index-len : goal.write_block-returns-then-index-len
 write_block-returns-then-index-len t c =
     let steps = c.args.block.now.steps in
     let le : length steps.items ≤ c.loop-index.index = omega (arith, c.if-index-len.true, c.len.ensures, steps.ok.0) in
-    sym (append-nil _) ∙ rw (rest_text-no_step _ _ _ _ _ _ le) at c.loop-index.invariant
+    sym (append-nil _) ∙ rw (steps_from-no_step _ _ _ _ _ _ le) at c.loop-index.invariant
 
 pub write_block-returns : goal.write_block-returns
 write_block-returns t c =
     let le = rw c.deref-taken-items.ensures.value at c.loop-index-test.false in
-    sym (append-nil _) ∙ rw (rest_text-end _ _ _ _ _ _ le) at c.loop-index.invariant
+    sym (append-nil _) ∙ rw (steps_from-end _ _ _ _ _ _ le) at c.loop-index.invariant
 
 -- ---- children one after the other
 

@@ -1,0 +1,56 @@
+use Rattle.std.proofs.Common.{◌≡◌, ◌+◌, ◌<◌, ◌≤◌, ◌++◌, length, arith, ap, sym, ◌∙◌, string_bytes}
+use Rattle.std.specs.Prelude.{codes}
+use Rattle.std.specs.Fmt.{decimal}
+use Rattle.meaning.specs.Texts.{line, outcome_text}
+use Rattle.batch.specs.Names.{names_of}
+use Rattle.report.specs.Parts.{transaction_from}
+use Rattle.report.proofs.AnswerLemmas.{transaction_from-own, transaction_from-step, transaction_from-no_step, transaction_from-end}
+use Rattle.report.proofs.TextLemmas.{after_text}
+use Rattle.report.proofs.answer.write_transaction.Goals as goal
+use Rattle.report.proofs.answer.write_transaction.Goals.{then-line-eq0+in_ok-write_heading, else-line-eq0+in_ok-write_step}
+
+pub loop-line-preserved : goal.loop-line-preserved
+loop-line-preserved c =
+    let names = names_of c.args.batch.now.names in
+    let blocks = c.args.batch.now.transactions.items in
+    let records = c.args.records.now in
+    let e = c.args.from.entry in
+    let i = c.loop-line.line in
+    let x = c.index.result.now in
+    let y = c.index-records-from.result in
+    let below : i ≤ length x.steps.items = omega (arith, c.if-line-len.false, c.len.ensures, x.steps.ok.0) in
+    let below' : i ≤ length y.taken.items = omega (arith, c.if-line-len-2.false, c.len-in-loop-line.ensures, y.taken.ok.0) in
+    elim c.if-line-eq0.branch [
+      | then-line-eq0+in_ok-write_heading w ↦
+          let first : i ≡ 0 = omega (arith, w.if-line-eq0.true) in
+          let own = line (codes "T " ++ decimal (e + 1) ++ outcome_text names y.outcome) in
+          after_text _ _ _ _ _ _ c.loop-line.invariant (ap string_bytes w.out-is ∙ w.in_ok-write_heading.ensures)
+          (ap (transaction_from names blocks records e) first
+          ∙ transaction_from-own names e blocks records x y c.requires.blocks c.index.ensures c.requires.records c.index-records-from.is
+          ∙ ap (λ n. own ++ transaction_from names blocks records e (n + 1)) (sym first))
+      | else-line-eq0+in_ok-write_step w ↦
+          let some : 0 < i = omega (arith, w.if-line-eq0.false) in
+          let path : w.as_str.result.now ≡ decimal (e + 1) = w.as_str.ensures.value ∙ c.in_ok-path.ensures.ok in
+          after_text _ _ _ _ _ _ c.loop-line.invariant (ap string_bytes w.out-is ∙ rw path at w.in_ok-write_step.ensures)
+          (transaction_from-step names e blocks records x y c.requires.blocks c.index.ensures c.requires.records
+          c.index-records-from.is i _ _ some (omega (arith, some, below)) w.index-else-line-eq0.ensures (omega (arith, some, below'))
+          w.index-else-line-eq0-2.ensures)
+    ]
+
+pub returns-then-line-len : goal.returns-then-line-len
+returns-then-line-len c =
+    let x = c.index.result.now in
+    let none = transaction_from-no_step (names_of c.args.batch.now.names) c.args.from.entry _ _ x c.index-records-from.result
+    c.requires.blocks c.index.ensures c.requires.records c.index-records-from.is in
+    ap (λ text. string_bytes c.loop-line.out ++ text)
+    (none c.args.to (omega (arith, c.loop-line-test.true, c.if-line-len.true, c.len.ensures, x.steps.ok.0))
+    ∙ sym (none c.loop-line.line (omega (arith, c.if-line-len.true, c.len.ensures, x.steps.ok.0)))) ∙ c.loop-line.invariant
+
+pub returns-then-line-len-2 : goal.returns-then-line-len-2
+returns-then-line-len-2 c =
+    let y = c.index-records-from.result in
+    let none = transaction_from-end (names_of c.args.batch.now.names) c.args.from.entry c.args.batch.now.transactions.items _ y
+    c.requires.records c.index-records-from.is in
+    ap (λ text. string_bytes c.loop-line.out ++ text)
+    (none c.args.to (omega (arith, c.loop-line-test.true, c.if-line-len-2.true, c.len-in-loop-line.ensures, y.taken.ok.0))
+    ∙ sym (none c.loop-line.line (omega (arith, c.if-line-len-2.true, c.len-in-loop-line.ensures, y.taken.ok.0)))) ∙ c.loop-line.invariant
