@@ -5,10 +5,12 @@ use Rattle.std.specs.Str.{bytes_eq}
 use Rattle.objects.specs.Entries.{State}
 use Rattle.objects.specs.Objects.{kind_of_value}
 use Rattle.objects.specs.declared.value.Value.{Value}
+use Rattle.meaning.specs.Batch.{final_state}
 use Rattle.meaning.specs.Words.{Names}
 use Rattle.words.specs.Words.{kind_text}
 use Rattle.batch.specs.Names.{Texts, names_of}
 use Rattle.spelling.specs.Scope.{Table, is_listed, place_of}
+use Rattle.spelling.specs.Spelled.{Document}
 use Rattle.carry.specs.Carried.{object_text}
 use Rattle.carry.specs.declared.starts.NamedObjects.{NamedObjects}
 use Rattle.carry.specs.declared.starts.Start.{Start}
@@ -76,3 +78,8 @@ first_clash place [] starts = None
 first_clash place (v ∷ values) [] = None
 first_clash place (v ∷ values) (start ∷ starts) =
     if are_of_one_kind v start.value then first_clash (place + 1) values starts else Some place
+
+-- the objects that a next document starts with, where those at the end of a first are carried into it
+abbrev pub starts_into : Document → Document → List StartOf
+starts_into first next = joined (record { texts = first.texts; values = final_state first.start first.transactions })
+    (record { texts = next.texts; values = next.start })

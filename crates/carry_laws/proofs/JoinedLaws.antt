@@ -9,7 +9,7 @@ use Rattle.lang.proofs.FaultlessBatch.{faultless_is_batch}
 use Rattle.serde_json.specs.Data.{Data}
 use Rattle.spelling.specs.Asked.{transactions_in}
 use Rattle.spelling.specs.Spelled.{document_in}
-use Rattle.carry_laws.specs.Joined.{starts_into}
+use Rattle.carry.specs.Joined.{starts_into}
 use Rattle.carry_laws.specs.Laws.{JoinedLaw, JoinedStartsLaw}
 use Rattle.carry_laws.proofs.CarriedEnd.{of_reading, same_length}
 use Rattle.carry_laws.proofs.JoinedReads.{joined_value}

@@ -2,19 +2,12 @@
 use Rattle.std.specs.Prelude.{List, [], ◌∷◌, codes}
 use Rattle.serde_json.specs.Data.{Data, array, member, no_items, item, Items, no_members, number, object, unsigned}
 use Rattle.objects.specs.Entries.{State}
-use Rattle.meaning.specs.Batch.{final_state}
 use Rattle.meaning.specs.Words.{Names}
 use Rattle.batch.specs.Names.{names_of}
 use Rattle.spelling.specs.Scope.{Numbers, no_numbers}
 use Rattle.spelling.specs.Spelled.{starts_of}
-use Rattle.lang.specs.Reading.{Document}
-use Rattle.carry.specs.Joined.{StartOf, joined}
+use Rattle.carry.specs.Joined.{StartOf}
 use Rattle.carry_laws.specs.CarriedData.{object_data}
-
--- the objects that a next document starts with, where those at the end of a first are carried into it
-abbrev pub starts_into : Document → Document → List StartOf
-starts_into first next = joined (record { texts = first.texts; values = final_state first.start first.transactions })
-    (record { texts = next.texts; values = next.start })
 
 abbrev pub starts_data : List StartOf → Items
 starts_data [] = no_items

@@ -8,9 +8,9 @@ use Rattle.serde_json.specs.Data.{Data}
 use Rattle.spelling.specs.Asked as asked
 use Rattle.spelling.specs.Asked.{transactions_in}
 use Rattle.carry.specs.Carried.{carried_text, first_unfit}
-use Rattle.carry.specs.Joined.{name_of, value_of as start_value}
+use Rattle.carry.specs.Joined.{name_of, starts_into, value_of as start_value}
 use Rattle.carry.specs.Transactions.{joined_text}
-use Rattle.carry_laws.specs.Joined.{joined_data, names_after, spelled_starts, starts_data, starts_into}
+use Rattle.carry_laws.specs.Joined.{joined_data, names_after, spelled_starts, starts_data}
 use Rattle.std.specs.Str.{IsUtf8}
 use Rattle.std.specs.List.{IsDistinct}
 use Rattle.std.specs.Str.{bytes_eq}

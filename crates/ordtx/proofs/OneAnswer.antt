@@ -12,7 +12,7 @@ use Rattle.meaning.specs.Texts.{report, plain_report, audit_report, check_text}
 use Rattle.meaning.proofs.Openings.{one_number, one_count}
 use Rattle.batch.specs.Names.{names_of}
 use Rattle.carry.specs.Carried.{carried_text, first_unfit}
-use Rattle.carry.specs.Joined.{StartOf}
+use Rattle.carry.specs.Joined.{StartOf, starts_into}
 use Rattle.carry.specs.Transactions.{joined_text}
 use Rattle.carry.specs.declared.document.Misfit.{Misfit}
 use Rattle.faults.specs.declared.fault.Wrong.{Wrong}
@@ -23,7 +23,7 @@ use Rattle.lang.specs.Reading.{Document, reading}
 use Rattle.faults.specs.declared.fault.Fault.{Fault}
 use Rattle.ordtx.specs.Answers.{IsReportOf, IsAuditOf, IsPlainReportOf, IsCheckOf, IsFaultOf, IsCarriedOf, IsUnfitOf, IsCarryFaultOf}
 use Rattle.ordtx.specs.Answers.{end_of, unfit_wrong, IsShownOf, IsWhyOf, IsExplainedOf, Refusal, of_first, of_next, of_object, AreRead}
-use Rattle.ordtx.specs.Answers.{IsCarriedIntoOf, IsCarryIntoFaultOf, IsNextFaultOf, IsTooLongInto, IsUnfitInto, name_at, starts_into}
+use Rattle.ordtx.specs.Answers.{IsCarriedIntoOf, IsCarryIntoFaultOf, IsNextFaultOf, IsTooLongInto, IsUnfitInto, name_at}
 use Rattle.ordtx.specs.Answers.{wrong_start}
 use Rattle.ordtx.specs.Laws.{OneTextLaw, OneFaultLaw, FaultlessLaw}
 

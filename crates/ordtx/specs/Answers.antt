@@ -11,7 +11,7 @@ use Rattle.meaning.specs.Texts.{report, plain_report, audit_report, check_text, 
 use Rattle.batch.specs.Names.{names_of}
 use Rattle.lang.specs.Reading.{Document, reading}
 use Rattle.carry.specs.Carried.{carried_text, first_unfit}
-use Rattle.carry.specs.Joined.{StartOf, first_clash, joined, name_of, value_of}
+use Rattle.carry.specs.Joined.{StartOf, first_clash, name_of, starts_into, value_of}
 use Rattle.carry.specs.Transactions.{joined_text}
 use Rattle.carry.specs.declared.document.Misfit.{Misfit}
 use Rattle.carry.specs.declared.document.Unfit.{Unfit}
@@ -133,11 +133,6 @@ abbrev pub IsCarryFaultOf : List ℕ → Refusal → Type 0
 IsCarryFaultOf bytes (of_first fault) = IsFaultOf bytes fault
 IsCarryFaultOf bytes (of_next fault) = ⊥
 IsCarryFaultOf bytes (of_object fault name) = IsUnfitOf bytes fault name
-
--- the objects that a next document starts with, where those at the end of a first are carried into it
-abbrev pub starts_into : Document → Document → List StartOf
-starts_into first next =
-    joined (record { texts = first.texts; values = end_of first }) (record { texts = next.texts; values = next.start })
 
 abbrev pub clash_or : Option (Wrong × ℕ) → Option ℕ → Option (Wrong × ℕ)
 clash_or others None = others

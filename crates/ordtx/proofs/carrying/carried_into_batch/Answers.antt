@@ -2,9 +2,9 @@ use Rattle.std.proofs.Common.{◌≡◌, ◌<◌, ◌≤◌, ◌∙◌, Some, ap
 use Rattle.std.proofs.lemmas.List.{length-map}
 use Rattle.std.proofs.lemmas.Str.{IsUtf8-string_bytes}
 use Rattle.lang.specs.Reading.{document_of}
-use Rattle.carry.specs.Joined.{Named, joined, start_view}
+use Rattle.carry.specs.Joined.{Named, joined, start_view, starts_into}
 use Rattle.carry.specs.Transactions.{joined_text}
-use Rattle.ordtx.specs.Answers.{IsCarryIntoFaultOf, name_at, starts_into, wrong_start}
+use Rattle.ordtx.specs.Answers.{IsCarryIntoFaultOf, name_at, wrong_start}
 use Rattle.ordtx.proofs.JoinedSize.{joined_length}
 use Rattle.ordtx.proofs.carrying.carried_into_batch.Goals as goal
 
