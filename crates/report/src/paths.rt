@@ -31,7 +31,7 @@ pub fn part_path(alloc: Global, path: &str, number: usize) -> Result<String, NoM
     Ok(text)
 }
 
-// A path, and this behind it.
+// A path, and this after it.
 pub(crate) fn longer_path(alloc: Global, path: &str, end: &str) -> Result<String, NoMemory>
     ensures { IfOk result (λ t. string_bytes t ≡ path.now ++ end.now) }
 {
