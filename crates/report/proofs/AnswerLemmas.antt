@@ -64,7 +64,7 @@ module _ (names : Names) where
       ∙ ap (λ rs. first_from names (e + 1) (drop e blocks) (drop e records) 0
       ++ transactions_text names (e + 1 + 1) (map block_view (drop (e + 1) blocks)) (map record_view rs)) (drop-drop 1 e records)
 
-  -- behind a transaction's own line
+  -- after a transaction's own line
   later : (n : ℕ) (x : Block) (y : Record) (blocks : List Block) (records : List Record) (i : ℕ) → 0 < i
       → first_from names n (x ∷ blocks) (y ∷ records) i
       ≡ steps_from names (decimal n) (i - 1) x.steps.items y.taken.items y.outcome
@@ -190,7 +190,7 @@ module _ (names : Names) where
               (sym (ap (transactions_from names blocks records) (omega (arith, le, ge)) ∙ transactions_from-end blocks records))
         ]
 
-    -- behind an entry
+    -- after an entry
     pub lines_from-next : (cut : Cut) → cut.entry < transactions blocks records
         → lines cut ≡ transaction_from names blocks records cut.entry cut.line ++ lines (record { entry = cut.entry + 1; line = 0 })
     lines_from-next cut lt = lines_from-in cut lt ∙ ap (λ text. transaction_from names blocks records cut.entry cut.line ++ text)

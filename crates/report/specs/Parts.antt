@@ -56,7 +56,7 @@ lines_from names blocks records objects cut =
     ++ (transactions_from names blocks records (cut.entry + 1) ++ objects_from names objects 0))
     else objects_from names objects cut.line
 
--- no line before the first cut is after the second
+-- the first cut isn't after the second
 pub record IsBefore (from to : Cut) : Type 0 where
   pub entry : from.entry ≤ to.entry
   pub line : from.entry ≡ to.entry → from.line ≤ to.line
