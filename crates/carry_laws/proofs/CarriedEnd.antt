@@ -9,8 +9,6 @@ use Rattle.meaning.specs.Batch.{final_state}
 use Rattle.meaning.specs.Trees.{Block}
 use Rattle.meaning.proofs.Keeping.{batch_keeps}
 use Rattle.batch.specs.Names.{names_of}
-use Rattle.spelling.specs.Asked.{asked}
-use Rattle.spelling.specs.Demand.{first_fault}
 use Rattle.faults.specs.Faults.{wrong_outside}
 use Rattle.lang.specs.Reading.{Document, reading, spelled_by, unless_fault, value_of}
 use Rattle.spelling.specs.Spelled.{document_in}
@@ -24,14 +22,16 @@ use Rattle.carry_laws.specs.Laws.{CarriedEndLaw}
 use Rattle.carry_laws.proofs.CarriedLaws.{carried_is_read}
 use Rattle.carry_laws.proofs.NamedEnd.{end_named}
 use Rattle.carry_laws.proofs.NamedTexts.{named_objects_fit}
+use Rattle.spelling.proofs.Demands.{asked}
+use Rattle.spelling.specs.Places.{first_fault, placed}
 
 -- a document that was read is that of a value with no fault
 pub record IsOf (document : Document) : Type 0 where
   pub value : Data
-  pub faultless : first_fault (asked value) ≡ None
+  pub faultless : first_fault (placed value) ≡ None
   pub is : document_in value ≡ document
 
-of_value : (document : Document) (d : Data) (fault : Option Fault) → first_fault (asked d) ≡ fault → unless_fault d fault ≡ Ok document
+of_value : (document : Document) (d : Data) (fault : Option Fault) → first_fault (placed d) ≡ fault → unless_fault d fault ≡ Ok document
     → IsOf document
 of_value document d None none e = record { value = d; faultless = none; is = cc }
 of_value document d (Some fault) none e = cc
@@ -40,7 +40,7 @@ of_bytes : (document : Document) (large : Bool) (o : Option Data) → cond large
     → IsOf document
 of_bytes document true o e = cc
 of_bytes document false None e = cc
-of_bytes document false (Some d) e = of_value document d (first_fault (asked d)) refl e
+of_bytes document false (Some d) e = of_value document d (first_fault (placed d)) refl e
 
 pub of_reading : (bytes : List ℕ) (document : Document) → reading bytes ≡ Ok document → IsOf document
 unfolding reading
@@ -52,7 +52,7 @@ same_length start batch =
     let same = (batch_keeps start batch (length batch) (omega arith)).same_kinds in
     sym (length-map (final_state start batch) kind_of_value) ∙ ap length same ∙ length-map start kind_of_value
 
-can_be_carried : (d : Data) → first_fault (asked d) ≡ None
+can_be_carried : (d : Data) → first_fault (placed d) ≡ None
     → first_unfit 0 0 (final_state (document_in d).start (document_in d).transactions) ≡ None
     → CanBeCarried (names_of (document_in d).texts) (final_state (document_in d).start (document_in d).transactions)
 can_be_carried d none fit =

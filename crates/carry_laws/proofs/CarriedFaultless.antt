@@ -21,10 +21,10 @@ use Rattle.words.specs.Words.{kind_text}
 use Rattle.batch.specs.Limits.{entries_in}
 use Rattle.batch.specs.Names.{is_name}
 use Rattle.faults.specs.declared.fault.Wrong.TheVariants.{DuplicateObject, Name, Shape, Start}
-use Rattle.spelling.specs.Asked.{array_start_asked, asked, document_shape_asked, element_asked, elements_asked, entries_asked, entry_asked}
-use Rattle.spelling.specs.Asked.{kind_in, object_asked, object_kind, object_name_asked, object_shape_asked, objects_asked, pair_asked}
-use Rattle.spelling.specs.Asked.{pairs_asked, start_asked, number_start, signed_start}
-use Rattle.spelling.specs.Demand.{check, fault_of, first_fault, no_counts}
+use Rattle.spelling.specs.Asked.{document_shape_asked, element_asked, entry_asked}
+use Rattle.spelling.specs.Asked.{kind_in, object_kind, object_name_asked, object_shape_asked, pair_asked}
+use Rattle.spelling.specs.Asked.{number_start, signed_start}
+use Rattle.spelling.specs.Demand.{check, no_counts}
 use Rattle.spelling.specs.Scope.{Table, is_listed}
 use Rattle.words.specs.Words.{kind_of_text}
 use Rattle.spelling.proofs.Checks.{check_met}
@@ -37,6 +37,9 @@ use Rattle.carry_laws.proofs.Carriable.{IsApart, first_fits}
 use Rattle.carry_laws.proofs.ItemsOf.{members_few}
 use Rattle.carry_laws.proofs.Listed.{AreNamedBoth, AreWritable, IsNamed, IsWritable}
 use Rattle.carry_laws.proofs.Meeting.{AreNew, Counts, Meet, all_new, meet_fewer, meet_none, meet_start, meet_test, new_after, with_new}
+use Rattle.spelling.proofs.Demands.{array_start_asked, asked, elements_asked, entries_asked, object_asked, objects_asked, pairs_asked}
+use Rattle.spelling.proofs.Demands.{start_asked, met_faultless}
+use Rattle.spelling.specs.Places.{first_fault, placed}
 
 -- ---- kinds
 
@@ -162,11 +165,11 @@ module _ (names : Names) where
 
   pub carried_faultless : (values : State) → length values ≤ 1000 → first_unfit 0 0 values ≡ None → AreWritable names 0 values
       → AllByRecursion (IsApart names) values → Apart (object_names names 0 values)
-      → first_fault (asked (carried_data names values)) ≡ None
+      → first_fault (placed (carried_data names values)) ≡ None
   unfolding asked
   carried_faultless values few fit ok apart differ =
       let d = carried_data names values in
       let objects = objects_asked 4 [] (objects_data names 0 values) in
       let met = objects_met 0 0 values [] no_counts (omega arith) fit ok apart differ (all_new (object_names names 0 values)) in
-      ap fault_of (check_met no_counts met.0 (document_shape_asked d ++ objects) []
+      met_faultless d met.0 (check_met no_counts met.0 (document_shape_asked d ++ objects) []
       (check_met no_counts no_counts (document_shape_asked d) objects (shape_met values few) ∙ met.1))

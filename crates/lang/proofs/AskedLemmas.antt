@@ -1,43 +1,39 @@
 -- What is asked of a document, in its three parts.
-use Rattle.std.proofs.Common.{◌≡◌, List, [], ◌++◌, Ok, Err, ◌∙◌}
+use Rattle.std.specs.Prelude.{codes}
+use Rattle.std.proofs.Common.{◌≡◌, List, [], Ok, Err, ◌∙◌}
 use Rattle.serde_json.specs.Data.{Data}
 use Rattle.spelling.specs.declared.counts.Counts.{Counts}
 use Rattle.faults.specs.declared.fault.Fault.{Fault}
-use Rattle.spelling.specs.Asked.{asked, document_shape_asked, objects_asked, objects_in, setting_in, transactions_asked, transactions_in}
-use Rattle.spelling.specs.Asked.{version_in}
+use Rattle.spelling.specs.Asked.{document_shape_asked, objects_in, setting_in, transactions_in, version_in}
 use Rattle.spelling.specs.Demand.{Demand, check}
-use Rattle.spelling.proofs.Checks.{check_failed, check_met}
+use Rattle.spelling.specs.Places.{Placed, found_here, inside, member_named, nothing, objects_placed, placed, seek, transactions_placed}
+use Rattle.spelling.proofs.PlaceLemmas.{own_first, own_unmet, part_met}
 
 module _ (d : Data) (start : Counts) where
   abbrev shape : List Demand
   shape = document_shape_asked d
 
-  abbrev objects : List Demand
-  objects = objects_asked (version_in d) [] (objects_in d)
+  abbrev pub objects : Placed
+  objects = objects_placed (version_in d) [] 0 (objects_in d)
 
-  abbrev transactions : List Demand
-  transactions = transactions_asked 1 (setting_in d) (transactions_in d)
+  abbrev pub transactions : Placed
+  transactions = transactions_placed (setting_in d) 0 (transactions_in d)
+
+  abbrev pub behind : Placed
+  behind = inside (member_named (codes "transactions")) transactions nothing
 
   -- the first fault is of the shape
-  pub shape_failed : (e : Fault) → check start shape ≡ Err e → check start (asked d) ≡ Err e
-  unfolding asked
-  shape_failed e failed = check_failed start e (shape ++ objects) transactions (check_failed start e shape objects failed)
+  pub shape_failed : (e : Fault) → check start shape ≡ Err e → seek start (placed d) ≡ Err (found_here e)
+  unfolding placed
+  shape_failed e failed = own_unmet start e shape (inside (member_named (codes "objects")) objects behind) failed
 
-  -- it is in the objects
-  pub objects_failed : (e : Fault) → check start shape ≡ Ok start → check start objects ≡ Err e → check start (asked d) ≡ Err e
-  unfolding asked
-  objects_failed e right failed = check_failed start e (shape ++ objects) transactions (check_met start start shape objects right ∙ failed)
+  -- the objects and the transactions decide
+  pub after_shape : check start shape ≡ Ok start → seek start (placed d) ≡ seek start
+      (inside (member_named (codes "objects")) objects behind)
+  unfolding placed
+  after_shape right = own_first start start shape (inside (member_named (codes "objects")) objects behind) right
 
-  -- it is in the transactions
-  pub transactions_failed : (next : Counts) (e : Fault) → check start shape ≡ Ok start → check start objects ≡ Ok next
-      → check next transactions ≡ Err e → check start (asked d) ≡ Err e
-  unfolding asked
-  transactions_failed next e right met failed = check_met start next (shape ++ objects) transactions
-      (check_met start start shape objects right ∙ met) ∙ failed
-
-  -- there is none
-  pub all_met : (next last : Counts) → check start shape ≡ Ok start → check start objects ≡ Ok next
-      → check next transactions ≡ Ok last → check start (asked d) ≡ Ok last
-  unfolding asked
-  all_met next last right met rest = check_met start next (shape ++ objects) transactions
-      (check_met start start shape objects right ∙ met) ∙ rest
+  -- the transactions decide
+  pub after_objects : (next : Counts) → check start shape ≡ Ok start → seek start objects ≡ Ok next
+      → seek start (placed d) ≡ seek next behind
+  after_objects next right met = after_shape right ∙ part_met start next (member_named (codes "objects")) objects behind met

@@ -39,14 +39,16 @@ use Rattle.meaning.specs.Trees.{NoStep, Steps}
 use Rattle.spelling.specs.declared.steps.Sort.{Sort}
 use Rattle.spelling.specs.declared.steps.Sort.TheVariants.{Operation as an_operation, If as an_if, Sub as a_sub, Abort as an_abort}
 use Rattle.spelling.specs.declared.steps.Sort.TheVariants.{Parallel as a_parallel}
-use Rattle.spelling.specs.Asked.{abort_asked, abort_shape_asked, array_asked, block_asked, block_asked_if, children_asked, children_in}
-use Rattle.spelling.specs.Asked.{handlers_asked, handlers_in, holds_item, holds_number, holds_word, if_asked, if_label, if_shape_asked}
-use Rattle.spelling.specs.Asked.{labels_of, member_asked, members_asked, or_no_items, parallel_asked, parallel_shape_asked, reason_asked}
-use Rattle.spelling.specs.Asked.{scope_after, scope_after_by, seen_asked, sort_of, step_asked, step_asked_by, steps_asked, sub_asked}
+use Rattle.spelling.specs.Asked.{abort_asked, abort_shape_asked, children_in}
+use Rattle.spelling.specs.Asked.{handlers_in, holds_item, holds_number, holds_word, if_label, if_shape_asked}
+use Rattle.spelling.specs.Asked.{labels_of, or_no_items, parallel_shape_asked, reason_asked}
+use Rattle.spelling.specs.Asked.{scope_after, scope_after_by, seen_asked, sort_of}
 use Rattle.spelling.specs.Asked.{sub_shape_asked, subject_of, test_asked, tested_word}
 use Rattle.spelling.specs.Spelled.{abort_of, block_of, block_of_if, children_spelled, handlers_spelled, if_of, member_of, members_of}
 use Rattle.spelling.specs.Spelled.{or_no_step, parallel_of, step_of, step_of_by, steps_spelled, sub_of, test_of}
 use Rattle.lang.proofs.Bound.{AreSeen, bound, call_fits, fits, some_of, subject_of_label, subjects, verb_is}
+use Rattle.spelling.proofs.Demands.{array_asked, block_asked, block_asked_if, children_asked, handlers_asked, if_asked, member_asked}
+use Rattle.spelling.proofs.Demands.{members_asked, parallel_asked, step_asked, step_asked_by, steps_asked, sub_asked}
 
 -- ---- what is known of a part: over objects of these kinds, with these labels, within so many levels, and what it counts
 

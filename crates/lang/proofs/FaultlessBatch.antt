@@ -18,25 +18,28 @@ use Rattle.meaning.specs.Trees as tree
 use Rattle.meaning.specs.WellFormed.{largest, size_of}
 use Rattle.meaning.specs.Running.{all_operations}
 use Rattle.batch.specs.Limits.{AllWellFormed, AllShallow, IsBatch, all_nodes, all_entries_in, entries_in}
-use Rattle.spelling.specs.Demand.{first_fault, no_counts}
+use Rattle.spelling.specs.Demand.{no_counts}
 use Rattle.spelling.specs.Look
 use Rattle.spelling.specs.Look.{whole}
 use Rattle.spelling.specs.Scope.{Numbers, Setting, Table, no_numbers}
-use Rattle.spelling.specs.Asked.{array_start_asked, asked, block_asked, document_shape_asked, element_asked, elements_asked, entries_asked}
-use Rattle.spelling.specs.Asked.{entry_asked, kind_in, kinds_of, names_of, object_asked, object_name, object_name_asked, object_shape_asked}
-use Rattle.spelling.specs.Asked.{objects_asked, objects_in, or_no_items, pair_asked, pairs_asked, part, setting_in}
-use Rattle.spelling.specs.Asked.{signed_within, start_asked}
-use Rattle.spelling.specs.Asked.{text_of, key_of, transactions_asked, transactions_in, version_in}
+use Rattle.spelling.specs.Asked.{document_shape_asked, element_asked}
+use Rattle.spelling.specs.Asked.{entry_asked, kind_in, kinds_of, names_of, object_name, object_name_asked, object_shape_asked}
+use Rattle.spelling.specs.Asked.{objects_in, or_no_items, pair_asked, part, setting_in}
+use Rattle.spelling.specs.Asked.{signed_within}
+use Rattle.spelling.specs.Asked.{text_of, key_of, transactions_in, version_in}
 use Rattle.spelling.specs.Scope.{with_item, with_text}
 use Rattle.spelling.specs.Spelled.{bind_all, block_of, blocks_of, document_in, entries_of, or_zero, pair_of, pairs_of, parts_in, put_all}
 use Rattle.spelling.specs.Spelled.{start_of, starts_of}
 use Rattle.lang.proofs.Faultless.{block_good, counted, most_labels}
 use Rattle.lang.proofs.Later.{blocks_later, values_later}
 use Rattle.spelling.proofs.ListLemmas.{kinds_of_starts}
-use Rattle.spelling.proofs.MetLemmas.{AllMet, What, count, count-append, faultless, first_met, passed, rest_met}
+use Rattle.spelling.proofs.MetLemmas.{AllMet, What, count, count-append, first_met, passed, rest_met}
 use Rattle.lang.proofs.Numbered.{blocks_numbered}
 use Rattle.lang.proofs.NumberedStarts.{objects_named, starts_numbered}
 use Rattle.lang.proofs.Tables.{grows_behind, grows_on, texts_in}
+use Rattle.spelling.proofs.Demands.{array_start_asked, asked, block_asked, elements_asked, entries_asked, object_asked, objects_asked}
+use Rattle.spelling.proofs.Demands.{pairs_asked, start_asked, transactions_asked, faultless}
+use Rattle.spelling.specs.Places.{first_fault, placed}
 
 -- ---- transactions
 
@@ -300,10 +303,10 @@ met_is_batch d met few_starts few_operations few_nodes =
     }
 
 -- the law that a batch keeps
-pub faultless_is_batch : (d : Data) → first_fault (asked d) ≡ None → IsBatch (document_in d).start (document_in d).texts
+pub faultless_is_batch : (d : Data) → first_fault (placed d) ≡ None → IsBatch (document_in d).start (document_in d).texts
     (document_in d).transactions
 faultless_is_batch d none =
-    let all = faultless (asked d) none in
+    let all = faultless d none in
     let p = passed (asked d) no_counts all.0 all.1 in
     met_is_batch d p.met (omega (arith, p.starts, p.few_starts (omega arith)))
     (omega (arith, p.operations, p.few_operations (omega arith))) (omega (arith, p.nodes, p.few_nodes (omega arith)))

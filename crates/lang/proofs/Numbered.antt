@@ -31,14 +31,13 @@ use Rattle.spelling.specs.Look.{has, or_empty, text_member}
 use Rattle.spelling.specs.Scope.{Numbers, Scope, Setting, number_of, with_item, with_label, with_reason}
 use Rattle.words.specs.Verbs.{ItemsAre, amount_call, item_call, lone_call, pair_call}
 use Rattle.words.proofs.Verbs.{amount_phrase, item_phrase, lone_phrase, pair_phrase}
-use Rattle.spelling.specs.Asked.{abort_asked, abort_shape_asked, amount_item, arguments_asked, array_asked, block_asked, block_asked_if}
-use Rattle.spelling.specs.Asked.{call_named, children_asked, children_in, handlers_asked, handlers_in, has_count, holds_item, holds_number}
-use Rattle.spelling.specs.Asked.{holds_word, if_asked, if_label, if_shape_asked, item_asked, label_asked, label_in}
-use Rattle.spelling.specs.Asked.{member_asked, members_asked}
-use Rattle.spelling.specs.Asked.{name_item, object_of, operation_asked, operation_shape_asked, or_no_items, parallel_asked}
-use Rattle.spelling.specs.Asked.{parallel_shape_asked, part, reason_asked, scope_after, seen_asked, sort_of, step_asked, step_asked_by}
-use Rattle.spelling.specs.Asked.{steps_asked, sub_asked, sub_shape_asked, subject_of, target_asked, test_asked, transaction_asked}
-use Rattle.spelling.specs.Asked.{transactions_asked, verb_in}
+use Rattle.spelling.specs.Asked.{abort_asked, abort_shape_asked, amount_item, arguments_asked}
+use Rattle.spelling.specs.Asked.{call_named, children_in, handlers_in, has_count, holds_item, holds_number}
+use Rattle.spelling.specs.Asked.{holds_word, if_label, if_shape_asked, item_asked, label_asked, label_in}
+use Rattle.spelling.specs.Asked.{name_item, object_of, operation_asked, operation_shape_asked, or_no_items}
+use Rattle.spelling.specs.Asked.{parallel_shape_asked, part, reason_asked, scope_after, seen_asked, sort_of}
+use Rattle.spelling.specs.Asked.{sub_shape_asked, subject_of, target_asked, test_asked}
+use Rattle.spelling.specs.Asked.{verb_in}
 use Rattle.spelling.specs.Spelled.{abort_of, block_of, block_of_if, blocks_of, call_of, children_spelled, handlers_spelled, if_of, item_of}
 use Rattle.spelling.specs.Spelled.{members_of, operation_of, or_no_step, or_zero, parallel_of, reason_of, step_of}
 use Rattle.spelling.specs.Spelled.{step_of_by, steps_spelled}
@@ -46,6 +45,9 @@ use Rattle.spelling.specs.Spelled.{sub_of, test_of}
 use Rattle.lang.proofs.Later.{block_later, handlers_later, step_later, test_later}
 use Rattle.lang.proofs.Tables.{Grows, Numbered, grows_before, grows_behind, grows_item, grows_none, grows_on, grows_reason, number_below}
 use Rattle.lang.proofs.Tables.{texts_in}
+use Rattle.spelling.proofs.Demands.{array_asked, block_asked, block_asked_if, children_asked, handlers_asked, if_asked, member_asked}
+use Rattle.spelling.proofs.Demands.{members_asked, parallel_asked, step_asked, step_asked_by, steps_asked, sub_asked, transaction_asked}
+use Rattle.spelling.proofs.Demands.{transactions_asked}
 
 -- ---- calls
 

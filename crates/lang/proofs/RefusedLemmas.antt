@@ -8,13 +8,12 @@ use Rattle.serde_json.specs.Find.{as_object}
 use Rattle.serde_json.specs.Read.{read as read_text}
 use Rattle.faults.specs.declared.fault.Wrong.TheVariants.{Shape}
 use Rattle.faults.specs.declared.fault.Fault.{Fault}
-use Rattle.spelling.specs.Asked.{asked, document_shape_asked, objects_asked, objects_in, setting_in, transactions_asked, transactions_in}
-use Rattle.spelling.specs.Asked.{version_in}
-use Rattle.spelling.specs.Demand.{check, first_fault, no_counts}
+use Rattle.spelling.specs.Asked.{document_shape_asked}
+use Rattle.spelling.specs.Demand.{check, no_counts}
+use Rattle.spelling.specs.Places.{fault_of, first_fault, placed}
 use Rattle.faults.specs.Faults.{wrong_outside}
 use Rattle.lang.specs.Reading.{spelled_by, unless_fault, value_of}
-use Rattle.spelling.proofs.Checks.{check_failed}
-use Rattle.pull.proofs.DocumentLemmas.{failed_first}
+use Rattle.lang.proofs.AskedLemmas.{shape_failed}
 use Rattle.pull.specs.Pulled.{ReadsValue}
 use Rattle.pull.proofs.PulledLemmas.{reads_text}
 
@@ -33,18 +32,13 @@ value_known bytes text k d few valid same reads =
     rw (is_utf8-from_IsUtf8 bytes valid) (ap read_text (sym same) ∙ reads_text text k d few reads)
 
 -- a document's first fault is what its bytes are refused for
-pub refused_for : (bytes : List ℕ) (d : Data) (fault : Fault) → value_of bytes ≡ Some d → first_fault (asked d) ≡ Some fault
+pub refused_for : (bytes : List ℕ) (d : Data) (fault : Fault) → value_of bytes ≡ Some d → first_fault (placed d) ≡ Some fault
     → spelled_by (value_of bytes) ≡ Err fault
 refused_for bytes d fault known first = ap spelled_by known ∙ ap (unless_fault d) first
 
 -- a fault of the shape is the first
-pub shape_first : (d : Data) (fault : Fault) → check no_counts (document_shape_asked d) ≡ Err fault → first_fault (asked d) ≡ Some fault
-unfolding asked
-shape_first d fault failed =
-    let objects = objects_asked (version_in d) [] (objects_in d) in
-    failed_first no_counts (asked d) fault refl
-    (check_failed no_counts fault (document_shape_asked d ++ objects) (transactions_asked 1 (setting_in d) (transactions_in d))
-    (check_failed no_counts fault (document_shape_asked d) objects failed))
+pub shape_first : (d : Data) (fault : Fault) → check no_counts (document_shape_asked d) ≡ Err fault → first_fault (placed d) ≡ Some fault
+shape_first d fault failed = ap fault_of (shape_failed d no_counts fault failed)
 
 -- what is no object has not the shape
 pub no_object_shape : (d : Data) → as_object d ≡ None → check no_counts (document_shape_asked d) ≡ Err (wrong_outside Shape)

@@ -3,28 +3,14 @@ use Rattle.std.specs.Prelude.{◌≡◌, ◌≢◌, ◌<◌, ◌≤◌, ◌⊎�
 use Rattle.std.specs.Prelude.{unwrap_or, String}
 use Rattle.std.specs.declared.alloc.Global.{Global}
 use Rattle.serde_json.specs.Data.{Data}
-use Rattle.spelling.specs.declared.counts.Counts.{Counts}
 use Rattle.faults.specs.declared.fault.Fault.{Fault}
 use Rattle.lang.specs.declared.places.Place.{Place}
 use Rattle.lang.specs.declared.places.Place.TheVariants.{Whole, Pointer, LineColumn}
-use Rattle.lang.specs.declared.places.Unmet.{Unmet}
 use Rattle.spelling.specs.Demand.{no_counts}
 use Rattle.faults.specs.Faults.{memory_fault}
-use Rattle.spelling.specs.Asked.{asked}
-use Rattle.lang.specs.Places.{Found, Placed, demands_of, placed, seek}
+use Rattle.spelling.specs.Places.{placed, seek}
 use Rattle.lang.specs.Reading.{value_of}
 use Rattle.lang.specs.declared.document.TheConstants.{MAX_BYTES}
-
-abbrev pub pointer_text : Option (String Global) → List ℕ
-pointer_text pointer = unwrap_or (option_map (λ text. string_bytes text) pointer) []
-
--- what a demand that is not met gives
-abbrev pub found_of : Unmet → Found
-found_of unmet = record { fault = unmet.fault; pointer = pointer_text unmet.pointer }
-
--- unless memory was refused, the demand is the first that is not met
-abbrev pub IsFound : Counts → Placed → Unmet → Type 0
-IsFound c asked unmet = unmet.fault ≢ memory_fault → seek c asked ≡ Err (found_of unmet)
 
 -- A pointer is shown so. The empty pointer is that of the whole.
 abbrev pub Shows : List ℕ → Place → Type 0
@@ -43,7 +29,3 @@ IsPlaceOf bytes fault Whole = (MAX_BYTES < length bytes) ⊎ PointsTo bytes faul
 IsPlaceOf bytes fault (Pointer text) = (length bytes ≤ MAX_BYTES) × (0 < length (string_bytes text))
     × PointsTo bytes fault (string_bytes text)
 IsPlaceOf bytes fault (LineColumn line column) = (length bytes ≤ MAX_BYTES) × (value_of bytes ≡ None)
-
--- The demands with their places are those that are asked, so that no other fault is first.
-abbrev pub PlacesLaw : Type 0
-PlacesLaw = (d : Data) → demands_of (placed d) ≡ asked d

@@ -11,8 +11,7 @@ use Rattle.spelling.specs.declared.state.Numbering.{Numbering}
 use Rattle.faults.specs.declared.fault.Wrong.TheVariants.{NotJson, TooMany}
 use Rattle.faults.specs.declared.fault.Fault.{Fault}
 use Rattle.faults.specs.Faults.{wrong_outside}
-use Rattle.spelling.specs.Demand.{first_fault}
-use Rattle.spelling.specs.Asked.{asked}
+use Rattle.spelling.specs.Places.{first_fault, placed}
 pub use Rattle.spelling.specs.Spelled.{Document}
 use Rattle.spelling.specs.Spelled.{document_in}
 use Rattle.lang.specs.declared.document.TheConstants.{MAX_BYTES}
@@ -27,7 +26,7 @@ unless_fault d (Some fault) = Err fault
 
 abbrev pub spelled_by : Option Data → Result Document Fault
 spelled_by None = Err (wrong_outside NotJson)
-spelled_by (Some d) = unless_fault d (first_fault (asked d))
+spelled_by (Some d) = unless_fault d (first_fault (placed d))
 
 -- the document that the bytes spell, or their first fault
 unfoldable pub reading : List ℕ → Result Document Fault

@@ -7,9 +7,10 @@ ghost use Rattle.serde_json.specs.Data.{Data, Items};
 ghost use Rattle.serde_json.specs.Events.{items_len};
 ghost use Rattle.batch.specs.Names.{texts_of};
 ghost use Rattle.batch.specs.Views.{block_view};
-ghost use Rattle.spelling.specs.Answer.{IsFirst, IsMet};
-ghost use Rattle.spelling.specs.Asked.{asked, document_shape_asked, names_of, objects_in, transaction_asked, transactions_asked};
+ghost use Rattle.spelling.specs.Answer.{AreMet, IsFirstOf, IsMet};
+ghost use Rattle.spelling.specs.Asked.{document_shape_asked, names_of, objects_in};
 ghost use Rattle.pull.specs.Pulled.{ReadsItems, ReadsValue};
+ghost use Rattle.spelling.specs.Places.{placed, transaction_placed, transactions_placed};
 ghost use Rattle.spelling.specs.Scope.{numbers_of, scope_of, setting_of};
 ghost use Rattle.spelling.specs.Spelled.{block_of, blocks_of, parts_in, spelled};
 ghost use Rattle.meaning.specs.declared.limits.TheConstants.{MAX_DEPTH, MAX_TRANSACTIONS};
@@ -37,14 +38,18 @@ fn one_transaction(
     requires { scope_of state.old.labels.entries ≡ [] }
     ensures { IfSome result (λ answer. (d : Data) × ReadsValue 125 reader.old d reader.new
         × MatchResult answer
-        (λ block. IsMet state.old.counts (transaction_asked number (setting_of declared.now) d) state.new.counts
+        (λ block. AreMet state.old.counts (transaction_placed number (setting_of declared.now) d)
+        state.new.counts
         × ((block_view block, numbers_of state.new.numbering)
         ≡ block_of (setting_of declared.now) MAX_DEPTH [] (numbers_of state.old.numbering) d)
         × (scope_of state.new.labels.entries ≡ []))
-        (IsFirst state.old.counts (transaction_asked number (setting_of declared.now) d))) }
+        (IsFirstOf state.old.counts (transaction_placed number (setting_of declared.now) d))) }
 {
     let value = pull_value(alloc, reader, PART_DEPTH)?;
-    Some(read_transaction(alloc, &value, number, declared, state))
+    match read_transaction(alloc, &value, number, declared, state) {
+        Ok(block) => Some(Ok(block)),
+        Err(unmet) => Some(Err(unmet.fault)),
+    }
 }
 
 /// The transactions up to the end of their array, or their first fault.
@@ -57,11 +62,12 @@ fn each_transaction(
     requires labels { scope_of state.old.labels.entries ≡ [] }
     ensures { IfSome result (λ answer. (ds : Items) × ReadsItems 125 reader.old ds reader.new
         × MatchResult answer
-        (λ blocks. IsMet state.old.counts (transactions_asked 1 (setting_of declared.now) ds) state.new.counts
+        (λ blocks. AreMet state.old.counts (transactions_placed (setting_of declared.now) 0 ds)
+        state.new.counts
         × ((map block_view blocks.items, numbers_of state.new.numbering)
         ≡ blocks_of (setting_of declared.now) (numbers_of state.old.numbering) ds)
         × (items_len ds ≤ MAX_TRANSACTIONS))
-        (IsFirst state.old.counts (transactions_asked 1 (setting_of declared.now) ds))) }
+        (IsFirstOf state.old.counts (transactions_placed (setting_of declared.now) 0 ds))) }
 {
     let mut blocks = Vec::new(alloc);
     let mut number = 0;
@@ -93,12 +99,12 @@ pub(crate) fn each_part(
     requires { scope_of state.old.labels.entries ≡ [] }
     ensures { IfSome result (λ answer. (d : Data) × ReadsValue 127 reader.old d reader.new
         × MatchResult answer
-        (λ parts. IsMet state.old.counts (asked d) state.new.counts
+        (λ parts. AreMet state.old.counts (placed d) state.new.counts
         × (texts_of parts.declared.names.keys ≡ names_of (objects_in d))
         × (spelled parts.declared.objects (map block_view parts.transactions.items) (numbers_of state.new.numbering)
         ≡ parts_in (numbers_of state.old.numbering) d))
         (λ fault. IsMet state.old.counts (document_shape_asked d) state.old.counts
-        → IsFirst state.old.counts (asked d) fault)) }
+        → IsFirstOf state.old.counts (placed d) fault)) }
 {
     let (version, objects) = pull_head(alloc, reader)?;
     let declared = match read_objects(
@@ -109,12 +115,12 @@ pub(crate) fn each_part(
         &mut state.numbering,
     ) {
         Ok(declared) => declared,
-        Err(fault) => {
+        Err(unmet) => {
             let Ok(_) = pass_items(reader, PART_DEPTH) else {
                 return None;
             };
             pull_end_object(reader)?;
-            return Some(Err(fault));
+            return Some(Err(unmet.fault));
         }
     };
     let answer = each_transaction(alloc, reader, &declared, state)?;

@@ -7,16 +7,16 @@ use Rattle.serde_json.specs.Data.{Data}
 use Rattle.faults.specs.Faults.{wrong_outside}
 use Rattle.faults.specs.declared.fault.Fault.{Fault}
 use Rattle.faults.specs.declared.fault.Wrong.TheVariants.{TooMany}
-use Rattle.spelling.specs.Asked.{asked}
-use Rattle.spelling.specs.Demand.{first_fault}
 use Rattle.spelling.specs.Spelled.{document_in}
 use Rattle.spelling.proofs.DistinctTexts.{objects_differ}
 use Rattle.lang.specs.Reading.{Document, reading, spelled_by, unless_fault, value_of}
+use Rattle.spelling.proofs.Demands.{asked}
+use Rattle.spelling.specs.Places.{first_fault, placed}
 
 abbrev AreApart : Document → Type 0
 AreApart document = IsDistinct bytes_eq document.texts.objects
 
-apart_unless : (document : Document) (d : Data) (fault : Option Fault) → first_fault (asked d) ≡ fault → unless_fault d fault ≡ Ok document
+apart_unless : (document : Document) (d : Data) (fault : Option Fault) → first_fault (placed d) ≡ fault → unless_fault d fault ≡ Ok document
     → AreApart document
 apart_unless document d None none e = subst AreApart (same e) (objects_differ d none)
   where
@@ -28,7 +28,7 @@ apart_of : (document : Document) (large : Bool) (o : Option Data) → cond large
     → AreApart document
 apart_of document true o e = cc
 apart_of document false None e = cc
-apart_of document false (Some d) e = apart_unless document d (first_fault (asked d)) refl e
+apart_of document false (Some d) e = apart_unless document d (first_fault (placed d)) refl e
 
 pub names_apart : (bytes : List ℕ) (document : Document) → reading bytes ≡ Ok document → IsDistinct bytes_eq document.texts.objects
 unfolding reading

@@ -16,15 +16,17 @@ use Rattle.meaning.specs.Trees as tree
 use Rattle.objects.specs.declared.call.Call.{Call}
 use Rattle.spelling.specs.declared.counts.Counts.{Counts}
 use Rattle.spelling.specs.declared.subject.Subject.TheVariants.{Reply}
-use Rattle.spelling.specs.Answer.{IsMet}
-use Rattle.spelling.specs.Asked.{Asks, amount_asked, amount_item, item_asked, arguments_asked, label_asked, label_in, operation_asked}
-use Rattle.spelling.specs.Asked.{operation_verb, part, scope_after, sort_of, step_asked, target_asked, operation_shape_asked}
+use Rattle.spelling.specs.Answer.{AreMet, IsMet}
+use Rattle.spelling.specs.Asked.{amount_asked, amount_item, item_asked, arguments_asked, label_asked, label_in, operation_asked}
+use Rattle.spelling.specs.Asked.{operation_verb, part, scope_after, sort_of, target_asked, operation_shape_asked}
 use Rattle.spelling.specs.Demand.{one_more_operation}
 use Rattle.pull.specs.Pulled.{op_array, op_step}
 use Rattle.spelling.specs.Scope.{Numbers, with_item, Scope, Setting, with_label}
 use Rattle.spelling.specs.Spelled.{Spelling, item_of, or_zero, call_of, operation_of, step_of, target_of}
 use Rattle.spelling.specs.declared.steps.Sort.TheVariants.{Operation}
 use Rattle.spelling.proofs.Checks.{check_met}
+use Rattle.spelling.specs.Places.{Places, step_placed}
+use Rattle.spelling.proofs.PlaceLemmas.{own_met}
 
 pub op_part : (label : Option (List ℕ)) (op : Data) → part (codes "op") (op_step label op) ≡ op
 op_part None op = refl
@@ -98,12 +100,12 @@ module _ (setting : Setting) (scope : Scope) (label : Option (List ℕ)) (o c : 
   abbrev op : Data
   op = op_array o c rest
 
-  pub operation_met : (asks : Asks) (start next : Counts) → IsMet start (one_more_operation setting.version ∷ []) next
+  pub operation_met : (places : Places) (start next : Counts) → IsMet start (one_more_operation setting.version ∷ []) next
       → IsMet next (target_asked setting o c) next
       → IsMet next (arguments_asked (operation_verb setting o c) op) next → IsMet next (label_asked scope [] label) next
-      → IsMet start (step_asked asks setting scope (op_step label op)) next
-  unfolding step_asked operation_asked
-  operation_met asks start next counted target arguments labels =
+      → AreMet start (step_placed places setting scope (op_step label op)) next
+  unfolding step_placed operation_asked
+  operation_met places start next counted target arguments labels =
       let d = op_step label op in
       let last = label_asked scope [] label in
       let given = arguments_asked (operation_verb setting o c) op in
@@ -113,7 +115,8 @@ module _ (setting : Setting) (scope : Scope) (label : Option (List ℕ)) (o c : 
       let first = check_met start start shape one (op_shape label o c rest start) ∙ counted in
       let second = check_met start next (shape ++ one) named first ∙ target in
       let third = check_met start next (shape ++ one ++ named) given second ∙ arguments in
-      rw (op_sort label op, op_part label op, op_label label op) (check_met start next (shape ++ one ++ named ++ given) last third ∙ labels)
+      let fourth = check_met start next (shape ++ one ++ named ++ given) last third ∙ labels in
+      rw (op_sort label op, op_part label op, op_label label op) (own_met start next (shape ++ one ++ named ++ given ++ last) fourth)
 
   pub operation_spelled : (block : Spelling) (numbers after : Numbers) (call : Call) → (call, after)
       ≡ call_of (operation_verb setting o c) numbers op

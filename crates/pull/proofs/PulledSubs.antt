@@ -10,9 +10,9 @@ use Rattle.meaning.specs.Trees.{Block}
 use Rattle.spelling.specs.declared.counts.Counts.{Counts}
 use Rattle.spelling.specs.declared.steps.Sort.TheVariants.{Sub}
 use Rattle.spelling.specs.declared.subject.Subject.TheVariants.{Outcome}
-use Rattle.spelling.specs.Answer.{IsMet}
-use Rattle.spelling.specs.Asked.{Asks, block_asked_if, handlers_asked, handlers_in, label_asked, label_in, members_asked, part, scope_after}
-use Rattle.spelling.specs.Asked.{sort_of, step_asked, sub_asked, sub_shape_asked, children_asked, labels_of, parallel_asked}
+use Rattle.spelling.specs.Answer.{AreMet, IsMet}
+use Rattle.spelling.specs.Asked.{handlers_in, label_asked, label_in, part, scope_after}
+use Rattle.spelling.specs.Asked.{sort_of, sub_shape_asked, labels_of}
 use Rattle.spelling.specs.Asked.{parallel_shape_asked}
 use Rattle.spelling.specs.Demand.{check, holds, one_more_node}
 use Rattle.faults.specs.declared.fault.Wrong.TheVariants.{DuplicateLabel, Name}
@@ -21,10 +21,12 @@ use Rattle.pull.specs.Pulled.{ReadsMembers, ReadsValue, SubTail, are_allowed, su
 use Rattle.spelling.specs.Scope.{Numbers, Scope, Setting, is_named, with_label, with_labels}
 use Rattle.spelling.specs.Spelled.{Spelling, block_of_if, handlers_spelled, members_of, spelled_map, step_of, sub_of, sub_step, tried}
 use Rattle.spelling.specs.Spelled.{children_spelled, parallel_of}
-use Rattle.spelling.proofs.Checks.{check_met}
 use Rattle.pull.proofs.PulledLemmas.{reads_member, reads_string}
 use Rattle.batch.specs.Views.{Tried, children_of}
 use Rattle.meaning.specs.Trees as tree
+use Rattle.spelling.specs.Places.{Places, block_placed_if, children_placed, handlers_placed, inside, itself, member_named, members_placed}
+use Rattle.spelling.specs.Places.{nothing, parallel_placed, step_placed, sub_placed}
+use Rattle.spelling.proofs.PlaceLemmas.{own_first, part_met}
 
 -- ---- the members
 
@@ -134,24 +136,24 @@ unfolding handlers_spelled
 no_handlers block scope before after None e = (refl, sym (ap (λ p. p.1) e))
 no_handlers block scope before after (Some hs) e = let first = ap (λ p. p.0) e in absurd (cc)
 
--- an absent handler asks nothing
-nothing_asked : (asks : Asks) (scope : Scope) (every : Option Data) (mid next : Counts) → every ≡ None
-    → IsMet mid (block_asked_if asks scope every) next → mid ≡ next
-unfolding block_asked_if
-nothing_asked asks scope None mid next e met = cc
-nothing_asked asks scope (Some d) mid next e met = cc
+-- an absent handler places nothing
+nothing_asked : (places : Places) (scope : Scope) (every : Option Data) (mid next : Counts) → every ≡ None
+    → AreMet mid (block_placed_if places scope every) next → mid ≡ next
+unfolding block_placed_if
+nothing_asked places scope None mid next e met = cc
+nothing_asked places scope (Some d) mid next e met = cc
 
 -- absent handlers by reason ask nothing
-none_asked : (asks : Asks) (scope : Scope) (reasons : Option Members) (mid next : Counts) → reasons ≡ None
-    → IsMet mid (handlers_asked asks scope reasons) next → mid ≡ next
-unfolding handlers_asked
-none_asked asks scope None mid next e met = cc
-none_asked asks scope (Some d) mid next e met = cc
+none_asked : (places : Places) (scope : Scope) (reasons : Option Members) (mid next : Counts) → reasons ≡ None
+    → AreMet mid (handlers_placed places scope reasons) next → mid ≡ next
+unfolding handlers_placed
+none_asked places scope None mid next e met = cc
+none_asked places scope (Some d) mid next e met = cc
 
-module _ (k version : ℕ) (asks : Asks) (block : Spelling) (scope : Scope) (old : List Token) (start : Counts) (numbers : Numbers) where
+module _ (k version : ℕ) (places : Places) (block : Spelling) (scope : Scope) (old : List Token) (start : Counts) (numbers : Numbers) where
   -- nothing yet
-  pub tail_none : SubTail k version asks block scope old start numbers None None None old start numbers
-  unfolding handlers_asked handlers_spelled block_asked_if block_of_if
+  pub tail_none : SubTail k version places block scope old start numbers None None None old start numbers
+  unfolding handlers_placed handlers_spelled block_placed_if block_of_if
   tail_none = record {
     reasons = None;
     every = None;
@@ -169,8 +171,8 @@ module _ (k version : ℕ) (asks : Asks) (block : Spelling) (scope : Scope) (old
     -- the label
     pub tail_label : (handlers : Option (List (ℕ × Block))) (handler : Option Block) (s : List ℕ) (left : List Token) → label ≡ None
         → read_key now ≡ Some (Some (codes "as"), Token.string s ∷ left)
-        → SubTail k version asks block scope old start numbers handlers handler label now next after
-        → SubTail k version asks block scope old start numbers handlers handler (Some s) left next after
+        → SubTail k version places block scope old start numbers handlers handler label now next after
+        → SubTail k version places block scope old start numbers handlers handler (Some s) left next after
     tail_label handlers handler s left none is t =
         let bare : Data → Members = λ body. sub_members body t.reasons t.every None in
         record {
@@ -190,17 +192,17 @@ module _ (k version : ℕ) (asks : Asks) (block : Spelling) (scope : Scope) (old
         }
 
     -- the handler
-    pub tail_handler : (handlers : Option (List (ℕ × Block))) (handler : Option Block) (d : Data) (b : Block) (inside left : List Token)
+    pub tail_handler : (handlers : Option (List (ℕ × Block))) (handler : Option Block) (d : Data) (b : Block) (inner left : List Token)
         (last : Counts) (final : Numbers)
-        → read_key now ≡ Some (Some (codes "handler"), inside) → ReadsValue k inside d left → IsMet next (asks scope d) last
+        → read_key now ≡ Some (Some (codes "handler"), inner) → ReadsValue k inner d left → AreMet next (places scope d) last
         → (b, final) ≡ block scope after d → handler ≡ None
-        → SubTail k version asks block scope old start numbers handlers handler label now next after
-        → SubTail k version asks block scope old start numbers handlers (Some b) label left last final
-    unfolding block_asked_if block_of_if
-    tail_handler handlers handler d b inside left last final is first met spelled nothing t =
+        → SubTail k version places block scope old start numbers handlers handler label now next after
+        → SubTail k version places block scope old start numbers handlers (Some b) label left last final
+    unfolding block_placed_if block_of_if
+    tail_handler handlers handler d b inner left last final is first met spelled free t =
         let none = no_handler block scope t.between after t.every
-        (subst (λ h. (h, after) ≡ block_of_if block scope t.between t.every) nothing t.every_spelled) in
-        let same = nothing_asked asks scope t.every t.mid next none.0 t.second in
+        (subst (λ h. (h, after) ≡ block_of_if block scope t.between t.every) free t.every_spelled) in
+        let same = nothing_asked places scope t.every t.mid next none.0 t.second in
         let bare : Data → Members = λ body. sub_members body t.reasons None label in
         record {
           reasons = t.reasons;
@@ -209,11 +211,11 @@ module _ (k version : ℕ) (asks : Asks) (block : Spelling) (scope : Scope) (old
           between = t.between;
           reads = λ body ms new read. t.reads body ms new
               (subst (λ e. ReadsMembers k (sub_members body t.reasons e label) now ms new) (sym none.0)
-              (reads_member k (bare body) (codes "handler") now inside left new d ms is (read_key-shorter _ _ _ is) first
+              (reads_member k (bare body) (codes "handler") now inner left new d ms is (read_key-shorter _ _ _ is) first
               (subst (λ found. ReadsMembers k found left ms new) (sym (put_handler body d t.reasons label)) read)));
           allowed = t.allowed;
           first = t.first;
-          second = subst (λ c. IsMet c (asks scope d) last) (sym same) met;
+          second = subst (λ c. AreMet c (places scope d) last) (sym same) met;
           reasons_spelled = t.reasons_spelled;
           every_spelled = ap (spelled_map (λ (x : Block). Some x)) spelled
               ∙ ap (λ n. spelled_map (λ (x : Block). Some x) (block scope n d)) (sym none.1);
@@ -221,20 +223,20 @@ module _ (k version : ℕ) (asks : Asks) (block : Spelling) (scope : Scope) (old
 
     -- the handlers by reason
     pub tail_handlers : (handlers : Option (List (ℕ × Block))) (handler : Option Block) (hs : Members) (read_handlers : List (ℕ × Block))
-        (inside left : List Token) (last : Counts) (final : Numbers)
-        → read_key now ≡ Some (Some (codes "handlers"), inside) → ReadsValue k inside (object hs) left → nat_le 3 version ≡ true
-        → IsMet next (members_asked asks scope hs) last → (read_handlers, final) ≡ members_of block scope after hs → handlers ≡ None
+        (inner left : List Token) (last : Counts) (final : Numbers)
+        → read_key now ≡ Some (Some (codes "handlers"), inner) → ReadsValue k inner (object hs) left → nat_le 3 version ≡ true
+        → AreMet next (members_placed places scope hs) last → (read_handlers, final) ≡ members_of block scope after hs → handlers ≡ None
         → handler ≡ None
-        → SubTail k version asks block scope old start numbers handlers handler label now next after
-        → SubTail k version asks block scope old start numbers (Some read_handlers) handler label left last final
-    unfolding block_asked_if block_of_if handlers_asked handlers_spelled
-    tail_handlers handlers handler hs read_handlers inside left last final is first may met spelled neither nothing t =
+        → SubTail k version places block scope old start numbers handlers handler label now next after
+        → SubTail k version places block scope old start numbers (Some read_handlers) handler label left last final
+    unfolding block_placed_if block_of_if handlers_placed handlers_spelled
+    tail_handlers handlers handler hs read_handlers inner left last final is first may met spelled neither free t =
         let none = no_handler block scope t.between after t.every
-        (subst (λ h. (h, after) ≡ block_of_if block scope t.between t.every) nothing t.every_spelled) in
+        (subst (λ h. (h, after) ≡ block_of_if block scope t.between t.every) free t.every_spelled) in
         let empty = no_handlers block scope numbers t.between t.reasons
         (subst (λ h. (h, t.between) ≡ handlers_spelled block scope numbers t.reasons) neither t.reasons_spelled) in
-        let same = nothing_asked asks scope t.every t.mid next none.0 t.second in
-        let before = none_asked asks scope t.reasons start t.mid empty.0 t.first in
+        let same = nothing_asked places scope t.every t.mid next none.0 t.second in
+        let before = none_asked places scope t.reasons start t.mid empty.0 t.first in
         let bare : Data → Members = λ body. sub_members body None None label in
         record {
           reasons = Some hs;
@@ -244,42 +246,43 @@ module _ (k version : ℕ) (asks : Asks) (block : Spelling) (scope : Scope) (old
           reads = λ body ms new read. t.reads body ms new
               (subst (λ e. ReadsMembers k (sub_members body t.reasons e label) now ms new) (sym none.0)
               (subst (λ r. ReadsMembers k (sub_members body r None label) now ms new) (sym empty.0)
-              (reads_member k (bare body) (codes "handlers") now inside left new (object hs) ms is (read_key-shorter _ _ _ is) first
+              (reads_member k (bare body) (codes "handlers") now inner left new (object hs) ms is (read_key-shorter _ _ _ is) first
               (subst (λ found. ReadsMembers k found left ms new) (sym (put_handlers body hs label)) read))));
           allowed = may;
-          first = subst (λ c. IsMet c (members_asked asks scope hs) last) (sym (before ∙ same)) met;
+          first = subst (λ c. AreMet c (members_placed places scope hs) last) (sym (before ∙ same)) met;
           second = refl;
           reasons_spelled = ap (spelled_map (λ (xs : List (ℕ × Block)). Some xs)) spelled
               ∙ ap (λ n. spelled_map (λ (xs : List (ℕ × Block)). Some xs) (members_of block scope n hs)) (sym (empty.1 ∙ none.1));
-          every_spelled = ap (λ h. (h, final)) nothing;
+          every_spelled = ap (λ h. (h, final)) free;
         }
 
 -- ---- the whole
 
-module _ (version : ℕ) (asks : Asks) (block : Spelling) (scope : Scope) (body : Data) (reasons : Option Members) (every : Option Data)
+module _ (version : ℕ) (places : Places) (block : Spelling) (scope : Scope) (body : Data) (reasons : Option Members) (every : Option Data)
     (label : Option (List ℕ)) where
   abbrev whole : Data
   whole = object (sub_members body reasons every label)
 
   -- what is asked of the parts is what is asked of the whole
-  pub sub_met : (earlier : Scope) (start counted inside mid next : Counts) → are_allowed version reasons ≡ true
-      → IsMet start (one_more_node ∷ []) counted → IsMet counted (asks scope body) inside
-      → IsMet inside (handlers_asked asks scope reasons) mid → IsMet mid (block_asked_if asks scope every) next
+  pub sub_met : (earlier : Scope) (start counted inside_counts mid next : Counts) → are_allowed version reasons ≡ true
+      → IsMet start (one_more_node ∷ []) counted → AreMet counted (places scope body) inside_counts
+      → AreMet inside_counts (handlers_placed places scope reasons) mid → AreMet mid (block_placed_if places scope every) next
       → IsMet counted (label_asked scope earlier (label_in whole)) counted
-      → IsMet start (sub_asked version asks scope earlier whole) next
-  unfolding sub_asked
-  sub_met earlier start counted inside mid next may one first second third labels =
-      let shape = sub_shape_asked version whole in
-      let node = one_more_node ∷ [] in
+      → AreMet start (sub_placed version places scope earlier whole) next
+  unfolding sub_placed
+  sub_met earlier start counted inside_counts mid next may one first second third labels =
+      let last = inside (member_named (codes "handler")) (block_placed_if places scope every) nothing in
+      let taken = inside (member_named (codes "handlers")) (handlers_placed places scope reasons) last in
+      let steps = inside (member_named (codes "sub")) (places scope body) taken in
       let named = label_asked scope earlier (label_in whole) in
-      let steps = asks scope body in
-      let taken = handlers_asked asks scope reasons in
-      let a = check_met start start shape node (sub_shape body reasons every label version start may) ∙ one in
-      let b = check_met start counted (shape ++ node) named a ∙ labels in
-      let c = check_met start counted (shape ++ node ++ named) steps b ∙ first in
-      let d = check_met start inside (shape ++ node ++ named ++ steps) taken c ∙ second in
       rw (sub_body body reasons every label, sub_reasons body reasons every label, sub_every body reasons every label)
-      (check_met start mid (shape ++ node ++ named ++ steps ++ taken) (block_asked_if asks scope every) d ∙ third)
+      (own_first start start (sub_shape_asked version whole) (itself (one_more_node ∷ []) (itself named steps))
+      (sub_shape body reasons every label version start may)
+      ∙ own_first start counted (one_more_node ∷ []) (itself named steps) one
+      ∙ own_first counted counted named steps labels
+      ∙ part_met counted inside_counts (member_named (codes "sub")) (places scope body) taken first
+      ∙ part_met inside_counts mid (member_named (codes "handlers")) (handlers_placed places scope reasons) last second
+      ∙ part_met mid next (member_named (codes "handler")) (block_placed_if places scope every) nothing third)
 
   -- what the parts spell is what the whole spells
   pub sub_spelled : (numbers after between last : Numbers) (b : Block) (handlers : Option (List (ℕ × Block))) (handler : Option Block)
@@ -316,11 +319,11 @@ label_anywhere scope earlier (Some name) here there met = by (is_name name) (not
 
 module _ (setting : Setting) (scope : Scope) (d : Data) where
   -- a subaction as a step
-  pub sub_step_met : (asks : Asks) (start next : Counts) → sort_of d ≡ Some Sub
-      → IsMet start (sub_asked setting.version asks scope [] d) next
-      → IsMet start (step_asked asks setting scope d) next
-  unfolding step_asked
-  sub_step_met asks start next is met = rw is met
+  pub sub_step_met : (places : Places) (start next : Counts) → sort_of d ≡ Some Sub
+      → AreMet start (sub_placed setting.version places scope [] d) next
+      → AreMet start (step_placed places setting scope d) next
+  unfolding step_placed
+  sub_step_met places start next is met = rw is met
 
   -- what it spells as a step
   pub sub_step_spelled : (block : Spelling) (numbers : Numbers) → sort_of d ≡ Some Sub
@@ -340,14 +343,16 @@ parallel_step ds = object (member (codes "parallel") (array ds) no_members)
 
 module _ (setting : Setting) (scope : Scope) (ds : Items) where
   -- what is asked of the children, and one more node
-  pub parallel_met : (asks : Asks) (start counted next : Counts) → IsMet start (one_more_node ∷ []) counted
-      → IsMet counted (children_asked setting.version asks scope [] ds) next
-      → IsMet start (step_asked asks setting scope (parallel_step ds)) next
-  unfolding step_asked parallel_asked parallel_shape_asked sort_of
-  parallel_met asks start counted next one met =
-      let shape = parallel_shape_asked (parallel_step ds) in
-      check_met start counted (shape ++ one_more_node ∷ []) (children_asked setting.version asks scope [] ds)
-      (check_met start start shape (one_more_node ∷ []) refl ∙ one) ∙ met
+  pub parallel_met : (places : Places) (start counted next : Counts) → IsMet start (one_more_node ∷ []) counted
+      → AreMet counted (children_placed setting.version places scope [] 0 ds) next
+      → AreMet start (step_placed places setting scope (parallel_step ds)) next
+  unfolding step_placed parallel_placed parallel_shape_asked sort_of
+  parallel_met places start counted next one met =
+      let children = children_placed setting.version places scope [] 0 ds in
+      let list = inside (member_named (codes "parallel")) children nothing in
+      own_first start start (parallel_shape_asked (parallel_step ds)) (itself (one_more_node ∷ []) list) refl
+      ∙ own_first start counted (one_more_node ∷ []) list one
+      ∙ part_met counted next (member_named (codes "parallel")) children nothing met
 
   -- what the children spell
   pub parallel_spelled : (block : Spelling) (numbers : Numbers) → step_of block setting scope numbers (parallel_step ds)

@@ -11,9 +11,9 @@ use Rattle.atoms.specs.declared.item.Item.{Item}
 use Rattle.spelling.specs.declared.counts.Counts.{Counts}
 use Rattle.spelling.specs.declared.steps.Sort.TheVariants.{If, Abort}
 use Rattle.spelling.specs.declared.subject.Subject.{Subject}
-use Rattle.spelling.specs.Answer.{IsMet}
-use Rattle.spelling.specs.Asked.{Asks, abort_asked, abort_shape_asked, block_asked_if, if_asked, if_label, if_shape_asked, is_abort, part}
-use Rattle.spelling.specs.Asked.{reason_asked, scope_after, seen_asked, sort_of, step_asked, subject_of, test_asked}
+use Rattle.spelling.specs.Answer.{AreMet, IsMet}
+use Rattle.spelling.specs.Asked.{abort_asked, abort_shape_asked, if_label, if_shape_asked, is_abort, part}
+use Rattle.spelling.specs.Asked.{reason_asked, scope_after, seen_asked, sort_of, subject_of, test_asked}
 use Rattle.spelling.specs.Demand.{one_more_node}
 use Rattle.pull.specs.Pulled.{TestKey, abort_step, if_step}
 use Rattle.pull.specs.Pulled.TestKey.{word, least, entry}
@@ -23,6 +23,8 @@ use Rattle.batch.specs.Names.{is_name}
 use Rattle.spelling.specs.Subjects.{fits_item, fits_number, fits_word}
 use Rattle.words.specs.Words.{word_of_text}
 use Rattle.spelling.proofs.Checks.{check_met}
+use Rattle.spelling.specs.Places.{Places, block_placed_if, if_placed, inside, itself, member_named, nothing, step_placed}
+use Rattle.spelling.proofs.PlaceLemmas.{own_first, own_met, part_met}
 
 -- ---- the test
 
@@ -126,27 +128,29 @@ module _ (setting : Setting) (scope : Scope) (label : List ℕ) (key : TestKey) 
   whole = if_step label key v first second
 
   -- what is asked of the parts is what is asked of the whole
-  pub if_met : (asks : Asks) (start counted inside next : Counts) → IsMet start (one_more_node ∷ []) counted
+  pub if_met : (places : Places) (start counted inside_counts next : Counts) → IsMet start (one_more_node ∷ []) counted
       → IsMet counted (seen_asked scope label) counted → IsMet counted (test_asked (subject_of label scope) whole) counted
-      → IsMet counted (asks scope first) inside → IsMet inside (block_asked_if asks scope second) next
-      → IsMet start (step_asked asks setting scope whole) next
-  unfolding step_asked if_asked
-  if_met asks start counted inside next one seen test met later =
-      let shape = if_shape_asked whole in
-      let node = one_more_node ∷ [] in
+      → AreMet counted (places scope first) inside_counts → AreMet inside_counts (block_placed_if places scope second) next
+      → AreMet start (step_placed places setting scope whole) next
+  unfolding step_placed if_placed
+  if_met places start counted inside_counts next one seen test met later =
+      let last = inside (member_named (codes "else")) (block_placed_if places scope second) nothing in
+      let branches = inside (member_named (codes "then")) (places scope first) last in
       let named = seen_asked scope label in
       let tested = test_asked (subject_of label scope) whole in
-      let a = check_met start start shape node (if_shape label v first key second start) ∙ one in
-      let b = check_met start counted (shape ++ node) named a ∙ seen in
-      let c = check_met start counted (shape ++ node ++ named) tested b ∙ test in
-      let d = check_met start counted (shape ++ node ++ named ++ tested) (asks scope first) c ∙ met in
       rw (
         if_sort label v first key second,
         if_name label v first key second,
         if_first label v first key second,
         if_second label v first key second,
       )
-      (check_met start inside (shape ++ node ++ named ++ tested ++ asks scope first) (block_asked_if asks scope second) d ∙ later)
+      (own_first start start (if_shape_asked whole) (itself (one_more_node ∷ []) (itself named (itself tested branches)))
+      (if_shape label v first key second start)
+      ∙ own_first start counted (one_more_node ∷ []) (itself named (itself tested branches)) one
+      ∙ own_first counted counted named (itself tested branches) seen
+      ∙ own_first counted counted tested branches test
+      ∙ part_met counted inside_counts (member_named (codes "then")) (places scope first) last met
+      ∙ part_met inside_counts next (member_named (codes "else")) (block_placed_if places scope second) nothing later)
 
   -- what the parts spell is what the whole spells
   pub if_spelled : (block : Spelling) (numbers tested after last : Numbers) (test : Test) (a b : tree.Block)
@@ -193,14 +197,14 @@ abort_shape (Some r) version start counted may one = rw may one
 
 module _ (setting : Setting) (scope : Scope) (reason : Option (List ℕ)) where
   -- what is asked of an abort
-  pub abort_met : (asks : Asks) (start counted next : Counts) → is_abort setting.version (part (codes "abort") (abort_step reason)) ≡ true
+  pub abort_met : (places : Places) (start counted next : Counts) → is_abort setting.version (part (codes "abort") (abort_step reason)) ≡ true
       → IsMet start (one_more_node ∷ []) counted → IsMet counted (reason_asked reason) next
-      → IsMet start (step_asked asks setting scope (abort_step reason)) next
-  unfolding step_asked abort_asked
-  abort_met asks start counted next may one met =
-      rw (abort_sort reason, abort_reason reason)
-      (check_met start counted (abort_shape_asked setting.version (abort_step reason)) (reason_asked reason)
-      (abort_shape reason setting.version start counted may one) ∙ met)
+      → AreMet start (step_placed places setting scope (abort_step reason)) next
+  unfolding step_placed abort_asked
+  abort_met places start counted next may one met =
+      let shape = abort_shape_asked setting.version (abort_step reason) in
+      rw (abort_sort reason, abort_reason reason) (own_met start next (shape ++ reason_asked reason)
+      (check_met start counted shape (reason_asked reason) (abort_shape reason setting.version start counted may one) ∙ met))
 
   -- what an abort spells
   pub abort_spelled : (block : Spelling) (numbers after : Numbers) (n : Option ℕ) → (n, after) ≡ reason_of numbers reason

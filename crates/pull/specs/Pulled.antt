@@ -9,8 +9,8 @@ use Rattle.serde_json.specs.Data.{Data, array, boolean, number, object, string, 
 use Rattle.serde_json.specs.Read.{of_json, of_items, of_members, converted}
 use Rattle.meaning.specs.Trees.{Block}
 use Rattle.spelling.specs.declared.counts.Counts.{Counts}
-use Rattle.spelling.specs.Answer.{IsMet}
-use Rattle.spelling.specs.Asked.{Asks, block_asked_if, handlers_asked}
+use Rattle.spelling.specs.Answer.{AreMet}
+use Rattle.spelling.specs.Places.{Places, block_placed_if, handlers_placed}
 use Rattle.spelling.specs.Scope.{Numbers, Scope}
 use Rattle.spelling.specs.Spelled.{Spelling, block_of_if, handlers_spelled}
 
@@ -66,7 +66,7 @@ are_allowed version None = true
 are_allowed version (Some reasons) = nat_le 3 version
 
 -- what was read after a subaction's body, from the tokens `old` on: `now` are left
-pub record SubTail (k version : ℕ) (asks : Asks) (block : Spelling) (scope : Scope) (old : List Token) (start : Counts) (numbers : Numbers)
+pub record SubTail (k version : ℕ) (places : Places) (block : Spelling) (scope : Scope) (old : List Token) (start : Counts) (numbers : Numbers)
     (handlers : Option (List (ℕ × Block))) (handler : Option Block) (label : Option (List ℕ))
     (now : List Token) (next : Counts) (after : Numbers) : Type 0 where
   pub reasons : Option Members
@@ -76,8 +76,8 @@ pub record SubTail (k version : ℕ) (asks : Asks) (block : Spelling) (scope : S
   pub reads : (body : Data) (ms : Members) (new : List Token) → ReadsMembers k (sub_members body reasons every label) now ms new
       → ReadsMembers k (sub_members body None None None) old ms new
   pub allowed : are_allowed version reasons ≡ true
-  pub first : IsMet start (handlers_asked asks scope reasons) mid
-  pub second : IsMet mid (block_asked_if asks scope every) next
+  pub first : AreMet start (handlers_placed places scope reasons) mid
+  pub second : AreMet mid (block_placed_if places scope every) next
   pub reasons_spelled : (handlers, between) ≡ handlers_spelled block scope numbers reasons
   pub every_spelled : (handler, after) ≡ block_of_if block scope between every
 

@@ -17,8 +17,9 @@ ghost use Rattle.serde_json.specs.Events.{items_len};
 ghost use Rattle.serde_json.specs.View.{items_view, members_view, view};
 ghost use Rattle.batch.specs.Names.{texts_of};
 ghost use Rattle.batch.specs.Views.{block_view, step_view};
-ghost use Rattle.spelling.specs.Asked.{Asks, asked, names_of, objects_in, transaction_asked, transactions_asked, block_asked, arguments_asked, scope_after, steps_asked, step_asked};
-ghost use Rattle.spelling.specs.Answer.{IsMet};
+ghost use Rattle.spelling.specs.Asked.{names_of, objects_in, arguments_asked, scope_after};
+ghost use Rattle.spelling.specs.Places.{Places, placed, step_placed, transaction_placed, transactions_placed};
+ghost use Rattle.spelling.specs.Answer.{AreMet, IsMet};
 ghost use Rattle.pull.specs.Pulled.{ReadsItems, ReadsMembers, ReadsValue, in_order, labelled, op_array};
 ghost use Rattle.spelling.specs.Scope.{Extends, numbers_of, scope_of, setting_of};
 ghost use Rattle.spelling.specs.Spelled.{Spelling, parts_in, spelled, blocks_of, block_of, call_of, step_of, steps_spelled};
@@ -250,8 +251,9 @@ pub(crate) fn pull_operation(
     state: &mut State,
 ) -> Option<Step>
     ensures { IfSome result (λ step. (d : Data) × ReadsValue 2 (token.begin_object ∷ token.key (codes "op") ∷ reader.old) d reader.new
-        × ((asks : Asks) → IsMet state.old.counts
-        (step_asked asks (setting_of declared.now) (scope_of state.old.labels.entries) d) state.new.counts)
+        × ((places : Places) → AreMet state.old.counts
+        (step_placed places (setting_of declared.now) (scope_of state.old.labels.entries) d)
+        state.new.counts)
         × ((block : Spelling) → (step_view step, numbers_of state.new.numbering)
         ≡ step_of block (setting_of declared.now) (scope_of state.old.labels.entries) (numbers_of state.old.numbering) d)
         × (scope_of state.new.labels.entries ≡ scope_after (setting_of declared.now) (scope_of state.old.labels.entries) d)) }
@@ -372,7 +374,8 @@ fn pull_transaction(
 ) -> Option<Block>
     requires { scope_of state.old.labels.entries ≡ [] }
     ensures { IfSome result (λ block. (d : Data) × ReadsValue 120 reader.old d reader.new
-        × IsMet state.old.counts (transaction_asked number (setting_of declared.now) d) state.new.counts
+        × AreMet state.old.counts (transaction_placed number (setting_of declared.now) d)
+        state.new.counts
         × ((block_view block, numbers_of state.new.numbering)
         ≡ block_of (setting_of declared.now) MAX_DEPTH [] (numbers_of state.old.numbering) d)
         × (scope_of state.new.labels.entries ≡ [])) }
@@ -390,7 +393,8 @@ fn pull_transactions(
 ) -> Option<Vec<Block>>
     requires labels { scope_of state.old.labels.entries ≡ [] }
     ensures { IfSome result (λ blocks. (ds : Items) × ReadsItems 120 reader.old ds reader.new
-        × IsMet state.old.counts (transactions_asked 1 (setting_of declared.now) ds) state.new.counts
+        × AreMet state.old.counts (transactions_placed (setting_of declared.now) 0 ds)
+        state.new.counts
         × ((map block_view blocks.items, numbers_of state.new.numbering)
         ≡ blocks_of (setting_of declared.now) (numbers_of state.old.numbering) ds)
         × (items_len ds ≤ MAX_TRANSACTIONS)) }
@@ -467,7 +471,7 @@ pub fn pull_head(alloc: Global, reader: &mut Reader<'_>) -> Option<(u8, Vec<Valu
 pub fn pull_parts(alloc: Global, reader: &mut Reader<'_>, state: &mut State) -> Option<Parts>
     requires { scope_of state.old.labels.entries ≡ [] }
     ensures { IfSome result (λ parts. (d : Data) × ReadsValue 127 reader.old d reader.new
-        × IsMet state.old.counts (asked d) state.new.counts
+        × AreMet state.old.counts (placed d) state.new.counts
         × (texts_of parts.declared.names.keys ≡ names_of (objects_in d))
         × (spelled parts.declared.objects (map block_view parts.transactions.items) (numbers_of state.new.numbering)
         ≡ parts_in (numbers_of state.old.numbering) d)) }

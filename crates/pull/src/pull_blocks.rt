@@ -13,8 +13,9 @@ ghost use Rattle.json.specs.Json.{read_key};
 ghost use Rattle.json.specs.Token as token;
 ghost use Rattle.serde_json.specs.Data.{Data, Items, Members, no_members, object, put};
 ghost use Rattle.batch.specs.Views.{block_view, handler_view, step_view, subaction_view};
-ghost use Rattle.spelling.specs.Asked.{Asks, block_asked, block_asked_if, children_asked, is_abort, label_asked, label_in, labels_of, member_asked, members_asked, part, scope_after, sort_of, step_asked, steps_asked, sub_asked, test_asked};
-ghost use Rattle.spelling.specs.Answer.{IsMet};
+ghost use Rattle.spelling.specs.Asked.{is_abort, label_asked, label_in, labels_of, part, scope_after, sort_of, test_asked};
+ghost use Rattle.spelling.specs.Places.{Places, block_placed, block_placed_if, children_placed, member_placed, members_placed, nothing, step_placed, steps_placed, sub_placed};
+ghost use Rattle.spelling.specs.Answer.{AreMet, IsMet};
 ghost use Rattle.spelling.specs.declared.counts.Counts.{Counts};
 ghost use Rattle.pull.specs.Pulled.{IsAfter, ReadsItems, ReadsMembers, ReadsValue, SubTail, TestKey, abort_step, if_step, test_key, with_else};
 ghost use Rattle.spelling.specs.Scope.{AreUnseen, Extends, Scope, numbers_of, scope_of, setting_of};
@@ -64,8 +65,8 @@ fn pull_handler(
 ) -> Option<Handler>
     requires few { levels ≤ MAX_DEPTH }
     ensures { IfSome result (λ handler. (d : Data) × ReadsValue (5 * levels) reader.old d reader.new
-        × IsMet state.old.counts (member_asked (block_asked (setting_of declared.now) levels)
-        (scope_of state.old.labels.entries) reason.now d) state.new.counts
+        × AreMet state.old.counts (member_placed (block_placed (setting_of declared.now) levels)
+        (scope_of state.old.labels.entries) reason.now d nothing) state.new.counts
         × ((handler_view handler, numbers_of state.new.numbering)
         ≡ member_of (block_of (setting_of declared.now) levels) (scope_of state.old.labels.entries)
         (numbers_of state.old.numbering) reason.now d)
@@ -90,7 +91,7 @@ fn pull_ascending(
 ) -> Option<Vec<Handler>>
     requires few { levels ≤ MAX_DEPTH }
     ensures { IfSome result (λ handlers. (hs : Members) × ReadsMembers (5 * levels) no_members reader.old hs reader.new
-        × IsMet state.old.counts (members_asked (block_asked (setting_of declared.now) levels)
+        × AreMet state.old.counts (members_placed (block_placed (setting_of declared.now) levels)
         (scope_of state.old.labels.entries) hs) state.new.counts
         × ((map handler_view handlers.items, numbers_of state.new.numbering)
         ≡ members_of (block_of (setting_of declared.now) levels) (scope_of state.old.labels.entries)
@@ -123,7 +124,7 @@ fn pull_sorted(
 ) -> Option<Vec<Handler>>
     requires few { levels ≤ MAX_DEPTH }
     ensures { IfSome result (λ handlers. (hs : Members) × ReadsMembers (5 * levels) no_members reader.old hs reader.new
-        × IsMet state.old.counts (members_asked (block_asked (setting_of declared.now) levels)
+        × AreMet state.old.counts (members_placed (block_placed (setting_of declared.now) levels)
         (scope_of state.old.labels.entries) hs) state.new.counts
         × ((map handler_view handlers.items, numbers_of state.new.numbering)
         ≡ members_of (block_of (setting_of declared.now) levels) (scope_of state.old.labels.entries)
@@ -147,7 +148,7 @@ fn pull_handlers(
     requires few { levels ≤ MAX_DEPTH }
     ensures { IfSome result (λ handlers. (hs : Members) × ReadsValue (5 * levels + 1) reader.old (object hs) reader.new
         × (3 ≤ declared.now.version)
-        × IsMet state.old.counts (members_asked (block_asked (setting_of declared.now) levels)
+        × AreMet state.old.counts (members_placed (block_placed (setting_of declared.now) levels)
         (scope_of state.old.labels.entries) hs) state.new.counts
         × ((map handler_view handlers.items, numbers_of state.new.numbering)
         ≡ members_of (block_of (setting_of declared.now) levels) (scope_of state.old.labels.entries)
@@ -184,7 +185,8 @@ fn pull_sub_rest<'a>(
 ) -> Option<SubRest<'a>>
     requires few { levels ≤ MAX_DEPTH }
     ensures { IfSome result (λ rest. (now : List token.Token)
-        × SubTail (5 * levels + 1) declared.now.version (block_asked (setting_of declared.now) levels)
+        × SubTail (5 * levels + 1) declared.now.version (block_placed (setting_of declared.now)
+        levels)
         (block_of (setting_of declared.now) levels) (scope_of state.old.labels.entries)
         reader.old state.old.counts (numbers_of state.old.numbering)
         (option_map (λ list. map handler_view list.items) rest.handlers) (option_map block_view rest.handler)
@@ -228,7 +230,8 @@ fn pull_sub<'a>(
         × ReadsValue (5 * levels + 2) (token.begin_object ∷ token.key (codes "sub") ∷ reader.old) d reader.new
         × ((earlier : Scope) → IsMet state.new.counts
         (label_asked (scope_of state.old.labels.entries) earlier (label_in d)) state.new.counts
-        → IsMet state.old.counts (sub_asked declared.now.version (block_asked (setting_of declared.now) levels)
+        → AreMet state.old.counts (sub_placed declared.now.version (block_placed (setting_of
+        declared.now) levels)
         (scope_of state.old.labels.entries) earlier d) state.new.counts)
         × ((subaction_view read.0, numbers_of state.new.numbering)
         ≡ sub_of (block_of (setting_of declared.now) levels) (scope_of state.old.labels.entries)
@@ -257,7 +260,7 @@ fn pull_sub_step(
     requires few { levels ≤ MAX_DEPTH }
     ensures { IfSome result (λ step. (d : Data)
         × ReadsValue (5 * levels + 2) (token.begin_object ∷ token.key (codes "sub") ∷ reader.old) d reader.new
-        × IsMet state.old.counts (step_asked (block_asked (setting_of declared.now) levels)
+        × AreMet state.old.counts (step_placed (block_placed (setting_of declared.now) levels)
         (setting_of declared.now) (scope_of state.old.labels.entries) d) state.new.counts
         × ((step_view step, numbers_of state.new.numbering)
         ≡ step_of (block_of (setting_of declared.now) levels) (setting_of declared.now)
@@ -285,8 +288,9 @@ fn pull_children(
     requires few { levels ≤ MAX_DEPTH }
     ensures { IfSome result (λ children. (ds : Items) × ReadsItems (5 * levels + 2) reader.old ds reader.new
         × (AreUnseen (scope_of earlier.new.entries) (scope_of state.old.labels.entries)
-        → IsMet state.old.counts (children_asked declared.now.version (block_asked (setting_of declared.now) levels)
-        (scope_of state.old.labels.entries) (scope_of earlier.old.entries) ds) state.new.counts)
+        → AreMet state.old.counts (children_placed declared.now.version (block_placed (setting_of
+        declared.now) levels)
+        (scope_of state.old.labels.entries) (scope_of earlier.old.entries) 0 ds) state.new.counts)
         × ((map subaction_view children.items, numbers_of state.new.numbering)
         ≡ children_spelled (block_of (setting_of declared.now) levels) (scope_of state.old.labels.entries)
         (numbers_of state.old.numbering) ds)
@@ -317,7 +321,7 @@ fn pull_parallel(
     requires few { levels ≤ MAX_DEPTH }
     ensures { IfSome result (λ step. (d : Data)
         × ReadsValue (5 * levels + 4) (token.begin_object ∷ token.key (codes "parallel") ∷ reader.old) d reader.new
-        × IsMet state.old.counts (step_asked (block_asked (setting_of declared.now) levels)
+        × AreMet state.old.counts (step_placed (block_placed (setting_of declared.now) levels)
         (setting_of declared.now) (scope_of state.old.labels.entries) d) state.new.counts
         × ((step_view step, numbers_of state.new.numbering)
         ≡ step_of (block_of (setting_of declared.now) levels) (setting_of declared.now)
@@ -389,7 +393,7 @@ fn pull_else(
     requires few { levels ≤ MAX_DEPTH }
     ensures { IfSome result (λ block. (second : Option Data)
         × ((found : Members) → ReadsMembers (5 * levels) found reader.old (with_else second found) reader.new)
-        × IsMet state.old.counts (block_asked_if (block_asked (setting_of declared.now) levels)
+        × AreMet state.old.counts (block_placed_if (block_placed (setting_of declared.now) levels)
         (scope_of state.old.labels.entries) second) state.new.counts
         × ((block_view block, numbers_of state.new.numbering)
         ≡ spelled_map or_no_step (block_of_if (block_of (setting_of declared.now) levels) (scope_of state.old.labels.entries)
@@ -421,7 +425,7 @@ fn pull_if(
     requires few { levels ≤ MAX_DEPTH }
     ensures { IfSome result (λ step. (d : Data)
         × ReadsValue (5 * levels + 1) (token.begin_object ∷ token.key (codes "if") ∷ reader.old) d reader.new
-        × IsMet state.old.counts (step_asked (block_asked (setting_of declared.now) levels)
+        × AreMet state.old.counts (step_placed (block_placed (setting_of declared.now) levels)
         (setting_of declared.now) (scope_of state.old.labels.entries) d) state.new.counts
         × ((step_view step, numbers_of state.new.numbering)
         ≡ step_of (block_of (setting_of declared.now) levels) (setting_of declared.now)
@@ -466,8 +470,9 @@ fn pull_abort(
 ) -> Option<Step>
     ensures { IfSome result (λ step. (d : Data)
         × ReadsValue 1 (token.begin_object ∷ token.key (codes "abort") ∷ reader.old) d reader.new
-        × ((asks : Asks) → IsMet state.old.counts
-        (step_asked asks (setting_of declared.now) (scope_of state.old.labels.entries) d) state.new.counts)
+        × ((places : Places) → AreMet state.old.counts
+        (step_placed places (setting_of declared.now) (scope_of state.old.labels.entries) d)
+        state.new.counts)
         × ((block : Spelling) → (step_view step, numbers_of state.new.numbering)
         ≡ step_of block (setting_of declared.now) (scope_of state.old.labels.entries) (numbers_of state.old.numbering) d)
         × (scope_of state.new.labels.entries ≡ scope_after (setting_of declared.now) (scope_of state.old.labels.entries) d)) }
@@ -502,7 +507,7 @@ fn pull_other_step(
 ) -> Option<Step>
     requires few { levels ≤ MAX_DEPTH }
     ensures { IfSome result (λ step. (d : Data) × ReadsValue (5 * levels + 4) (token.begin_object ∷ token.key name.now ∷ reader.old) d reader.new
-        × IsMet state.old.counts (step_asked (block_asked (setting_of declared.now) levels)
+        × AreMet state.old.counts (step_placed (block_placed (setting_of declared.now) levels)
         (setting_of declared.now) (scope_of state.old.labels.entries) d) state.new.counts
         × ((step_view step, numbers_of state.new.numbering)
         ≡ step_of (block_of (setting_of declared.now) levels) (setting_of declared.now)
@@ -526,7 +531,7 @@ fn pull_step(
 ) -> Option<Step>
     requires few { levels ≤ MAX_DEPTH }
     ensures { IfSome result (λ step. (d : Data) × ReadsValue (5 * levels + 4) reader.old d reader.new
-        × IsMet state.old.counts (step_asked (block_asked (setting_of declared.now) levels)
+        × AreMet state.old.counts (step_placed (block_placed (setting_of declared.now) levels)
         (setting_of declared.now) (scope_of state.old.labels.entries) d) state.new.counts
         × ((step_view step, numbers_of state.new.numbering)
         ≡ step_of (block_of (setting_of declared.now) levels) (setting_of declared.now)
@@ -555,8 +560,8 @@ fn pull_steps(
 ) -> Option<Vec<Step>>
     requires few { levels ≤ MAX_DEPTH }
     ensures { IfSome result (λ steps. (ds : Items) × ReadsItems (5 * levels + 4) reader.old ds reader.new
-        × IsMet state.old.counts (steps_asked (block_asked (setting_of declared.now) levels)
-        (setting_of declared.now) (scope_of state.old.labels.entries) ds) state.new.counts
+        × AreMet state.old.counts (steps_placed (block_placed (setting_of declared.now) levels)
+        (setting_of declared.now) (scope_of state.old.labels.entries) 0 ds) state.new.counts
         × ((map step_view steps.items, numbers_of state.new.numbering)
         ≡ steps_spelled (block_of (setting_of declared.now) levels) (setting_of declared.now)
         (scope_of state.old.labels.entries) (numbers_of state.old.numbering) ds)
@@ -583,8 +588,9 @@ pub(crate) fn pull_block(
 ) -> Option<Block>
     requires few { levels ≤ MAX_DEPTH }
     ensures { IfSome result (λ block. (d : Data) × ReadsValue (5 * levels) reader.old d reader.new
-        × IsMet state.old.counts
-        (block_asked (setting_of declared.now) levels (scope_of state.old.labels.entries) d) state.new.counts
+        × AreMet state.old.counts
+        (block_placed (setting_of declared.now) levels (scope_of state.old.labels.entries) d)
+        state.new.counts
         × ((block_view block, numbers_of state.new.numbering)
         ≡ block_of (setting_of declared.now) levels (scope_of state.old.labels.entries)
         (numbers_of state.old.numbering) d)

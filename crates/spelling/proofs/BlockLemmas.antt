@@ -5,26 +5,26 @@ use Rattle.serde_json.specs.Find.{as_array}
 use Rattle.batch.specs.Views.{steps_of}
 use Rattle.faults.specs.declared.fault.Wrong.TheVariants.{Depth, Shape}
 use Rattle.spelling.specs.declared.counts.Counts.{Counts}
-use Rattle.spelling.specs.Demand.{check, fault_at}
+use Rattle.spelling.specs.Demand.{fault_at}
+use Rattle.spelling.specs.Places.{block_placed, found_here, seek, steps_placed}
 use Rattle.spelling.specs.Scope.{Numbers, Scope, Setting}
-use Rattle.spelling.specs.Asked.{block_asked, steps_asked}
 use Rattle.spelling.specs.Spelled.{block_of, spelled_map, steps_spelled}
 
 module _ (setting : Setting) (scope : Scope) (d : Data) where
-  pub no_array : (n : ℕ) (c : Counts) → as_array d ≡ None → check c (block_asked setting n scope d) ≡ Err (fault_at Shape c)
-  unfolding block_asked
+  pub no_array : (n : ℕ) (c : Counts) → as_array d ≡ None → seek c (block_placed setting n scope d) ≡ Err (found_here (fault_at Shape c))
+  unfolding block_placed
   no_array zero c none = rw none refl
   no_array (suc n) c none = rw none refl
 
-  pub too_deep : (n : ℕ) (c : Counts) (ds : Items) → n ≡ 0 → Some ds ≡ as_array d → check c (block_asked setting n scope d) ≡ Err
-      (fault_at Depth c)
-  unfolding block_asked
+  pub too_deep : (n : ℕ) (c : Counts) (ds : Items) → n ≡ 0 → Some ds ≡ as_array d → seek c (block_placed setting n scope d) ≡ Err
+      (found_here (fault_at Depth c))
+  unfolding block_placed
   too_deep zero c ds e is = rw (← is) refl
   too_deep (suc n) c ds e is = absurd (omega arith)
 
-  pub block_asks : (m n : ℕ) (ds : Items) → n ≡ suc m → Some ds ≡ as_array d → block_asked setting n scope d ≡ steps_asked
-      (block_asked setting m) setting scope ds
-  unfolding block_asked
+  pub block_asks : (m n : ℕ) (ds : Items) → n ≡ suc m → Some ds ≡ as_array d → block_placed setting n scope d ≡ steps_placed
+      (block_placed setting m) setting scope 0 ds
+  unfolding block_placed
   block_asks m n ds e is = rw (e, ← is) refl
 
   pub block_spells : (m n : ℕ) (numbers : Numbers) (ds : Items) → n ≡ suc m → Some ds ≡ as_array d → block_of setting n scope numbers d

@@ -32,7 +32,7 @@ unfolding and_check
 failed-before e ds = refl
 
 -- what holds of the fault that a `?` passes on
-pub passed_on : {T : Type 0} (r : Result T Fault) (P : Fault → Type 0) (e : Fault) → IsErrAnd r (λ x. x ≡ e) → P e → IfErr r P
+pub passed_on : {T E : Type 0} (r : Result T E) (P : E → Type 0) (e : E) → IsErrAnd r (λ x. x ≡ e) → P e → IfErr r P
 passed_on (Ok x) P e h p = tt
 passed_on (Err x) P e h p = subst P (sym h) p
 

@@ -17,16 +17,17 @@ use Rattle.spelling.specs.Scope.{Numbers, Scope, Setting, Table, is_listed, no_n
 use Rattle.spelling.specs.Spelled.{Spelling, abort_of, block_of, block_of_if, blocks_of, call_of, children_spelled, document_in, entries_of}
 use Rattle.spelling.specs.Spelled.{handlers_spelled, if_of, members_of, operation_of, pairs_of, parallel_of, parts_in, reason_of, start_of}
 use Rattle.spelling.specs.Spelled.{starts_of, step_of, step_of_by, steps_spelled, sub_of, test_of}
-use Rattle.spelling.specs.Asked.{asked, document_shape_asked, names_of, object_asked, object_name, object_name_asked, object_shape_asked}
-use Rattle.spelling.specs.Asked.{objects_asked, start_asked, transactions_asked}
-use Rattle.spelling.specs.Demand.{first_fault, no_counts}
+use Rattle.spelling.specs.Asked.{document_shape_asked, names_of, object_name, object_name_asked, object_shape_asked}
+use Rattle.spelling.specs.Demand.{no_counts}
 use Rattle.spelling.specs.declared.steps.Sort.{Sort}
 use Rattle.spelling.specs.declared.steps.Sort.TheVariants.{Operation as an_operation, If as an_if, Sub as a_sub, Abort as an_abort}
 use Rattle.spelling.specs.declared.steps.Sort.TheVariants.{Parallel as a_parallel}
 use Rattle.spelling.specs.declared.subject.Subject.{Subject}
 use Rattle.words.specs.declared.verb.Verb.{Verb}
 use Rattle.words.specs.declared.verb.Verb.TheVariants.{OfAmount, OfItem, OfPair, Alone}
-use Rattle.spelling.proofs.MetLemmas.{AllMet, faultless, first_met, passed, rest_met}
+use Rattle.spelling.proofs.MetLemmas.{AllMet, first_met, passed, rest_met}
+use Rattle.spelling.proofs.Demands.{asked, object_asked, objects_asked, start_asked, transactions_asked, faultless}
+use Rattle.spelling.specs.Places.{first_fault, placed}
 
 -- ---- one more text
 
@@ -229,10 +230,10 @@ names_differ version names (item d ds) met apart =
     subst Apart (append_assoc names (object_name d ∷ []) (names_of ds))
     (names_differ version next ds (rest_met A B met) (apart_push (object_name d) names new apart))
 
-pub objects_differ : (d : Data) → first_fault (asked d) ≡ None → Apart (document_in d).texts.objects
+pub objects_differ : (d : Data) → first_fault (placed d) ≡ None → Apart (document_in d).texts.objects
 unfolding document_in parts_in asked
 objects_differ d none =
-    let all = faultless (asked d) none in
+    let all = faultless d none in
     let met = (passed (asked d) no_counts all.0 all.1).met in
     let A = document_shape_asked d in
     let B = objects_asked (version_in d) [] (objects_in d) in

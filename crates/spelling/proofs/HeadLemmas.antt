@@ -7,31 +7,55 @@ use Rattle.meaning.specs.Trees as tree
 use Rattle.meaning.specs.declared.test.Test.{Test}
 use Rattle.spelling.specs.declared.counts.Counts.{Counts}
 use Rattle.faults.specs.declared.fault.Fault.{Fault}
-use Rattle.spelling.specs.Asked.{Asks, block_asked_if, children_asked, children_in, handlers_asked, handlers_in, if_asked, if_label}
-use Rattle.spelling.specs.Asked.{if_shape_asked, label_asked, label_in, parallel_asked, part, seen_asked, sub_asked, sub_shape_asked}
-use Rattle.spelling.specs.Asked.{arguments_asked, call_named, object_of, operation_asked, operation_shape_asked, subject_of, target_asked}
-use Rattle.spelling.specs.Asked.{test_asked, verb_in}
+use Rattle.spelling.specs.Asked.{arguments_asked, call_named, children_in, handlers_in, if_label, if_shape_asked, label_asked, label_in}
+use Rattle.spelling.specs.Asked.{object_of, operation_asked, operation_shape_asked, parallel_shape_asked, part, seen_asked, sub_shape_asked}
+use Rattle.spelling.specs.Asked.{subject_of, target_asked, test_asked, verb_in}
 use Rattle.spelling.specs.Demand.{Demand, check, one_more_node, one_more_operation}
 use Rattle.spelling.specs.Heads.{if_head_asked, operation_head_asked, parallel_head_asked, sub_head_asked}
+use Rattle.spelling.specs.Places.{Found, Placed, Places, block_placed_if, children_placed, found_here, handlers_placed, if_placed, inside}
+use Rattle.spelling.specs.Places.{itself, member_named, nothing, parallel_placed, seek, sub_placed}
 use Rattle.spelling.specs.Scope.{Numbers, Scope, Setting, label_number}
 use Rattle.spelling.specs.Spelled.{Spelling, block_of_if, handlers_spelled, if_of, or_no_step, sub_of, test_of, tried}
 use Rattle.spelling.proofs.Checks.{check-append, check-after, check_failed, check_met, failed-before}
+use Rattle.spelling.proofs.PlaceLemmas.{inside_met, inside_unmet, own_both, own_first, own_unmet}
 
-pub if_asked-is : (asks : Asks) (scope : Scope) (d : Data) → if_asked asks scope d ≡ if_head_asked scope d
-    ++ asks scope (part (codes "then") d) ++ block_asked_if asks scope (get (codes "else") d)
-unfolding if_asked if_head_asked
-if_asked-is asks scope d = refl
+if_placed-is : (places : Places) (scope : Scope) (d : Data) (c : Counts) → seek c (if_placed places scope d)
+    ≡ seek c (itself (if_head_asked scope d) (inside (member_named (codes "then")) (places scope (part (codes "then") d))
+    (inside (member_named (codes "else")) (block_placed_if places scope (get (codes "else") d)) nothing)))
+unfolding if_placed if_head_asked
+if_placed-is places scope d c =
+    let branches = inside (member_named (codes "then")) (places scope (part (codes "then") d))
+    (inside (member_named (codes "else")) (block_placed_if places scope (get (codes "else") d)) nothing) in
+    let shape = if_shape_asked d in
+    let node = one_more_node ∷ [] in
+    let named = seen_asked scope (if_label d) in
+    let tested = test_asked (subject_of (if_label d) scope) d in
+    own_both c shape node (itself named (itself tested branches))
+    ∙ own_both c (shape ++ node) named (itself tested branches)
+    ∙ own_both c (shape ++ node ++ named) tested branches
 
-pub sub_asked-is : (version : ℕ) (asks : Asks) (scope earlier : Scope) (d : Data) → sub_asked version asks scope earlier d
-    ≡ sub_head_asked version scope earlier d ++ asks scope (part (codes "sub") d)
-    ++ handlers_asked asks scope (handlers_in d) ++ block_asked_if asks scope (get (codes "handler") d)
-unfolding sub_asked sub_head_asked
-sub_asked-is version asks scope earlier d = refl
+sub_placed-is : (version : ℕ) (places : Places) (scope earlier : Scope) (d : Data) (c : Counts)
+    → seek c (sub_placed version places scope earlier d)
+    ≡ seek c (itself (sub_head_asked version scope earlier d) (inside (member_named (codes "sub")) (places scope (part (codes "sub") d))
+    (inside (member_named (codes "handlers")) (handlers_placed places scope (handlers_in d))
+    (inside (member_named (codes "handler")) (block_placed_if places scope (get (codes "handler") d)) nothing))))
+unfolding sub_placed sub_head_asked
+sub_placed-is version places scope earlier d c =
+    let blocks = inside (member_named (codes "sub")) (places scope (part (codes "sub") d))
+    (inside (member_named (codes "handlers")) (handlers_placed places scope (handlers_in d))
+    (inside (member_named (codes "handler")) (block_placed_if places scope (get (codes "handler") d)) nothing)) in
+    let shape = sub_shape_asked version d in
+    let node = one_more_node ∷ [] in
+    let named = label_asked scope earlier (label_in d) in
+    own_both c shape node (itself named blocks) ∙ own_both c (shape ++ node) named blocks
 
-pub parallel_asked-is : (version : ℕ) (asks : Asks) (scope : Scope) (d : Data) → parallel_asked version asks scope d
-    ≡ parallel_head_asked d ++ children_asked version asks scope [] (children_in d)
-unfolding parallel_asked parallel_head_asked
-parallel_asked-is version asks scope d = refl
+parallel_placed-is : (version : ℕ) (places : Places) (scope : Scope) (d : Data) (c : Counts)
+    → seek c (parallel_placed version places scope d)
+    ≡ seek c (itself (parallel_head_asked d) (inside (member_named (codes "parallel"))
+    (children_placed version places scope [] 0 (children_in d)) nothing))
+unfolding parallel_placed parallel_head_asked
+parallel_placed-is version places scope d c = own_both c (parallel_shape_asked d) (one_more_node ∷ [])
+    (inside (member_named (codes "parallel")) (children_placed version places scope [] 0 (children_in d)) nothing)
 
 pub operation_asked-is : (setting : Setting) (scope : Scope) (d : Data) → operation_asked setting scope d
     ≡ operation_head_asked setting d ++ arguments_asked (verb_in setting (part (codes "op") d)) (part (codes "op") d)
@@ -41,9 +65,6 @@ operation_asked-is setting scope d = refl
 
 -- for the function that reads an operation
 pub ruleset operations = (operation_asked-is, check-append, check-after, failed-before)
-
--- for the functions that read a head and then the blocks
-pub ruleset heads = (if_asked-is, sub_asked-is, parallel_asked-is, check-append, check-after, failed-before)
 
 -- ---- demands in two parts
 
@@ -94,38 +115,44 @@ module _ (setting : Setting) (scope : Scope) (d : Data) (start : Counts) where
 
 -- ---- an `if`
 
-module _ (asks : Asks) (scope : Scope) (d : Data) (start : Counts) where
+module _ (places : Places) (scope : Scope) (d : Data) (start : Counts) where
   abbrev head : List Demand
   head = if_head_asked scope d
 
-  abbrev first : List Demand
-  first = asks scope (part (codes "then") d)
+  abbrev first : Placed → Placed
+  first = inside (member_named (codes "then")) (places scope (part (codes "then") d))
 
-  abbrev second : List Demand
-  second = block_asked_if asks scope (get (codes "else") d)
+  abbrev second : Placed
+  second = inside (member_named (codes "else")) (block_placed_if places scope (get (codes "else") d)) nothing
 
   -- the first fault is before the branches
-  pub if_head_failed : (e : Fault) → check start head ≡ Err e → check start (if_asked asks scope d) ≡ Err e
-  if_head_failed e failed = ap (check start) (if_asked-is asks scope d)
-      ∙ check_failed start e (head ++ first) second (check_failed start e head first failed)
+  pub if_head_failed : (e : Fault) → check start head ≡ Err e → seek start (if_placed places scope d) ≡ Err (found_here e)
+  if_head_failed e failed = if_placed-is places scope d start ∙ own_unmet start e head (first second) failed
+
+  -- they decide
+  if_after_head : (next : Counts) → check start head ≡ Ok next → seek start (if_placed places scope d) ≡ seek next (first second)
+  if_after_head next met = if_placed-is places scope d start ∙ own_first start next head (first second) met
 
   -- it is in the first branch
-  pub if_then_failed : (next : Counts) (e : Fault) → check start head ≡ Ok next → check next first ≡ Err e
-      → check start (if_asked asks scope d) ≡ Err e
-  if_then_failed next e met failed = ap (check start) (if_asked-is asks scope d)
-      ∙ check_failed start e (head ++ first) second (second_failed start next e head first met failed)
+  pub if_then_failed : (next : Counts) (found : Found) → check start head ≡ Ok next → seek next (first nothing) ≡ Err found
+      → seek start (if_placed places scope d) ≡ Err found
+  if_then_failed next found met failed = if_after_head next met
+      ∙ inside_unmet next found (member_named (codes "then")) (places scope (part (codes "then") d)) second failed
 
   -- it is in the second
-  pub if_else_failed : (next after : Counts) (e : Fault) → check start head ≡ Ok next → check next first ≡ Ok after
-      → check after second ≡ Err e → check start (if_asked asks scope d) ≡ Err e
-  if_else_failed next after e met also failed = ap (check start) (if_asked-is asks scope d)
-      ∙ second_failed start after e (head ++ first) second (both_met start next after head first met also) failed
+  if_after_then : (next after : Counts) → check start head ≡ Ok next → seek next (first nothing) ≡ Ok after
+      → seek start (if_placed places scope d) ≡ seek after second
+  if_after_then next after met also = if_after_head next met
+      ∙ inside_met next after (member_named (codes "then")) (places scope (part (codes "then") d)) second also
+
+  pub if_else_failed : (next after : Counts) (found : Found) → check start head ≡ Ok next → seek next (first nothing) ≡ Ok after
+      → seek after second ≡ Err found → seek start (if_placed places scope d) ≡ Err found
+  if_else_failed next after found met also failed = if_after_then next after met also ∙ failed
 
   -- there is none
-  pub if_parts_met : (next after last : Counts) → check start head ≡ Ok next → check next first ≡ Ok after
-      → check after second ≡ Ok last → check start (if_asked asks scope d) ≡ Ok last
-  if_parts_met next after last met also rest = ap (check start) (if_asked-is asks scope d)
-      ∙ both_met start after last (head ++ first) second (both_met start next after head first met also) rest
+  pub if_parts_met : (next after last : Counts) → check start head ≡ Ok next → seek next (first nothing) ≡ Ok after
+      → seek after second ≡ Ok last → seek start (if_placed places scope d) ≡ Ok last
+  if_parts_met next after last met also rest = if_after_then next after met also ∙ rest
 
 -- what the parts of an `if` spell is what it spells
 pub if_read : (block : Spelling) (scope : Scope) (d : Data) (numbers tested after last : Numbers) (n : ℕ) (test : Test) (a : tree.Block)
@@ -137,53 +164,64 @@ if_read block scope d numbers tested after last n test a b is e f g = rw (is, �
 
 -- ---- a subaction
 
-module _ (version : ℕ) (asks : Asks) (scope earlier : Scope) (d : Data) (start : Counts) where
+module _ (version : ℕ) (places : Places) (scope earlier : Scope) (d : Data) (start : Counts) where
   abbrev sub_head : List Demand
   sub_head = sub_head_asked version scope earlier d
 
-  abbrev body : List Demand
-  body = asks scope (part (codes "sub") d)
+  abbrev body : Placed → Placed
+  body = inside (member_named (codes "sub")) (places scope (part (codes "sub") d))
 
-  abbrev handlers : List Demand
-  handlers = handlers_asked asks scope (handlers_in d)
+  abbrev handlers : Placed → Placed
+  handlers = inside (member_named (codes "handlers")) (handlers_placed places scope (handlers_in d))
 
-  abbrev handler : List Demand
-  handler = block_asked_if asks scope (get (codes "handler") d)
+  abbrev handler : Placed
+  handler = inside (member_named (codes "handler")) (block_placed_if places scope (get (codes "handler") d)) nothing
 
   -- the first fault is before the blocks
-  pub sub_head_failed : (e : Fault) → check start sub_head ≡ Err e → check start (sub_asked version asks scope earlier d) ≡ Err e
-  sub_head_failed e failed = ap (check start) (sub_asked-is version asks scope earlier d)
-      ∙ check_failed start e (sub_head ++ body ++ handlers) handler
-      (check_failed start e (sub_head ++ body) handlers (check_failed start e sub_head body failed))
+  pub sub_head_failed : (e : Fault) → check start sub_head ≡ Err e → seek start (sub_placed version places scope earlier d)
+      ≡ Err (found_here e)
+  sub_head_failed e failed = sub_placed-is version places scope earlier d start ∙ own_unmet start e sub_head (body (handlers handler)) failed
+
+  -- they decide
+  sub_after_head : (next : Counts) → check start sub_head ≡ Ok next → seek start (sub_placed version places scope earlier d)
+      ≡ seek next (body (handlers handler))
+  sub_after_head next met = sub_placed-is version places scope earlier d start ∙ own_first start next sub_head (body (handlers handler)) met
 
   -- it is in the body
-  pub sub_body_failed : (next : Counts) (e : Fault) → check start sub_head ≡ Ok next → check next body ≡ Err e
-      → check start (sub_asked version asks scope earlier d) ≡ Err e
-  sub_body_failed next e met failed = ap (check start) (sub_asked-is version asks scope earlier d)
-      ∙ check_failed start e (sub_head ++ body ++ handlers) handler
-      (check_failed start e (sub_head ++ body) handlers (second_failed start next e sub_head body met failed))
+  pub sub_body_failed : (next : Counts) (found : Found) → check start sub_head ≡ Ok next → seek next (body nothing) ≡ Err found
+      → seek start (sub_placed version places scope earlier d) ≡ Err found
+  sub_body_failed next found met failed = sub_after_head next met
+      ∙ inside_unmet next found (member_named (codes "sub")) (places scope (part (codes "sub") d)) (handlers handler) failed
+
+  -- the handlers decide
+  sub_after_body : (next after : Counts) → check start sub_head ≡ Ok next → seek next (body nothing) ≡ Ok after
+      → seek start (sub_placed version places scope earlier d) ≡ seek after (handlers handler)
+  sub_after_body next after met also = sub_after_head next met
+      ∙ inside_met next after (member_named (codes "sub")) (places scope (part (codes "sub") d)) (handlers handler) also
 
   -- it is in the handlers by reason
-  pub sub_handlers_failed : (next after : Counts) (e : Fault) → check start sub_head ≡ Ok next → check next body ≡ Ok after
-      → check after handlers ≡ Err e → check start (sub_asked version asks scope earlier d) ≡ Err e
-  sub_handlers_failed next after e met also failed = ap (check start) (sub_asked-is version asks scope earlier d)
-      ∙ check_failed start e (sub_head ++ body ++ handlers) handler
-      (second_failed start after e (sub_head ++ body) handlers (both_met start next after sub_head body met also) failed)
+  pub sub_handlers_failed : (next after : Counts) (found : Found) → check start sub_head ≡ Ok next → seek next (body nothing) ≡ Ok after
+      → seek after (handlers nothing) ≡ Err found → seek start (sub_placed version places scope earlier d) ≡ Err found
+  sub_handlers_failed next after found met also failed = sub_after_body next after met also
+      ∙ inside_unmet after found (member_named (codes "handlers")) (handlers_placed places scope (handlers_in d)) handler failed
+
+  -- the handler decides
+  sub_after_handlers : (next after last : Counts) → check start sub_head ≡ Ok next → seek next (body nothing) ≡ Ok after
+      → seek after (handlers nothing) ≡ Ok last → seek start (sub_placed version places scope earlier d) ≡ seek last handler
+  sub_after_handlers next after last met also taken = sub_after_body next after met also
+      ∙ inside_met after last (member_named (codes "handlers")) (handlers_placed places scope (handlers_in d)) handler taken
 
   -- it is in the handler
-  pub sub_handler_failed : (next after last : Counts) (e : Fault) → check start sub_head ≡ Ok next → check next body ≡ Ok after
-      → check after handlers ≡ Ok last → check last handler ≡ Err e → check start (sub_asked version asks scope earlier d) ≡ Err e
-  sub_handler_failed next after last e met also taken failed = ap (check start) (sub_asked-is version asks scope earlier d)
-      ∙ second_failed start last e (sub_head ++ body ++ handlers) handler
-      (both_met start after last (sub_head ++ body) handlers (both_met start next after sub_head body met also) taken) failed
+  pub sub_handler_failed : (next after last : Counts) (found : Found) → check start sub_head ≡ Ok next → seek next (body nothing) ≡ Ok after
+      → seek after (handlers nothing) ≡ Ok last → seek last handler ≡ Err found
+      → seek start (sub_placed version places scope earlier d) ≡ Err found
+  sub_handler_failed next after last found met also taken failed = sub_after_handlers next after last met also taken ∙ failed
 
   -- there is none
-  pub sub_parts_met : (next after last end_counts : Counts) → check start sub_head ≡ Ok next → check next body ≡ Ok after
-      → check after handlers ≡ Ok last → check last handler ≡ Ok end_counts
-      → check start (sub_asked version asks scope earlier d) ≡ Ok end_counts
-  sub_parts_met next after last end_counts met also taken rest = ap (check start) (sub_asked-is version asks scope earlier d)
-      ∙ both_met start last end_counts (sub_head ++ body ++ handlers) handler
-      (both_met start after last (sub_head ++ body) handlers (both_met start next after sub_head body met also) taken) rest
+  pub sub_parts_met : (next after last end_counts : Counts) → check start sub_head ≡ Ok next → seek next (body nothing) ≡ Ok after
+      → seek after (handlers nothing) ≡ Ok last → seek last handler ≡ Ok end_counts
+      → seek start (sub_placed version places scope earlier d) ≡ Ok end_counts
+  sub_parts_met next after last end_counts met also taken rest = sub_after_handlers next after last met also taken ∙ rest
 
 -- what the parts of a subaction spell is what it spells
 pub sub_read : (block : Spelling) (scope : Scope) (d : Data) (numbers after between last : Numbers) (b : tree.Block)
@@ -196,28 +234,22 @@ sub_read block scope d numbers after between last b hs h e f g = rw (← e, ← 
 
 -- ---- a parallel step
 
-module _ (version : ℕ) (asks : Asks) (scope : Scope) (d : Data) (start : Counts) where
+module _ (version : ℕ) (places : Places) (scope : Scope) (d : Data) (start : Counts) where
   abbrev list : List Demand
   list = parallel_head_asked d
 
-  abbrev children : List Demand
-  children = children_asked version asks scope [] (children_in d)
+  abbrev children : Placed
+  children = inside (member_named (codes "parallel")) (children_placed version places scope [] 0 (children_in d)) nothing
 
   -- the first fault is before the children
-  pub parallel_head_failed : (e : Fault) → check start list ≡ Err e → check start (parallel_asked version asks scope d) ≡ Err e
-  parallel_head_failed e failed = ap (check start) (parallel_asked-is version asks scope d) ∙ check_failed start e list children failed
+  pub parallel_head_failed : (e : Fault) → check start list ≡ Err e → seek start (parallel_placed version places scope d)
+      ≡ Err (found_here e)
+  parallel_head_failed e failed = parallel_placed-is version places scope d start ∙ own_unmet start e list children failed
 
-  -- it is in a child
-  pub parallel_child_failed : (next : Counts) (e : Fault) → check start list ≡ Ok next → check next children ≡ Err e
-      → check start (parallel_asked version asks scope d) ≡ Err e
-  parallel_child_failed next e met failed = ap (check start) (parallel_asked-is version asks scope d)
-      ∙ second_failed start next e list children met failed
-
-  -- there is none
-  pub parallel_parts_met : (next last : Counts) → check start list ≡ Ok next → check next children ≡ Ok last
-      → check start (parallel_asked version asks scope d) ≡ Ok last
-  parallel_parts_met next last met rest = ap (check start) (parallel_asked-is version asks scope d)
-      ∙ both_met start next last list children met rest
+  -- they decide
+  pub parallel_after_head : (next : Counts) → check start list ≡ Ok next → seek start (parallel_placed version places scope d)
+      ≡ seek next children
+  parallel_after_head next met = parallel_placed-is version places scope d start ∙ own_first start next list children met
 
 -- ---- before the blocks
 

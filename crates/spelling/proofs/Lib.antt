@@ -2,6 +2,8 @@ pub mod Members
 pub mod TableLemmas
 pub mod LabelLemmas
 pub mod Checks
+pub mod PlaceLemmas
+pub mod Demands
 pub mod HeadLemmas
 pub mod AmountLemmas
 pub mod ListLemmas

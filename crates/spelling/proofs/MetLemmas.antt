@@ -1,12 +1,11 @@
 -- Demands that are all met, and what they count.
-use Rattle.std.proofs.Common.{◌≡◌, ℕ, ◌+◌, ◌≤◌, Bool, true, false, cond, List, [], ◌∷◌, ◌++◌, None, Result, Ok, Err, refl, ap, arith}
+use Rattle.std.proofs.Common.{◌≡◌, ℕ, ◌+◌, ◌≤◌, Bool, true, false, cond, List, [], ◌∷◌, ◌++◌, Ok, refl, ap, arith}
 use Rattle.std.specs.Prelude.{nat_le, nat_lt, ⊤}
 use Rattle.std.proofs.lemmas.Bool.{ltb-true}
 use Rattle.faults.specs.declared.fault.Wrong.{Wrong}
-use Rattle.faults.specs.declared.fault.Fault.{Fault}
 use Rattle.spelling.specs.declared.counts.Counts.{Counts}
 use Rattle.spelling.specs.Demand.{Demand, holds, one_more_start, one_more_operation, one_more_node, in_transaction, most_operations, check}
-use Rattle.spelling.specs.Demand.{check_one, and_then, fault_of, first_fault, limited, no_counts}
+use Rattle.spelling.specs.Demand.{check_one, and_then, limited}
 
 -- each test holds
 abbrev pub AllMet : List Demand → Type 0
@@ -181,11 +180,3 @@ passed (one_more_operation version ∷ ds) c next e = passed_operation (nat_lt c
     (λ c'. passed ds c' next) e
 passed (one_more_node ∷ ds) c next e = passed_node (nat_lt c.nodes 100000) ds c next refl (λ c'. passed ds c' next) e
 passed (in_transaction n ∷ ds) c next e = passed_on_to n ds c next (passed ds (record c { transaction = n }) next e)
-
-ok_of : (r : Result Counts Fault) → fault_of r ≡ None → (next : Counts) × (r ≡ Ok next)
-ok_of (Ok next) h = (next, refl)
-ok_of (Err e) h = cc
-
--- a document with no fault meets all its demands
-pub faultless : (ds : List Demand) → first_fault ds ≡ None → (next : Counts) × (check no_counts ds ≡ Ok next)
-faultless ds none = ok_of (check no_counts ds) none

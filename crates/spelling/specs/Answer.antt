@@ -1,9 +1,14 @@
 -- What a result says of what is asked.
-use Rattle.std.specs.Prelude.{◌≡◌, ◌≢◌, List, Ok, Err}
+use Rattle.std.specs.Prelude.{◌≡◌, ◌≢◌, ℕ, List, [], Option, Some, Ok, Err, option_map, string_bytes, unwrap_or, String}
+use Rattle.std.specs.declared.alloc.Global.{Global}
 use Rattle.faults.specs.declared.fault.Fault.{Fault}
 use Rattle.spelling.specs.declared.counts.Counts.{Counts}
+use Rattle.spelling.specs.declared.unmet.Unmet.{Unmet}
 use Rattle.spelling.specs.Demand.{Demand, check}
+use Rattle.spelling.specs.Places.{Found, Placed, fault_of, seek}
 use Rattle.faults.specs.Faults.{memory_fault}
+
+-- ---- of a value itself
 
 -- all of it is met, and the counts are then these
 abbrev pub IsMet : Counts → List Demand → Counts → Type 0
@@ -12,3 +17,24 @@ IsMet c asked next = check c asked ≡ Ok next
 -- unless memory was refused, the fault is the first
 abbrev pub IsFirst : Counts → List Demand → Fault → Type 0
 IsFirst c asked fault = fault ≢ memory_fault → check c asked ≡ Err fault
+
+-- ---- of a value and its parts
+
+-- all of it is met, and the counts are then these
+abbrev pub AreMet : Counts → Placed → Counts → Type 0
+AreMet c asked next = seek c asked ≡ Ok next
+
+abbrev pub pointer_text : Option (String Global) → List ℕ
+pointer_text pointer = unwrap_or (option_map (λ text. string_bytes text) pointer) []
+
+-- what a demand that is not met gives
+abbrev pub found_of : Unmet → Found
+found_of unmet = record { fault = unmet.fault; pointer = pointer_text unmet.pointer }
+
+-- unless memory was refused, the demand is the first that is not met
+abbrev pub IsFound : Counts → Placed → Unmet → Type 0
+IsFound c asked unmet = unmet.fault ≢ memory_fault → seek c asked ≡ Err (found_of unmet)
+
+-- the same of its fault alone
+abbrev pub IsFirstOf : Counts → Placed → Fault → Type 0
+IsFirstOf c asked fault = fault ≢ memory_fault → fault_of (seek c asked) ≡ Some fault

@@ -1,15 +1,15 @@
--- What is asked of a document, in reading order. After a demand that fails the list says nothing of use.
-use Rattle.std.specs.Prelude.{ℕ, ℤ, nat_abs, zero, suc, ◌+◌, ◌==◌, ◌&&◌, ◌||◌, Bool, true, false, not, List, [], ◌∷◌, ◌++◌, codes, Option}
+-- What is asked of each part of a document itself, in reading order. `Places` puts them together.
+use Rattle.std.specs.Prelude.{ℕ, ℤ, nat_abs, ◌==◌, ◌&&◌, ◌||◌, Bool, true, false, not, List, [], ◌∷◌, ◌++◌, codes, Option}
 use Rattle.std.specs.Prelude.{Some, None, is_some, unwrap_or, option_and_then, nat_le, if◌then◌else◌}
 use Rattle.std.specs.Option.{option_map_or}
-use Rattle.serde_json.specs.Data.{Data, null, Items, no_items, item, Members, no_members, member}
-use Rattle.serde_json.specs.Find.{get, as_array, as_bool, as_object, as_str}
+use Rattle.serde_json.specs.Data.{Data, null, Items, no_items, item, Members}
+use Rattle.serde_json.specs.Find.{get, as_bool, as_object, as_str}
 use Rattle.serde_json.specs.Events.{items_len}
 use Rattle.objects.specs.declared.kind.Kind.{Kind}
 use Rattle.objects.specs.declared.kind.Kind.TheVariants as kind
 use Rattle.words.specs.declared.word.Word.{Word}
 use Rattle.faults.specs.declared.fault.Wrong.TheVariants.{Shape, Name, DuplicateObject, UnknownObject, UnknownOperation, Argument}
-use Rattle.faults.specs.declared.fault.Wrong.TheVariants.{UnknownLabel, DuplicateLabel, Condition, Depth, TooMany, Start}
+use Rattle.faults.specs.declared.fault.Wrong.TheVariants.{UnknownLabel, DuplicateLabel, Condition, TooMany, Start}
 use Rattle.words.specs.declared.verb.LoneVerb.TheVariants.{Balance}
 use Rattle.words.specs.declared.verb.Verb.{Verb}
 use Rattle.words.specs.declared.verb.Verb.TheVariants.{OfAmount, OfItem, OfPair, Alone}
@@ -18,15 +18,15 @@ use Rattle.spelling.specs.declared.subject.Subject.TheVariants.{Reply, Outcome}
 use Rattle.spelling.specs.declared.steps.Sort.{Sort}
 use Rattle.spelling.specs.declared.steps.Sort.TheVariants.{Operation as an_operation, If as an_if, Sub as a_sub, Abort as an_abort}
 use Rattle.spelling.specs.declared.steps.Sort.TheVariants.{Parallel as a_parallel}
-use Rattle.spelling.specs.Demand.{Demand, holds, one_more_start, one_more_operation, one_more_node, in_transaction}
+use Rattle.spelling.specs.Demand.{Demand, holds, one_more_start, one_more_operation, one_more_node}
 use Rattle.spelling.specs.Look.{has, has_only, text_member, text_item, whole_item, whole, whole_member, list_member, count}
 use Rattle.spelling.specs.Look.{or_empty, within}
-use Rattle.spelling.specs.Scope.{Table, Setting, Scope, is_listed, kind_named, named, is_named, with_label, with_labels, with_text}
+use Rattle.spelling.specs.Scope.{Table, Setting, Scope, is_listed, kind_named, named, is_named, with_label, with_labels}
 use Rattle.batch.specs.Names.{is_name}
 use Rattle.spelling.specs.Subjects.{fits_word, fits_number, fits_item}
 use Rattle.words.specs.Verbs.{verb_of_text}
 use Rattle.words.specs.Words.{kind_of_text, word_of_text}
-use Rattle.meaning.specs.declared.limits.TheConstants.{MAX_DEPTH, MAX_OBJECTS, MAX_START, MAX_TRANSACTIONS}
+use Rattle.meaning.specs.declared.limits.TheConstants.{MAX_OBJECTS, MAX_START, MAX_TRANSACTIONS}
 use Rattle.meaning.specs.WellFormed.{largest_amount}
 
 -- the member, or null
@@ -117,10 +117,6 @@ operation_asked setting scope d =
 
 -- ---- the other steps
 
--- what a block of a step asks, where these labels are seen
-abbrev pub Asks : Type 0
-Asks = Scope → Data → List Demand
-
 abbrev pub one_test : Bool → Bool → Bool → Bool
 one_test true false false = true
 one_test false true false = true
@@ -152,11 +148,6 @@ unfoldable pub test_asked : Subject → Data → List Demand
 test_asked subject d = if has (codes "is") d then holds_word subject d else if has (codes "atleast") d then holds_number subject
     d else holds_item subject d
 
--- a block that a step may have
-unfoldable pub block_asked_if : Asks → Scope → Option Data → List Demand
-block_asked_if asks scope None = []
-block_asked_if asks scope (Some d) = asks scope d
-
 unfoldable pub if_shape_asked : Data → List Demand
 if_shape_asked d =
     holds (has_only (codes "if" ∷ codes "is" ∷ codes "atleast" ∷ codes "item" ∷ codes "then" ∷ codes "else" ∷ []) d) Shape
@@ -177,15 +168,6 @@ seen_asked scope name = holds (is_named name scope) UnknownLabel ∷ []
 abbrev pub if_label : Data → List ℕ
 if_label d = or_empty (text_member (codes "if") d)
 
-unfoldable pub if_asked : Asks → Scope → Data → List Demand
-if_asked asks scope d =
-    if_shape_asked d
-    ++ one_more_node ∷ []
-    ++ seen_asked scope (if_label d)
-    ++ test_asked (subject_of (if_label d) scope) d
-    ++ asks scope (part (codes "then") d)
-    ++ block_asked_if asks scope (get (codes "else") d)
-
 -- handlers by reason, which a version may have
 abbrev pub handlers_are_members : ℕ → Data → Bool
 handlers_are_members version d = not (has (codes "handlers") d) ||
@@ -199,31 +181,9 @@ sub_shape_asked version d =
     ∷ holds (handlers_are_members version d) Shape
     ∷ []
 
--- each reason is a name, and its block is one
-abbrev pub member_asked : Asks → Scope → List ℕ → Data → List Demand
-member_asked asks scope reason d = holds (is_name reason) Name ∷ asks scope d
-
-abbrev pub members_asked : Asks → Scope → Members → List Demand
-members_asked asks scope no_members = []
-members_asked asks scope (member reason d ds) = member_asked asks scope reason d ++ members_asked asks scope ds
-
 -- the handlers by reason, in the order of the reasons' bytes
 abbrev pub handlers_in : Data → Option Members
 handlers_in d = option_and_then as_object (get (codes "handlers") d)
-
-unfoldable pub handlers_asked : Asks → Scope → Option Members → List Demand
-handlers_asked asks scope None = []
-handlers_asked asks scope (Some ds) = members_asked asks scope ds
-
--- a subaction, or a child whose earlier siblings have these labels
-unfoldable pub sub_asked : ℕ → Asks → Scope → Scope → Data → List Demand
-sub_asked version asks scope earlier d =
-    sub_shape_asked version d
-    ++ one_more_node ∷ []
-    ++ label_asked scope earlier (label_in d)
-    ++ asks scope (part (codes "sub") d)
-    ++ handlers_asked asks scope (handlers_in d)
-    ++ block_asked_if asks scope (get (codes "handler") d)
 
 -- an abort without a reason, or for one, which a version may have
 abbrev pub is_abort : ℕ → Data → Bool
@@ -243,12 +203,6 @@ abort_asked version d = abort_shape_asked version d ++ reason_asked (as_str (par
 unfoldable pub parallel_shape_asked : Data → List Demand
 parallel_shape_asked d = holds (has_only (codes "parallel" ∷ []) d) Shape ∷ holds (is_some (list_member (codes "parallel") d)) Shape ∷ []
 
--- the children, where their earlier siblings have these labels
-abbrev pub children_asked : ℕ → Asks → Scope → Scope → Items → List Demand
-children_asked version asks scope earlier no_items = []
-children_asked version asks scope earlier (item d ds) = sub_asked version asks scope earlier d ++ children_asked version asks scope
-    (with_label (label_in d) Outcome earlier) ds
-
 -- the labels of the children
 abbrev pub labels_of : Scope → Items → Scope
 labels_of earlier no_items = earlier
@@ -259,12 +213,6 @@ or_no_items o = unwrap_or o no_items
 
 abbrev pub children_in : Data → Items
 children_in d = or_no_items (list_member (codes "parallel") d)
-
-unfoldable pub parallel_asked : ℕ → Asks → Scope → Data → List Demand
-parallel_asked version asks scope d =
-    parallel_shape_asked d
-    ++ one_more_node ∷ []
-    ++ children_asked version asks scope [] (children_in d)
 
 -- ---- steps and blocks
 
@@ -280,17 +228,6 @@ one_sort _ _ _ _ _ = None
 unfoldable pub sort_of : Data → Option Sort
 sort_of d = one_sort (has (codes "op") d) (has (codes "if") d) (has (codes "sub") d) (has (codes "abort") d) (has (codes "parallel") d)
 
-abbrev pub step_asked_by : Option Sort → Asks → Setting → Scope → Data → List Demand
-step_asked_by None asks setting scope d = holds false Shape ∷ []
-step_asked_by (Some an_operation) asks setting scope d = operation_asked setting scope d
-step_asked_by (Some an_if) asks setting scope d = if_asked asks scope d
-step_asked_by (Some a_sub) asks setting scope d = sub_asked setting.version asks scope [] d
-step_asked_by (Some an_abort) asks setting scope d = abort_asked setting.version d
-step_asked_by (Some a_parallel) asks setting scope d = parallel_asked setting.version asks scope d
-
-unfoldable pub step_asked : Asks → Setting → Scope → Data → List Demand
-step_asked asks setting scope d = step_asked_by (sort_of d) asks setting scope d
-
 abbrev pub scope_after_by : Option Sort → Setting → Scope → Data → Scope
 scope_after_by (Some an_operation) setting scope d = with_label (label_in d) (Reply (verb_in setting (part (codes "op") d))) scope
 scope_after_by (Some a_sub) setting scope d = with_label (label_in d) Outcome scope
@@ -301,19 +238,6 @@ scope_after_by sort setting scope d = scope
 unfoldable pub scope_after : Setting → Scope → Data → Scope
 scope_after setting scope d = scope_after_by (sort_of d) setting scope d
 
-abbrev pub steps_asked : Asks → Setting → Scope → Items → List Demand
-steps_asked asks setting scope no_items = []
-steps_asked asks setting scope (item d ds) = step_asked asks setting scope d ++ steps_asked asks setting (scope_after setting scope d) ds
-
-abbrev pub array_asked : (Items → List Demand) → Option Items → List Demand
-array_asked asks None = holds false Shape ∷ []
-array_asked asks (Some ds) = asks ds
-
--- a block within so many more levels
-unfoldable pub block_asked : Setting → ℕ → Asks
-block_asked setting zero scope d = array_asked (λ ds. holds false Depth ∷ []) (as_array d)
-block_asked setting (suc n) scope d = array_asked (steps_asked (block_asked setting n) setting scope) (as_array d)
-
 -- ---- objects
 
 abbrev pub text_of : Data → List ℕ
@@ -322,19 +246,9 @@ text_of d = or_empty (as_str d)
 unfoldable pub entry_asked : Data → List Demand
 entry_asked d = holds (is_some (as_str d)) Start ∷ holds (is_name (text_of d)) Name ∷ one_more_start ∷ []
 
--- the entries of a queue
-abbrev pub entries_asked : Items → List Demand
-entries_asked no_items = []
-entries_asked (item d ds) = entry_asked d ++ entries_asked ds
-
 unfoldable pub element_asked : Table → Data → List Demand
 element_asked earlier d = holds (is_some (as_str d)) Start ∷ holds (is_name (text_of d)) Name ∷ holds (not (is_listed (text_of d) earlier))
     Start ∷ one_more_start ∷ []
-
--- the entries of a set, which differ from these earlier ones
-abbrev pub elements_asked : Table → Items → List Demand
-elements_asked earlier no_items = []
-elements_asked earlier (item d ds) = element_asked earlier d ++ elements_asked (with_text (text_of d) earlier) ds
 
 abbrev pub key_of : Data → List ℕ
 key_of d = or_empty (text_item 0 d)
@@ -348,15 +262,6 @@ pair_asked earlier d =
     ∷ holds (is_name (key_of d)) Name ∷ holds (is_name (value_of d)) Name
     ∷ holds (not (is_listed (key_of d) earlier)) Start ∷ one_more_start ∷ []
 
--- the entries of a directory, whose keys differ from these earlier ones
-abbrev pub pairs_asked : Table → Items → List Demand
-pairs_asked earlier no_items = []
-pairs_asked earlier (item d ds) = pair_asked earlier d ++ pairs_asked (with_text (key_of d) earlier) ds
-
-unfoldable pub array_start_asked : (Items → List Demand) → Option Items → List Demand
-array_start_asked asks None = holds false Start ∷ []
-array_start_asked asks (Some ds) = asks ds
-
 -- the number within a limit on its size
 abbrev pub number_start : Data → Option ℕ
 number_start d = option_and_then (within 0 MAX_START) (whole d)
@@ -366,14 +271,6 @@ signed_within most n = if nat_le (nat_abs n) most then Some n else None
 
 abbrev pub signed_start : Data → Option ℤ
 signed_start d = option_and_then (signed_within MAX_START) (whole d)
-
-unfoldable pub start_asked : Kind → Data → List Demand
-start_asked kind.Account d = holds (is_some (number_start d)) Start ∷ []
-start_asked kind.Counter d = holds (is_some (signed_start d)) Start ∷ []
-start_asked kind.Set d = array_start_asked (elements_asked []) (as_array d)
-start_asked kind.Queue d = array_start_asked entries_asked (as_array d)
-start_asked kind.Directory d = array_start_asked (pairs_asked []) (as_array d)
-start_asked kind.Max d = holds (is_some (number_start d)) Start ∷ []
 
 abbrev pub object_kind : ℕ → Data → Option Kind
 object_kind version d = option_and_then (kind_of_text version) (text_member (codes "kind") d)
@@ -397,17 +294,6 @@ object_shape_asked version d =
 unfoldable pub object_name_asked : Table → List ℕ → List Demand
 object_name_asked names name = holds (is_name name) Name ∷ holds (not (is_listed name names)) DuplicateObject ∷ []
 
-unfoldable pub object_asked : ℕ → Table → Data → List Demand
-object_asked version names d =
-    object_shape_asked version d
-    ++ object_name_asked names (object_name d)
-    ++ start_asked (kind_in version d) (part (codes "start") d)
-
--- the objects, where these names come before them
-abbrev pub objects_asked : ℕ → Table → Items → List Demand
-objects_asked version names no_items = []
-objects_asked version names (item d ds) = object_asked version names d ++ objects_asked version (names ++ object_name d ∷ []) ds
-
 abbrev pub names_of : Items → Table
 names_of no_items = []
 names_of (item d ds) = object_name d ∷ names_of ds
@@ -421,15 +307,6 @@ abbrev pub declared_by : ℕ → Items → Setting
 declared_by version ds = record { version = version; names = names_of ds; kinds = kinds_of version ds }
 
 -- ---- the document
-
--- a transaction by its number
-abbrev pub transaction_asked : ℕ → Setting → Data → List Demand
-transaction_asked n setting d = in_transaction n ∷ block_asked setting MAX_DEPTH [] d
-
--- the transactions from a number on
-abbrev pub transactions_asked : ℕ → Setting → Items → List Demand
-transactions_asked n setting no_items = []
-transactions_asked n setting (item d ds) = transaction_asked n setting d ++ transactions_asked (n + 1) setting ds
 
 abbrev pub objects_in : Data → Items
 objects_in d = or_no_items (list_member (codes "objects") d)
@@ -455,10 +332,3 @@ document_shape_asked d =
 
 abbrev pub setting_in : Data → Setting
 setting_in d = declared_by (version_in d) (objects_in d)
-
--- all that is asked of a document
-unfoldable pub asked : Data → List Demand
-asked d =
-    document_shape_asked d
-    ++ objects_asked (version_in d) [] (objects_in d)
-    ++ transactions_asked 1 (setting_in d) (transactions_in d)

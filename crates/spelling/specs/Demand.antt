@@ -1,5 +1,5 @@
--- What is asked of a document, as one flat list in reading order, and the first fault of such a list.
-use Rattle.std.specs.Prelude.{ℕ, ◌+◌, Bool, List, [], ◌∷◌, Option, None, Some, Result, Ok, Err, nat_le, nat_lt, if◌then◌else◌}
+-- What is asked of a value itself, as a list in reading order, and the first fault of such a list.
+use Rattle.std.specs.Prelude.{ℕ, ◌+◌, Bool, List, [], ◌∷◌, Result, Ok, Err, nat_le, nat_lt, if◌then◌else◌}
 use Rattle.faults.specs.declared.fault.Wrong.{Wrong}
 use Rattle.faults.specs.declared.fault.Wrong.TheVariants.{TooMany}
 use Rattle.faults.specs.declared.fault.Code.TheVariants as code
@@ -49,11 +49,3 @@ check c (d ∷ ds) = and_then (check_one c d) (λ next. check next ds)
 -- before anything is read
 abbrev pub no_counts : Counts
 no_counts = record { transaction = 0; operations = 0; nodes = 0; starts = 0 }
-
-abbrev pub fault_of : Result Counts Fault → Option Fault
-fault_of (Ok c) = None
-fault_of (Err e) = Some e
-
--- the first fault of a document's demands
-abbrev pub first_fault : List Demand → Option Fault
-first_fault ds = fault_of (check no_counts ds)

@@ -6,5 +6,6 @@ pub mod Look
 pub mod Scope
 pub mod Asked
 pub mod Heads
+pub mod Places
 pub mod Spelled
 pub mod Answer

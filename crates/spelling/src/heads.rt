@@ -29,15 +29,19 @@ use std::alloc::Global;
 /// What an `if` has before its branches are read: the number of its label, its test, and the first
 /// branch.
 #[derive(Clone, Copy, Drop)]
-pub struct IfHead<'v> {
-    pub label: u32,
-    pub test: Test,
-    pub then: &'v Value,
+pub(crate) struct IfHead<'v> {
+    pub(crate) label: u32,
+    pub(crate) test: Test,
+    pub(crate) then: &'v Value,
 }
 
 /// Reads an `if` up to its branches.
 #[tactic(auto, using(crate::proofs::Checks::parts), unfolding(crate::specs::Heads::if_head_asked))]
-pub fn if_head<'v>(alloc: Global, step: &'v Value, state: &mut State) -> Result<IfHead<'v>, Fault>
+pub(crate) fn if_head<'v>(
+    alloc: Global,
+    step: &'v Value,
+    state: &mut State,
+) -> Result<IfHead<'v>, Fault>
     ensures met { OnOk result (IsMet state.old.counts (if_head_asked (scope_of state.old.labels.entries) (view step.now)) state.new.counts) }
     ensures first { IfErr result (IsFirst state.old.counts (if_head_asked (scope_of state.old.labels.entries) (view step.now))) }
     ensures label { IfOk result (λ head. head.label ≡ label_number (if_label (view step.now)) (scope_of state.old.labels.entries)) }
@@ -84,7 +88,7 @@ pub fn if_step(
 
 /// Reads a subaction up to its blocks, or a child whose earlier siblings have these labels.
 #[tactic(auto, using(crate::proofs::Checks::parts), unfolding(crate::specs::Heads::sub_head_asked))]
-pub fn sub_head<'v>(
+pub(crate) fn sub_head<'v>(
     step: &'v Value,
     version: u8,
     labels: &Labels,
@@ -153,7 +157,10 @@ pub fn no_labels(alloc: Global, labels: &Labels) -> Labels
 
 /// The children of a parallel step, which are not yet read.
 #[tactic(auto, using(crate::proofs::Checks::parts), unfolding(crate::specs::Heads::parallel_head_asked))]
-pub fn parallel_head<'v>(step: &'v Value, counts: &mut Counts) -> Result<&'v Vec<Value>, Fault>
+pub(crate) fn parallel_head<'v>(
+    step: &'v Value,
+    counts: &mut Counts,
+) -> Result<&'v Vec<Value>, Fault>
     ensures met { OnOk result (IsMet counts.old (parallel_head_asked (view step.now)) counts.new) }
     ensures first { IfErr result (IsFirst counts.old (parallel_head_asked (view step.now))) }
     ensures children { IfOk result (λ list. items_view list.now.items ≡ children_in (view step.now)) }

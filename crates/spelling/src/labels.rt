@@ -116,7 +116,7 @@ pub fn add_new_label(
 }
 
 /// Makes a label seen, if there is one and it is not seen yet.
-pub fn add_label(
+pub(crate) fn add_label(
     alloc: Global,
     label: Option<&str>,
     subject: Subject,

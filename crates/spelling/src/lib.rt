@@ -16,3 +16,4 @@ pub mod starts;
 pub mod state;
 pub mod steps;
 pub mod subject;
+pub mod unmet;

@@ -38,7 +38,7 @@ pub(crate) fn has(value: &Value, name: &str) -> bool
 }
 
 /// The text of a member. None where the value is no object, lacks the member, or has no text there.
-pub fn text_member<'v>(value: &'v Value, name: &str) -> Option<&'v str>
+pub(crate) fn text_member<'v>(value: &'v Value, name: &str) -> Option<&'v str>
     ensures { option_map (λ text. text.now) result ≡ text_member name.now (view value.now) }
 {
     value.get(name).and_then(Value::as_str)
@@ -74,7 +74,7 @@ pub(crate) fn whole_item(list: &Value, index: usize) -> Option<i64>
 
 /// How many items an array has. None for what is no array.
 #[tactic(auto, using(crate::proofs::Members::array_sizes))]
-pub fn count(value: &Value) -> Option<usize>
+pub(crate) fn count(value: &Value) -> Option<usize>
     ensures { result ≡ count (view value.now) }
 {
     match value.as_array() {

@@ -4,9 +4,10 @@ ghost use Rattle.std.specs.FinSet as finite_set;
 ghost use Rattle.std.specs.Prelude.{◌≡◌, ◌≤◌, ◌++◌, ◌∷◌, [], codes, length, Some, IfErr, IfOk, OnOk};
 ghost use Rattle.serde_json.specs.View.{items_view, view};
 ghost use Rattle.batch.specs.Names.{texts_of};
-ghost use Rattle.spelling.specs.Answer.{IsFirst, IsMet};
-ghost use Rattle.spelling.specs.Asked.{declared_by, element_asked, elements_asked, entries_asked, entry_asked, key_of, kind_in, names_of, number_start, object_asked, object_kind, object_name, object_name_asked, object_shape_asked, objects_asked, pair_asked, pairs_asked, part, signed_start, start_asked, text_of, value_of};
+ghost use Rattle.spelling.specs.Answer.{AreMet, IsFirst, IsFound, IsMet};
+ghost use Rattle.spelling.specs.Asked.{declared_by, element_asked, entry_asked, key_of, kind_in, names_of, number_start, object_kind, object_name, object_name_asked, object_shape_asked, pair_asked, part, signed_start, text_of, value_of};
 ghost use Rattle.spelling.specs.Heads.{new_start_asked, pair_names_asked};
+ghost use Rattle.spelling.specs.Places.{elements_placed, entries_placed, object_placed, objects_placed, pairs_placed, start_placed};
 ghost use Rattle.spelling.specs.Scope.{numbers_of, setting_of, with_item, with_text};
 ghost use Rattle.spelling.specs.Spelled.{bind_all, entries_of, item_of, pair_of, pairs_of, put_all, spelled_map, start_of, starts_of};
 ghost use Rattle.meaning.specs.declared.limits.TheConstants.{MAX_OBJECTS};
@@ -18,6 +19,7 @@ use crate::hints::Hints;
 use crate::look::{count, has_only, text_item, text_member};
 use crate::operations::{item_of, items_of};
 use crate::state::{Numbering, add_text};
+use crate::unmet::Unmet;
 use batch::{Item, Kind, Objects, Value as ObjectValue, is_name};
 use faults::{Fault, Wrong};
 use indexmap::IndexSet;
@@ -54,7 +56,7 @@ fn signed_start(value: &Value) -> Option<i64>
 
 /// An item of a queue.
 #[tactic(auto, unfolding(crate::specs::Asked::entry_asked))]
-pub fn read_entry(
+fn read_entry(
     alloc: Global,
     value: &Value,
     counts: &mut Counts,
@@ -78,15 +80,18 @@ fn read_queue(
     list: &Vec<Value>,
     counts: &mut Counts,
     numbering: &mut Numbering,
-) -> Result<Queue, Fault>
-    ensures met { OnOk result (IsMet counts.old (entries_asked (items_view list.now.items)) counts.new) }
-    ensures first { IfErr result (IsFirst counts.old (entries_asked (items_view list.now.items))) }
+) -> Result<Queue, Unmet>
+    ensures met { OnOk result (AreMet counts.old (entries_placed 0 (items_view list.now.items))
+        counts.new) }
+    ensures unmet { IfErr result (IsFound counts.old (entries_placed 0 (items_view list.now.items))) }
     ensures value { IfOk result (λ queue. (queue, numbers_of numbering.new) ≡ entries_of (numbers_of numbering.old) (items_view list.now.items)) }
 {
     let mut queue = Queue::new(alloc);
-    for entry in list {
-        let item = read_entry(alloc, entry, counts, numbering)?;
-        queue.push_back(item)?;
+    for (index, entry) in list.iter().enumerate() {
+        match read_entry(alloc, entry, counts, numbering) {
+            Ok(item) => queue.push_back(item)?,
+            Err(fault) => return Err(Unmet::from(fault).in_item(alloc, index)),
+        }
     }
     Ok(queue)
 }
@@ -111,7 +116,7 @@ fn add_start(
 
 /// An item of a set, which differs from the earlier ones and joins them.
 #[tactic(auto, unfolding(crate::specs::Asked::element_asked, crate::specs::Heads::new_start_asked))]
-pub fn read_element(
+fn read_element(
     alloc: Global,
     value: &Value,
     earlier: &mut Texts,
@@ -139,15 +144,19 @@ fn read_elements(
     earlier: &mut Texts,
     counts: &mut Counts,
     numbering: &mut Numbering,
-) -> Result<ItemSet, Fault>
-    ensures met { OnOk result (IsMet counts.old (elements_asked (texts_of earlier.old.keys) (items_view list.now.items)) counts.new) }
-    ensures first { IfErr result (IsFirst counts.old (elements_asked (texts_of earlier.old.keys) (items_view list.now.items))) }
+) -> Result<ItemSet, Unmet>
+    ensures met { OnOk result (AreMet counts.old (elements_placed (texts_of earlier.old.keys) 0
+        (items_view list.now.items)) counts.new) }
+    ensures unmet { IfErr result (IsFound counts.old (elements_placed (texts_of earlier.old.keys) 0
+        (items_view list.now.items))) }
     ensures value { IfOk result (λ set. (set, numbers_of numbering.new) ≡ spelled_map (put_all finite_set.empty) (entries_of (numbers_of numbering.old) (items_view list.now.items))) }
 {
     let mut set = ItemSet::new(alloc);
-    for element in list {
-        let item = read_element(alloc, element, earlier, counts, numbering)?;
-        set.insert(item)?;
+    for (index, element) in list.iter().enumerate() {
+        match read_element(alloc, element, earlier, counts, numbering) {
+            Ok(item) => set.insert(item)?,
+            Err(fault) => return Err(Unmet::from(fault).in_item(alloc, index)),
+        };
     }
     Ok(set)
 }
@@ -157,9 +166,11 @@ fn read_set(
     list: &Vec<Value>,
     counts: &mut Counts,
     numbering: &mut Numbering,
-) -> Result<ItemSet, Fault>
-    ensures met { OnOk result (IsMet counts.old (elements_asked [] (items_view list.now.items)) counts.new) }
-    ensures first { IfErr result (IsFirst counts.old (elements_asked [] (items_view list.now.items))) }
+) -> Result<ItemSet, Unmet>
+    ensures met { OnOk result (AreMet counts.old (elements_placed [] 0 (items_view list.now.items))
+        counts.new) }
+    ensures unmet { IfErr result (IsFound counts.old (elements_placed [] 0 (items_view
+        list.now.items))) }
     ensures value { IfOk result (λ set. (set, numbers_of numbering.new) ≡ spelled_map (put_all finite_set.empty) (entries_of (numbers_of numbering.old) (items_view list.now.items))) }
 {
     let mut earlier = IndexSet::with_capacity_and_hasher(
@@ -210,7 +221,7 @@ fn check_pair<'v>(
 }
 
 /// A key and its item.
-pub fn read_pair(
+fn read_pair(
     alloc: Global,
     value: &Value,
     earlier: &mut Texts,
@@ -233,15 +244,19 @@ fn read_pairs(
     earlier: &mut Texts,
     counts: &mut Counts,
     numbering: &mut Numbering,
-) -> Result<Directory, Fault>
-    ensures met { OnOk result (IsMet counts.old (pairs_asked (texts_of earlier.old.keys) (items_view list.now.items)) counts.new) }
-    ensures first { IfErr result (IsFirst counts.old (pairs_asked (texts_of earlier.old.keys) (items_view list.now.items))) }
+) -> Result<Directory, Unmet>
+    ensures met { OnOk result (AreMet counts.old (pairs_placed (texts_of earlier.old.keys) 0
+        (items_view list.now.items)) counts.new) }
+    ensures unmet { IfErr result (IsFound counts.old (pairs_placed (texts_of earlier.old.keys) 0
+        (items_view list.now.items))) }
     ensures value { IfOk result (λ directory. (directory, numbers_of numbering.new) ≡ spelled_map (bind_all finite_map.empty) (pairs_of (numbers_of numbering.old) (items_view list.now.items))) }
 {
     let mut directory = Directory::new(alloc);
-    for pair in list {
-        let (key, item) = read_pair(alloc, pair, earlier, counts, numbering)?;
-        directory.put(key, item)?;
+    for (index, pair) in list.iter().enumerate() {
+        match read_pair(alloc, pair, earlier, counts, numbering) {
+            Ok((key, item)) => directory.put(key, item)?,
+            Err(fault) => return Err(Unmet::from(fault).in_item(alloc, index)),
+        }
     }
     Ok(directory)
 }
@@ -251,9 +266,11 @@ fn read_directory(
     list: &Vec<Value>,
     counts: &mut Counts,
     numbering: &mut Numbering,
-) -> Result<Directory, Fault>
-    ensures met { OnOk result (IsMet counts.old (pairs_asked [] (items_view list.now.items)) counts.new) }
-    ensures first { IfErr result (IsFirst counts.old (pairs_asked [] (items_view list.now.items))) }
+) -> Result<Directory, Unmet>
+    ensures met { OnOk result (AreMet counts.old (pairs_placed [] 0 (items_view list.now.items))
+        counts.new) }
+    ensures unmet { IfErr result (IsFound counts.old (pairs_placed [] 0 (items_view
+        list.now.items))) }
     ensures value { IfOk result (λ directory. (directory, numbers_of numbering.new) ≡ spelled_map (bind_all finite_map.empty) (pairs_of (numbers_of numbering.old) (items_view list.now.items))) }
 {
     let mut earlier = IndexSet::with_capacity_and_hasher(
@@ -265,57 +282,60 @@ fn read_directory(
 }
 
 /// What a set starts with.
-#[tactic(auto, unfolding(crate::specs::Asked::start_asked, crate::specs::Asked::array_start_asked, crate::specs::Spelled::start_of))]
+#[tactic(auto, unfolding(crate::specs::Places::start_placed, crate::specs::Spelled::start_of))]
 fn read_set_start(
     alloc: Global,
     value: &Value,
     counts: &mut Counts,
     numbering: &mut Numbering,
-) -> Result<ObjectValue, Fault>
-    ensures met { OnOk result (IsMet counts.old (start_asked Kind.Set (view value.now)) counts.new) }
-    ensures first { IfErr result (IsFirst counts.old (start_asked Kind.Set (view value.now))) }
+) -> Result<ObjectValue, Unmet>
+    ensures met { OnOk result (AreMet counts.old (start_placed Kind.Set (view value.now))
+        counts.new) }
+    ensures unmet { IfErr result (IsFound counts.old (start_placed Kind.Set (view value.now))) }
     ensures value { IfOk result (λ start. (start, numbers_of numbering.new) ≡ start_of Kind.Set (numbers_of numbering.old) (view value.now)) }
 {
     let Some(list) = value.as_array() else {
-        return Err(counts.fault(Wrong::Start));
+        return Err(Unmet::from(counts.fault(Wrong::Start)));
     };
     let start = read_set(alloc, list, counts, numbering)?;
     Ok(ObjectValue::Set(start))
 }
 
 /// What a queue starts with.
-#[tactic(auto, unfolding(crate::specs::Asked::start_asked, crate::specs::Asked::array_start_asked, crate::specs::Spelled::start_of))]
+#[tactic(auto, unfolding(crate::specs::Places::start_placed, crate::specs::Spelled::start_of))]
 fn read_queue_start(
     alloc: Global,
     value: &Value,
     counts: &mut Counts,
     numbering: &mut Numbering,
-) -> Result<ObjectValue, Fault>
-    ensures met { OnOk result (IsMet counts.old (start_asked Kind.Queue (view value.now)) counts.new) }
-    ensures first { IfErr result (IsFirst counts.old (start_asked Kind.Queue (view value.now))) }
+) -> Result<ObjectValue, Unmet>
+    ensures met { OnOk result (AreMet counts.old (start_placed Kind.Queue (view value.now))
+        counts.new) }
+    ensures unmet { IfErr result (IsFound counts.old (start_placed Kind.Queue (view value.now))) }
     ensures value { IfOk result (λ start. (start, numbers_of numbering.new) ≡ start_of Kind.Queue (numbers_of numbering.old) (view value.now)) }
 {
     let Some(list) = value.as_array() else {
-        return Err(counts.fault(Wrong::Start));
+        return Err(Unmet::from(counts.fault(Wrong::Start)));
     };
     let start = read_queue(alloc, list, counts, numbering)?;
     Ok(ObjectValue::Queue(start))
 }
 
 /// What a directory starts with.
-#[tactic(auto, unfolding(crate::specs::Asked::start_asked, crate::specs::Asked::array_start_asked, crate::specs::Spelled::start_of))]
+#[tactic(auto, unfolding(crate::specs::Places::start_placed, crate::specs::Spelled::start_of))]
 fn read_directory_start(
     alloc: Global,
     value: &Value,
     counts: &mut Counts,
     numbering: &mut Numbering,
-) -> Result<ObjectValue, Fault>
-    ensures met { OnOk result (IsMet counts.old (start_asked Kind.Directory (view value.now)) counts.new) }
-    ensures first { IfErr result (IsFirst counts.old (start_asked Kind.Directory (view value.now))) }
+) -> Result<ObjectValue, Unmet>
+    ensures met { OnOk result (AreMet counts.old (start_placed Kind.Directory (view value.now))
+        counts.new) }
+    ensures unmet { IfErr result (IsFound counts.old (start_placed Kind.Directory (view value.now))) }
     ensures value { IfOk result (λ start. (start, numbers_of numbering.new) ≡ start_of Kind.Directory (numbers_of numbering.old) (view value.now)) }
 {
     let Some(list) = value.as_array() else {
-        return Err(counts.fault(Wrong::Start));
+        return Err(Unmet::from(counts.fault(Wrong::Start)));
     };
     let start = read_directory(alloc, list, counts, numbering)?;
     Ok(ObjectValue::Directory(start))
@@ -323,31 +343,31 @@ fn read_directory_start(
 
 /// What an object of this kind starts with.
 ///
-/// Returns the first demand that isn't met, or that memory was refused.
-#[tactic(auto, unfolding(crate::specs::Asked::start_asked, crate::specs::Asked::array_start_asked, crate::specs::Spelled::start_of))]
-pub fn read_start(
+/// Returns the first demand that isn't met, with its place in the start, or that memory was refused.
+#[tactic(auto, unfolding(crate::specs::Places::start_placed, crate::specs::Spelled::start_of))]
+fn read_start(
     alloc: Global,
     kind: Kind,
     value: &Value,
     counts: &mut Counts,
     numbering: &mut Numbering,
-) -> Result<ObjectValue, Fault>
-    ensures met { OnOk result (IsMet counts.old (start_asked kind (view value.now)) counts.new) }
-    ensures first { IfErr result (IsFirst counts.old (start_asked kind (view value.now))) }
+) -> Result<ObjectValue, Unmet>
+    ensures met { OnOk result (AreMet counts.old (start_placed kind (view value.now)) counts.new) }
+    ensures unmet { IfErr result (IsFound counts.old (start_placed kind (view value.now))) }
     ensures value { IfOk result (λ start. (start, numbers_of numbering.new) ≡ start_of kind (numbers_of numbering.old) (view value.now)) }
 {
     match kind {
         Kind::Account => match number_start(value) {
             Some(number) => Ok(ObjectValue::Account(number)),
-            None => Err(counts.fault(Wrong::Start)),
+            None => Err(Unmet::from(counts.fault(Wrong::Start))),
         },
         Kind::Counter => match signed_start(value) {
             Some(number) => Ok(ObjectValue::Counter(number)),
-            None => Err(counts.fault(Wrong::Start)),
+            None => Err(Unmet::from(counts.fault(Wrong::Start))),
         },
         Kind::Max => match number_start(value) {
             Some(number) => Ok(ObjectValue::Max(number)),
-            None => Err(counts.fault(Wrong::Start)),
+            None => Err(Unmet::from(counts.fault(Wrong::Start))),
         },
         Kind::Set => read_set_start(alloc, value, counts, numbering),
         Kind::Queue => read_queue_start(alloc, value, counts, numbering),
@@ -359,15 +379,15 @@ pub fn read_start(
 
 /// The parts of an object.
 #[derive(Clone, Copy, Drop)]
-pub struct Shape<'v> {
-    pub name: &'v str,
-    pub kind: Kind,
-    pub start: &'v Value,
+struct Shape<'v> {
+    name: &'v str,
+    kind: Kind,
+    start: &'v Value,
 }
 
 /// The parts of an object. Returns the fault of its shape where it isn't an object of just these parts.
 #[tactic(auto, unfolding(crate::specs::Asked::object_shape_asked))]
-pub fn shape_of<'v>(value: &'v Value, version: u8, counts: &Counts) -> Result<Shape<'v>, Fault>
+fn shape_of<'v>(value: &'v Value, version: u8, counts: &Counts) -> Result<Shape<'v>, Fault>
     ensures met { OnOk result (IsMet counts.now (object_shape_asked version (view value.now)) counts.now) }
     ensures first { IfErr result (IsFirst counts.now (object_shape_asked version (view value.now))) }
     ensures name { IfOk result (λ shape. shape.name.now ≡ object_name (view value.now)) }
@@ -395,7 +415,7 @@ fn kind_member(value: &Value, version: u8) -> Option<Kind>
 
 /// Adds an object's name to the others.
 #[tactic(auto, unfolding(crate::specs::Asked::object_name_asked))]
-pub fn add_name(alloc: Global, name: &str, names: &mut Texts, counts: &Counts) -> Result<(), Fault>
+fn add_name(alloc: Global, name: &str, names: &mut Texts, counts: &Counts) -> Result<(), Fault>
     ensures met { OnOk result (IsMet counts.now (object_name_asked (texts_of names.old.keys) name.now) counts.now) }
     ensures first { IfErr result (IsFirst counts.now (object_name_asked (texts_of names.old.keys) name.now)) }
     ensures names { OnOk result (texts_of names.new.keys ≡ texts_of names.old.keys ++ name.now ∷ []) }
@@ -406,7 +426,7 @@ pub fn add_name(alloc: Global, name: &str, names: &mut Texts, counts: &Counts) -
     Ok(())
 }
 
-#[tactic(auto, using(crate::proofs::Checks::parts), unfolding(crate::specs::Asked::object_asked))]
+#[tactic(auto, unfolding(crate::specs::Places::object_placed))]
 fn read_object(
     alloc: Global,
     value: &Value,
@@ -414,15 +434,20 @@ fn read_object(
     names: &mut Texts,
     counts: &mut Counts,
     numbering: &mut Numbering,
-) -> Result<ObjectValue, Fault>
-    ensures met { OnOk result (IsMet counts.old (object_asked version (texts_of names.old.keys) (view value.now)) counts.new) }
-    ensures first { IfErr result (IsFirst counts.old (object_asked version (texts_of names.old.keys) (view value.now))) }
+) -> Result<ObjectValue, Unmet>
+    ensures met { OnOk result (AreMet counts.old (object_placed version (texts_of names.old.keys)
+        (view value.now)) counts.new) }
+    ensures unmet { IfErr result (IsFound counts.old (object_placed version (texts_of
+        names.old.keys) (view value.now))) }
     ensures value { IfOk result (λ start. (start, numbers_of numbering.new) ≡ start_of (kind_in version (view value.now)) (numbers_of numbering.old) (part (codes "start") (view value.now))) }
     ensures names { OnOk result (texts_of names.new.keys ≡ texts_of names.old.keys ++ object_name (view value.now) ∷ []) }
 {
     let shape = shape_of(value, version, counts)?;
     add_name(alloc, shape.name, names, counts)?;
-    read_start(alloc, shape.kind, shape.start, counts, numbering)
+    match read_start(alloc, shape.kind, shape.start, counts, numbering) {
+        Ok(start) => Ok(start),
+        Err(unmet) => Err(unmet.in_member(alloc, "start")),
+    }
 }
 
 /// The values that objects start with. Their names join these.
@@ -433,33 +458,39 @@ fn read_values(
     names: &mut Texts,
     counts: &mut Counts,
     numbering: &mut Numbering,
-) -> Result<Objects, Fault>
-    ensures met { OnOk result (IsMet counts.old (objects_asked version (texts_of names.old.keys) (items_view list.now.items)) counts.new) }
-    ensures first { IfErr result (IsFirst counts.old (objects_asked version (texts_of names.old.keys) (items_view list.now.items))) }
+) -> Result<Objects, Unmet>
+    ensures met { OnOk result (AreMet counts.old (objects_placed version (texts_of names.old.keys) 0
+        (items_view list.now.items)) counts.new) }
+    ensures unmet { IfErr result (IsFound counts.old (objects_placed version (texts_of
+        names.old.keys) 0 (items_view list.now.items))) }
     ensures names { OnOk result (texts_of names.new.keys ≡ texts_of names.old.keys ++ names_of (items_view list.now.items)) }
     ensures objects { IfOk result (λ objects. (objects, numbers_of numbering.new) ≡ starts_of version (numbers_of numbering.old) (items_view list.now.items)) }
 {
     let mut objects = Objects::new(alloc);
-    for object in list {
-        let value = read_object(alloc, object, version, names, counts, numbering)?;
-        objects.push(value)?;
+    for (index, object) in list.iter().enumerate() {
+        match read_object(alloc, object, version, names, counts, numbering) {
+            Ok(value) => objects.push(value)?,
+            Err(unmet) => return Err(unmet.in_item(alloc, index)),
+        }
     }
     Ok(objects)
 }
 
 /// The objects that a list spells, with their names in order.
 ///
-/// Returns the first demand that isn't met, or that memory was refused.
+/// Returns the first demand that isn't met, with its place in the list, or that memory was refused.
 pub fn read_objects(
     alloc: Global,
     list: &Vec<Value>,
     version: u8,
     counts: &mut Counts,
     numbering: &mut Numbering,
-) -> Result<Declared, Fault>
+) -> Result<Declared, Unmet>
     requires few { length list.now.items ≤ MAX_OBJECTS }
-    ensures met { OnOk result (IsMet counts.old (objects_asked version [] (items_view list.now.items)) counts.new) }
-    ensures first { IfErr result (IsFirst counts.old (objects_asked version [] (items_view list.now.items))) }
+    ensures met { OnOk result (AreMet counts.old (objects_placed version [] 0 (items_view
+        list.now.items)) counts.new) }
+    ensures unmet { IfErr result (IsFound counts.old (objects_placed version [] 0 (items_view
+        list.now.items))) }
     ensures names { IfOk result (λ declared. texts_of declared.names.keys ≡ names_of (items_view list.now.items)) }
     ensures setting { IfOk result (λ declared. setting_of declared ≡ declared_by version (items_view list.now.items)) }
     ensures objects { IfOk result (λ declared. (declared.objects, numbers_of numbering.new) ≡ starts_of version (numbers_of numbering.old) (items_view list.now.items)) }

@@ -5,10 +5,11 @@ ghost use Rattle.serde_json.specs.View.{items_view, members_view, view};
 ghost use Rattle.meaning.specs.Trees.{for_reasons, handlers_of};
 ghost use Rattle.batch.specs.Names.{is_name, texts_of};
 ghost use Rattle.batch.specs.Views.{block_view, handler_view, otherwise_view, step_view, subaction_view};
-ghost use Rattle.spelling.specs.Answer.{IsFirst, IsMet};
-ghost use Rattle.spelling.specs.Asked.{abort_asked, abort_shape_asked, block_asked, block_asked_if, children_asked, children_in, handlers_are_members, handlers_asked, handlers_in, if_asked, is_abort, label_in, labels_of, member_asked, members_asked, parallel_asked, parallel_shape_asked, part, reason_asked, scope_after, sort_of, step_asked, steps_asked, sub_asked, sub_shape_asked, transaction_asked, transactions_asked};
+ghost use Rattle.spelling.specs.Answer.{AreMet, IsFirst, IsFound, IsMet};
+ghost use Rattle.spelling.specs.Asked.{abort_asked, abort_shape_asked, children_in, handlers_are_members, handlers_in, is_abort, label_in, labels_of, parallel_shape_asked, part, reason_asked, scope_after, sort_of, sub_shape_asked};
 ghost use Rattle.spelling.specs.Demand.{fault_at};
 ghost use Rattle.faults.specs.Faults.{memory_fault};
+ghost use Rattle.spelling.specs.Places.{block_placed, block_placed_if, children_placed, handlers_placed, if_placed, inside, member_named, member_placed, members_placed, nothing, parallel_placed, step_placed, steps_placed, sub_placed, transaction_placed, transactions_placed};
 ghost use Rattle.spelling.specs.Scope.{Extends, number_of, numbers_of, scope_of, setting_of, with_label, with_labels, with_text};
 ghost use Rattle.spelling.specs.Spelled.{abort_of, block_of, block_of_if, blocks_of, children_spelled, handlers_spelled, if_of, member_of, members_of, parallel_of, reason_of, spelled_map, step_of, steps_spelled, sub_of, sub_step};
 ghost use Rattle.meaning.specs.declared.limits.TheConstants.{MAX_DEPTH, MAX_TRANSACTIONS};
@@ -24,6 +25,7 @@ use crate::look::{has, has_only, list_member, text_member};
 use crate::operations::read_operation;
 use crate::state::{State, number_of};
 use crate::subject::Subject;
+use crate::unmet::Unmet;
 use batch::{Block, Handler, Otherwise, Step, Subaction, is_name};
 use faults::{Fault, Wrong};
 use meaning::limits::MAX_DEPTH;
@@ -42,7 +44,7 @@ pub enum Sort {
 
 /// What a step is. None where no member says so, or more than one.
 #[tactic(auto, using(crate::proofs::Members::operations), unfolding(crate::specs::Asked::sort_of))]
-pub fn sort_of(step: &Value) -> Option<Sort>
+fn sort_of(step: &Value) -> Option<Sort>
     ensures { result ≡ sort_of (view step.now) }
 {
     let op = has(step, "op");
@@ -136,12 +138,7 @@ fn abort_of<'v>(step: &'v Value, version: u8, counts: &mut Counts) -> Result<Opt
 ///
 /// Returns the first demand that isn't met, or that memory was refused.
 #[tactic(auto, using(crate::proofs::Checks::parts), unfolding(crate::specs::Asked::abort_asked, crate::specs::Spelled::abort_of))]
-pub fn read_abort(
-    alloc: Global,
-    step: &Value,
-    version: u8,
-    state: &mut State,
-) -> Result<Step, Fault>
+fn read_abort(alloc: Global, step: &Value, version: u8, state: &mut State) -> Result<Step, Fault>
     ensures met { OnOk result (IsMet state.old.counts (abort_asked version (view step.now)) state.new.counts) }
     ensures first { IfErr result (IsFirst state.old.counts (abort_asked version (view step.now))) }
     ensures value { IfOk result (λ read. (step_view read, numbers_of state.new.numbering) ≡ abort_of (numbers_of state.old.numbering) (view step.now)) }
@@ -154,18 +151,47 @@ pub fn read_abort(
 
 // ---- the steps that hold blocks
 
+/// The block that is the member of that name.
 #[cycle(steps)]
-#[tactic(auto, using(crate::proofs::HeadLemmas::heads), unfolding(crate::specs::Spelled::if_of))]
+fn read_part(
+    alloc: Global,
+    name: &str,
+    value: &Value,
+    levels: usize,
+    declared: &Declared,
+    state: &mut State,
+) -> Result<Block, Unmet>
+    ensures met { OnOk result (AreMet state.old.counts (inside (member_named name.now)
+        (block_placed (setting_of declared.now) levels (scope_of state.old.labels.entries) (view
+        value.now)) nothing) state.new.counts) }
+    ensures unmet { IfErr result (IsFound state.old.counts (inside (member_named name.now)
+        (block_placed (setting_of declared.now) levels (scope_of state.old.labels.entries) (view
+        value.now)) nothing)) }
+    ensures value { IfOk result (λ block. (block_view block, numbers_of state.new.numbering)
+        ≡ block_of (setting_of declared.now) levels (scope_of state.old.labels.entries)
+        (numbers_of state.old.numbering) (view value.now)) }
+    ensures labels { OnOk result (scope_of state.new.labels.entries ≡ scope_of state.old.labels.entries) }
+{
+    match read_block(alloc, value, levels, declared, state) {
+        Ok(block) => Ok(block),
+        Err(unmet) => Err(unmet.in_member(alloc, name)),
+    }
+}
+
+#[cycle(steps)]
+#[tactic(auto, unfolding(crate::specs::Spelled::if_of))]
 fn read_if(
     alloc: Global,
     step: &Value,
     levels: usize,
     declared: &Declared,
     state: &mut State,
-) -> Result<Step, Fault>
-    ensures met { OnOk result (IsMet state.old.counts (if_asked (block_asked (setting_of declared.now) levels)
+) -> Result<Step, Unmet>
+    ensures met { OnOk result (AreMet state.old.counts (if_placed (block_placed (setting_of
+        declared.now) levels)
         (scope_of state.old.labels.entries) (view step.now)) state.new.counts) }
-    ensures first { IfErr result (IsFirst state.old.counts (if_asked (block_asked (setting_of declared.now) levels)
+    ensures unmet { IfErr result (IsFound state.old.counts (if_placed (block_placed (setting_of
+        declared.now) levels)
         (scope_of state.old.labels.entries) (view step.now))) }
     ensures value { IfOk result (λ read. (step_view read, numbers_of state.new.numbering)
         ≡ if_of (block_of (setting_of declared.now) levels) (scope_of state.old.labels.entries)
@@ -173,17 +199,18 @@ fn read_if(
     ensures labels { OnOk result (scope_of state.new.labels.entries ≡ scope_of state.old.labels.entries) }
 {
     let head = if_head(alloc, step, state)?;
-    let then = read_block(alloc, head.then, levels, declared, state)?;
-    let otherwise = read_block_if(alloc, step.get("else"), levels, declared, state)?;
-    if_step(alloc, head.label, head.test, then, otherwise)
+    let then = read_part(alloc, "then", head.then, levels, declared, state)?;
+    let otherwise = read_part_if(alloc, "else", step.get("else"), levels, declared, state)?;
+    let step = if_step(alloc, head.label, head.test, then, otherwise)?;
+    Ok(step)
 }
 
 /// The parts of a subaction.
 #[derive(Clone, Copy, Drop)]
-pub struct SubShape<'v> {
-    pub body: &'v Value,
-    pub label: Option<&'v str>,
-    pub handlers: Option<&'v Map<String, Value>>,
+pub(crate) struct SubShape<'v> {
+    pub(crate) body: &'v Value,
+    pub(crate) label: Option<&'v str>,
+    pub(crate) handlers: Option<&'v Map<String, Value>>,
 }
 
 /// Handlers by reason, which a version may have.
@@ -239,9 +266,8 @@ pub(crate) fn sub_shape_of<'v>(
     })
 }
 
-/// A handler by reason.
+/// A handler by reason. A reason that is no name is a fault of the handlers.
 #[cycle(steps)]
-#[tactic(auto, using(crate::proofs::Checks::parts))]
 fn read_handler(
     alloc: Global,
     reason: &str,
@@ -249,18 +275,20 @@ fn read_handler(
     levels: usize,
     declared: &Declared,
     state: &mut State,
-) -> Result<Handler, Fault>
-    ensures met { OnOk result (IsMet state.old.counts (member_asked (block_asked (setting_of declared.now) levels)
-        (scope_of state.old.labels.entries) reason.now (view value.now)) state.new.counts) }
-    ensures first { IfErr result (IsFirst state.old.counts (member_asked (block_asked (setting_of declared.now) levels)
-        (scope_of state.old.labels.entries) reason.now (view value.now))) }
+) -> Result<Handler, Unmet>
+    ensures met { OnOk result (AreMet state.old.counts (member_placed (block_placed (setting_of
+        declared.now) levels)
+        (scope_of state.old.labels.entries) reason.now (view value.now) nothing) state.new.counts) }
+    ensures unmet { IfErr result (IsFound state.old.counts (member_placed (block_placed (setting_of
+        declared.now) levels)
+        (scope_of state.old.labels.entries) reason.now (view value.now) nothing)) }
     ensures value { IfOk result (λ read. (handler_view read, numbers_of state.new.numbering)
         ≡ member_of (block_of (setting_of declared.now) levels) (scope_of state.old.labels.entries)
         (numbers_of state.old.numbering) reason.now (view value.now)) }
     ensures labels { OnOk result (scope_of state.new.labels.entries ≡ scope_of state.old.labels.entries) }
 {
     let number = reason_number(alloc, reason, &state.counts, &mut state.numbering.reasons)?;
-    let block = read_block(alloc, value, levels, declared, state)?;
+    let block = read_part(alloc, reason, value, levels, declared, state)?;
     Ok(Handler {
         reason: number,
         block,
@@ -268,6 +296,8 @@ fn read_handler(
 }
 
 /// The handlers by reason, in the order of the reasons' bytes.
+///
+/// Returns the first demand that isn't met, with its place in them, or that memory was refused.
 #[cycle(steps)]
 pub fn read_members(
     alloc: Global,
@@ -275,10 +305,12 @@ pub fn read_members(
     levels: usize,
     declared: &Declared,
     state: &mut State,
-) -> Result<Vec<Handler>, Fault>
-    ensures met { OnOk result (IsMet state.old.counts (members_asked (block_asked (setting_of declared.now) levels)
+) -> Result<Vec<Handler>, Unmet>
+    ensures met { OnOk result (AreMet state.old.counts (members_placed (block_placed (setting_of
+        declared.now) levels)
         (scope_of state.old.labels.entries) (members_view members.now.entries)) state.new.counts) }
-    ensures first { IfErr result (IsFirst state.old.counts (members_asked (block_asked (setting_of declared.now) levels)
+    ensures unmet { IfErr result (IsFound state.old.counts (members_placed (block_placed (setting_of
+        declared.now) levels)
         (scope_of state.old.labels.entries) (members_view members.now.entries))) }
     ensures value { IfOk result (λ read. (map handler_view read.items, numbers_of state.new.numbering)
         ≡ members_of (block_of (setting_of declared.now) levels) (scope_of state.old.labels.entries)
@@ -293,29 +325,33 @@ pub fn read_members(
 }
 
 #[cycle(steps)]
-#[tactic(auto, unfolding(crate::specs::Asked::handlers_asked, crate::specs::Spelled::handlers_spelled))]
+#[tactic(auto, unfolding(crate::specs::Places::handlers_placed, crate::specs::Spelled::handlers_spelled))]
 fn read_handlers(
     alloc: Global,
     handlers: Option<&Map<String, Value>>,
     levels: usize,
     declared: &Declared,
     state: &mut State,
-) -> Result<Option<Vec<Handler>>, Fault>
-    ensures met { OnOk result (IsMet state.old.counts (handlers_asked (block_asked (setting_of declared.now) levels)
-        (scope_of state.old.labels.entries) (option_map (λ members. members_view members.now.entries) handlers.entry)) state.new.counts) }
-    ensures first { IfErr result (IsFirst state.old.counts (handlers_asked (block_asked (setting_of declared.now) levels)
-        (scope_of state.old.labels.entries) (option_map (λ members. members_view members.now.entries) handlers.entry))) }
+) -> Result<Option<Vec<Handler>>, Unmet>
+    ensures met { OnOk result (AreMet state.old.counts (inside (member_named (codes "handlers"))
+        (handlers_placed (block_placed (setting_of declared.now) levels) (scope_of
+        state.old.labels.entries) (option_map (λ members. members_view members.now.entries)
+        handlers.entry)) nothing) state.new.counts) }
+    ensures unmet { IfErr result (IsFound state.old.counts (inside (member_named (codes "handlers"))
+        (handlers_placed (block_placed (setting_of declared.now) levels) (scope_of
+        state.old.labels.entries) (option_map (λ members. members_view members.now.entries)
+        handlers.entry)) nothing)) }
     ensures value { IfOk result (λ read. (option_map (λ list. map handler_view list.items) read, numbers_of state.new.numbering)
         ≡ handlers_spelled (block_of (setting_of declared.now) levels) (scope_of state.old.labels.entries)
         (numbers_of state.old.numbering) (option_map (λ members. members_view members.now.entries) handlers.entry)) }
     ensures labels { OnOk result (scope_of state.new.labels.entries ≡ scope_of state.old.labels.entries) }
 {
-    match handlers {
-        Some(members) => {
-            let read = read_members(alloc, members, levels, declared, state)?;
-            Ok(Some(read))
-        }
-        None => Ok(None),
+    let Some(members) = handlers else {
+        return Ok(None);
+    };
+    match read_members(alloc, members, levels, declared, state) {
+        Ok(read) => Ok(Some(read)),
+        Err(unmet) => Err(unmet.in_member(alloc, "handlers")),
     }
 }
 
@@ -339,7 +375,7 @@ pub(crate) fn taking(
 
 /// A subaction, or a child whose earlier siblings have these labels. Its own label is not yet seen.
 #[cycle(steps)]
-#[tactic(auto, using(crate::proofs::HeadLemmas::heads), unfolding(crate::specs::Spelled::sub_of))]
+#[tactic(auto, unfolding(crate::specs::Spelled::sub_of))]
 fn read_sub(
     alloc: Global,
     step: &Value,
@@ -347,10 +383,12 @@ fn read_sub(
     declared: &Declared,
     earlier: Option<&Labels>,
     state: &mut State,
-) -> Result<Subaction, Fault>
-    ensures met { OnOk result (IsMet state.old.counts (sub_asked declared.now.version (block_asked (setting_of declared.now) levels)
+) -> Result<Subaction, Unmet>
+    ensures met { OnOk result (AreMet state.old.counts (sub_placed declared.now.version
+        (block_placed (setting_of declared.now) levels)
         (scope_of state.old.labels.entries) (unwrap_or (option_map (λ labels. scope_of labels.now.entries) earlier.entry) []) (view step.now)) state.new.counts) }
-    ensures first { IfErr result (IsFirst state.old.counts (sub_asked declared.now.version (block_asked (setting_of declared.now) levels)
+    ensures unmet { IfErr result (IsFound state.old.counts (sub_placed declared.now.version
+        (block_placed (setting_of declared.now) levels)
         (scope_of state.old.labels.entries) (unwrap_or (option_map (λ labels. scope_of labels.now.entries) earlier.entry) []) (view step.now))) }
     ensures value { IfOk result (λ read. (subaction_view read, numbers_of state.new.numbering)
         ≡ sub_of (block_of (setting_of declared.now) levels) (scope_of state.old.labels.entries)
@@ -364,9 +402,16 @@ fn read_sub(
         earlier,
         &mut state.counts,
     )?;
-    let body = read_block(alloc, head.body, levels, declared, state)?;
+    let body = read_part(alloc, "sub", head.body, levels, declared, state)?;
     let handlers = read_handlers(alloc, head.handlers, levels, declared, state)?;
-    let handler = read_block_if(alloc, step.get("handler"), levels, declared, state)?;
+    let handler = read_part_if(
+        alloc,
+        "handler",
+        step.get("handler"),
+        levels,
+        declared,
+        state,
+    )?;
     let labelled = head.label.is_some();
     Ok(subaction_of(alloc, body, handlers, handler, labelled))
 }
@@ -378,10 +423,12 @@ fn read_sub_step(
     levels: usize,
     declared: &Declared,
     state: &mut State,
-) -> Result<Step, Fault>
-    ensures met { OnOk result (IsMet state.old.counts (sub_asked declared.now.version (block_asked (setting_of declared.now) levels)
+) -> Result<Step, Unmet>
+    ensures met { OnOk result (AreMet state.old.counts (sub_placed declared.now.version
+        (block_placed (setting_of declared.now) levels)
         (scope_of state.old.labels.entries) [] (view step.now)) state.new.counts) }
-    ensures first { IfErr result (IsFirst state.old.counts (sub_asked declared.now.version (block_asked (setting_of declared.now) levels)
+    ensures unmet { IfErr result (IsFound state.old.counts (sub_placed declared.now.version
+        (block_placed (setting_of declared.now) levels)
         (scope_of state.old.labels.entries) [] (view step.now))) }
     ensures value { IfOk result (λ read. (step_view read, numbers_of state.new.numbering)
         ≡ spelled_map sub_step (sub_of (block_of (setting_of declared.now) levels) (scope_of state.old.labels.entries)
@@ -390,7 +437,8 @@ fn read_sub_step(
         ≡ with_label (label_in (view step.now)) Subject.Outcome (scope_of state.old.labels.entries)) }
 {
     let child = read_sub(alloc, step, levels, declared, None, state)?;
-    sub_step(alloc, child, text_member(step, "as"), &mut state.labels)
+    let step = sub_step(alloc, child, text_member(step, "as"), &mut state.labels)?;
+    Ok(step)
 }
 
 /// The children, with their labels, which none of them sees.
@@ -402,11 +450,15 @@ fn read_children(
     declared: &Declared,
     earlier: &mut Labels,
     state: &mut State,
-) -> Result<Vec<Subaction>, Fault>
-    ensures met { OnOk result (IsMet state.old.counts (children_asked declared.now.version (block_asked (setting_of declared.now) levels)
-        (scope_of state.old.labels.entries) (scope_of earlier.old.entries) (items_view list.now.items)) state.new.counts) }
-    ensures first { IfErr result (IsFirst state.old.counts (children_asked declared.now.version (block_asked (setting_of declared.now) levels)
-        (scope_of state.old.labels.entries) (scope_of earlier.old.entries) (items_view list.now.items))) }
+) -> Result<Vec<Subaction>, Unmet>
+    ensures met { OnOk result (AreMet state.old.counts (children_placed declared.now.version
+        (block_placed (setting_of declared.now) levels)
+        (scope_of state.old.labels.entries) (scope_of earlier.old.entries) 0 (items_view
+        list.now.items)) state.new.counts) }
+    ensures unmet { IfErr result (IsFound state.old.counts (children_placed declared.now.version
+        (block_placed (setting_of declared.now) levels)
+        (scope_of state.old.labels.entries) (scope_of earlier.old.entries) 0 (items_view
+        list.now.items))) }
     ensures value { IfOk result (λ read. (map subaction_view read.items, numbers_of state.new.numbering)
         ≡ children_spelled (block_of (setting_of declared.now) levels) (scope_of state.old.labels.entries)
         (numbers_of state.old.numbering) (items_view list.now.items)) }
@@ -414,8 +466,11 @@ fn read_children(
     ensures labels { OnOk result (scope_of state.new.labels.entries ≡ scope_of state.old.labels.entries) }
 {
     let mut children = Vec::with_capacity(alloc, list.len())?;
-    for child in list {
-        children.push(read_sub(alloc, child, levels, declared, Some(earlier), state)?)?;
+    for (index, child) in list.iter().enumerate() {
+        match read_sub(alloc, child, levels, declared, Some(earlier), state) {
+            Ok(read) => children.push(read)?,
+            Err(unmet) => return Err(unmet.in_item(alloc, index)),
+        }
         add_label(alloc, text_member(child, "as"), Subject::Outcome, earlier)?;
     }
     Ok(children)
@@ -424,7 +479,7 @@ fn read_children(
 /// The children of a parallel step. Returns the fault of its shape where it has no such list, or another
 /// member.
 #[tactic(auto, unfolding(crate::specs::Asked::parallel_shape_asked))]
-pub fn children_of<'v>(step: &'v Value, counts: &Counts) -> Result<&'v Vec<Value>, Fault>
+pub(crate) fn children_of<'v>(step: &'v Value, counts: &Counts) -> Result<&'v Vec<Value>, Fault>
     ensures met { OnOk result (IsMet counts.now (parallel_shape_asked (view step.now)) counts.now) }
     ensures first { IfErr result (IsFirst counts.now (parallel_shape_asked (view step.now))) }
     ensures children { IfOk result (λ list. items_view list.now.items ≡ children_in (view step.now)) }
@@ -437,17 +492,18 @@ pub fn children_of<'v>(step: &'v Value, counts: &Counts) -> Result<&'v Vec<Value
 }
 
 #[cycle(steps)]
-#[tactic(auto, using(crate::proofs::HeadLemmas::heads))]
 fn read_parallel(
     alloc: Global,
     step: &Value,
     levels: usize,
     declared: &Declared,
     state: &mut State,
-) -> Result<Step, Fault>
-    ensures met { OnOk result (IsMet state.old.counts (parallel_asked declared.now.version (block_asked (setting_of declared.now) levels)
+) -> Result<Step, Unmet>
+    ensures met { OnOk result (AreMet state.old.counts (parallel_placed declared.now.version
+        (block_placed (setting_of declared.now) levels)
         (scope_of state.old.labels.entries) (view step.now)) state.new.counts) }
-    ensures first { IfErr result (IsFirst state.old.counts (parallel_asked declared.now.version (block_asked (setting_of declared.now) levels)
+    ensures unmet { IfErr result (IsFound state.old.counts (parallel_placed declared.now.version
+        (block_placed (setting_of declared.now) levels)
         (scope_of state.old.labels.entries) (view step.now))) }
     ensures value { IfOk result (λ read. (step_view read, numbers_of state.new.numbering)
         ≡ parallel_of (block_of (setting_of declared.now) levels) (scope_of state.old.labels.entries)
@@ -457,26 +513,34 @@ fn read_parallel(
 {
     let list = parallel_head(step, &mut state.counts)?;
     let mut earlier = no_labels(alloc, &state.labels);
-    let children = read_children(alloc, list, levels, declared, &mut earlier, state)?;
-    parallel_step(alloc, children, earlier, &mut state.labels)
+    let children = match read_children(alloc, list, levels, declared, &mut earlier, state) {
+        Ok(children) => children,
+        Err(unmet) => return Err(unmet.in_member(alloc, "parallel")),
+    };
+    let step = parallel_step(alloc, children, earlier, &mut state.labels)?;
+    Ok(step)
 }
 
 // ---- blocks
 
-/// A block that a step may have.
+/// The block that is the member of that name, where the step has it.
 #[cycle(steps)]
-#[tactic(auto, unfolding(crate::specs::Asked::block_asked_if, crate::specs::Spelled::block_of_if))]
-fn read_block_if(
+#[tactic(auto, unfolding(crate::specs::Places::block_placed_if, crate::specs::Spelled::block_of_if))]
+fn read_part_if(
     alloc: Global,
+    name: &str,
     value: Option<&Value>,
     levels: usize,
     declared: &Declared,
     state: &mut State,
-) -> Result<Option<Block>, Fault>
-    ensures met { OnOk result (IsMet state.old.counts (block_asked_if (block_asked (setting_of declared.now) levels)
-        (scope_of state.old.labels.entries) (option_map (λ v. view v.now) value.entry)) state.new.counts) }
-    ensures first { IfErr result (IsFirst state.old.counts (block_asked_if (block_asked (setting_of declared.now) levels)
-        (scope_of state.old.labels.entries) (option_map (λ v. view v.now) value.entry))) }
+) -> Result<Option<Block>, Unmet>
+    ensures met { OnOk result (AreMet state.old.counts (inside (member_named name.now)
+        (block_placed_if (block_placed (setting_of declared.now) levels) (scope_of
+        state.old.labels.entries) (option_map (λ v. view v.now) value.entry)) nothing)
+        state.new.counts) }
+    ensures unmet { IfErr result (IsFound state.old.counts (inside (member_named name.now)
+        (block_placed_if (block_placed (setting_of declared.now) levels) (scope_of
+        state.old.labels.entries) (option_map (λ v. view v.now) value.entry)) nothing)) }
     ensures value { IfOk result (λ block. (option_map block_view block, numbers_of state.new.numbering)
         ≡ block_of_if (block_of (setting_of declared.now) levels) (scope_of state.old.labels.entries)
         (numbers_of state.old.numbering) (option_map (λ v. view v.now) value.entry)) }
@@ -484,7 +548,7 @@ fn read_block_if(
 {
     match value {
         Some(value) => {
-            let block = read_block(alloc, value, levels, declared, state)?;
+            let block = read_part(alloc, name, value, levels, declared, state)?;
             Ok(Some(block))
         }
         None => Ok(None),
@@ -493,19 +557,21 @@ fn read_block_if(
 
 /// The step that a value spells, within so many more levels. Its labels are seen from then on.
 ///
-/// Returns the first demand that isn't met, or that memory was refused.
+/// Returns the first demand that isn't met, with its place in the step, or that memory was refused.
 #[cycle(steps)]
-#[tactic(auto, unfolding(crate::specs::Asked::step_asked, crate::specs::Asked::scope_after, crate::specs::Spelled::step_of))]
+#[tactic(auto, unfolding(crate::specs::Places::step_placed, crate::specs::Asked::scope_after, crate::specs::Spelled::step_of))]
 pub fn read_step(
     alloc: Global,
     step: &Value,
     levels: usize,
     declared: &Declared,
     state: &mut State,
-) -> Result<Step, Fault>
-    ensures met { OnOk result (IsMet state.old.counts (step_asked (block_asked (setting_of declared.now) levels)
+) -> Result<Step, Unmet>
+    ensures met { OnOk result (AreMet state.old.counts (step_placed (block_placed (setting_of
+        declared.now) levels)
         (setting_of declared.now) (scope_of state.old.labels.entries) (view step.now)) state.new.counts) }
-    ensures first { IfErr result (IsFirst state.old.counts (step_asked (block_asked (setting_of declared.now) levels)
+    ensures unmet { IfErr result (IsFound state.old.counts (step_placed (block_placed (setting_of
+        declared.now) levels)
         (setting_of declared.now) (scope_of state.old.labels.entries) (view step.now))) }
     ensures value { IfOk result (λ read. (step_view read, numbers_of state.new.numbering)
         ≡ step_of (block_of (setting_of declared.now) levels) (setting_of declared.now)
@@ -514,12 +580,18 @@ pub fn read_step(
         ≡ scope_after (setting_of declared.now) (scope_of state.old.labels.entries) (view step.now)) }
 {
     match sort_of(step) {
-        Some(Sort::Operation) => read_operation(alloc, step, declared, state),
+        Some(Sort::Operation) => {
+            let operation = read_operation(alloc, step, declared, state)?;
+            Ok(operation)
+        }
         Some(Sort::If) => read_if(alloc, step, levels, declared, state),
         Some(Sort::Sub) => read_sub_step(alloc, step, levels, declared, state),
-        Some(Sort::Abort) => read_abort(alloc, step, declared.version, state),
+        Some(Sort::Abort) => {
+            let abort = read_abort(alloc, step, declared.version, state)?;
+            Ok(abort)
+        }
         Some(Sort::Parallel) => read_parallel(alloc, step, levels, declared, state),
-        None => Err(state.counts.fault(Wrong::Shape)),
+        None => Err(Unmet::from(state.counts.fault(Wrong::Shape))),
     }
 }
 
@@ -531,19 +603,26 @@ fn read_steps(
     levels: usize,
     declared: &Declared,
     state: &mut State,
-) -> Result<Vec<Step>, Fault>
-    ensures met { OnOk result (IsMet state.old.counts (steps_asked (block_asked (setting_of declared.now) levels)
-        (setting_of declared.now) (scope_of state.old.labels.entries) (items_view list.now.items)) state.new.counts) }
-    ensures first { IfErr result (IsFirst state.old.counts (steps_asked (block_asked (setting_of declared.now) levels)
-        (setting_of declared.now) (scope_of state.old.labels.entries) (items_view list.now.items))) }
+) -> Result<Vec<Step>, Unmet>
+    ensures met { OnOk result (AreMet state.old.counts (steps_placed (block_placed (setting_of
+        declared.now) levels)
+        (setting_of declared.now) (scope_of state.old.labels.entries) 0 (items_view list.now.items))
+        state.new.counts) }
+    ensures unmet { IfErr result (IsFound state.old.counts (steps_placed (block_placed (setting_of
+        declared.now) levels)
+        (setting_of declared.now) (scope_of state.old.labels.entries) 0 (items_view
+        list.now.items))) }
     ensures value { IfOk result (λ read. (map step_view read.items, numbers_of state.new.numbering)
         ≡ steps_spelled (block_of (setting_of declared.now) levels) (setting_of declared.now)
         (scope_of state.old.labels.entries) (numbers_of state.old.numbering) (items_view list.now.items)) }
     ensures labels { OnOk result (Extends (scope_of state.old.labels.entries) (scope_of state.new.labels.entries)) }
 {
     let mut steps = Vec::with_capacity(alloc, list.len())?;
-    for step in list {
-        steps.push(read_step(alloc, step, levels, declared, state)?)?;
+    for (index, step) in list.iter().enumerate() {
+        match read_step(alloc, step, levels, declared, state) {
+            Ok(read) => steps.push(read)?,
+            Err(unmet) => return Err(unmet.in_item(alloc, index)),
+        }
     }
     Ok(steps)
 }
@@ -556,10 +635,12 @@ fn read_block(
     levels: usize,
     declared: &Declared,
     state: &mut State,
-) -> Result<Block, Fault>
-    ensures met { OnOk result (IsMet state.old.counts (block_asked (setting_of declared.now) levels
+) -> Result<Block, Unmet>
+    ensures met { OnOk result (AreMet state.old.counts (block_placed (setting_of declared.now)
+        levels
         (scope_of state.old.labels.entries) (view value.now)) state.new.counts) }
-    ensures first { IfErr result (IsFirst state.old.counts (block_asked (setting_of declared.now) levels
+    ensures unmet { IfErr result (IsFound state.old.counts (block_placed (setting_of declared.now)
+        levels
         (scope_of state.old.labels.entries) (view value.now))) }
     ensures value { IfOk result (λ block. (block_view block, numbers_of state.new.numbering)
         ≡ block_of (setting_of declared.now) levels (scope_of state.old.labels.entries)
@@ -567,10 +648,10 @@ fn read_block(
     ensures labels { OnOk result (scope_of state.new.labels.entries ≡ scope_of state.old.labels.entries) }
 {
     let Some(list) = value.as_array() else {
-        return Err(state.counts.fault(Wrong::Shape));
+        return Err(Unmet::from(state.counts.fault(Wrong::Shape)));
     };
     if levels == 0 {
-        return Err(state.counts.fault(Wrong::Depth));
+        return Err(Unmet::from(state.counts.fault(Wrong::Depth)));
     }
     let seen = state.labels.len();
     let steps = read_steps(alloc, list, levels - 1, declared, state)?;
@@ -582,17 +663,20 @@ fn read_block(
 
 /// The transaction with this number (from 1) that a value spells. No label is seen before it, and none after.
 ///
-/// Returns the first demand that isn't met, or that memory was refused.
+/// Returns the first demand that isn't met, with its place in the transaction, or that memory was
+/// refused.
 pub fn read_transaction(
     alloc: Global,
     value: &Value,
     number: u32,
     declared: &Declared,
     state: &mut State,
-) -> Result<Block, Fault>
+) -> Result<Block, Unmet>
     requires { scope_of state.old.labels.entries ≡ [] }
-    ensures met { OnOk result (IsMet state.old.counts (transaction_asked number (setting_of declared.now) (view value.now)) state.new.counts) }
-    ensures first { IfErr result (IsFirst state.old.counts (transaction_asked number (setting_of declared.now) (view value.now))) }
+    ensures met { OnOk result (AreMet state.old.counts (transaction_placed number (setting_of
+        declared.now) (view value.now)) state.new.counts) }
+    ensures unmet { IfErr result (IsFound state.old.counts (transaction_placed number (setting_of
+        declared.now) (view value.now))) }
     ensures value { IfOk result (λ block. (block_view block, numbers_of state.new.numbering)
         ≡ block_of (setting_of declared.now) MAX_DEPTH [] (numbers_of state.old.numbering) (view value.now)) }
     ensures labels { OnOk result (scope_of state.new.labels.entries ≡ []) }
@@ -603,26 +687,29 @@ pub fn read_transaction(
 
 /// The transactions that a list spells, numbered from 1.
 ///
-/// Returns the first demand that isn't met, or that memory was refused.
+/// Returns the first demand that isn't met, with its place in the list, or that memory was refused.
 pub fn read_transactions(
     alloc: Global,
     list: &Vec<Value>,
     declared: &Declared,
     state: &mut State,
-) -> Result<Vec<Block>, Fault>
+) -> Result<Vec<Block>, Unmet>
     requires transactions { length list.now.items ≤ MAX_TRANSACTIONS }
     requires labels { scope_of state.old.labels.entries ≡ [] }
-    ensures met { OnOk result (IsMet state.old.counts (transactions_asked 1 (setting_of declared.now) (items_view list.now.items)) state.new.counts) }
-    ensures first { IfErr result (IsFirst state.old.counts (transactions_asked 1 (setting_of declared.now) (items_view list.now.items))) }
+    ensures met { OnOk result (AreMet state.old.counts (transactions_placed (setting_of
+        declared.now) 0 (items_view list.now.items)) state.new.counts) }
+    ensures unmet { IfErr result (IsFound state.old.counts (transactions_placed (setting_of
+        declared.now) 0 (items_view list.now.items))) }
     ensures value { IfOk result (λ blocks. (map block_view blocks.items, numbers_of state.new.numbering)
         ≡ blocks_of (setting_of declared.now) (numbers_of state.old.numbering) (items_view list.now.items)) }
 {
     let mut blocks = Vec::with_capacity(alloc, list.len())?;
-    let mut number = 0;
-    for transaction in list {
-        number += 1;
-        let block = read_transaction(alloc, transaction, number, declared, state)?;
-        blocks.push(block)?;
+    for (index, transaction) in list.iter().enumerate() {
+        let number = index as u32 + 1;
+        match read_transaction(alloc, transaction, number, declared, state) {
+            Ok(block) => blocks.push(block)?,
+            Err(unmet) => return Err(unmet.in_item(alloc, index)),
+        }
     }
     Ok(blocks)
 }

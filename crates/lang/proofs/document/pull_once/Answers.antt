@@ -2,7 +2,7 @@ use Rattle.std.proofs.Common.{◌≡◌, map, subst, sym, ◌∙◌, arith, rule
 use Rattle.batch.specs.Limits.{IsBatch}
 use Rattle.batch.specs.Names.{texts_of}
 use Rattle.batch.specs.Views.{block_view}
-use Rattle.spelling.specs.Asked.{asked}
+use Rattle.spelling.specs.Places.{placed}
 use Rattle.lang.specs.Reading.{document_of, document_with}
 use Rattle.spelling.specs.Scope.{numbers_of}
 use Rattle.spelling.specs.Spelled.{Document}
@@ -19,7 +19,7 @@ batch_of-requires c =
     let read = same_document d parts.declared.objects (map block_view parts.transactions.items) last
     (texts_of parts.declared.names.keys) _ c.new-state.ensures.numbers done.3 done.4 in
     subst (λ (shown : Document). IsBatch shown.start shown.texts shown.transactions) (sym read)
-    (faultless_is_batch d (met_first _ _ (asked d) c.new-state.ensures.counts done.2))
+    (faultless_is_batch d (met_first _ _ (placed d) c.new-state.ensures.counts done.2))
 
 pub returns : goal.returns
 returns c =
@@ -32,6 +32,6 @@ returns c =
     (texts_of parts.declared.names.keys) _ c.new-state.ensures.numbers done.3 done.4 in (
       d,
       done.1,
-      met_first _ _ (asked d) c.new-state.ensures.counts done.2,
+      met_first _ _ (placed d) c.new-state.ensures.counts done.2,
       shown ∙ read,
     )

@@ -3,8 +3,8 @@ use Rattle.batch.specs.Limits.{IsBatch}
 use Rattle.batch.specs.Names.{texts_of}
 use Rattle.batch.specs.Views.{block_view}
 use Rattle.spelling.specs.Answer.{IsMet}
-use Rattle.spelling.specs.Asked.{asked, document_shape_asked}
-use Rattle.spelling.specs.Demand.{first_fault}
+use Rattle.spelling.specs.Asked.{document_shape_asked}
+use Rattle.spelling.specs.Places.{first_fault, placed}
 use Rattle.faults.specs.Faults.{memory_fault}
 use Rattle.lang.specs.Reading.{document_of, document_with, spelled_by, unless_fault}
 use Rattle.spelling.specs.Scope.{numbers_of}
@@ -26,7 +26,7 @@ batch_of-requires c =
     let read = same_document d parts.declared.objects (map block_view parts.transactions.items) last
     (texts_of parts.declared.names.keys) _ c.new-state.ensures.numbers done.1 done.2 in
     subst (λ (shown : Document). IsBatch shown.start shown.texts shown.transactions) (sym read)
-    (faultless_is_batch d (met_first _ _ (asked d) c.new-state.ensures.counts done.0))
+    (faultless_is_batch d (met_first _ _ (placed d) c.new-state.ensures.counts done.0))
 
 pub returns-in_ok-batch-in-Ok : goal.returns-in_ok-batch-in-Ok
 returns-in_ok-batch-in-Ok c =
@@ -36,7 +36,7 @@ returns-in_ok-batch-in-Ok c =
     let done = matched_ok c.in_ok-answer.answer parts _ _ c.in-Ok.is answer.2 in
     let last = numbers_of c.read_bytes_singly.new.state.numbering in
     let known = answer.1 in
-    let faultless = met_first _ _ (asked d) c.new-state.ensures.counts done.0 in
+    let faultless = met_first _ _ (placed d) c.new-state.ensures.counts done.0 in
     let shown : document_of c.in_ok-batch-in-Ok.batch ≡ document_with parts c.read_bytes_singly.new.state.numbering =
     grind (arith, rules) in
     let read = same_document d parts.declared.objects (map block_view parts.transactions.items) last
@@ -53,8 +53,8 @@ returns-in-Err c =
     let known = answer.1 in
     let counts = c.new-state.ensures.counts in
     let shape = subst (λ s. IsMet s (document_shape_asked d) s) (sym counts) (c.requires d known) in
-    let first : e ≢ memory_fault → first_fault (asked d) ≡ Some e =
-    λ other. failed_first _ (asked d) e counts (failed shape other) in (
+    let first : e ≢ memory_fault → first_fault (placed d) ≡ Some e =
+    λ other. failed_first _ (placed d) e counts (failed shape other) in (
       λ other. refused_for bytes d e known (first other),
       memory_or e (λ other. first_fault_code d e (first other)),
     )

@@ -5,10 +5,9 @@ use Rattle.std.proofs.lemmas.Str.{IsUtf8-from_is_utf8, is_utf8-from_IsUtf8}
 use Rattle.serde_json.specs.Read.{read as read_text}
 use Rattle.serde_json.specs.Errors.{IsMemory}
 use Rattle.serde_json.specs.View.{view}
-use Rattle.spelling.specs.Demand.{no_counts}
-use Rattle.lang.specs.Found.{pointer_text}
+use Rattle.spelling.specs.Answer.{pointer_text}
 use Rattle.lang.specs.Reading.{value_of}
-use Rattle.lang.proofs.SeekLemmas.{not_all_met, place_shown}
+use Rattle.lang.proofs.Located.{not_all_met, place_shown}
 use Rattle.lang.proofs.places.locate.Goals as goal
 
 no_value : (bytes : List ℕ) (b : Bool) → is_utf8 bytes ≡ b → (IsUtf8 bytes → read_text bytes ≡ None) → cond b (read_text bytes) None ≡ None
@@ -21,20 +20,20 @@ returns-in-Err-clause-place c =
     (sym (subst (λ b. IsTrue b) c.if-is_memory.false (c.is_memory.ensures.1 m))) in
     (omega (arith, c.if-bytes-gt-MAX_BYTES.false), no_value c.args.bytes.now (is_utf8 c.args.bytes.now) refl (c.in-Err.ensures.err refused))
 
-pub returns-in-Ok-seek_whole-clause-place : goal.returns-in-Ok-seek_whole-clause-place
-returns-in-Ok-seek_whole-clause-place c =
+pub returns-in-Ok-read_parts-clause-place : goal.returns-in-Ok-read_parts-clause-place
+returns-in-Ok-read_parts-clause-place c =
     let bytes = c.args.bytes.now in
     let d = view c.in-Ok.value in
     let known : value_of bytes ≡ Some d = rw (is_utf8-from_IsUtf8 bytes c.in-Ok.ensures.ok.0) c.in-Ok.ensures.ok.1 in
-    let met = c.in-Ok-seek_whole.ensures.met in
-    absurd (not_all_met bytes d c.args.fault no_counts met.0 c.requires (omega (arith, c.if-bytes-gt-MAX_BYTES.false)) known refl met.1)
+    absurd (not_all_met bytes d c.args.fault c.new-state.result.counts c.read_parts.new.state.counts c.requires
+    (omega (arith, c.if-bytes-gt-MAX_BYTES.false)) known c.new-state.ensures.counts c.in-Ok-read_parts.ensures.met)
 
 pub returns-clause-place : goal.returns-clause-place
 returns-clause-place c =
     let bytes = c.args.bytes.now in
     let d = view c.in-Ok.value in
-    let unmet = c.in-Err-seek_whole.unmet in
+    let unmet = c.in-Err-read_parts.unmet in
     let known : value_of bytes ≡ Some d = rw (is_utf8-from_IsUtf8 bytes c.in-Ok.ensures.ok.0) c.in-Ok.ensures.ok.1 in
     IfOk-weaker c.place_of.result _ _ (λ place shown. place_shown bytes d c.args.fault unmet.fault (pointer_text unmet.pointer) place
-    no_counts c.requires (omega (arith, c.if-bytes-gt-MAX_BYTES.false)) known refl (c.in-Err-seek_whole.ensures.unmet shown.0) shown.1)
-    c.place_of.ensures.place
+    c.new-state.result.counts c.requires (omega (arith, c.if-bytes-gt-MAX_BYTES.false)) known c.new-state.ensures.counts
+    (c.in-Err-read_parts.ensures.unmet shown.0) shown.1) c.place_of.ensures.place

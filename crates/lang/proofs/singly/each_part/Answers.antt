@@ -1,12 +1,13 @@
-use Rattle.std.proofs.Common.{◌≡◌, ◌≤◌, ◌∷◌, [], map, refl, subst, arith}
+use Rattle.std.proofs.Common.{◌≡◌, ◌≤◌, ◌∷◌, [], ap, map, refl, subst, arith}
 use Rattle.json.specs.Token.{Token}
 use Rattle.serde_json.specs.Events.{items_len}
 use Rattle.serde_json.specs.View.{items_view}
 use Rattle.serde_json.proofs.Views.{items_len-items_view}
 use Rattle.batch.specs.Names.{texts_of}
 use Rattle.batch.specs.Views.{block_view}
-use Rattle.spelling.specs.Answer.{IsFirst, IsMet}
-use Rattle.spelling.specs.Asked.{declared_by, names_of, objects_asked, transactions_asked}
+use Rattle.spelling.specs.Answer.{AreMet, IsFirstOf, IsFound}
+use Rattle.spelling.specs.Asked.{declared_by, names_of}
+use Rattle.spelling.specs.Places.{fault_of, objects_placed, transactions_placed}
 use Rattle.spelling.specs.Scope.{numbers_of, setting_of}
 use Rattle.spelling.specs.Spelled.{starts_of}
 use Rattle.pull.specs.Pulled.{ReadsItems, in_order}
@@ -24,12 +25,12 @@ returns-in-Err c =
     let rest = c.in-Ok-pass_items.ensures.ok in
     let ts = rest.0 in
     let new = c.pull_end_object.new.reader in
-    let e = c.in-Err.fault in
+    let unmet = c.in-Err.unmet in
     let ended : c.pass_items.new.reader ≡ Token.end_object ∷ new = c.in_ok-pull_end_object-in-Err.ensures in
-    let failed : IsFirst start (objects_asked version [] os) e = c.in-Err.ensures.first in (
+    let failed : IsFound start (objects_placed version [] 0 os) unmet = c.in-Err.ensures.unmet in (
       in_order version os ts,
       c.in_ok-version.ensures.reads ts new (subst (λ l. ReadsItems 125 c.pull_head.new.reader ts l) ended rest.1),
-      λ shape other. objects_failed version os ts known.0 known.1 start shape e (failed other),
+      λ shape other. objects_failed version os ts known.0 known.1 start shape unmet.fault (ap fault_of (failed other)),
     )
 
 pub returns-in-Ok-answer : goal.returns-in-Ok-answer
@@ -51,7 +52,7 @@ returns-in-Ok-answer c =
     let new = c.pull_end_object-2.new.reader in
     let ended : c.each_transaction.new.reader ≡ Token.end_object ∷ new = c.in_ok-pull_end_object.ensures in
     let reads = subst (λ l. ReadsItems 125 c.pull_head.new.reader ts l) ended answer.1 in
-    let met : IsMet start (objects_asked version [] os) mid = c.in-Ok.ensures.met in
+    let met : AreMet start (objects_placed version [] 0 os) mid = c.in-Ok.ensures.met in
     let named : texts_of declared.names.keys ≡ names_of os = c.in-Ok.ensures.names in
     let set : setting ≡ declared_by version os = c.in-Ok.ensures.setting in
     let started : (declared.objects, between) ≡ starts_of version numbers os = c.in-Ok.ensures.objects in
@@ -61,7 +62,7 @@ returns-in-Ok-answer c =
       c.in_ok-version.ensures.reads ts new reads,
       (
         in_order_met version os ts known.0 known.1 start mid next few done.2 met
-            (subst (λ x. IsMet mid (transactions_asked 1 x ts) next) set done.0),
+            (subst (λ x. AreMet mid (transactions_placed x 0 ts) next) set done.0),
         named,
         same_parts (in_order version os ts) numbers between last version os ts setting declared.objects
             (map block_view c.in-Ok-answer.transactions.items) (version_is version os ts known.0 known.1) refl refl set started done.1,
@@ -83,10 +84,10 @@ returns c =
     let new = c.pull_end_object-2.new.reader in
     let ended : c.each_transaction.new.reader ≡ Token.end_object ∷ new = c.in_ok-pull_end_object.ensures in
     let reads = subst (λ l. ReadsItems 125 c.pull_head.new.reader ts l) ended answer.1 in
-    let met : IsMet start (objects_asked version [] os) mid = c.in-Ok.ensures.met in
+    let met : AreMet start (objects_placed version [] 0 os) mid = c.in-Ok.ensures.met in
     let set : setting ≡ declared_by version os = c.in-Ok.ensures.setting in
-    let first : IsFirst mid (transactions_asked 1 (declared_by version os) ts) e =
-    subst (λ x. IsFirst mid (transactions_asked 1 x ts) e) set failed in (
+    let first : IsFirstOf mid (transactions_placed (declared_by version os) 0 ts) e =
+    subst (λ x. IsFirstOf mid (transactions_placed x 0 ts) e) set failed in (
       in_order version os ts,
       c.in_ok-version.ensures.reads ts new reads,
       λ shape other. transactions_failed version os ts known.0 known.1 start shape mid e met (first other),

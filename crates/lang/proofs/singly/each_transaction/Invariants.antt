@@ -3,8 +3,7 @@ use Rattle.json.specs.Token.{Token}
 use Rattle.serde_json.specs.Data.{Items}
 use Rattle.serde_json.specs.Events.{items_len}
 use Rattle.batch.specs.Views.{block_view}
-use Rattle.spelling.specs.Asked.{transactions_asked}
-use Rattle.spelling.specs.Demand.{check}
+use Rattle.spelling.specs.Places.{seek, transactions_placed}
 use Rattle.pull.specs.Pulled.{ReadsItems}
 use Rattle.spelling.specs.Scope.{numbers_of, scope_of, setting_of}
 use Rattle.spelling.specs.Spelled.{blocks_of}
@@ -16,8 +15,8 @@ abbrev pub invariant-loop-alloc : goal.invariant-loop-alloc
 invariant-loop-alloc l =
     (before : Items → Items)
     × ((ds : Items) (new : List Token) → ReadsItems 125 l.reader ds new → ReadsItems 125 l.initial.reader (before ds) new)
-    × ((ds : Items) → check l.initial.state.counts (transactions_asked 1 (setting_of l.declared) (before ds))
-    ≡ check l.state.counts (transactions_asked (l.number + 1) (setting_of l.declared) ds))
+    × ((ds : Items) → seek l.initial.state.counts (transactions_placed (setting_of l.declared) 0 (before ds))
+    ≡ seek l.state.counts (transactions_placed (setting_of l.declared) l.number ds))
     × ((ds : Items) → blocks_of (setting_of l.declared) (numbers_of l.initial.state.numbering) (before ds)
     ≡ in_front (map block_view l.blocks.items) (blocks_of (setting_of l.declared) (numbers_of l.state.numbering) ds))
     × (scope_of l.state.labels.entries ≡ [])

@@ -51,7 +51,7 @@ returns c =
       op_step label op,
       subst (λ ts. ReadsValue 2 (Token.begin_object ∷ Token.key (codes "op") ∷ ts) (op_step label op) new) (sym tokens)
           (reads_object 1 _ _ new members),
-      λ asks. operation_met setting scope label o w rest asks start next counted target
+      λ places. operation_met setting scope label o w rest places start next counted target
           (subst (λ v. IsMet next (arguments_asked v op) next) verb (given.2 o w next)) labels,
       λ block. ap (λ (step : tree.Step). (step, after)) shown
           ∙ operation_spelled setting scope label o w rest block numbers after c.in_ok-call-2.call

@@ -5,14 +5,15 @@ use Rattle.serde_json.specs.View.{items_view}
 use Rattle.serde_json.proofs.Views.{items_len-items_view}
 use Rattle.batch.specs.Names.{texts_of}
 use Rattle.batch.specs.Views.{block_view}
-use Rattle.spelling.specs.Answer.{IsMet}
-use Rattle.spelling.specs.Asked.{declared_by, names_of, objects_asked, transactions_asked}
+use Rattle.spelling.specs.Answer.{AreMet}
+use Rattle.spelling.specs.Asked.{declared_by, names_of}
 use Rattle.spelling.specs.Scope.{numbers_of, setting_of}
 use Rattle.spelling.specs.Spelled.{starts_of}
 use Rattle.pull.specs.Pulled.{ReadsItems, in_order}
 use Rattle.pull.proofs.DocumentLemmas.{same_parts}
 use Rattle.pull.proofs.PulledDocument.{in_order_met, version_is}
 use Rattle.pull.proofs.PulledLemmas.{items_deeper}
+use Rattle.spelling.specs.Places.{objects_placed, transactions_placed}
 use Rattle.pull.proofs.pull.pull_parts.Goals as goal
 
 pub returns : goal.returns
@@ -35,7 +36,7 @@ returns c =
     let new = c.pull_end_object.new.reader in
     let e5 : r5 ≡ Token.end_object ∷ new = grind (arith, rules) in
     let reads = subst (λ l. ReadsItems 125 r4 ts l) e5 (items_deeper 120 125 r4 ts r5 (omega arith) done.1) in
-    let met : IsMet start (objects_asked version [] os) mid = grind (arith, rules) in
+    let met : AreMet start (objects_placed version [] 0 os) mid = grind (arith, rules) in
     let named : texts_of declared.names.keys ≡ names_of os = grind (arith, rules) in
     let set : setting ≡ declared_by version os = grind (arith, rules) in
     let started : (declared.objects, between) ≡ starts_of version numbers os = grind (arith, rules) in
@@ -44,7 +45,7 @@ returns c =
       in_order version os ts,
       c.in_ok-version.ensures.reads ts new reads,
       in_order_met version os ts known.0 known.1 start mid next few done.4 met
-          (subst (λ x. IsMet mid (transactions_asked 1 x ts) next) set done.2),
+          (subst (λ x. AreMet mid (transactions_placed x 0 ts) next) set done.2),
       named,
       same_parts (in_order version os ts) numbers between last version os ts setting declared.objects
           (map block_view c.in_ok-transactions.transactions.items) (version_is version os ts known.0 known.1) refl refl set started done.3,

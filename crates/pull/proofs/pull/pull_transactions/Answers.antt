@@ -4,13 +4,13 @@ use Rattle.json.specs.Json.{after_end_array}
 use Rattle.serde_json.specs.Data.{no_items, item}
 use Rattle.meaning.specs.Trees as tree
 use Rattle.batch.specs.Views.{block_view}
-use Rattle.spelling.specs.Asked.{transaction_asked, transactions_asked}
 use Rattle.spelling.specs.Scope.{Numbers, numbers_of, setting_of}
 use Rattle.spelling.specs.Spelled.{blocks_of}
 use Rattle.pull.specs.Pulled.{ReadsValue}
-use Rattle.spelling.proofs.Checks.{check_met}
 use Rattle.spelling.proofs.ListLemmas.{in_front, in_front_none, in_front_push}
 use Rattle.pull.proofs.PulledLemmas.{reads_item, reads_no_items, reads_shorter}
+use Rattle.spelling.specs.Places.{item_at, transaction_placed, transactions_placed}
+use Rattle.spelling.proofs.PlaceLemmas.{part_met}
 use Rattle.pull.proofs.pull.pull_transactions.Goals as goal
 
 pub loop-alloc-init : goal.loop-alloc-init
@@ -52,8 +52,8 @@ loop-alloc-preserved c =
       λ ds new reads. l.invariant.1 (item d ds) new
           (reads_item 120 l.reader mid new d ds going.0 (subst (λ ts. ReadsValue 120 ts d mid) going.1 done.1) reads),
       λ ds. l.invariant.2 (item d ds)
-          ∙ check_met l.state.counts counts (transaction_asked (l.number + 1) setting d)
-          (transactions_asked (l.number + 1 + 1) setting ds) done.2,
+          ∙ part_met l.state.counts counts (item_at l.number) (transaction_placed (l.number + 1) setting d)
+          (transactions_placed setting (l.number + 1) ds) done.2,
       λ ds. l.invariant.3 (item d ds)
           ∙ ap (λ (p : tree.Block × Numbers). in_front read (p.0 ∷ (blocks_of setting p.1 ds).0, (blocks_of setting p.1 ds).1)) (sym done.3)
           ∙ sym (in_front_push read (block_view x) (blocks_of setting after ds))

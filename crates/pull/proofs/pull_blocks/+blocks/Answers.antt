@@ -1,19 +1,18 @@
 use Rattle.std.proofs.Common.{◌≡◌, ℕ, true, List, [], ◌∷◌, ◌++◌, Some, None, map, length, refl, sym, subst, ap, ap₂, ◌∙◌, ◌+◌, ◌*◌}
 use Rattle.std.proofs.Common.{append-nil, arith, rules, ◌-◌, suc, option_map, le-leb, Vec, Global}
-use Rattle.std.proofs.lemmas.List.{length-map, map-append}
+use Rattle.std.proofs.lemmas.List.{length-append, length-map, map-append}
 use Rattle.json.specs.Json.{after_end_array, read_key}
 use Rattle.serde_json.specs.Data.{Items, no_items, item, array, no_members, object, member, put, string}
 use Rattle.meaning.specs.Trees as tree
 use Rattle.batch.specs.Views.{block_view, step_view, steps_of, Tried, handler_view, subaction_view, children_of}
-use Rattle.spelling.specs.Asked.{label_asked, block_asked, scope_after, step_asked, steps_asked, label_in, member_asked, members_asked}
-use Rattle.spelling.specs.Asked.{children_asked, labels_of, sub_asked, block_asked_if}
-use Rattle.spelling.specs.Demand.{check, holds, one_more_node}
+use Rattle.spelling.specs.Asked.{label_asked, scope_after, label_in}
+use Rattle.spelling.specs.Asked.{labels_of}
+use Rattle.spelling.specs.Demand.{holds, one_more_node}
 use Rattle.spelling.specs.Scope.{AreUnseen, Extends, Numbers, Scope, Table, number_of, numbers_of, scope_of, setting_of, with_label}
 use Rattle.spelling.specs.Scope.{with_labels, with_text}
 use Rattle.spelling.specs.Spelled.{block_of, steps_spelled, spelled_map, member_of, members_of, sub_step, tried, children_spelled, sub_of}
 use Rattle.spelling.specs.Spelled.{block_of_if, or_no_step}
 use Rattle.pull.specs.Pulled.{IsAfter, ReadsValue, SubTail, sub_members, ReadsMembers, if_step, test_key, with_else}
-use Rattle.spelling.proofs.Checks.{check_met}
 use Rattle.spelling.proofs.ListLemmas.{in_front, in_front_none, in_front_push}
 use Rattle.spelling.proofs.LabelLemmas.{child_label_met, extends_twice, scope_after_extends}
 use Rattle.pull.proofs.PulledLemmas.{reads_item, reads_no_items, reads_shorter, reads_array, reads_deeper, reads_member, reads_no_members}
@@ -26,7 +25,7 @@ use Rattle.std.specs.Prelude.{codes, is_some}
 use Rattle.json.proofs.Grammar.{read_key-shorter}
 use Rattle.batch.specs.declared.tree.Handler.{Handler, roll-Handler, the_lemmas as handler_lemmas}
 use Rattle.meaning.specs.Trees.{for_reasons, handlers_of}
-use Rattle.spelling.specs.Answer.{IsMet}
+use Rattle.spelling.specs.Answer.{AreMet, IsMet}
 use Rattle.pull.proofs.PulledSubs.{label_anywhere, sub_label, sub_met, sub_sort, sub_spelled, sub_step_met, sub_step_scope}
 use Rattle.pull.proofs.PulledSubs.{sub_step_spelled, tail_handler, tail_handlers, tail_label, tail_none, parallel_met, parallel_scope}
 use Rattle.pull.proofs.PulledSubs.{parallel_spelled, parallel_step}
@@ -36,6 +35,9 @@ use Rattle.batch.specs.Names.{is_name, texts_of}
 use Rattle.faults.specs.declared.fault.Wrong.TheVariants.{Name}
 use Rattle.pull.proofs.PulledHandlers.{after_both, put_after}
 use Rattle.pull.proofs.PulledTests.{if_met, if_scope, if_spelled}
+use Rattle.spelling.specs.Places.{block_placed, block_placed_if, children_placed, inside, item_at, member_named, member_placed}
+use Rattle.spelling.specs.Places.{members_placed, nothing, seek, step_placed, steps_placed, sub_placed}
+use Rattle.spelling.proofs.PlaceLemmas.{member_met, own_first, part_met}
 use Rattle.pull.proofs.pull_blocks.+blocks.Goals as goal
 
 pub pull_steps-loop-alloc-init : goal.pull_steps-loop-alloc-init
@@ -43,7 +45,8 @@ pull_steps-loop-alloc-init t c =
     let none : c.new-steps.result.items ≡ [] = c.new-steps.ensures.items in (
       λ ds. ds,
       λ ds new reads. reads,
-      λ ds. refl,
+      λ ds. ap (λ (vs : List _). seek c.args.state.now.counts (steps_placed (block_placed (setting_of c.args.declared.now) c.args.levels)
+          (setting_of c.args.declared.now) (scope_of c.args.state.now.labels.entries) (length vs) ds)) (sym none),
       λ ds. ap (λ (vs : List _). in_front (map step_view vs)
           (steps_spelled (block_of (setting_of c.args.declared.now) c.args.levels) (setting_of c.args.declared.now)
           (scope_of c.args.state.now.labels.entries) (numbers_of c.args.state.now.numbering) ds)) (sym none),
@@ -62,7 +65,7 @@ pull_steps-loop-alloc-preserved t c =
     let l = c.loop-alloc in
     let k = 5 * c.args.levels + 4 in
     let setting = setting_of c.args.declared.now in
-    let asks = block_asked setting c.args.levels in
+    let places = block_placed setting c.args.levels in
     let block = block_of setting c.args.levels in
     let here = scope_of l.state.labels.entries in
     let going : (after_end_array l.reader ≡ None) × (c.take_end_array.new.self ≡ l.reader) = grind arith in
@@ -75,15 +78,17 @@ pull_steps-loop-alloc-preserved t c =
     let read = map step_view l.steps.items in
     let x = c.in_ok-pull_step.field-0 in
     let pushed : c.push.new.self.items ≡ l.steps.items ++ x ∷ [] = grind (arith, rules) in
+    let index = length l.steps.items in
+    let after_it : length c.push.new.self.items ≡ index + 1 = ap length pushed ∙ length-append l.steps.items (x ∷ []) in
     let spelled = λ (s : Scope) (p : tree.Step × Numbers) (ds : Items). in_front read
     (p.0 ∷ (steps_spelled block setting s p.1 ds).0, (steps_spelled block setting s p.1 ds).1) in (
       λ ds. l.invariant.0 (item d ds),
       λ ds new reads. l.invariant.1 (item d ds) new
           (reads_item k l.reader mid new d ds going.0 (subst (λ ts. ReadsValue k ts d mid) going.1 done.1) reads),
       λ ds. l.invariant.2 (item d ds)
-          ∙ check_met l.state.counts counts (step_asked asks setting here d)
-          (steps_asked asks setting (scope_after setting here d) ds) done.2
-          ∙ ap (λ (s : Scope). check counts (steps_asked asks setting s ds)) (sym done.4),
+          ∙ part_met l.state.counts counts (item_at index) (step_placed places setting here d)
+          (steps_placed places setting (scope_after setting here d) (index + 1) ds) done.2
+          ∙ ap₂ (λ (s : Scope) i. seek counts (steps_placed places setting s i ds)) (sym done.4) (sym after_it),
       λ ds. l.invariant.3 (item d ds) ∙ ap₂ (λ (s : Scope) (p : tree.Step × Numbers). spelled s p ds) (sym done.4) (sym done.3)
           ∙ sym (in_front_push read (step_view x) (steps_spelled block setting next after ds))
           ∙ ap (λ ys. in_front ys (steps_spelled block setting next after ds))
@@ -121,7 +126,7 @@ pull_block-returns t c =
       subst (λ ts. ReadsValue (5 * levels) ts d new) (sym tokens)
           (reads_deeper (suc (5 * (levels - 1) + 4)) (5 * levels) _ d new (omega arith)
           (reads_array (5 * (levels - 1) + 4) inside ds new done.1)),
-      ap (check c.args.state.now.counts) (block_asks setting scope d (levels - 1) levels ds (omega arith) refl) ∙ done.2,
+      ap (seek c.args.state.now.counts) (block_asks setting scope d (levels - 1) levels ds (omega arith) refl) ∙ done.2,
       ap (λ (b : tree.Block). (b, numbers_of c.pull_steps.new.state.numbering)) shown ∙ ap (spelled_map steps_of) done.3
           ∙ sym (block_spells setting scope d (levels - 1) levels (numbers_of c.args.state.now.numbering) ds (omega arith) refl),
       c.leave_block.ensures scope done.4 (length-map c.args.state.now.labels.entries _ ∙ sym c.len-seen.ensures.len),
@@ -130,7 +135,7 @@ pull_block-returns t c =
 pub pull_handler-returns : goal.pull_handler-returns
 pull_handler-returns t c =
     let setting = setting_of c.args.declared.now in
-    let asks = block_asked setting c.args.levels in
+    let places = block_placed setting c.args.levels in
     let scope = scope_of c.args.state.now.labels.entries in
     let start = c.args.state.now.counts in
     let numbers = numbers_of c.args.state.now.numbering in
@@ -146,7 +151,8 @@ pull_handler-returns t c =
     let shown : handler_view (roll-Handler (record { reason = n; block = b })) ≡ (n, block_view b) = search (rules, handler_lemmas) in (
       d,
       done.1,
-      check_met start start (holds (is_name reason) Name ∷ []) (asks scope d) (rw named refl) ∙ done.2,
+      own_first start start (holds (is_name reason) Name ∷ []) (inside (member_named reason) (places scope d) nothing) (rw named refl)
+          ∙ part_met start c.pull_block.new.state.counts (member_named reason) (places scope d) nothing done.2,
       ap (λ (v : ℕ × tree.Block). (v, after)) shown ∙ ap (spelled_map (λ (x : tree.Block). (n, x))) done.3
           ∙ ap₂ (λ m (ts : Table). spelled_map (λ (x : tree.Block). (m, x)) (block_of setting c.args.levels scope (record {
             items = numbers.items;
@@ -179,7 +185,7 @@ pull_ascending-loop-handlers-preserved t c =
     let l = c.loop-handlers in
     let k = 5 * c.args.levels in
     let setting = setting_of c.args.declared.now in
-    let asks = block_asked setting c.args.levels in
+    let places = block_placed setting c.args.levels in
     let block = block_of setting c.args.levels in
     let scope = scope_of c.args.state.now.labels.entries in
     let inside = c.next_key.new.self in
@@ -195,7 +201,7 @@ pull_ascending-loop-handlers-preserved t c =
     let ascends : c.is_after.result ≡ true = grind (arith, rules) in
     let behind : IsAfter reason (option_map (λ text. text.now) l.before) = c.is_after.ensures ascends in
     let pushed : c.push.new.self.items ≡ l.handlers.items ++ x ∷ [] = grind (arith, rules) in
-    let met = subst (λ s. IsMet l.state.counts (member_asked asks s reason d) counts) l.invariant.5 done.2 in
+    let met = subst (λ s. AreMet l.state.counts (member_placed places s reason d nothing) counts) l.invariant.5 done.2 in
     let value = subst (λ s. (handler_view x, after) ≡ member_of block s (numbers_of l.state.numbering) reason d) l.invariant.5 done.3 in
     let put_last = l.invariant.2 reason d no_members behind in (
       λ ds. l.invariant.0 (member reason d ds),
@@ -206,7 +212,7 @@ pull_ascending-loop-handlers-preserved t c =
           (after_both (option_map (λ text. text.now) l.before) reason next behind later)
           ∙ ap l.invariant.0 (put_after reason next d e ds later),
       λ ds. l.invariant.3 (member reason d ds)
-          ∙ check_met l.state.counts counts (member_asked asks scope reason d) (members_asked asks scope ds) met,
+          ∙ member_met l.state.counts places scope reason d (members_placed places scope ds) counts met,
       λ ds. l.invariant.4 (member reason d ds)
           ∙ ap (λ (p : (ℕ × tree.Block) × Numbers). in_front read
           (p.0 ∷ (members_of block scope p.1 ds).0, (members_of block scope p.1 ds).1))
@@ -286,7 +292,7 @@ pull_sub_rest-loop-handler-preserved-then-is_none-2 t c =
     let l = c.loop-handler in
     let k = 5 * c.args.levels in
     let setting = setting_of c.args.declared.now in
-    let asks = block_asked setting c.args.levels in
+    let places = block_placed setting c.args.levels in
     let block = block_of setting c.args.levels in
     let inside = c.next_key.new.self in
     let left = c.pull_block.new.reader in
@@ -297,9 +303,9 @@ pull_sub_rest-loop-handler-preserved-then-is_none-2 t c =
     let keyed : read_key l.reader ≡ Some (Some c.in-Some.name.now, inside) = grind (arith, rules) in
     let named : c.in-Some.name.now ≡ codes "handler" = grind (arith, rules) in
     let none : option_map block_view l.handler ≡ None = grind (arith, rules) in
-    let met = subst (λ s. IsMet l.state.counts (asks s done.0) last) l.invariant.1 done.2 in
+    let met = subst (λ s. AreMet l.state.counts (places s done.0) last) l.invariant.1 done.2 in
     let value = subst (λ s. (b, final) ≡ block s (numbers_of l.state.numbering) done.0) l.invariant.1 done.3 in (
-      tail_handler _ _ asks block _ _ _ _ _ l.reader l.state.counts (numbers_of l.state.numbering) _ _ done.0 b inside left last final
+      tail_handler _ _ places block _ _ _ _ _ l.reader l.state.counts (numbers_of l.state.numbering) _ _ done.0 b inside left last final
           (keyed ∙ ap (λ n. Some (Some n, inside)) named) (reads_deeper k (k + 1) _ done.0 left (omega arith) done.1) met value
           none l.invariant.0,
       done.4 ∙ l.invariant.1,
@@ -315,7 +321,7 @@ pub pull_sub_rest-loop-handler-preserved : goal.pull_sub_rest-loop-handler-prese
 pull_sub_rest-loop-handler-preserved t c =
     let l = c.loop-handler in
     let setting = setting_of c.args.declared.now in
-    let asks = block_asked setting c.args.levels in
+    let places = block_placed setting c.args.levels in
     let block = block_of setting c.args.levels in
     let inside = c.next_key.new.self in
     let left = c.pull_handlers.new.reader in
@@ -327,9 +333,9 @@ pull_sub_rest-loop-handler-preserved t c =
     let named : c.in-Some.name.now ≡ codes "handlers" = grind (arith, rules) in
     let none : option_map block_view l.handler ≡ None = grind (arith, rules) in
     let empty : option_map {T = Vec Handler Global} (λ list. map handler_view list.items) l.handlers ≡ None = grind (arith, rules) in
-    let met = subst (λ s. IsMet l.state.counts (members_asked asks s done.0) last) l.invariant.1 done.3 in
+    let met = subst (λ s. AreMet l.state.counts (members_placed places s done.0) last) l.invariant.1 done.3 in
     let value = subst (λ s. (read, final) ≡ members_of block s (numbers_of l.state.numbering) done.0) l.invariant.1 done.4 in (
-      tail_handlers _ _ asks block _ _ _ _ _ l.reader l.state.counts (numbers_of l.state.numbering) _ _ done.0 read inside left last final
+      tail_handlers _ _ places block _ _ _ _ _ l.reader l.state.counts (numbers_of l.state.numbering) _ _ done.0 read inside left last final
           (keyed ∙ ap (λ n. Some (Some n, inside)) named) done.1 (le-leb _ _ done.2) met value
           empty none l.invariant.0,
       done.5 ∙ l.invariant.1,
@@ -346,7 +352,7 @@ pull_sub-returns t c =
     let k = 5 * c.args.levels + 1 in
     let version = c.args.declared.now.version in
     let setting = setting_of c.args.declared.now in
-    let asks = block_asked setting c.args.levels in
+    let places = block_placed setting c.args.levels in
     let block = block_of setting c.args.levels in
     let scope = scope_of c.args.state.now.labels.entries in
     let start = c.args.state.now.counts in
@@ -365,8 +371,8 @@ pull_sub-returns t c =
     let handlers = option_map {T = Vec Handler Global} (λ list. map handler_view list.items) rest.handlers in
     let handler = option_map block_view rest.handler in
     let b = done.0 in
-    let tail : SubTail k version asks block scope mid inside (numbers_of c.pull_block.new.state.numbering) handlers handler label
-    behind.0 next last = subst (λ s. SubTail k version asks block s mid inside (numbers_of c.pull_block.new.state.numbering) handlers
+    let tail : SubTail k version places block scope mid inside (numbers_of c.pull_block.new.state.numbering) handlers handler label
+    behind.0 next last = subst (λ s. SubTail k version places block s mid inside (numbers_of c.pull_block.new.state.numbering) handlers
     handler label behind.0 next last) done.4 behind.1 in
     let ms = sub_members b tail.reasons tail.every label in
     let one : IsMet start (one_more_node ∷ []) counted = grind (arith, rules) in
@@ -378,10 +384,10 @@ pull_sub-returns t c =
       object ms,
       reads_deeper (suc k) (5 * c.args.levels + 2) _ (object ms) new (omega arith)
           (reads_object k (Token.key (codes "sub") ∷ old) ms new members),
-      λ earlier labels. sub_met version asks block scope b tail.reasons tail.every label earlier start counted inside tail.mid next
+      λ earlier labels. sub_met version places block scope b tail.reasons tail.every label earlier start counted inside tail.mid next
           tail.allowed one done.2 tail.first tail.second (label_anywhere scope earlier (label_in (object ms)) next counted labels),
       ap (λ (x : Tried). (x, last)) shown
-          ∙ sub_spelled version asks block scope b tail.reasons tail.every label numbers _ tail.between last
+          ∙ sub_spelled version places block scope b tail.reasons tail.every label numbers _ tail.between last
           (block_view c.in_ok-body.body) handlers handler done.3 tail.reasons_spelled tail.every_spelled,
       sym (sub_label b tail.reasons tail.every label),
       sub_sort b tail.reasons tail.every label,
@@ -391,7 +397,7 @@ pull_sub-returns t c =
 pub pull_sub_step-returns : goal.pull_sub_step-returns
 pull_sub_step-returns t c =
     let setting = setting_of c.args.declared.now in
-    let asks = block_asked setting c.args.levels in
+    let places = block_placed setting c.args.levels in
     let block = block_of setting c.args.levels in
     let scope = scope_of c.args.state.now.labels.entries in
     let start = c.args.state.now.counts in
@@ -411,7 +417,7 @@ pull_sub_step-returns t c =
     (subst (λ o. IsMet next (label_asked (scope_of c.pull_sub.new.state.labels.entries) [] o) next) label named) in (
       d,
       done.1,
-      sub_step_met setting scope d asks start next done.5 (done.2 [] allowed),
+      sub_step_met setting scope d places start next done.5 (done.2 [] allowed),
       ap (λ (x : tree.Step). (x, last)) shown ∙ ap (spelled_map sub_step) done.3
           ∙ sym (sub_step_spelled setting scope d block numbers done.5),
       added ∙ ap (λ s. with_label (option_map (λ text. text.now) c.in_ok-read.label) Outcome s) within
@@ -423,7 +429,9 @@ pull_children-loop-alloc-init t c =
     let none : c.new-children.result.items ≡ [] = c.new-children.ensures.items in (
       λ ds. ds,
       λ ds new reads. reads,
-      λ ds unseen. refl,
+      λ ds unseen. ap (λ (vs : List _). seek c.args.state.now.counts (children_placed c.args.declared.now.version
+          (block_placed (setting_of c.args.declared.now) c.args.levels) (scope_of c.args.state.now.labels.entries)
+          (scope_of c.args.earlier.now.entries) (length vs) ds)) (sym none),
       λ ds. ap (λ (vs : List _). in_front (map subaction_view vs)
           (children_spelled (block_of (setting_of c.args.declared.now) c.args.levels) (scope_of c.args.state.now.labels.entries)
           (numbers_of c.args.state.now.numbering) ds)) (sym none),
@@ -446,7 +454,7 @@ pull_children-loop-alloc-preserved t c =
     let k = 5 * c.args.levels + 2 in
     let version = c.args.declared.now.version in
     let setting = setting_of c.args.declared.now in
-    let asks = block_asked setting c.args.levels in
+    let places = block_placed setting c.args.levels in
     let block = block_of setting c.args.levels in
     let scope = scope_of c.args.state.now.labels.entries in
     let seen = scope_of l.state.labels.entries in
@@ -463,12 +471,14 @@ pull_children-loop-alloc-preserved t c =
     let read = map subaction_view l.children.items in
     let x = c.in_ok-child.child in
     let pushed : c.push.new.self.items ≡ l.children.items ++ x ∷ [] = grind (arith, rules) in
+    let index = length l.children.items in
+    let after_it : length c.push.new.self.items ≡ index + 1 = ap length pushed ∙ length-append l.children.items (x ∷ []) in
     let named : IsMet counts (label_asked earlier [] label) counts = grind (arith, rules) in
     let met : (ds : Items) → AreUnseen (labels_of (with_label (label_in d) Outcome earlier) ds) scope
-    → IsMet l.state.counts (sub_asked version asks scope earlier d) counts = λ ds unseen.
+    → AreMet l.state.counts (sub_placed version places scope earlier d) counts = λ ds unseen.
     let allowed = child_label_met scope earlier (label_in d) ds counts unseen
     (subst (λ o. IsMet counts (label_asked earlier [] o) counts) done.4 named) in
-    subst (λ s. IsMet l.state.counts (sub_asked version asks s earlier d) counts) l.invariant.5
+    subst (λ s. AreMet l.state.counts (sub_placed version places s earlier d) counts) l.invariant.5
     (done.2 earlier (subst (λ s. IsMet counts (label_asked s earlier (label_in d)) counts) (sym l.invariant.5) allowed)) in
     let value = subst (λ s. (subaction_view x, after) ≡ sub_of block s (numbers_of l.state.numbering) d) l.invariant.5 done.3 in
     let added : next ≡ with_label label Outcome earlier = grind (arith, rules) in
@@ -478,9 +488,9 @@ pull_children-loop-alloc-preserved t c =
           (reads_item k l.reader mid new d ds going.0 (subst (λ ts. ReadsValue k ts d mid) (sym begun ∙ going.1) done.1) reads),
       λ ds unseen. let before = subst (λ (s : Scope). AreUnseen (labels_of s ds) scope) follow unseen in
           l.invariant.2 (item d ds) before
-          ∙ check_met l.state.counts counts (sub_asked version asks scope earlier d)
-          (children_asked version asks scope (with_label (label_in d) Outcome earlier) ds) (met ds before)
-          ∙ ap (λ (s : Scope). check counts (children_asked version asks scope s ds)) (sym follow),
+          ∙ part_met l.state.counts counts (item_at index) (sub_placed version places scope earlier d)
+          (children_placed version places scope (with_label (label_in d) Outcome earlier) (index + 1) ds) (met ds before)
+          ∙ ap₂ (λ (s : Scope) i. seek counts (children_placed version places scope s i ds)) (sym follow) (sym after_it),
       λ ds. l.invariant.3 (item d ds)
           ∙ ap (λ (p : Tried × Numbers). in_front read (
             p.0 ∷ (children_spelled block scope p.1 ds).0,
@@ -512,7 +522,7 @@ pull_parallel-returns t c =
     let k = 5 * c.args.levels + 3 in
     let setting = setting_of c.args.declared.now in
     let version = c.args.declared.now.version in
-    let asks = block_asked setting c.args.levels in
+    let places = block_placed setting c.args.levels in
     let block = block_of setting c.args.levels in
     let scope = scope_of c.args.state.now.labels.entries in
     let start = c.args.state.now.counts in
@@ -532,7 +542,7 @@ pull_parallel-returns t c =
     let empty = c.no_labels-earlier.ensures in
     let found = scope_of c.pull_children.new.earlier.entries in
     let unseen : AreUnseen found scope = subst (λ (s : Scope). AreUnseen found s) done.5 c.in_ok-step.ensures.unseen in
-    let met = subst (λ e. IsMet counted (children_asked version asks scope e ds) next) empty (done.2 unseen) in
+    let met = subst (λ e. AreMet counted (children_placed version places scope e 0 ds) next) empty (done.2 unseen) in
     let labels = done.4 ∙ ap (λ (e : Scope). labels_of e ds) empty in
     let added : scope_of c.end_parallel.new.labels.entries ≡ with_labels (scope_of c.pull_children.new.earlier.entries)
     (scope_of c.pull_children.new.state.labels.entries) = grind (arith, rules) in
@@ -546,7 +556,7 @@ pull_parallel-returns t c =
       parallel_step ds,
       reads_deeper (suc k) (5 * c.args.levels + 4) _ (object ms) new (omega arith) (reads_object k (Token.key
           (codes "parallel") ∷ old) ms new members),
-      parallel_met setting scope ds asks start counted next one met,
+      parallel_met setting scope ds places start counted next one met,
       ap (λ (x : tree.Step). (x, last)) c.in_ok-step.ensures.value
           ∙ ap (spelled_map (λ (children : List Tried). tree.Parallel (children_of children))) done.3
           ∙ sym (parallel_spelled setting scope ds block numbers),
@@ -557,12 +567,12 @@ pub pull_if-returns : goal.pull_if-returns
 pull_if-returns t c =
     let k = 5 * c.args.levels in
     let setting = setting_of c.args.declared.now in
-    let asks = block_asked setting c.args.levels in
+    let places = block_placed setting c.args.levels in
     let block = block_of setting c.args.levels in
     let scope = scope_of c.args.state.now.labels.entries in
     let start = c.args.state.now.counts in
     let counted = c.pull_if_head.new.state.counts in
-    let inside = c.pull_block.new.state.counts in
+    let inside_counts = c.pull_block.new.state.counts in
     let next = c.pull_else.new.state.counts in
     let numbers = numbers_of c.args.state.now.numbering in
     let tested = numbers_of c.pull_if_head.new.state.numbering in
@@ -587,9 +597,9 @@ pull_if-returns t c =
     let ms = with_else second m3 in
     let whole = if_step s key v first second in
     let same = done.4 ∙ within in
-    let met = subst (λ l. IsMet counted (asks l first) inside) within done.2 in
+    let met = subst (λ l. AreMet counted (places l first) inside_counts) within done.2 in
     let spells = subst (λ l. (block_view c.in_ok-then.then, after) ≡ block l tested first) within done.3 in
-    let later = subst (λ l. IsMet inside (block_asked_if asks l second) next) same rest.2 in
+    let later = subst (λ l. AreMet inside_counts (block_placed_if places l second) next) same rest.2 in
     let ends = subst (λ l. (block_view c.in_ok-otherwise.otherwise, last)
     ≡ spelled_map or_no_step (block_of_if block l after second)) same rest.3 in
     let reads = head.3 k ms new (reads_member k m2 (codes "then") (Token.key (codes "then") ∷ r3) r3 r4 new first ms refl (omega arith)
@@ -598,7 +608,7 @@ pull_if-returns t c =
     (block_view c.in_ok-otherwise.otherwise) = grind (arith, rules) in (
       whole,
       reads_deeper (suc k) (5 * c.args.levels + 1) _ whole new (omega arith) (reads_object k (Token.key (codes "if") ∷ old) ms new reads),
-      if_met setting scope s key v first second asks start counted inside next head.4 head.5 (head.6 first second) met later,
+      if_met setting scope s key v first second places start counted inside_counts next head.4 head.5 (head.6 first second) met later,
       ap (λ (x : tree.Step). (x, last)) (shown ∙ ap (λ n. tree.If n c.in_ok-head.head.test (block_view c.in_ok-then.then)
           (block_view c.in_ok-otherwise.otherwise)) head.8)
           ∙ if_spelled setting scope s key v first second block numbers tested after last c.in_ok-head.head.test
@@ -607,7 +617,7 @@ pull_if-returns t c =
     )
 
 pub pull_else-returns-in-Some-EndObject : goal.pull_else-returns-in-Some-EndObject
-unfolding block_asked_if block_of_if
+unfolding block_placed_if block_of_if
 pull_else-returns-in-Some-EndObject t c =
     let k = 5 * c.args.levels in
     let new = c.next.new.self in
@@ -624,7 +634,7 @@ pull_else-returns-in-Some-EndObject t c =
     )
 
 pub pull_else-returns-in_ok-pull_end_object-in-Some-Key-else : goal.pull_else-returns-in_ok-pull_end_object-in-Some-Key-else
-unfolding block_asked_if block_of_if
+unfolding block_placed_if block_of_if
 pull_else-returns-in_ok-pull_end_object-in-Some-Key-else t c =
     let k = 5 * c.args.levels in
     let inside = c.next.new.self in
@@ -648,7 +658,7 @@ pull_else-returns-in_ok-pull_end_object-in-Some-Key-else t c =
 pub pull_step-returns-in-op : goal.pull_step-returns-in-op
 pull_step-returns-in-op t c =
     let k = 5 * c.args.levels + 4 in
-    let asks = block_asked (setting_of c.args.declared.now) c.args.levels in
+    let places = block_placed (setting_of c.args.declared.now) c.args.levels in
     let block = block_of (setting_of c.args.declared.now) c.args.levels in
     let inside = c.pull_first_key.new.reader in
     let named : c.in_ok-name.name.now ≡ codes "op" = grind (arith, rules) in
@@ -658,7 +668,7 @@ pull_step-returns-in-op t c =
       w.0,
       subst (λ ts. ReadsValue k ts w.0 c.pull_operation.new.reader) (sym begun)
           (reads_deeper 2 k _ w.0 c.pull_operation.new.reader (omega arith) w.1),
-      w.2 asks,
+      w.2 places,
       w.3 block,
       w.4,
     ))
@@ -707,7 +717,7 @@ pull_step-returns-in-parallel t c =
 pub pull_step-returns-in-abort : goal.pull_step-returns-in-abort
 pull_step-returns-in-abort t c =
     let k = 5 * c.args.levels + 4 in
-    let asks = block_asked (setting_of c.args.declared.now) c.args.levels in
+    let places = block_placed (setting_of c.args.declared.now) c.args.levels in
     let block = block_of (setting_of c.args.declared.now) c.args.levels in
     let inside = c.pull_first_key.new.reader in
     let named : c.in_ok-name.name.now ≡ codes "abort" = grind (arith, rules) in
@@ -717,7 +727,7 @@ pull_step-returns-in-abort t c =
       w.0,
       subst (λ ts. ReadsValue k ts w.0 c.pull_abort.new.reader) (sym begun)
           (reads_deeper 1 k _ w.0 c.pull_abort.new.reader (omega arith) w.1),
-      w.2 asks,
+      w.2 places,
       w.3 block,
       w.4,
     ))

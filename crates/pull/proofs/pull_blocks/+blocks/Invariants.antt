@@ -2,12 +2,12 @@ use Rattle.std.proofs.Common.{◌≡◌, ℕ, List, ◌+◌, ◌*◌, length, ma
 use Rattle.json.specs.Token.{Token}
 use Rattle.serde_json.specs.Data.{Data, Items, Members, no_members, put}
 use Rattle.batch.specs.Views.{block_view, handler_view, step_view, subaction_view}
-use Rattle.spelling.specs.Asked.{block_asked, children_asked, labels_of, members_asked, steps_asked}
-use Rattle.spelling.specs.Demand.{check}
+use Rattle.spelling.specs.Asked.{labels_of}
 use Rattle.pull.specs.Pulled.{IsAfter, ReadsItems, ReadsMembers, SubTail}
 use Rattle.spelling.specs.Scope.{AreUnseen, Extends, numbers_of, scope_of, setting_of}
 use Rattle.spelling.specs.Spelled.{block_of, children_spelled, members_of, steps_spelled}
 use Rattle.spelling.proofs.ListLemmas.{in_front}
+use Rattle.spelling.specs.Places.{block_placed, children_placed, members_placed, seek, steps_placed}
 use Rattle.pull.proofs.pull_blocks.+blocks.Given as goal
 
 -- what was read comes before any items that follow
@@ -16,11 +16,11 @@ invariant-pull_steps-loop-alloc l =
     (before : Items → Items)
     × ((ds : Items) (new : List Token) → ReadsItems (5 * l.levels + 4) l.reader ds new
     → ReadsItems (5 * l.levels + 4) l.initial.reader (before ds) new)
-    × ((ds : Items) → check l.initial.state.counts
-    (steps_asked (block_asked (setting_of l.declared) l.levels) (setting_of l.declared) (scope_of l.initial.state.labels.entries)
-    (before ds))
-    ≡ check l.state.counts (steps_asked (block_asked (setting_of l.declared) l.levels) (setting_of l.declared)
-    (scope_of l.state.labels.entries) ds))
+    × ((ds : Items) → seek l.initial.state.counts
+    (steps_placed (block_placed (setting_of l.declared) l.levels) (setting_of l.declared) (scope_of l.initial.state.labels.entries)
+    0 (before ds))
+    ≡ seek l.state.counts (steps_placed (block_placed (setting_of l.declared) l.levels) (setting_of l.declared)
+    (scope_of l.state.labels.entries) (length l.steps.items) ds))
     × ((ds : Items) → steps_spelled (block_of (setting_of l.declared) l.levels) (setting_of l.declared)
     (scope_of l.initial.state.labels.entries) (numbers_of l.initial.state.numbering) (before ds)
     ≡ in_front (map step_view l.steps.items)
@@ -52,7 +52,7 @@ decreases-pull_block l = 10 * l.levels
 -- what was read after the body so far, and the labels are as they were
 abbrev pub invariant-pull_sub_rest-loop-handler : goal.invariant-pull_sub_rest-loop-handler
 invariant-pull_sub_rest-loop-handler l =
-    SubTail (5 * l.levels + 1) l.declared.version (block_asked (setting_of l.declared) l.levels)
+    SubTail (5 * l.levels + 1) l.declared.version (block_placed (setting_of l.declared) l.levels)
     (block_of (setting_of l.declared) l.levels) (scope_of l.initial.state.labels.entries)
     l.initial.reader l.initial.state.counts (numbers_of l.initial.state.numbering)
     (option_map (λ list. map handler_view list.items) l.handlers) (option_map block_view l.handler)
@@ -76,11 +76,11 @@ invariant-pull_children-loop-alloc l =
     × ((ds : Items) (new : List Token) → ReadsItems (5 * l.levels + 2) l.reader ds new
     → ReadsItems (5 * l.levels + 2) l.initial.reader (before ds) new)
     × ((ds : Items) → AreUnseen (labels_of (scope_of l.earlier.entries) ds) (scope_of l.initial.state.labels.entries)
-    → check l.initial.state.counts
-    (children_asked l.declared.version (block_asked (setting_of l.declared) l.levels) (scope_of l.initial.state.labels.entries)
-    (scope_of l.initial.earlier.entries) (before ds))
-    ≡ check l.state.counts (children_asked l.declared.version (block_asked (setting_of l.declared) l.levels)
-    (scope_of l.initial.state.labels.entries) (scope_of l.earlier.entries) ds))
+    → seek l.initial.state.counts
+    (children_placed l.declared.version (block_placed (setting_of l.declared) l.levels) (scope_of l.initial.state.labels.entries)
+    (scope_of l.initial.earlier.entries) 0 (before ds))
+    ≡ seek l.state.counts (children_placed l.declared.version (block_placed (setting_of l.declared) l.levels)
+    (scope_of l.initial.state.labels.entries) (scope_of l.earlier.entries) (length l.children.items) ds))
     × ((ds : Items) → children_spelled (block_of (setting_of l.declared) l.levels) (scope_of l.initial.state.labels.entries)
     (numbers_of l.initial.state.numbering) (before ds)
     ≡ in_front (map subaction_view l.children.items)
@@ -115,9 +115,9 @@ invariant-pull_ascending-loop-handlers l =
     → ReadsMembers (5 * l.levels) no_members l.initial.reader ms new)
     × ((reason : List ℕ) (d : Data) (ds : Members) → IsAfter reason (option_map (λ text. text.now) l.before)
     → put reason d (front ds) ≡ front (put reason d ds))
-    × ((ds : Members) → check l.initial.state.counts
-    (members_asked (block_asked (setting_of l.declared) l.levels) (scope_of l.initial.state.labels.entries) (front ds))
-    ≡ check l.state.counts (members_asked (block_asked (setting_of l.declared) l.levels) (scope_of l.initial.state.labels.entries) ds))
+    × ((ds : Members) → seek l.initial.state.counts
+    (members_placed (block_placed (setting_of l.declared) l.levels) (scope_of l.initial.state.labels.entries) (front ds))
+    ≡ seek l.state.counts (members_placed (block_placed (setting_of l.declared) l.levels) (scope_of l.initial.state.labels.entries) ds))
     × ((ds : Members) → members_of (block_of (setting_of l.declared) l.levels) (scope_of l.initial.state.labels.entries)
     (numbers_of l.initial.state.numbering) (front ds)
     ≡ in_front (map handler_view l.handlers.items)

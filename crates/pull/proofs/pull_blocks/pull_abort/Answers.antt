@@ -29,7 +29,7 @@ returns c =
     let shown : step_view (Abort c.in_ok-number.number) ≡ tree.Abort c.in_ok-number.number = search (rules, the_lemmas) in (
       abort_step reason,
       done.0,
-      λ asks. abort_met setting scope reason asks start counted next done.1 one met,
+      λ places. abort_met setting scope reason places start counted next done.1 one met,
       λ block. ap (λ (step : tree.Step). (step, after)) shown
           ∙ abort_spelled setting scope reason block numbers after c.in_ok-number.number value,
       same ∙ sym (abort_scope setting scope reason),

@@ -2,11 +2,11 @@ use Rattle.std.proofs.Common.{◌≡◌, ◌*◌, map, subst, ap, arith, rules}
 use Rattle.serde_json.specs.Data.{no_members}
 use Rattle.serde_json.specs.View.{members_view}
 use Rattle.batch.specs.Views.{handler_view}
-use Rattle.spelling.specs.Answer.{IsMet}
-use Rattle.spelling.specs.Asked.{block_asked, members_asked}
+use Rattle.spelling.specs.Answer.{AreMet}
 use Rattle.spelling.specs.Scope.{numbers_of, scope_of, setting_of}
 use Rattle.spelling.specs.Spelled.{block_of, members_of}
 use Rattle.pull.specs.Pulled.{ReadsMembers}
+use Rattle.spelling.specs.Places.{block_placed, members_placed}
 use Rattle.pull.proofs.pull_blocks.pull_sorted.Goals as goal
 
 pub returns : goal.returns
@@ -18,7 +18,7 @@ returns c =
     let new = c.pull_members.new.reader in
     let none : members_view c.new.result.entries ≡ no_members = ap members_view c.new.ensures.empty in
     let members = subst (λ before. ReadsMembers k before c.args.reader.now hs new) none c.in_ok-members.ensures in
-    let met : IsMet c.args.state.now.counts (members_asked (block_asked setting c.args.levels) scope hs) c.read_members.new.state.counts =
+    let met : AreMet c.args.state.now.counts (members_placed (block_placed setting c.args.levels) scope hs) c.read_members.new.state.counts =
     grind (arith, rules) in
     let value : (map handler_view c.in_ok-handlers.handlers.items, numbers_of c.read_members.new.state.numbering)
     ≡ members_of (block_of setting c.args.levels) scope (numbers_of c.args.state.now.numbering) hs = grind (arith, rules) in

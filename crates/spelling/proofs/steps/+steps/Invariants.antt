@@ -1,8 +1,8 @@
 use Rattle.std.proofs.Common.{◌≡◌, ◌+◌, ◌*◌, drop, map}
 use Rattle.serde_json.specs.View.{items_view, members_view}
 use Rattle.batch.specs.Views.{handler_view, step_view, subaction_view}
-use Rattle.spelling.specs.Demand.{check}
-use Rattle.spelling.specs.Asked.{block_asked, children_asked, labels_of, members_asked, steps_asked}
+use Rattle.spelling.specs.Asked.{labels_of}
+use Rattle.spelling.specs.Places.{block_placed, children_placed, members_placed, seek, steps_placed}
 use Rattle.spelling.specs.Scope.{Extends, numbers_of, scope_of, setting_of}
 use Rattle.spelling.specs.Spelled.{block_of, children_spelled, members_of, steps_spelled}
 use Rattle.spelling.proofs.ListLemmas.{in_front}
@@ -38,45 +38,48 @@ decreases-read_members l = 10 * l.levels + 3
 abbrev pub decreases-read_handler : goal.decreases-read_handler
 decreases-read_handler l = 10 * l.levels + 2
 
-abbrev pub decreases-read_block_if : goal.decreases-read_block_if
-decreases-read_block_if l = 10 * l.levels + 1
+abbrev pub decreases-read_part : goal.decreases-read_part
+decreases-read_part l = 10 * l.levels + 1
+
+abbrev pub decreases-read_part_if : goal.decreases-read_part_if
+decreases-read_part_if l = 10 * l.levels + 2
 
 abbrev pub decreases-read_block : goal.decreases-read_block
 decreases-read_block l = 10 * l.levels
 
-abbrev pub invariant-read_steps-loop-step : goal.invariant-read_steps-loop-step
-invariant-read_steps-loop-step l = record {
-  asked : check l.initial.state.counts (steps_asked (block_asked (setting_of l.declared) l.levels) (setting_of l.declared)
-      (scope_of l.initial.state.labels.entries) (items_view l.step-items))
-      ≡ check l.state.counts (steps_asked (block_asked (setting_of l.declared) l.levels) (setting_of l.declared)
-      (scope_of l.state.labels.entries) (items_view (drop l.step-index l.step-items)));
+abbrev pub invariant-read_steps-loop-index : goal.invariant-read_steps-loop-index
+invariant-read_steps-loop-index l = record {
+  asked : seek l.initial.state.counts (steps_placed (block_placed (setting_of l.declared) l.levels) (setting_of l.declared)
+      (scope_of l.initial.state.labels.entries) 0 (items_view l.step-items))
+      ≡ seek l.state.counts (steps_placed (block_placed (setting_of l.declared) l.levels) (setting_of l.declared)
+      (scope_of l.state.labels.entries) l.index (items_view (drop l.index l.step-items)));
   spelled : steps_spelled (block_of (setting_of l.declared) l.levels) (setting_of l.declared) (scope_of l.initial.state.labels.entries)
       (numbers_of l.initial.state.numbering) (items_view l.step-items)
       ≡ in_front (map step_view l.steps.items) (steps_spelled (block_of (setting_of l.declared) l.levels) (setting_of l.declared)
-      (scope_of l.state.labels.entries) (numbers_of l.state.numbering) (items_view (drop l.step-index l.step-items)));
+      (scope_of l.state.labels.entries) (numbers_of l.state.numbering) (items_view (drop l.index l.step-items)));
   labels : Extends (scope_of l.initial.state.labels.entries) (scope_of l.state.labels.entries);
 }
 
-abbrev pub invariant-read_children-loop-child : goal.invariant-read_children-loop-child
-invariant-read_children-loop-child l = record {
-  asked : check l.initial.state.counts (children_asked l.declared.version (block_asked (setting_of l.declared) l.levels)
-      (scope_of l.initial.state.labels.entries) (scope_of l.initial.earlier.entries) (items_view l.child-items))
-      ≡ check l.state.counts (children_asked l.declared.version (block_asked (setting_of l.declared) l.levels)
-      (scope_of l.initial.state.labels.entries) (scope_of l.earlier.entries) (items_view (drop l.child-index l.child-items)));
+abbrev pub invariant-read_children-loop-index : goal.invariant-read_children-loop-index
+invariant-read_children-loop-index l = record {
+  asked : seek l.initial.state.counts (children_placed l.declared.version (block_placed (setting_of l.declared) l.levels)
+      (scope_of l.initial.state.labels.entries) (scope_of l.initial.earlier.entries) 0 (items_view l.child-items))
+      ≡ seek l.state.counts (children_placed l.declared.version (block_placed (setting_of l.declared) l.levels)
+      (scope_of l.initial.state.labels.entries) (scope_of l.earlier.entries) l.index (items_view (drop l.index l.child-items)));
   spelled : children_spelled (block_of (setting_of l.declared) l.levels) (scope_of l.initial.state.labels.entries)
       (numbers_of l.initial.state.numbering) (items_view l.child-items)
       ≡ in_front (map subaction_view l.children.items) (children_spelled (block_of (setting_of l.declared) l.levels)
-      (scope_of l.initial.state.labels.entries) (numbers_of l.state.numbering) (items_view (drop l.child-index l.child-items)));
+      (scope_of l.initial.state.labels.entries) (numbers_of l.state.numbering) (items_view (drop l.index l.child-items)));
   added : labels_of (scope_of l.initial.earlier.entries) (items_view l.child-items) ≡ labels_of (scope_of l.earlier.entries)
-      (items_view (drop l.child-index l.child-items));
+      (items_view (drop l.index l.child-items));
   labels : scope_of l.state.labels.entries ≡ scope_of l.initial.state.labels.entries;
 }
 
 abbrev pub invariant-read_members-loop-reason : goal.invariant-read_members-loop-reason
 invariant-read_members-loop-reason l = record {
-  asked : check l.initial.state.counts (members_asked (block_asked (setting_of l.declared) l.levels)
+  asked : seek l.initial.state.counts (members_placed (block_placed (setting_of l.declared) l.levels)
       (scope_of l.initial.state.labels.entries) (members_view l.members.entries))
-      ≡ check l.state.counts (members_asked (block_asked (setting_of l.declared) l.levels) (scope_of l.initial.state.labels.entries)
+      ≡ seek l.state.counts (members_placed (block_placed (setting_of l.declared) l.levels) (scope_of l.initial.state.labels.entries)
       (members_view l.reason-iterator));
   spelled : members_of (block_of (setting_of l.declared) l.levels) (scope_of l.initial.state.labels.entries)
       (numbers_of l.initial.state.numbering) (members_view l.members.entries)

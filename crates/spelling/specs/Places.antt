@@ -1,23 +1,28 @@
--- What is asked of a document, with the places: the same demands as in `asked`, each under the part that it is asked of.
-use Rattle.std.specs.Prelude.{ℕ, ◌+◌, List, [], ◌∷◌, ◌++◌, codes, Option, None, Some, Result, Ok, Err, zero, suc}
+-- What is asked of a document: each demand under the part that it is asked of, in reading order. After a demand that fails they say
+-- nothing of use. And the first that is not met, with its place.
+use Rattle.std.specs.Prelude.{ℕ, ◌+◌, List, [], ◌∷◌, ◌++◌, codes, false, is_some, Option, None, Some, Result, Ok, Err, zero, suc}
 use Rattle.std.specs.Fmt.{decimal}
 use Rattle.serde_json.specs.Data.{Data, Items, no_items, item, Members, no_members, member}
 use Rattle.serde_json.specs.Find.{as_array, get}
 use Rattle.objects.specs.declared.kind.Kind.{Kind}
 use Rattle.objects.specs.declared.kind.Kind.TheVariants as kind
+use Rattle.batch.specs.Names.{is_name}
+use Rattle.meaning.specs.declared.limits.TheConstants.{MAX_DEPTH}
+use Rattle.faults.specs.declared.fault.Fault.{Fault}
+use Rattle.faults.specs.declared.fault.Wrong.{Wrong}
+use Rattle.faults.specs.declared.fault.Wrong.TheVariants.{Depth, Name, Shape, Start}
+use Rattle.spelling.specs.declared.counts.Counts.{Counts}
 use Rattle.spelling.specs.declared.steps.Sort.{Sort}
 use Rattle.spelling.specs.declared.steps.Sort.TheVariants.{Operation as an_operation, If as an_if, Sub as a_sub, Abort as an_abort}
 use Rattle.spelling.specs.declared.steps.Sort.TheVariants.{Parallel as a_parallel}
 use Rattle.spelling.specs.declared.subject.Subject.TheVariants.{Outcome}
-use Rattle.faults.specs.declared.fault.Fault.{Fault}
-use Rattle.spelling.specs.declared.counts.Counts.{Counts}
-use Rattle.spelling.specs.Demand.{Demand, one_more_node, in_transaction, check}
+use Rattle.spelling.specs.Demand.{Demand, holds, one_more_node, in_transaction, check, no_counts}
 use Rattle.spelling.specs.Scope.{Scope, Setting, Table, with_label, with_text}
-use Rattle.spelling.specs.Asked.{abort_asked, array_asked, array_start_asked, block_asked, children_in, document_shape_asked, element_asked}
-use Rattle.spelling.specs.Asked.{entry_asked, handlers_in, if_label, if_shape_asked, key_of, kind_in, label_asked, label_in, member_asked}
-use Rattle.spelling.specs.Asked.{object_name, object_name_asked, object_shape_asked, objects_in, operation_asked, or_no_items, pair_asked}
-use Rattle.spelling.specs.Asked.{parallel_shape_asked, part, scope_after, seen_asked, setting_in, sort_of, start_asked, step_asked_by}
-use Rattle.spelling.specs.Asked.{sub_shape_asked, subject_of, test_asked, text_of, transactions_in, version_in}
+use Rattle.spelling.specs.Asked.{abort_asked, children_in, document_shape_asked, element_asked, entry_asked, handlers_in, if_label}
+use Rattle.spelling.specs.Asked.{if_shape_asked, key_of, kind_in, label_asked, label_in, number_start, object_name, object_name_asked}
+use Rattle.spelling.specs.Asked.{object_shape_asked, objects_in, operation_asked, pair_asked, parallel_shape_asked, part, scope_after}
+use Rattle.spelling.specs.Asked.{seen_asked, setting_in, signed_start, sort_of, sub_shape_asked, subject_of, test_asked, text_of}
+use Rattle.spelling.specs.Asked.{transactions_in, version_in}
 
 -- a member by its name, or an item by its index
 pub data Token : Type 0 where
@@ -30,13 +35,7 @@ pub data Placed : Type 0 where
   itself : List Demand → Placed → Placed
   inside : Token → Placed → Placed → Placed
 
--- the demands without their places
-abbrev pub demands_of : Placed → List Demand
-demands_of nothing = []
-demands_of (itself ds rest) = ds ++ demands_of rest
-demands_of (inside token part rest) = demands_of part ++ demands_of rest
-
--- ---- the first fault, with its place
+-- ---- the first that is not met
 
 -- A fault, and the JSON Pointer (RFC 6901) from a value to the part in which it is.
 pub record Found : Type 0 where
@@ -72,15 +71,20 @@ seek c nothing = Ok c
 seek c (itself ds rest) = go_on (here (check c ds)) (λ next. seek next rest)
 seek c (inside token part rest) = go_on (below token (seek c part)) (λ next. seek next rest)
 
+-- the fault, without its place
+abbrev pub fault_of : Result Counts Found → Option Fault
+fault_of (Ok c) = None
+fault_of (Err found) = Some found.fault
+
+-- the first fault of a document's demands
+abbrev pub first_fault : Placed → Option Fault
+first_fault asked = fault_of (seek no_counts asked)
+
 -- ---- steps
 
 -- what a block of a step asks, where these labels are seen
 abbrev pub Places : Type 0
 Places = Scope → Data → Placed
-
--- nothing is asked of the block of a step
-abbrev pub no_asks : Scope → Data → List Demand
-no_asks scope d = []
 
 unfoldable pub block_placed_if : Places → Scope → Option Data → Placed
 block_placed_if places scope None = nothing
@@ -97,15 +101,18 @@ if_placed places scope d =
     nothing)))))
 
 -- A reason that is no name is a fault of the handlers, not of its block.
+abbrev pub member_placed : Places → Scope → List ℕ → Data → Placed → Placed
+member_placed places scope reason d rest = itself (holds (is_name reason) Name ∷ []) (inside (member_named reason) (places scope d) rest)
+
 abbrev pub members_placed : Places → Scope → Members → Placed
 members_placed places scope no_members = nothing
-members_placed places scope (member reason d ds) = itself (member_asked no_asks scope reason d)
-    (inside (member_named reason) (places scope d) (members_placed places scope ds))
+members_placed places scope (member reason d ds) = member_placed places scope reason d (members_placed places scope ds)
 
 unfoldable pub handlers_placed : Places → Scope → Option Members → Placed
 handlers_placed places scope None = nothing
 handlers_placed places scope (Some ds) = members_placed places scope ds
 
+-- a subaction, or a child whose earlier siblings have these labels
 unfoldable pub sub_placed : ℕ → Places → Scope → Scope → Data → Placed
 sub_placed version places scope earlier d =
     itself (sub_shape_asked version d)
@@ -116,7 +123,7 @@ sub_placed version places scope earlier d =
     (inside (member_named (codes "handler")) (block_placed_if places scope (get (codes "handler") d))
     nothing)))))
 
--- the children from an index on
+-- the children from an index on, where their earlier siblings have these labels
 abbrev pub children_placed : ℕ → Places → Scope → Scope → ℕ → Items → Placed
 children_placed version places scope earlier i no_items = nothing
 children_placed version places scope earlier i (item d ds) = inside (item_at i) (sub_placed version places scope earlier d)
@@ -130,7 +137,7 @@ parallel_placed version places scope d =
     nothing))
 
 abbrev pub step_placed_by : Option Sort → Places → Setting → Scope → Data → Placed
-step_placed_by None places setting scope d = itself (step_asked_by None no_asks setting scope d) nothing
+step_placed_by None places setting scope d = itself (holds false Shape ∷ []) nothing
 step_placed_by (Some an_operation) places setting scope d = itself (operation_asked setting scope d) nothing
 step_placed_by (Some an_if) places setting scope d = if_placed places scope d
 step_placed_by (Some a_sub) places setting scope d = sub_placed setting.version places scope [] d
@@ -140,50 +147,48 @@ step_placed_by (Some a_parallel) places setting scope d = parallel_placed settin
 unfoldable pub step_placed : Places → Setting → Scope → Data → Placed
 step_placed places setting scope d = step_placed_by (sort_of d) places setting scope d
 
--- the steps from an index on
+-- the steps from an index on, each of which sees the labels of those before it
 abbrev pub steps_placed : Places → Setting → Scope → ℕ → Items → Placed
 steps_placed places setting scope i no_items = nothing
 steps_placed places setting scope i (item d ds) = inside (item_at i) (step_placed places setting scope d)
     (steps_placed places setting (scope_after setting scope d) (i + 1) ds)
 
--- the items of an array, or none
-abbrev pub items_in : Data → Items
-items_in d = or_no_items (as_array d)
+-- the items of an array; what is none is wrong so
+abbrev pub array_placed : Wrong → (Items → Placed) → Option Items → Placed
+array_placed wrong placed None = itself (holds false wrong ∷ []) nothing
+array_placed wrong placed (Some ds) = placed ds
 
 -- a block within so many more levels
 unfoldable pub block_placed : Setting → ℕ → Places
-block_placed setting zero scope d = itself (block_asked setting zero scope d) nothing
-block_placed setting (suc n) scope d = itself (array_asked (λ ds. []) (as_array d)) (steps_placed (block_placed setting n) setting scope 0
-    (items_in d))
+block_placed setting zero scope d = array_placed Shape (λ ds. itself (holds false Depth ∷ []) nothing) (as_array d)
+block_placed setting (suc n) scope d = array_placed Shape (steps_placed (block_placed setting n) setting scope 0) (as_array d)
 
 -- ---- objects
 
--- the entries of a queue, of a set and of a directory from an index on
+-- the entries of a queue from an index on
 abbrev pub entries_placed : ℕ → Items → Placed
 entries_placed i no_items = nothing
 entries_placed i (item d ds) = inside (item_at i) (itself (entry_asked d) nothing) (entries_placed (i + 1) ds)
 
+-- the entries of a set, which differ from these earlier ones
 abbrev pub elements_placed : Table → ℕ → Items → Placed
 elements_placed earlier i no_items = nothing
 elements_placed earlier i (item d ds) = inside (item_at i) (itself (element_asked earlier d) nothing)
     (elements_placed (with_text (text_of d) earlier) (i + 1) ds)
 
+-- the entries of a directory, whose keys differ from these earlier ones
 abbrev pub pairs_placed : Table → ℕ → Items → Placed
 pairs_placed earlier i no_items = nothing
 pairs_placed earlier i (item d ds) = inside (item_at i) (itself (pair_asked earlier d) nothing)
     (pairs_placed (with_text (key_of d) earlier) (i + 1) ds)
 
--- an array of entries
-unfoldable pub list_placed : (Items → Placed) → Data → Placed
-list_placed entries d = itself (array_start_asked (λ ds. []) (as_array d)) (entries (items_in d))
-
 unfoldable pub start_placed : Kind → Data → Placed
-start_placed kind.Account d = itself (start_asked kind.Account d) nothing
-start_placed kind.Counter d = itself (start_asked kind.Counter d) nothing
-start_placed kind.Set d = list_placed (elements_placed [] 0) d
-start_placed kind.Queue d = list_placed (entries_placed 0) d
-start_placed kind.Directory d = list_placed (pairs_placed [] 0) d
-start_placed kind.Max d = itself (start_asked kind.Max d) nothing
+start_placed kind.Account d = itself (holds (is_some (number_start d)) Start ∷ []) nothing
+start_placed kind.Counter d = itself (holds (is_some (signed_start d)) Start ∷ []) nothing
+start_placed kind.Set d = array_placed Start (elements_placed [] 0) (as_array d)
+start_placed kind.Queue d = array_placed Start (entries_placed 0) (as_array d)
+start_placed kind.Directory d = array_placed Start (pairs_placed [] 0) (as_array d)
+start_placed kind.Max d = itself (holds (is_some (number_start d)) Start ∷ []) nothing
 
 unfoldable pub object_placed : ℕ → Table → Data → Placed
 object_placed version names d =
@@ -192,7 +197,7 @@ object_placed version names d =
     (inside (member_named (codes "start")) (start_placed (kind_in version d) (part (codes "start") d))
     nothing))
 
--- the objects from an index on
+-- the objects from an index on, where these names come before them
 abbrev pub objects_placed : ℕ → Table → ℕ → Items → Placed
 objects_placed version names i no_items = nothing
 objects_placed version names i (item d ds) = inside (item_at i) (object_placed version names d)
@@ -202,7 +207,7 @@ objects_placed version names i (item d ds) = inside (item_at i) (object_placed v
 
 -- a transaction by its number
 abbrev pub transaction_placed : ℕ → Setting → Data → Placed
-transaction_placed n setting d = itself (in_transaction n ∷ []) (block_placed setting 24 [] d)
+transaction_placed n setting d = itself (in_transaction n ∷ []) (block_placed setting MAX_DEPTH [] d)
 
 -- the transactions from an index on, which are numbered from 1
 abbrev pub transactions_placed : Setting → ℕ → Items → Placed
@@ -210,7 +215,7 @@ transactions_placed setting i no_items = nothing
 transactions_placed setting i (item d ds) = inside (item_at i) (transaction_placed (i + 1) setting d)
     (transactions_placed setting (i + 1) ds)
 
--- all that is asked of a document, with the places
+-- all that is asked of a document
 unfoldable pub placed : Data → Placed
 placed d =
     itself (document_shape_asked d)
