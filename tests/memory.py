@@ -32,7 +32,7 @@ def turned_round(document):
 
 
 def try_document(program, library, words, name, document, report):
-    """Where reading without a tree is refused memory, a tree may still be made of it."""
+    """Where reading one transaction at a time is refused memory, a tree may still be made of it."""
     number, made = 0, 1
     while number <= made:
         number += 1
@@ -41,6 +41,21 @@ def try_document(program, library, words, name, document, report):
                         FAULT if got[1] == 1 else (report, 0, b""))
     program.compare("%s, no request refused" % name, words, got,
                     (report, 0, b""))
+
+
+def try_tokens(program, library, case):
+    """Where reading from tokens is refused memory, that is the fault: nothing more is asked for, and no tree is made.
+
+    What serves without the memory, as a list that was to be shortened, may ask once more."""
+    document = case.with_suffix(".json").read_bytes()
+    line = case.with_suffix(".check").read_bytes()
+    whole = refuse(library, 0, ["check"], program.path, document)[1]
+    for number in range(1, whole + 1):
+        got, made = refuse(library, number, ["check"], program.path, document)
+        name = "%s, request %d refused" % (case.name, number)
+        program.compare(name, ["check"], got, FAULT if got[1] == 1 else (line, 0, b""))
+        most = number if got[1] == 1 else whole + 1
+        program.compare(name + ", what follows", ["check"], (made <= most, 0, b""), (True, 0, b""))
 
 
 def try_case(program, library, words, case):
@@ -99,6 +114,7 @@ def try_all(program, library, loops, cases):
     try_long_report(program, library)
     try_places(program, library, cases[0])
     for case in cases:
+        try_tokens(program, library, case)
         try_carry(program, library, case)
     for case in cases:
         for workers in ("1", "4"):

@@ -45,7 +45,7 @@ fn one_transaction(
         × (scope_of state.new.labels.entries ≡ []))
         (IsFirstOf state.old.counts (transaction_placed number (setting_of declared.now) d))) }
 {
-    let value = pull_value(alloc, reader, PART_DEPTH)?;
+    let value = pull_value(alloc, reader, PART_DEPTH).ok()?;
     match read_transaction(alloc, &value, number, declared, state) {
         Ok(block) => Some(Ok(block)),
         Err(unmet) => Some(Err(unmet.fault)),
@@ -106,7 +106,7 @@ pub(crate) fn each_part(
         (λ fault. IsMet state.old.counts (document_shape_asked d) state.old.counts
         → IsFirstOf state.old.counts (placed d) fault)) }
 {
-    let (version, objects) = pull_head(alloc, reader)?;
+    let (version, objects) = pull_head(alloc, reader).ok()?;
     let declared = match read_objects(
         alloc,
         &objects,
@@ -119,12 +119,12 @@ pub(crate) fn each_part(
             let Ok(_) = pass_items(reader, PART_DEPTH) else {
                 return None;
             };
-            pull_end_object(reader)?;
+            pull_end_object(reader).ok()?;
             return Some(Err(unmet.fault));
         }
     };
     let answer = each_transaction(alloc, reader, &declared, state)?;
-    pull_end_object(reader)?;
+    pull_end_object(reader).ok()?;
     match answer {
         Ok(transactions) => Some(Ok(Parts {
             declared,

@@ -1,6 +1,8 @@
 -- How readings of parts make the reading of the whole.
 use Rattle.std.proofs.Common.{◌≡◌, ℕ, suc, ◌-◌, ◌<◌, ◌≤◌, List, [], ◌∷◌, ◌++◌, length, Bool, Option, Some, None, option_map}
 use Rattle.std.proofs.Common.{option_and_then, refl, ap, ◌∙◌, arith}
+use Rattle.std.specs.Prelude.{IfOk, Result}
+use Rattle.std.proofs.lemmas.Result.{IfOk-weaker}
 use Rattle.json.specs.Token.{Token}
 use Rattle.json.specs.Lex.{tokens}
 use Rattle.json.specs.Json as json
@@ -12,6 +14,10 @@ use Rattle.serde_json.specs.Read.{of_json, of_items, of_members, converted, numb
 use Rattle.serde_json.specs.View.{items_view, view}
 use Rattle.serde_json.specs.declared.value.Value.{Value}
 use Rattle.pull.specs.Pulled.{ReadsValue, ReadsItems, ReadsMembers}
+
+-- what follows from what holds of a value holds of it
+pub IfOk_then : {X E : Type 0} (r : Result X E) {P Q : X → Type 0} → IfOk r P → ((x : X) → P x → Q x) → IfOk r Q
+IfOk_then r {P} {Q} h f = IfOk-weaker r P Q f h
 
 -- ---- conversions
 

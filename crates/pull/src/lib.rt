@@ -7,3 +7,4 @@ pub mod pass;
 pub mod pull;
 pub mod pull_blocks;
 pub mod pull_heads;
+pub mod stop;

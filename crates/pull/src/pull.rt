@@ -1,13 +1,13 @@
 //! Reads a document straight from its tokens into the batch, where it is in the common form.
 //!
-//! A function `pull_..` takes the next tokens of the reader, each once. `None` says that they are out
-//! of the common form, or that memory was refused; the document is then read otherwise (`document`),
-//! which finds faults.
+//! A function `pull_..` takes the next tokens of the reader, each once, or returns why it stops there:
+//! memory was refused, or the tokens are out of the common form. The document is then read otherwise
+//! (`document` of `lang`), which finds faults.
 //!
 //! The common form: the members `ordtx`, `objects` and `transactions` in this order; a step's members
 //! as `pull_blocks` says; in steps, numbers without a point or an exponent. Of the objects a small tree is made
 //! and read as in any other document.
-ghost use Rattle.std.specs.Prelude.{◌≡◌, ℕ, List, [], ◌∷◌, codes, length, map, option_map, true, Some, None, IfSome, ◌<◌, ◌+◌, ◌*◌, ◌≤◌};
+ghost use Rattle.std.specs.Prelude.{◌≡◌, ℕ, List, [], ◌∷◌, codes, length, map, option_map, true, Some, None, IfOk, IfSome, ◌<◌, ◌+◌, ◌*◌, ◌≤◌};
 ghost use Rattle.json.specs.Token as token;
 ghost use Rattle.fast_float.specs.Text.{with_sign};
 ghost use Rattle.serde_json.specs.Data.{Data, Items, Members, Num, member, negative, number, unsigned};
@@ -27,6 +27,7 @@ ghost use Rattle.batch.specs.Names.{is_name};
 ghost use Rattle.meaning.specs.declared.limits.TheConstants.{MAX_DEPTH, MAX_OBJECTS, MAX_TRANSACTIONS};
 
 use crate::pull_blocks::pull_block;
+use crate::stop::Stop;
 use batch::{Block, Call, Step, is_name};
 use fast_float::Numeral;
 use json::{Reader, Token};
@@ -52,21 +53,25 @@ const MOST_WHOLE: u64 = 9_223_372_036_854_775_807;
 
 // ---- tokens
 
-pub(crate) fn pull_text<'a>(reader: &mut Reader<'a>) -> Option<&'a str>
-    ensures { IfSome result (λ text. reader.old ≡ token.string text.now ∷ reader.new) }
+pub(crate) fn pull_text<'a>(reader: &mut Reader<'a>) -> Result<&'a str, Stop>
+    ensures { IfOk result (λ text. reader.old ≡ token.string text.now ∷ reader.new) }
 {
     match reader.next() {
-        Some(Token::String(text)) => Some(text),
-        _ => None,
+        Some(Token::String(text)) => Ok(text),
+        _ => Err(Stop::OtherForm),
     }
 }
 
-pub(crate) fn pull_name<'a>(reader: &mut Reader<'a>) -> Option<&'a str>
-    ensures { IfSome result (λ text. (reader.old ≡ token.string text.now ∷ reader.new)
+pub(crate) fn pull_name<'a>(reader: &mut Reader<'a>) -> Result<&'a str, Stop>
+    ensures { IfOk result (λ text. (reader.old ≡ token.string text.now ∷ reader.new)
         × (is_name text.now ≡ true)) }
 {
     let text = pull_text(reader)?;
-    if is_name(text) { Some(text) } else { None }
+    if is_name(text) {
+        Ok(text)
+    } else {
+        Err(Stop::OtherForm)
+    }
 }
 
 /// The number that a text writes, if it has no sign, point or exponent and fits.
@@ -78,6 +83,13 @@ fn unsigned_of(text: &str) -> Option<u64>
         return None;
     }
     Numeral::scan(bytes).to_u64()
+}
+
+/// The amount that a text writes, if it has no sign, point or exponent and fits.
+fn amount_of(text: &str) -> Option<Amount>
+    ensures { IfSome result (λ amount. number_of text.now ≡ Some (unsigned amount.value)) }
+{
+    Amount::new(unsigned_of(text)?)
 }
 
 /// The size of the number below 0 that a text writes, if it has no point or exponent and fits.
@@ -111,79 +123,79 @@ fn whole_of(text: &str) -> Option<i64>
     Some(-(size as i64))
 }
 
-pub(crate) fn pull_whole(reader: &mut Reader<'_>) -> Option<i64>
-    ensures { IfSome result (λ n. (s : List ℕ) × (x : Num) × (reader.old ≡ token.number s ∷ reader.new)
+pub(crate) fn pull_whole(reader: &mut Reader<'_>) -> Result<i64, Stop>
+    ensures { IfOk result (λ n. (s : List ℕ) × (x : Num) × (reader.old ≡ token.number s ∷ reader.new)
         × (number_of s ≡ Some x) × (as_i64 x ≡ Some n)) }
 {
     match reader.next() {
-        Some(Token::Number(text)) => whole_of(text),
-        _ => None,
+        Some(Token::Number(text)) => whole_of(text).ok_or(Stop::OtherForm),
+        _ => Err(Stop::OtherForm),
     }
 }
 
-fn pull_amount(reader: &mut Reader<'_>) -> Option<Amount>
-    ensures { IfSome result (λ amount. (s : List ℕ) × (reader.old ≡ token.number s ∷ reader.new)
+fn pull_amount(reader: &mut Reader<'_>) -> Result<Amount, Stop>
+    ensures { IfOk result (λ amount. (s : List ℕ) × (reader.old ≡ token.number s ∷ reader.new)
         × (number_of s ≡ Some (unsigned amount.value))) }
 {
     match reader.next() {
-        Some(Token::Number(text)) => Amount::new(unsigned_of(text)?),
-        _ => None,
+        Some(Token::Number(text)) => amount_of(text).ok_or(Stop::OtherForm),
+        _ => Err(Stop::OtherForm),
     }
 }
 
-pub(crate) fn pull_begin_object(reader: &mut Reader<'_>) -> Option<()>
-    ensures { IfSome result (λ _. reader.old ≡ token.begin_object ∷ reader.new) }
+pub(crate) fn pull_begin_object(reader: &mut Reader<'_>) -> Result<(), Stop>
+    ensures { IfOk result (λ _. reader.old ≡ token.begin_object ∷ reader.new) }
 {
     match reader.next() {
-        Some(Token::BeginObject) => Some(()),
-        _ => None,
+        Some(Token::BeginObject) => Ok(()),
+        _ => Err(Stop::OtherForm),
     }
 }
 
-pub(crate) fn pull_begin_array(reader: &mut Reader<'_>) -> Option<()>
-    ensures { IfSome result (λ _. reader.old ≡ token.begin_array ∷ reader.new) }
+pub(crate) fn pull_begin_array(reader: &mut Reader<'_>) -> Result<(), Stop>
+    ensures { IfOk result (λ _. reader.old ≡ token.begin_array ∷ reader.new) }
 {
     match reader.next() {
-        Some(Token::BeginArray) => Some(()),
-        _ => None,
+        Some(Token::BeginArray) => Ok(()),
+        _ => Err(Stop::OtherForm),
     }
 }
 
-fn pull_end_array(reader: &mut Reader<'_>) -> Option<()>
-    ensures { IfSome result (λ _. reader.old ≡ token.end_array ∷ reader.new) }
+fn pull_end_array(reader: &mut Reader<'_>) -> Result<(), Stop>
+    ensures { IfOk result (λ _. reader.old ≡ token.end_array ∷ reader.new) }
 {
     match reader.next() {
-        Some(Token::EndArray) => Some(()),
-        _ => None,
+        Some(Token::EndArray) => Ok(()),
+        _ => Err(Stop::OtherForm),
     }
 }
 
-/// The end of an object, as the next token. None where the next token is another.
-pub fn pull_end_object(reader: &mut Reader<'_>) -> Option<()>
-    ensures { IfSome result (λ _. reader.old ≡ token.end_object ∷ reader.new) }
+/// The end of an object, as the next token. [`Stop::OtherForm`] where the next token is another.
+pub fn pull_end_object(reader: &mut Reader<'_>) -> Result<(), Stop>
+    ensures { IfOk result (λ _. reader.old ≡ token.end_object ∷ reader.new) }
 {
     match reader.next() {
-        Some(Token::EndObject) => Some(()),
-        _ => None,
+        Some(Token::EndObject) => Ok(()),
+        _ => Err(Stop::OtherForm),
     }
 }
 
-/// That no token is left.
-pub fn pull_end(reader: &mut Reader<'_>) -> Option<()>
-    ensures { IfSome result (λ _. reader.old ≡ []) }
+/// That no token is left. [`Stop::OtherForm`] where one is.
+pub fn pull_end(reader: &mut Reader<'_>) -> Result<(), Stop>
+    ensures { IfOk result (λ _. reader.old ≡ []) }
 {
     match reader.next() {
-        Some(_) => None,
-        None => Some(()),
+        Some(_) => Err(Stop::OtherForm),
+        None => Ok(()),
     }
 }
 
-pub(crate) fn pull_key(reader: &mut Reader<'_>, name: &str) -> Option<()>
-    ensures { IfSome result (λ _. reader.old ≡ token.key name.now ∷ reader.new) }
+pub(crate) fn pull_key(reader: &mut Reader<'_>, name: &str) -> Result<(), Stop>
+    ensures { IfOk result (λ _. reader.old ≡ token.key name.now ∷ reader.new) }
 {
     match reader.next() {
-        Some(Token::Key(key)) if key == name => Some(()),
-        _ => None,
+        Some(Token::Key(key)) if key == name => Ok(()),
+        _ => Err(Stop::OtherForm),
     }
 }
 
@@ -195,8 +207,8 @@ fn pull_arguments(
     verb: Verb,
     reader: &mut Reader<'_>,
     numbering: &mut Numbering,
-) -> Option<Call>
-    ensures { IfSome result (λ call. (rest : Items) × ReadsItems 0 reader.old rest reader.new
+) -> Result<Call, Stop>
+    ensures { IfOk result (λ call. (rest : Items) × ReadsItems 0 reader.old rest reader.new
         × ((o c : List ℕ) (counts : Counts) → IsMet counts (arguments_asked verb (op_array o c rest)) counts)
         × ((o c : List ℕ) → (call, numbers_of numbering.new) ≡ call_of verb (numbers_of numbering.old) (op_array o c rest))) }
 {
@@ -204,42 +216,42 @@ fn pull_arguments(
         Verb::OfAmount(verb) => {
             let amount = pull_amount(reader)?;
             pull_end_array(reader)?;
-            Some(verb.call(amount))
+            Ok(verb.call(amount))
         }
         Verb::OfItem(verb) => {
             let name = pull_name(reader)?;
             pull_end_array(reader)?;
-            let item = item_of(alloc, name, numbering).ok()?;
-            Some(verb.call(item))
+            let item = item_of(alloc, name, numbering)?;
+            Ok(verb.call(item))
         }
         Verb::OfPair(verb) => {
             let key_name = pull_name(reader)?;
             let name = pull_name(reader)?;
             pull_end_array(reader)?;
-            let key = item_of(alloc, key_name, numbering).ok()?;
-            let item = item_of(alloc, name, numbering).ok()?;
-            Some(verb.call(key, item))
+            let key = item_of(alloc, key_name, numbering)?;
+            let item = item_of(alloc, name, numbering)?;
+            Ok(verb.call(key, item))
         }
         Verb::Alone(verb) => {
             pull_end_array(reader)?;
-            Some(verb.call())
+            Ok(verb.call())
         }
     }
 }
 
 /// The label of a step whose other members have been read, if it has one, and the step's end.
-fn pull_label<'a>(reader: &mut Reader<'a>) -> Option<Option<&'a str>>
-    ensures { IfSome result (λ label. (found : Members)
+fn pull_label<'a>(reader: &mut Reader<'a>) -> Result<Option<&'a str>, Stop>
+    ensures { IfOk result (λ label. (found : Members)
         → ReadsMembers 0 found reader.old (labelled (option_map (λ text. text.now) label) found) reader.new) }
 {
     match reader.next() {
-        Some(Token::EndObject) => Some(None),
+        Some(Token::EndObject) => Ok(None),
         Some(Token::Key("as")) => {
             let label = pull_text(reader)?;
             pull_end_object(reader)?;
-            Some(Some(label))
+            Ok(Some(label))
         }
-        _ => None,
+        _ => Err(Stop::OtherForm),
     }
 }
 
@@ -249,8 +261,8 @@ pub(crate) fn pull_operation(
     reader: &mut Reader<'_>,
     declared: &Declared,
     state: &mut State,
-) -> Option<Step>
-    ensures { IfSome result (λ step. (d : Data) × ReadsValue 2 (token.begin_object ∷ token.key (codes "op") ∷ reader.old) d reader.new
+) -> Result<Step, Stop>
+    ensures { IfOk result (λ step. (d : Data) × ReadsValue 2 (token.begin_object ∷ token.key (codes "op") ∷ reader.old) d reader.new
         × ((places : Places) → AreMet state.old.counts
         (step_placed places (setting_of declared.now) (scope_of state.old.labels.entries) d)
         state.new.counts)
@@ -261,8 +273,8 @@ pub(crate) fn pull_operation(
     pull_begin_array(reader)?;
     let object = pull_text(reader)?;
     let call = pull_text(reader)?;
-    state.counts.one_more_operation(declared.version).ok()?;
-    let (object, verb) = target_of(object, call, declared, &state.counts).ok()?;
+    state.counts.one_more_operation(declared.version)?;
+    let (object, verb) = target_of(object, call, declared, &state.counts)?;
     let call = pull_arguments(alloc, verb, reader, &mut state.numbering)?;
     let label = pull_label(reader)?;
     add_new_label(
@@ -271,9 +283,8 @@ pub(crate) fn pull_operation(
         Subject::Reply(verb),
         &mut state.labels,
         &state.counts,
-    )
-    .ok()?;
-    Some(Step::Op {
+    )?;
+    Ok(Step::Op {
         object,
         call,
         labelled: label.is_some(),
@@ -283,49 +294,50 @@ pub(crate) fn pull_operation(
 // ---- values
 
 /// The value of a number's text.
-fn number_value(text: &str) -> Option<Value>
-    ensures { IfSome result (λ v. (x : Num) × (number_of text.now ≡ Some x) × (view v ≡ number x)) }
+fn number_value(text: &str) -> Result<Value, Stop>
+    ensures { IfOk result (λ v. (x : Num) × (number_of text.now ≡ Some x) × (view v ≡ number x)) }
 {
-    let number = number_of(text)?;
-    Some(Value::Number(number))
+    let number = number_of(text).ok_or(Stop::OtherForm)?;
+    Ok(Value::Number(number))
 }
 
 /// A value that nests no deeper.
 #[cycle(values)]
-pub fn pull_value(alloc: Global, reader: &mut Reader<'_>, depth: usize) -> Option<Value>
-    ensures { IfSome result (λ v. ReadsValue depth reader.old (view v) reader.new) }
+pub fn pull_value(alloc: Global, reader: &mut Reader<'_>, depth: usize) -> Result<Value, Stop>
+    ensures { IfOk result (λ v. ReadsValue depth reader.old (view v) reader.new) }
 {
-    match reader.next()? {
-        Token::String(text) => Some(Value::String(String::from_str(alloc, text).ok()?)),
+    let token = reader.next().ok_or(Stop::OtherForm)?;
+    match token {
+        Token::String(text) => Ok(Value::String(String::from_str(alloc, text)?)),
         Token::Number(text) => number_value(text),
-        Token::Bool(holds) => Some(Value::Bool(holds)),
-        Token::Null => Some(Value::Null),
+        Token::Bool(holds) => Ok(Value::Bool(holds)),
+        Token::Null => Ok(Value::Null),
         Token::BeginArray => {
             if depth == 0 {
-                return None;
+                return Err(Stop::OtherForm);
             }
-            Some(Value::Array(pull_items(alloc, reader, depth - 1)?))
+            Ok(Value::Array(pull_items(alloc, reader, depth - 1)?))
         }
         Token::BeginObject => {
             if depth == 0 {
-                return None;
+                return Err(Stop::OtherForm);
             }
-            Some(Value::Object(pull_members(alloc, reader, depth - 1, Map::new(alloc))?))
+            Ok(Value::Object(pull_members(alloc, reader, depth - 1, Map::new(alloc))?))
         }
-        _ => None,
+        _ => Err(Stop::OtherForm),
     }
 }
 
 /// The items of an array whose beginning has been read, with its end.
 #[cycle(values)]
-fn pull_items(alloc: Global, reader: &mut Reader<'_>, depth: usize) -> Option<Vec<Value>>
-    ensures { IfSome result (λ list. ReadsItems depth reader.old (items_view list.items) reader.new) }
+fn pull_items(alloc: Global, reader: &mut Reader<'_>, depth: usize) -> Result<Vec<Value>, Stop>
+    ensures { IfOk result (λ list. ReadsItems depth reader.old (items_view list.items) reader.new) }
 {
     let mut found = Vec::new(alloc);
     while !reader.take_end_array() {
-        found.push(pull_value(alloc, reader, depth)?).ok()?;
+        found.push(pull_value(alloc, reader, depth)?)?;
     }
-    Some(found)
+    Ok(found)
 }
 
 /// The members of an object up to its end, with those that were found before.
@@ -335,16 +347,16 @@ pub(crate) fn pull_members(
     reader: &mut Reader<'_>,
     depth: usize,
     before: Map<String, Value>,
-) -> Option<Map<String, Value>>
-    ensures { IfSome result (λ map. ReadsMembers depth (members_view before.entries) reader.old (members_view map.entries) reader.new) }
+) -> Result<Map<String, Value>, Stop>
+    ensures { IfOk result (λ map. ReadsMembers depth (members_view before.entries) reader.old (members_view map.entries) reader.new) }
 {
     let mut found = before;
-    while let Some(name) = reader.next_key().ok()? {
-        let key = String::from_str(alloc, name).ok()?;
+    while let Some(name) = reader.next_key()? {
+        let key = String::from_str(alloc, name)?;
         let member = pull_value(alloc, reader, depth)?;
-        drop(found.insert(key, member).ok()?);
+        drop(found.insert(key, member)?);
     }
-    Some(found)
+    Ok(found)
 }
 
 /// The value of an object whose first key has been read.
@@ -353,14 +365,14 @@ pub(crate) fn pull_object(
     name: &str,
     reader: &mut Reader<'_>,
     depth: usize,
-) -> Option<Value>
-    ensures { IfSome result (λ v. ReadsValue (depth + 1) (token.begin_object ∷ token.key name.now ∷ reader.old) (view v) reader.new) }
+) -> Result<Value, Stop>
+    ensures { IfOk result (λ v. ReadsValue (depth + 1) (token.begin_object ∷ token.key name.now ∷ reader.old) (view v) reader.new) }
 {
-    let key = String::from_str(alloc, name).ok()?;
+    let key = String::from_str(alloc, name)?;
     let member = pull_value(alloc, reader, depth)?;
     let mut found = Map::new(alloc);
-    drop(found.insert(key, member).ok()?);
-    Some(Value::Object(pull_members(alloc, reader, depth, found)?))
+    drop(found.insert(key, member)?);
+    Ok(Value::Object(pull_members(alloc, reader, depth, found)?))
 }
 
 // ---- transactions
@@ -371,9 +383,9 @@ fn pull_transaction(
     number: u32,
     declared: &Declared,
     state: &mut State,
-) -> Option<Block>
+) -> Result<Block, Stop>
     requires { scope_of state.old.labels.entries ≡ [] }
-    ensures { IfSome result (λ block. (d : Data) × ReadsValue 120 reader.old d reader.new
+    ensures { IfOk result (λ block. (d : Data) × ReadsValue 120 reader.old d reader.new
         × AreMet state.old.counts (transaction_placed number (setting_of declared.now) d)
         state.new.counts
         × ((block_view block, numbers_of state.new.numbering)
@@ -390,9 +402,9 @@ fn pull_transactions(
     reader: &mut Reader<'_>,
     declared: &Declared,
     state: &mut State,
-) -> Option<Vec<Block>>
+) -> Result<Vec<Block>, Stop>
     requires labels { scope_of state.old.labels.entries ≡ [] }
-    ensures { IfSome result (λ blocks. (ds : Items) × ReadsItems 120 reader.old ds reader.new
+    ensures { IfOk result (λ blocks. (ds : Items) × ReadsItems 120 reader.old ds reader.new
         × AreMet state.old.counts (transactions_placed (setting_of declared.now) 0 ds)
         state.new.counts
         × ((map block_view blocks.items, numbers_of state.new.numbering)
@@ -403,56 +415,54 @@ fn pull_transactions(
     let mut number = 0;
     while !reader.take_end_array() {
         if number as usize >= MAX_TRANSACTIONS {
-            return None;
+            return Err(Stop::OtherForm);
         }
         number += 1;
-        blocks
-            .push(pull_transaction(alloc, reader, number, declared, state)?)
-            .ok()?;
+        blocks.push(pull_transaction(alloc, reader, number, declared, state)?)?;
     }
-    Some(blocks)
+    Ok(blocks)
 }
 
 // ---- the document
 
-fn pull_version(reader: &mut Reader<'_>) -> Option<u8>
-    ensures { IfSome result (λ version. (s : List ℕ) × (reader.old ≡ token.number s ∷ reader.new)
+fn pull_version(reader: &mut Reader<'_>) -> Result<u8, Stop>
+    ensures { IfOk result (λ version. (s : List ℕ) × (reader.old ≡ token.number s ∷ reader.new)
         × (number_of s ≡ Some (unsigned version))
         × (1 ≤ version) × (version ≤ 4)) }
 {
     match reader.next() {
         Some(Token::Number(text)) => {
-            let number = unsigned_of(text)?;
+            let number = unsigned_of(text).ok_or(Stop::OtherForm)?;
             if 1 <= number && number <= 4 {
-                Some(number as u8)
+                Ok(number as u8)
             } else {
-                None
+                Err(Stop::OtherForm)
             }
         }
-        _ => None,
+        _ => Err(Stop::OtherForm),
     }
 }
 
 /// The objects up to the end of their array, if they are no more than a document may have.
-fn pull_objects(alloc: Global, reader: &mut Reader<'_>) -> Option<Vec<Value>>
-    ensures reads { IfSome result (λ list. ReadsItems 125 reader.old (items_view list.items) reader.new) }
-    ensures few { IfSome result (λ list. length list.items ≤ MAX_OBJECTS) }
+fn pull_objects(alloc: Global, reader: &mut Reader<'_>) -> Result<Vec<Value>, Stop>
+    ensures reads { IfOk result (λ list. ReadsItems 125 reader.old (items_view list.items) reader.new) }
+    ensures few { IfOk result (λ list. length list.items ≤ MAX_OBJECTS) }
 {
     let mut found = Vec::new(alloc);
     while !reader.take_end_array() {
         if found.len() >= MAX_OBJECTS {
-            return None;
+            return Err(Stop::OtherForm);
         }
-        found.push(pull_value(alloc, reader, PART_DEPTH)?).ok()?;
+        found.push(pull_value(alloc, reader, PART_DEPTH)?)?;
     }
-    Some(found)
+    Ok(found)
 }
 
 /// A document up to where its transactions begin: its version, and of its objects a tree.
-pub fn pull_head(alloc: Global, reader: &mut Reader<'_>) -> Option<(u8, Vec<Value>)>
-    ensures version { IfSome result (λ head. (1 ≤ head.0) × (head.0 ≤ 4)) }
-    ensures objects { IfSome result (λ head. length head.1.items ≤ MAX_OBJECTS) }
-    ensures reads { IfSome result (λ head. (ts : Items) (rest : List token.Token)
+pub fn pull_head(alloc: Global, reader: &mut Reader<'_>) -> Result<(u8, Vec<Value>), Stop>
+    ensures version { IfOk result (λ head. (1 ≤ head.0) × (head.0 ≤ 4)) }
+    ensures objects { IfOk result (λ head. length head.1.items ≤ MAX_OBJECTS) }
+    ensures reads { IfOk result (λ head. (ts : Items) (rest : List token.Token)
         → ReadsItems 125 reader.new ts (token.end_object ∷ rest)
         → ReadsValue 127 reader.old (in_order head.0 (items_view head.1.items) ts) rest) }
 {
@@ -464,13 +474,13 @@ pub fn pull_head(alloc: Global, reader: &mut Reader<'_>) -> Option<(u8, Vec<Valu
     let objects = pull_objects(alloc, reader)?;
     pull_key(reader, "transactions")?;
     pull_begin_array(reader)?;
-    Some((version, objects))
+    Ok((version, objects))
 }
 
 /// The parts of a document: its version, its objects and its transactions, in this order.
-pub fn pull_parts(alloc: Global, reader: &mut Reader<'_>, state: &mut State) -> Option<Parts>
+pub fn pull_parts(alloc: Global, reader: &mut Reader<'_>, state: &mut State) -> Result<Parts, Stop>
     requires { scope_of state.old.labels.entries ≡ [] }
-    ensures { IfSome result (λ parts. (d : Data) × ReadsValue 127 reader.old d reader.new
+    ensures { IfOk result (λ parts. (d : Data) × ReadsValue 127 reader.old d reader.new
         × AreMet state.old.counts (placed d) state.new.counts
         × (texts_of parts.declared.names.keys ≡ names_of (objects_in d))
         × (spelled parts.declared.objects (map block_view parts.transactions.items) (numbers_of state.new.numbering)
@@ -483,11 +493,10 @@ pub fn pull_parts(alloc: Global, reader: &mut Reader<'_>, state: &mut State) -> 
         version,
         &mut state.counts,
         &mut state.numbering,
-    )
-    .ok()?;
+    )?;
     let transactions = pull_transactions(alloc, reader, &declared, state)?;
     pull_end_object(reader)?;
-    Some(Parts {
+    Ok(Parts {
         declared,
         transactions,
     })

@@ -8,7 +8,7 @@
 //! Of a step whose first member is another, a small tree is made and read as in any other document. So
 //! texts are numbered in the same order. Handlers by reason are read in the order of the reasons' bytes:
 //! straight, where they come in this order, and where some don't, by a small tree of each step's.
-ghost use Rattle.std.specs.Prelude.{◌≡◌, ℕ, List, [], ◌∷◌, codes, map, Option, option_map, true, Some, None, IfSome, ◌<◌, ◌+◌, ◌*◌, ◌≤◌};
+ghost use Rattle.std.specs.Prelude.{◌≡◌, ℕ, List, [], ◌∷◌, codes, map, Option, option_map, true, Some, None, IfOk, ◌<◌, ◌+◌, ◌*◌, ◌≤◌};
 ghost use Rattle.json.specs.Json.{read_key};
 ghost use Rattle.json.specs.Token as token;
 ghost use Rattle.serde_json.specs.Data.{Data, Items, Members, no_members, object, put};
@@ -27,6 +27,7 @@ use crate::pull::{
     pull_object, pull_operation, pull_text, pull_whole,
 };
 use crate::pull_heads::{begin_parallel, end_parallel, new_sub_step, pull_if_head};
+use crate::stop::Stop;
 use batch::{Block, Handler, Step, Subaction, Test};
 use json::{Reader, Token};
 use serde_json::Map;
@@ -35,7 +36,7 @@ use spelling::hashing::Labels;
 use spelling::heads::{if_step, no_labels, subaction_of};
 use spelling::labels::{add_new_label, leave_block};
 use spelling::operations::item_of;
-use spelling::state::{Numbering, State};
+use spelling::state::{Numbering, ReasonOrder, State};
 use spelling::steps::{Sort, read_members, read_reason, read_step, reason_number};
 use spelling::subject::{Subject, fits_item, fits_number, fits_word};
 use std::alloc::Global;
@@ -62,9 +63,9 @@ fn pull_handler(
     levels: usize,
     declared: &Declared,
     state: &mut State,
-) -> Option<Handler>
+) -> Result<Handler, Stop>
     requires few { levels ≤ MAX_DEPTH }
-    ensures { IfSome result (λ handler. (d : Data) × ReadsValue (5 * levels) reader.old d reader.new
+    ensures { IfOk result (λ handler. (d : Data) × ReadsValue (5 * levels) reader.old d reader.new
         × AreMet state.old.counts (member_placed (block_placed (setting_of declared.now) levels)
         (scope_of state.old.labels.entries) reason.now d nothing) state.new.counts
         × ((handler_view handler, numbers_of state.new.numbering)
@@ -72,9 +73,9 @@ fn pull_handler(
         (numbers_of state.old.numbering) reason.now d)
         × (scope_of state.new.labels.entries ≡ scope_of state.old.labels.entries)) }
 {
-    let number = reason_number(alloc, reason, &state.counts, &mut state.numbering.reasons).ok()?;
+    let number = reason_number(alloc, reason, &state.counts, &mut state.numbering.reasons)?;
     let block = pull_block(alloc, reader, levels, declared, state)?;
-    Some(Handler {
+    Ok(Handler {
         reason: number,
         block,
     })
@@ -88,9 +89,9 @@ fn pull_ascending(
     levels: usize,
     declared: &Declared,
     state: &mut State,
-) -> Option<Vec<Handler>>
+) -> Result<Vec<Handler>, Stop>
     requires few { levels ≤ MAX_DEPTH }
-    ensures { IfSome result (λ handlers. (hs : Members) × ReadsMembers (5 * levels) no_members reader.old hs reader.new
+    ensures { IfOk result (λ handlers. (hs : Members) × ReadsMembers (5 * levels) no_members reader.old hs reader.new
         × AreMet state.old.counts (members_placed (block_placed (setting_of declared.now) levels)
         (scope_of state.old.labels.entries) hs) state.new.counts
         × ((map handler_view handlers.items, numbers_of state.new.numbering)
@@ -100,18 +101,15 @@ fn pull_ascending(
 {
     let mut handlers = Vec::new(alloc);
     let mut before = None;
-    while let Some(reason) = reader.next_key().ok()? {
+    while let Some(reason) = reader.next_key()? {
         if !is_after(reason, before) {
-            state.any_order = true;
-            return None;
+            return Err(Stop::UnsortedReasons);
         }
-        handlers
-            .push(pull_handler(alloc, reason, reader, levels, declared, state)?)
-            .ok()?;
+        handlers.push(pull_handler(alloc, reason, reader, levels, declared, state)?)?;
         before = Some(reason);
     }
     handlers.shrink_to_fit();
-    Some(handlers)
+    Ok(handlers)
 }
 
 /// The handlers by reason up to their end, in the order of the reasons' bytes. A small tree is made of them.
@@ -121,9 +119,9 @@ fn pull_sorted(
     levels: usize,
     declared: &Declared,
     state: &mut State,
-) -> Option<Vec<Handler>>
+) -> Result<Vec<Handler>, Stop>
     requires few { levels ≤ MAX_DEPTH }
-    ensures { IfSome result (λ handlers. (hs : Members) × ReadsMembers (5 * levels) no_members reader.old hs reader.new
+    ensures { IfOk result (λ handlers. (hs : Members) × ReadsMembers (5 * levels) no_members reader.old hs reader.new
         × AreMet state.old.counts (members_placed (block_placed (setting_of declared.now) levels)
         (scope_of state.old.labels.entries) hs) state.new.counts
         × ((map handler_view handlers.items, numbers_of state.new.numbering)
@@ -132,8 +130,8 @@ fn pull_sorted(
         × (scope_of state.new.labels.entries ≡ scope_of state.old.labels.entries)) }
 {
     let members = pull_members(alloc, reader, 5 * levels, Map::new(alloc))?;
-    let handlers = read_members(alloc, &members, levels, declared, state).ok()?;
-    Some(handlers)
+    let handlers = read_members(alloc, &members, levels, declared, state)?;
+    Ok(handlers)
 }
 
 /// The handlers by reason.
@@ -144,9 +142,9 @@ fn pull_handlers(
     levels: usize,
     declared: &Declared,
     state: &mut State,
-) -> Option<Vec<Handler>>
+) -> Result<Vec<Handler>, Stop>
     requires few { levels ≤ MAX_DEPTH }
-    ensures { IfSome result (λ handlers. (hs : Members) × ReadsValue (5 * levels + 1) reader.old (object hs) reader.new
+    ensures { IfOk result (λ handlers. (hs : Members) × ReadsValue (5 * levels + 1) reader.old (object hs) reader.new
         × (3 ≤ declared.now.version)
         × AreMet state.old.counts (members_placed (block_placed (setting_of declared.now) levels)
         (scope_of state.old.labels.entries) hs) state.new.counts
@@ -156,13 +154,12 @@ fn pull_handlers(
         × (scope_of state.new.labels.entries ≡ scope_of state.old.labels.entries)) }
 {
     if declared.version < 3 {
-        return None;
+        return Err(Stop::OtherForm);
     }
     pull_begin_object(reader)?;
-    if state.any_order {
-        pull_sorted(alloc, reader, levels, declared, state)
-    } else {
-        pull_ascending(alloc, reader, levels, declared, state)
+    match state.order {
+        ReasonOrder::Any => pull_sorted(alloc, reader, levels, declared, state),
+        ReasonOrder::Ascending => pull_ascending(alloc, reader, levels, declared, state),
     }
 }
 
@@ -182,9 +179,9 @@ fn pull_sub_rest<'a>(
     levels: usize,
     declared: &Declared,
     state: &mut State,
-) -> Option<SubRest<'a>>
+) -> Result<SubRest<'a>, Stop>
     requires few { levels ≤ MAX_DEPTH }
-    ensures { IfSome result (λ rest. (now : List token.Token)
+    ensures { IfOk result (λ rest. (now : List token.Token)
         × SubTail (5 * levels + 1) declared.now.version (block_placed (setting_of declared.now)
         levels)
         (block_of (setting_of declared.now) levels) (scope_of state.old.labels.entries)
@@ -198,7 +195,7 @@ fn pull_sub_rest<'a>(
     let mut handlers = None;
     let mut handler = None;
     let mut label = None;
-    while let Some(name) = reader.next_key().ok()? {
+    while let Some(name) = reader.next_key()? {
         if name == "as" && label.is_none() {
             label = Some(pull_text(reader)?);
         } else if name == "handler" && handler.is_none() {
@@ -206,10 +203,10 @@ fn pull_sub_rest<'a>(
         } else if name == "handlers" && handlers.is_none() && handler.is_none() {
             handlers = Some(pull_handlers(alloc, reader, levels, declared, state)?);
         } else {
-            return None;
+            return Err(Stop::OtherForm);
         }
     }
-    Some(SubRest {
+    Ok(SubRest {
         handlers,
         handler,
         label,
@@ -224,9 +221,9 @@ fn pull_sub<'a>(
     levels: usize,
     declared: &Declared,
     state: &mut State,
-) -> Option<(Subaction, Option<&'a str>)>
+) -> Result<(Subaction, Option<&'a str>), Stop>
     requires few { levels ≤ MAX_DEPTH }
-    ensures { IfSome result (λ read. (d : Data)
+    ensures { IfOk result (λ read. (d : Data)
         × ReadsValue (5 * levels + 2) (token.begin_object ∷ token.key (codes "sub") ∷ reader.old) d reader.new
         × ((earlier : Scope) → IsMet state.new.counts
         (label_asked (scope_of state.old.labels.entries) earlier (label_in d)) state.new.counts
@@ -240,12 +237,12 @@ fn pull_sub<'a>(
         × (sort_of d ≡ Some Sort.Sub)
         × (scope_of state.new.labels.entries ≡ scope_of state.old.labels.entries)) }
 {
-    state.counts.one_more_node().ok()?;
+    state.counts.one_more_node()?;
     let body = pull_block(alloc, reader, levels, declared, state)?;
     let rest = pull_sub_rest(alloc, reader, levels, declared, state)?;
     let label = rest.label;
     let read = subaction_of(alloc, body, rest.handlers, rest.handler, label.is_some());
-    Some((read, label))
+    Ok((read, label))
 }
 
 /// A subaction whose key `sub` has been read.
@@ -256,9 +253,9 @@ fn pull_sub_step(
     levels: usize,
     declared: &Declared,
     state: &mut State,
-) -> Option<Step>
+) -> Result<Step, Stop>
     requires few { levels ≤ MAX_DEPTH }
-    ensures { IfSome result (λ step. (d : Data)
+    ensures { IfOk result (λ step. (d : Data)
         × ReadsValue (5 * levels + 2) (token.begin_object ∷ token.key (codes "sub") ∷ reader.old) d reader.new
         × AreMet state.old.counts (step_placed (block_placed (setting_of declared.now) levels)
         (setting_of declared.now) (scope_of state.old.labels.entries) d) state.new.counts
@@ -269,7 +266,7 @@ fn pull_sub_step(
 {
     let (read, label) = pull_sub(alloc, reader, levels, declared, state)?;
     let step = new_sub_step(alloc, read, label, &mut state.labels, &state.counts)?;
-    Some(step)
+    Ok(step)
 }
 
 // ---- children
@@ -284,9 +281,9 @@ fn pull_children(
     declared: &Declared,
     earlier: &mut Labels,
     state: &mut State,
-) -> Option<Vec<Subaction>>
+) -> Result<Vec<Subaction>, Stop>
     requires few { levels ≤ MAX_DEPTH }
-    ensures { IfSome result (λ children. (ds : Items) × ReadsItems (5 * levels + 2) reader.old ds reader.new
+    ensures { IfOk result (λ children. (ds : Items) × ReadsItems (5 * levels + 2) reader.old ds reader.new
         × (AreUnseen (scope_of earlier.new.entries) (scope_of state.old.labels.entries)
         → AreMet state.old.counts (children_placed declared.now.version (block_placed (setting_of
         declared.now) levels)
@@ -302,11 +299,11 @@ fn pull_children(
         pull_begin_object(reader)?;
         pull_key(reader, "sub")?;
         let (child, label) = pull_sub(alloc, reader, levels, declared, state)?;
-        add_new_label(alloc, label, Subject::Outcome, earlier, &state.counts).ok()?;
-        children.push(child).ok()?;
+        add_new_label(alloc, label, Subject::Outcome, earlier, &state.counts)?;
+        children.push(child)?;
     }
     children.shrink_to_fit();
-    Some(children)
+    Ok(children)
 }
 
 /// A parallel step whose key `parallel` has been read.
@@ -317,9 +314,9 @@ fn pull_parallel(
     levels: usize,
     declared: &Declared,
     state: &mut State,
-) -> Option<Step>
+) -> Result<Step, Stop>
     requires few { levels ≤ MAX_DEPTH }
-    ensures { IfSome result (λ step. (d : Data)
+    ensures { IfOk result (λ step. (d : Data)
         × ReadsValue (5 * levels + 4) (token.begin_object ∷ token.key (codes "parallel") ∷ reader.old) d reader.new
         × AreMet state.old.counts (step_placed (block_placed (setting_of declared.now) levels)
         (setting_of declared.now) (scope_of state.old.labels.entries) d) state.new.counts
@@ -332,7 +329,7 @@ fn pull_parallel(
     let mut earlier = no_labels(alloc, &state.labels);
     let children = pull_children(alloc, reader, levels, declared, &mut earlier, state)?;
     let step = end_parallel(alloc, reader, children, earlier, &mut state.labels)?;
-    Some(step)
+    Ok(step)
 }
 
 // ---- conditions and aborts
@@ -343,8 +340,8 @@ pub(crate) fn pull_test(
     subject: Subject,
     reader: &mut Reader<'_>,
     numbering: &mut Numbering,
-) -> Option<Test>
-    ensures { IfSome result (λ test. (key : TestKey) × (v : Data)
+) -> Result<Test, Stop>
+    ensures { IfOk result (λ test. (key : TestKey) × (v : Data)
         × ((k : ℕ) (found ms : Members) (new : List token.Token) → ReadsMembers k (put (test_key key) v found) reader.new ms new
         → ReadsMembers k found reader.old ms new)
         × ((label : List ℕ) (first : Data) (second : Option Data) (counts : Counts)
@@ -354,30 +351,30 @@ pub(crate) fn pull_test(
 {
     match reader.next() {
         Some(Token::Key("is")) => {
-            let word = Word::of_text(pull_text(reader)?)?;
+            let word = Word::of_text(pull_text(reader)?).ok_or(Stop::OtherForm)?;
             if fits_word(subject, word) {
-                Some(Test::Is(word))
+                Ok(Test::Is(word))
             } else {
-                None
+                Err(Stop::OtherForm)
             }
         }
         Some(Token::Key("atleast")) => {
             let least = pull_whole(reader)?;
             if fits_number(subject) {
-                Some(Test::AtLeast(least))
+                Ok(Test::AtLeast(least))
             } else {
-                None
+                Err(Stop::OtherForm)
             }
         }
         Some(Token::Key("item")) => {
             if !fits_item(subject) {
-                return None;
+                return Err(Stop::OtherForm);
             }
             let name = pull_name(reader)?;
-            let item = item_of(alloc, name, numbering).ok()?;
-            Some(Test::IsItem(item))
+            let item = item_of(alloc, name, numbering)?;
+            Ok(Test::IsItem(item))
         }
-        _ => None,
+        _ => Err(Stop::OtherForm),
     }
 }
 
@@ -389,9 +386,9 @@ fn pull_else(
     levels: usize,
     declared: &Declared,
     state: &mut State,
-) -> Option<Block>
+) -> Result<Block, Stop>
     requires few { levels ≤ MAX_DEPTH }
-    ensures { IfSome result (λ block. (second : Option Data)
+    ensures { IfOk result (λ block. (second : Option Data)
         × ((found : Members) → ReadsMembers (5 * levels) found reader.old (with_else second found) reader.new)
         × AreMet state.old.counts (block_placed_if (block_placed (setting_of declared.now) levels)
         (scope_of state.old.labels.entries) second) state.new.counts
@@ -401,15 +398,15 @@ fn pull_else(
         × (scope_of state.new.labels.entries ≡ scope_of state.old.labels.entries)) }
 {
     match reader.next() {
-        Some(Token::EndObject) => Some(Block {
+        Some(Token::EndObject) => Ok(Block {
             steps: Vec::new(alloc),
         }),
         Some(Token::Key("else")) => {
             let otherwise = pull_block(alloc, reader, levels, declared, state)?;
             pull_end_object(reader)?;
-            Some(otherwise)
+            Ok(otherwise)
         }
-        _ => None,
+        _ => Err(Stop::OtherForm),
     }
 }
 
@@ -421,9 +418,9 @@ fn pull_if(
     levels: usize,
     declared: &Declared,
     state: &mut State,
-) -> Option<Step>
+) -> Result<Step, Stop>
     requires few { levels ≤ MAX_DEPTH }
-    ensures { IfSome result (λ step. (d : Data)
+    ensures { IfOk result (λ step. (d : Data)
         × ReadsValue (5 * levels + 1) (token.begin_object ∷ token.key (codes "if") ∷ reader.old) d reader.new
         × AreMet state.old.counts (step_placed (block_placed (setting_of declared.now) levels)
         (setting_of declared.now) (scope_of state.old.labels.entries) d) state.new.counts
@@ -435,29 +432,29 @@ fn pull_if(
     let head = pull_if_head(alloc, reader, state)?;
     let then = pull_block(alloc, reader, levels, declared, state)?;
     let otherwise = pull_else(alloc, reader, levels, declared, state)?;
-    let step = if_step(alloc, head.label, head.test, then, Some(otherwise)).ok()?;
-    Some(step)
+    let step = if_step(alloc, head.label, head.test, then, Some(otherwise))?;
+    Ok(step)
 }
 
 /// The reason of an abort, where it has one and the version has reasons, and the step's end.
-fn pull_reason<'a>(reader: &mut Reader<'a>, version: u8) -> Option<Option<&'a str>>
-    ensures { IfSome result (λ reason. ReadsValue 1 (token.begin_object ∷ token.key (codes "abort") ∷ reader.old)
+fn pull_reason<'a>(reader: &mut Reader<'a>, version: u8) -> Result<Option<&'a str>, Stop>
+    ensures { IfOk result (λ reason. ReadsValue 1 (token.begin_object ∷ token.key (codes "abort") ∷ reader.old)
         (abort_step (option_map (λ text. text.now) reason)) reader.new
         × (is_abort version (part (codes "abort") (abort_step (option_map (λ text. text.now) reason))) ≡ true)) }
 {
     match reader.next() {
         Some(Token::Bool(true)) => {
             pull_end_object(reader)?;
-            Some(None)
+            Ok(None)
         }
         Some(Token::String(reason)) => {
             if version < 3 {
-                return None;
+                return Err(Stop::OtherForm);
             }
             pull_end_object(reader)?;
-            Some(Some(reason))
+            Ok(Some(reason))
         }
-        _ => None,
+        _ => Err(Stop::OtherForm),
     }
 }
 
@@ -467,8 +464,8 @@ fn pull_abort(
     reader: &mut Reader<'_>,
     declared: &Declared,
     state: &mut State,
-) -> Option<Step>
-    ensures { IfSome result (λ step. (d : Data)
+) -> Result<Step, Stop>
+    ensures { IfOk result (λ step. (d : Data)
         × ReadsValue 1 (token.begin_object ∷ token.key (codes "abort") ∷ reader.old) d reader.new
         × ((places : Places) → AreMet state.old.counts
         (step_placed places (setting_of declared.now) (scope_of state.old.labels.entries) d)
@@ -478,21 +475,21 @@ fn pull_abort(
         × (scope_of state.new.labels.entries ≡ scope_after (setting_of declared.now) (scope_of state.old.labels.entries) d)) }
 {
     let reason = pull_reason(reader, declared.version)?;
-    state.counts.one_more_node().ok()?;
-    let number = read_reason(alloc, reason, state).ok()?;
-    Some(Step::Abort(number))
+    state.counts.one_more_node()?;
+    let number = read_reason(alloc, reason, state)?;
+    Ok(Step::Abort(number))
 }
 
 // ---- steps
 
 /// The beginning of a step, with its first key.
-fn pull_first_key<'a>(reader: &mut Reader<'a>) -> Option<&'a str>
-    ensures { IfSome result (λ name. reader.old ≡ token.begin_object ∷ token.key name.now ∷ reader.new) }
+fn pull_first_key<'a>(reader: &mut Reader<'a>) -> Result<&'a str, Stop>
+    ensures { IfOk result (λ name. reader.old ≡ token.begin_object ∷ token.key name.now ∷ reader.new) }
 {
     pull_begin_object(reader)?;
     match reader.next() {
-        Some(Token::Key(name)) => Some(name),
-        _ => None,
+        Some(Token::Key(name)) => Ok(name),
+        _ => Err(Stop::OtherForm),
     }
 }
 
@@ -504,9 +501,9 @@ fn pull_other_step(
     levels: usize,
     declared: &Declared,
     state: &mut State,
-) -> Option<Step>
+) -> Result<Step, Stop>
     requires few { levels ≤ MAX_DEPTH }
-    ensures { IfSome result (λ step. (d : Data) × ReadsValue (5 * levels + 4) (token.begin_object ∷ token.key name.now ∷ reader.old) d reader.new
+    ensures { IfOk result (λ step. (d : Data) × ReadsValue (5 * levels + 4) (token.begin_object ∷ token.key name.now ∷ reader.old) d reader.new
         × AreMet state.old.counts (step_placed (block_placed (setting_of declared.now) levels)
         (setting_of declared.now) (scope_of state.old.labels.entries) d) state.new.counts
         × ((step_view step, numbers_of state.new.numbering)
@@ -517,7 +514,8 @@ fn pull_other_step(
     // From a block to the next below it are at most five levels: the array of its steps, a step, the
     // array of its children, a child, and its handlers.
     let step = pull_object(alloc, name, reader, 5 * levels + 3)?;
-    read_step(alloc, &step, levels, declared, state).ok()
+    let read = read_step(alloc, &step, levels, declared, state)?;
+    Ok(read)
 }
 
 /// A step, within so many more levels.
@@ -528,9 +526,9 @@ fn pull_step(
     levels: usize,
     declared: &Declared,
     state: &mut State,
-) -> Option<Step>
+) -> Result<Step, Stop>
     requires few { levels ≤ MAX_DEPTH }
-    ensures { IfSome result (λ step. (d : Data) × ReadsValue (5 * levels + 4) reader.old d reader.new
+    ensures { IfOk result (λ step. (d : Data) × ReadsValue (5 * levels + 4) reader.old d reader.new
         × AreMet state.old.counts (step_placed (block_placed (setting_of declared.now) levels)
         (setting_of declared.now) (scope_of state.old.labels.entries) d) state.new.counts
         × ((step_view step, numbers_of state.new.numbering)
@@ -557,9 +555,9 @@ fn pull_steps(
     levels: usize,
     declared: &Declared,
     state: &mut State,
-) -> Option<Vec<Step>>
+) -> Result<Vec<Step>, Stop>
     requires few { levels ≤ MAX_DEPTH }
-    ensures { IfSome result (λ steps. (ds : Items) × ReadsItems (5 * levels + 4) reader.old ds reader.new
+    ensures { IfOk result (λ steps. (ds : Items) × ReadsItems (5 * levels + 4) reader.old ds reader.new
         × AreMet state.old.counts (steps_placed (block_placed (setting_of declared.now) levels)
         (setting_of declared.now) (scope_of state.old.labels.entries) 0 ds) state.new.counts
         × ((map step_view steps.items, numbers_of state.new.numbering)
@@ -569,12 +567,10 @@ fn pull_steps(
 {
     let mut steps = Vec::new(alloc);
     while !reader.take_end_array() {
-        steps
-            .push(pull_step(alloc, reader, levels, declared, state)?)
-            .ok()?;
+        steps.push(pull_step(alloc, reader, levels, declared, state)?)?;
     }
     steps.shrink_to_fit();
-    Some(steps)
+    Ok(steps)
 }
 
 /// A block within so many more levels. Its labels are no longer seen after it.
@@ -585,9 +581,9 @@ pub(crate) fn pull_block(
     levels: usize,
     declared: &Declared,
     state: &mut State,
-) -> Option<Block>
+) -> Result<Block, Stop>
     requires few { levels ≤ MAX_DEPTH }
-    ensures { IfSome result (λ block. (d : Data) × ReadsValue (5 * levels) reader.old d reader.new
+    ensures { IfOk result (λ block. (d : Data) × ReadsValue (5 * levels) reader.old d reader.new
         × AreMet state.old.counts
         (block_placed (setting_of declared.now) levels (scope_of state.old.labels.entries) d)
         state.new.counts
@@ -597,11 +593,11 @@ pub(crate) fn pull_block(
         × (scope_of state.new.labels.entries ≡ scope_of state.old.labels.entries)) }
 {
     if levels == 0 {
-        return None;
+        return Err(Stop::OtherForm);
     }
     pull_begin_array(reader)?;
     let seen = state.labels.len();
     let steps = pull_steps(alloc, reader, levels - 1, declared, state)?;
     leave_block(&mut state.labels, seen);
-    Some(Block { steps })
+    Ok(Block { steps })
 }

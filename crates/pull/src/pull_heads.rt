@@ -1,5 +1,5 @@
 //! What of a step is read from its tokens before its blocks, and the step once they are read.
-ghost use Rattle.std.specs.Prelude.{◌≡◌, ℕ, List, Option, [], ◌∷◌, codes, map, option_map, IfSome};
+ghost use Rattle.std.specs.Prelude.{◌≡◌, ℕ, List, Option, [], ◌∷◌, codes, map, option_map, IfOk};
 ghost use Rattle.json.specs.Token as token;
 ghost use Rattle.serde_json.specs.Data.{Data, Members, no_members, member, put, string};
 ghost use Rattle.meaning.specs.Trees as tree;
@@ -13,6 +13,7 @@ ghost use Rattle.spelling.specs.Spelled.{sub_step, test_of};
 
 use crate::pull::{pull_begin_array, pull_end_object, pull_key, pull_text};
 use crate::pull_blocks::pull_test;
+use crate::stop::Stop;
 use batch::{Step, Subaction, Test};
 use json::Reader;
 use spelling::counts::Counts;
@@ -35,8 +36,8 @@ pub(crate) fn pull_if_head(
     alloc: Global,
     reader: &mut Reader<'_>,
     state: &mut State,
-) -> Option<PulledIf>
-    ensures { IfSome result (λ head. (name : List ℕ) × (key : TestKey) × (v : Data)
+) -> Result<PulledIf, Stop>
+    ensures { IfOk result (λ head. (name : List ℕ) × (key : TestKey) × (v : Data)
         × ((k : ℕ) (ms : Members) (new : List token.Token)
         → ReadsMembers k (put (test_key key) v (member (codes "if") (string name) no_members)) (token.key (codes "then") ∷ reader.new) ms new
         → ReadsMembers k no_members (token.key (codes "if") ∷ reader.old) ms new)
@@ -50,11 +51,11 @@ pub(crate) fn pull_if_head(
         × (scope_of state.new.labels.entries ≡ scope_of state.old.labels.entries)) }
 {
     let name = pull_text(reader)?;
-    state.counts.one_more_node().ok()?;
-    let (label, subject) = seen_label(name, &state.labels, &state.counts).ok()?;
+    state.counts.one_more_node()?;
+    let (label, subject) = seen_label(name, &state.labels, &state.counts)?;
     let test = pull_test(alloc, subject, reader, &mut state.numbering)?;
     pull_key(reader, "then")?;
-    Some(PulledIf { label, test })
+    Ok(PulledIf { label, test })
 }
 
 /// A subaction as a step, if its label is a new one. The label is then seen.
@@ -64,25 +65,25 @@ pub(crate) fn new_sub_step(
     label: Option<&str>,
     labels: &mut Labels,
     counts: &Counts,
-) -> Option<Step>
-    ensures met { IfSome result (λ _. IsMet counts.now (label_asked (scope_of labels.old.entries) []
+) -> Result<Step, Stop>
+    ensures met { IfOk result (λ _. IsMet counts.now (label_asked (scope_of labels.old.entries) []
         (option_map (λ text. text.now) label.entry)) counts.now) }
-    ensures value { IfSome result (λ step. step_view step ≡ sub_step (subaction_view child)) }
-    ensures labels { IfSome result (λ _. scope_of labels.new.entries
+    ensures value { IfOk result (λ step. step_view step ≡ sub_step (subaction_view child)) }
+    ensures labels { IfOk result (λ _. scope_of labels.new.entries
         ≡ with_label (option_map (λ text. text.now) label.entry) Subject.Outcome (scope_of labels.old.entries)) }
 {
-    add_new_label(alloc, label, Subject::Outcome, labels, counts).ok()?;
-    Some(Step::Sub(Box::new(alloc, child).ok()?))
+    add_new_label(alloc, label, Subject::Outcome, labels, counts)?;
+    Ok(Step::Sub(Box::new(alloc, child)?))
 }
 
 /// Reads a parallel step whose key has been read, up to its first child.
-pub(crate) fn begin_parallel(reader: &mut Reader<'_>, counts: &mut Counts) -> Option<()>
-    ensures met { IfSome result (λ _. IsMet counts.old (one_more_node ∷ []) counts.new) }
-    ensures tokens { IfSome result (λ _. reader.old ≡ token.begin_array ∷ reader.new) }
+pub(crate) fn begin_parallel(reader: &mut Reader<'_>, counts: &mut Counts) -> Result<(), Stop>
+    ensures met { IfOk result (λ _. IsMet counts.old (one_more_node ∷ []) counts.new) }
+    ensures tokens { IfOk result (λ _. reader.old ≡ token.begin_array ∷ reader.new) }
 {
-    counts.one_more_node().ok()?;
+    counts.one_more_node()?;
     pull_begin_array(reader)?;
-    Some(())
+    Ok(())
 }
 
 /// A parallel step of these children, up to its end, if none of their labels was seen. They are then
@@ -93,17 +94,17 @@ pub(crate) fn end_parallel(
     children: Vec<Subaction>,
     earlier: Labels,
     labels: &mut Labels,
-) -> Option<Step>
-    ensures tokens { IfSome result (λ _. reader.old ≡ token.end_object ∷ reader.new) }
-    ensures unseen { IfSome result (λ _. AreUnseen (scope_of earlier.entries) (scope_of labels.old.entries)) }
-    ensures value { IfSome result (λ step. step_view step ≡ tree.Parallel (children_of (map subaction_view children.items))) }
-    ensures labels { IfSome result (λ _. scope_of labels.new.entries
+) -> Result<Step, Stop>
+    ensures tokens { IfOk result (λ _. reader.old ≡ token.end_object ∷ reader.new) }
+    ensures unseen { IfOk result (λ _. AreUnseen (scope_of earlier.entries) (scope_of labels.old.entries)) }
+    ensures value { IfOk result (λ step. step_view step ≡ tree.Parallel (children_of (map subaction_view children.items))) }
+    ensures labels { IfOk result (λ _. scope_of labels.new.entries
         ≡ with_labels (scope_of earlier.entries) (scope_of labels.old.entries)) }
 {
-    let all_new = take_labels(alloc, earlier, labels).ok()?;
+    let all_new = take_labels(alloc, earlier, labels)?;
     if !all_new {
-        return None;
+        return Err(Stop::OtherForm);
     }
     pull_end_object(reader)?;
-    Some(Step::Parallel(children))
+    Ok(Step::Parallel(children))
 }

@@ -24,10 +24,10 @@ pub(crate) struct Hints {
 /// The last 8 bytes of a name as a number, or all of a shorter one.
 fn ending_of(name: &[u8]) -> u64 {
     if let Some((_, last)) = name.split_last_chunk::<8>() {
-        return u64::from_be_bytes(*last);
+        return u64::from_le_bytes(*last);
     }
     if let Some((rest, last)) = name.split_last_chunk::<4>() {
-        return (short_of(rest) << 32) | u64::from(u32::from_be_bytes(*last));
+        return (short_of(rest) << 32) | u64::from(u32::from_le_bytes(*last));
     }
     short_of(name)
 }

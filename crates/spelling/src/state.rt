@@ -20,14 +20,21 @@ pub struct Numbering {
     pub(crate) hints: Hints,
 }
 
+/// In which order the reasons of a step's handlers may come, where no tree is made of the document.
+#[derive(Clone, Copy, Drop)]
+pub enum ReasonOrder {
+    /// In that of their bytes.
+    Ascending,
+    Any,
+}
+
 /// What has been counted, what is numbered, and the labels that are seen here.
 #[derive(Drop)]
 pub struct State {
     pub counts: Counts,
     pub numbering: Numbering,
     pub labels: Labels,
-    /// Whether the reasons of handlers may come in any order, as some don't ascend.
-    pub any_order: bool,
+    pub order: ReasonOrder,
 }
 
 impl State {
@@ -50,7 +57,7 @@ impl State {
                 hints: Hints::new(alloc),
             },
             labels: IndexMap::with_hasher(alloc, hashing),
-            any_order: false,
+            order: ReasonOrder::Ascending,
         }
     }
 }

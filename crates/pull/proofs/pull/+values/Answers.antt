@@ -1,6 +1,5 @@
 use Rattle.std.proofs.Common.{◌≡◌, [], ◌∷◌, ◌++◌, Some, None, length, sym, subst, ap, ◌∙◌, ◌-◌, suc, string_bytes, string_cmp, arith, rules}
 use Rattle.std.specs.BTreeMap.{insert_entry}
-use Rattle.std.proofs.lemmas.Option.{IfSome_then}
 use Rattle.json.specs.Token.{Token}
 use Rattle.json.specs.Json.{after_end_array, read_key}
 use Rattle.json.proofs.Grammar.{read_key-shorter}
@@ -9,7 +8,7 @@ use Rattle.serde_json.specs.View.{items_view, members_view, view}
 use Rattle.serde_json.specs.declared.value.Value.{String, Bool, Null, the_lemmas}
 use Rattle.serde_json.proofs.Views.{view-Array, view-Object, members_view-insert_entry}
 use Rattle.pull.specs.Pulled.{ReadsItems, ReadsMembers, ReadsValue}
-use Rattle.pull.proofs.PulledLemmas.{items_before, items_before-no_items, items_push, reads_array, reads_boolean, reads_deeper, reads_item}
+use Rattle.pull.proofs.PulledLemmas.{IfOk_then, items_before, items_before-no_items, items_push, reads_array, reads_boolean, reads_deeper, reads_item}
 use Rattle.pull.proofs.PulledLemmas.{reads_member, reads_no_items, reads_no_members, reads_null, reads_number, reads_object, reads_shorter}
 use Rattle.pull.proofs.PulledLemmas.{reads_string}
 use Rattle.pull.proofs.pull.+values.Goals as goal
@@ -66,11 +65,11 @@ pull_members-returns t c =
     let ended : read_key l.reader ≡ Some (None, c.next_key.new.self) = grind (arith, rules) in
     l.invariant (members_view l.found.entries) _ (reads_no_members c.args.depth (members_view l.found.entries) l.reader _ ended)
 
-pub pull_value-returns-in_ok-ok-in-String : goal.pull_value-returns-in_ok-ok-in-String
-pull_value-returns-in_ok-ok-in-String t c =
+pub pull_value-returns-in_ok-from_str-in-String : goal.pull_value-returns-in_ok-from_str-in-String
+pull_value-returns-in_ok-from_str-in-String t c =
     let new = c.next.new.self in
     let tokens : c.args.reader.now ≡ Token.string c.in-String.text.now ∷ new = grind (arith, rules) in
-    let seen : view (String c.in_ok-ok-in-String.field-0) ≡ string c.in-String.text.now = search (rules, the_lemmas) in
+    let seen : view (String c.in_ok-from_str-in-String.field-0) ≡ string c.in-String.text.now = search (rules, the_lemmas) in
     subst (λ d. ReadsValue c.args.depth c.args.reader.now d new) (sym seen)
     (subst (λ ts. ReadsValue c.args.depth ts (string c.in-String.text.now) new) (sym tokens) (reads_string c.args.depth _ new))
 
@@ -79,7 +78,7 @@ pull_value-returns-in-Number t c =
     let new = c.next.new.self in
     let s = c.in-Number.text.now in
     let tokens : c.args.reader.now ≡ Token.number s ∷ new = grind (arith, rules) in
-    IfSome_then c.number_value.result c.number_value.ensures
+    IfOk_then c.number_value.result c.number_value.ensures
     (λ v w. subst (λ d. ReadsValue c.args.depth c.args.reader.now d new) (sym w.2)
     (subst (λ ts. ReadsValue c.args.depth ts (number w.0) new) (sym tokens) (reads_number c.args.depth s w.0 new w.1)))
 

@@ -64,7 +64,7 @@ loop-alloc-preserved c =
       omega arith,
     )
   where
-    pushed : (c : goal.In_ok-ok) → c.push.new.self.items ≡ c.loop-alloc.blocks.items ++ c.in_ok-pull_transaction.field-0 ∷ []
+    pushed : (c : goal.In_ok-push) → c.push.new.self.items ≡ c.loop-alloc.blocks.items ++ c.in_ok-pull_transaction.field-0 ∷ []
     pushed c = grind (arith, rules)
 
 pub returns : goal.returns

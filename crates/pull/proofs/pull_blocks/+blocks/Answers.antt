@@ -15,7 +15,7 @@ use Rattle.spelling.specs.Spelled.{block_of_if, or_no_step}
 use Rattle.pull.specs.Pulled.{IsAfter, ReadsValue, SubTail, sub_members, ReadsMembers, if_step, test_key, with_else}
 use Rattle.spelling.proofs.ListLemmas.{in_front, in_front_none, in_front_push}
 use Rattle.spelling.proofs.LabelLemmas.{child_label_met, extends_twice, scope_after_extends}
-use Rattle.pull.proofs.PulledLemmas.{reads_item, reads_no_items, reads_shorter, reads_array, reads_deeper, reads_member, reads_no_members}
+use Rattle.pull.proofs.PulledLemmas.{IfOk_then, reads_item, reads_no_items, reads_shorter, reads_array, reads_deeper, reads_member, reads_no_members}
 use Rattle.pull.proofs.PulledLemmas.{reads_object}
 use Rattle.json.specs.Token.{Token}
 use Rattle.batch.specs.declared.tree.Block.{roll-Block}
@@ -30,7 +30,6 @@ use Rattle.pull.proofs.PulledSubs.{label_anywhere, sub_label, sub_met, sub_sort,
 use Rattle.pull.proofs.PulledSubs.{sub_step_spelled, tail_handler, tail_handlers, tail_label, tail_none, parallel_met, parallel_scope}
 use Rattle.pull.proofs.PulledSubs.{parallel_spelled, parallel_step}
 use Rattle.spelling.specs.declared.subject.Subject.TheVariants.{Outcome}
-use Rattle.std.proofs.lemmas.Option.{IfSome_then}
 use Rattle.batch.specs.Names.{is_name, texts_of}
 use Rattle.faults.specs.declared.fault.Wrong.TheVariants.{Name}
 use Rattle.pull.proofs.PulledHandlers.{after_both, put_after}
@@ -236,12 +235,12 @@ pull_ascending-returns t c =
       l.invariant.5,
     )
 
-pub pull_handlers-returns-then-state : goal.pull_handlers-returns-then-state
-pull_handlers-returns-then-state t c =
+pub pull_handlers-returns-in-Any : goal.pull_handlers-returns-in-Any
+pull_handlers-returns-in-Any t c =
     let k = 5 * c.args.levels in
     let inside = c.pull_begin_object.new.reader in
     let tokens : c.args.reader.now ≡ Token.begin_object ∷ inside = grind (arith, rules) in
-    IfSome_then c.pull_sorted.result c.pull_sorted.ensures
+    IfOk_then c.pull_sorted.result c.pull_sorted.ensures
     (λ handlers w. (
       w.0,
       subst (λ ts. ReadsValue (k + 1) ts (object w.0) c.pull_sorted.new.reader) (sym tokens)
@@ -253,12 +252,12 @@ pull_handlers-returns-then-state t c =
       w.4,
     ))
 
-pub pull_handlers-returns-else-state : goal.pull_handlers-returns-else-state
-pull_handlers-returns-else-state t c =
+pub pull_handlers-returns-in-Ascending : goal.pull_handlers-returns-in-Ascending
+pull_handlers-returns-in-Ascending t c =
     let k = 5 * c.args.levels in
     let inside = c.pull_begin_object.new.reader in
     let tokens : c.args.reader.now ≡ Token.begin_object ∷ inside = grind (arith, rules) in
-    IfSome_then c.pull_ascending.result c.pull_ascending.ensures
+    IfOk_then c.pull_ascending.result c.pull_ascending.ensures
     (λ handlers w. (
       w.0,
       subst (λ ts. ReadsValue (k + 1) ts (object w.0) c.pull_ascending.new.reader) (sym tokens)
@@ -663,7 +662,7 @@ pull_step-returns-in-op t c =
     let inside = c.pull_first_key.new.reader in
     let named : c.in_ok-name.name.now ≡ codes "op" = grind (arith, rules) in
     let begun = c.in_ok-name.ensures ∙ ap (λ n. Token.begin_object ∷ Token.key n ∷ inside) named in
-    IfSome_then c.pull_operation.result c.pull_operation.ensures
+    IfOk_then c.pull_operation.result c.pull_operation.ensures
     (λ step w. (
       w.0,
       subst (λ ts. ReadsValue k ts w.0 c.pull_operation.new.reader) (sym begun)
@@ -679,7 +678,7 @@ pull_step-returns-in-sub t c =
     let inside = c.pull_first_key.new.reader in
     let named : c.in_ok-name.name.now ≡ codes "sub" = grind (arith, rules) in
     let begun = c.in_ok-name.ensures ∙ ap (λ n. Token.begin_object ∷ Token.key n ∷ inside) named in
-    IfSome_then c.pull_sub_step.result c.pull_sub_step.ensures
+    IfOk_then c.pull_sub_step.result c.pull_sub_step.ensures
     (λ step w. (
       w.0,
       subst (λ ts. ReadsValue k ts w.0 c.pull_sub_step.new.reader) (sym begun)
@@ -695,7 +694,7 @@ pull_step-returns-in-if t c =
     let inside = c.pull_first_key.new.reader in
     let named : c.in_ok-name.name.now ≡ codes "if" = grind (arith, rules) in
     let begun = c.in_ok-name.ensures ∙ ap (λ n. Token.begin_object ∷ Token.key n ∷ inside) named in
-    IfSome_then c.pull_if.result c.pull_if.ensures
+    IfOk_then c.pull_if.result c.pull_if.ensures
     (λ step w. (
       w.0,
       subst (λ ts. ReadsValue k ts w.0 c.pull_if.new.reader) (sym begun)
@@ -711,7 +710,7 @@ pull_step-returns-in-parallel t c =
     let inside = c.pull_first_key.new.reader in
     let named : c.in_ok-name.name.now ≡ codes "parallel" = grind (arith, rules) in
     let begun = c.in_ok-name.ensures ∙ ap (λ n. Token.begin_object ∷ Token.key n ∷ inside) named in
-    IfSome_then c.pull_parallel.result c.pull_parallel.ensures
+    IfOk_then c.pull_parallel.result c.pull_parallel.ensures
     (λ step w. (w.0, subst (λ ts. ReadsValue k ts w.0 c.pull_parallel.new.reader) (sym begun) w.1, w.2, w.3, w.4))
 
 pub pull_step-returns-in-abort : goal.pull_step-returns-in-abort
@@ -722,7 +721,7 @@ pull_step-returns-in-abort t c =
     let inside = c.pull_first_key.new.reader in
     let named : c.in_ok-name.name.now ≡ codes "abort" = grind (arith, rules) in
     let begun = c.in_ok-name.ensures ∙ ap (λ n. Token.begin_object ∷ Token.key n ∷ inside) named in
-    IfSome_then c.pull_abort.result c.pull_abort.ensures
+    IfOk_then c.pull_abort.result c.pull_abort.ensures
     (λ step w. (
       w.0,
       subst (λ ts. ReadsValue k ts w.0 c.pull_abort.new.reader) (sym begun)
@@ -736,5 +735,5 @@ pub pull_step-returns-in_default : goal.pull_step-returns-in_default
 pull_step-returns-in_default t c =
     let k = 5 * c.args.levels + 4 in
     let begun = c.in_ok-name.ensures in
-    IfSome_then c.pull_other_step.result c.pull_other_step.ensures
+    IfOk_then c.pull_other_step.result c.pull_other_step.ensures
     (λ step w. (w.0, subst (λ ts. ReadsValue k ts w.0 c.pull_other_step.new.reader) (sym begun) w.1, w.2, w.3, w.4))

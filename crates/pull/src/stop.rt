@@ -1,0 +1,43 @@
+//! Why a document isn't read from its tokens.
+
+use faults::{Code, Fault};
+use json::Invalid;
+use std::alloc::{AllocError, AllocFailed};
+
+/// Where the reading of tokens stops, why it does.
+#[derive(Clone, Copy, Debug, Drop, PartialEq)]
+pub enum Stop {
+    /// Memory was refused.
+    NoMemory,
+    /// The tokens are out of the common form, or spell a document with a fault.
+    OtherForm,
+    /// The reasons of some handlers don't ascend, and are to.
+    UnsortedReasons,
+}
+
+impl From<Fault> for Stop {
+    fn from(fault: Fault) -> Stop {
+        match fault.code {
+            Code::Memory => Stop::NoMemory,
+            _ => Stop::OtherForm,
+        }
+    }
+}
+
+impl From<Invalid> for Stop {
+    fn from(_invalid: Invalid) -> Stop {
+        Stop::OtherForm
+    }
+}
+
+impl From<AllocError> for Stop {
+    fn from(_refused: AllocError) -> Stop {
+        Stop::NoMemory
+    }
+}
+
+impl<T: Drop> From<AllocFailed<T>> for Stop {
+    fn from(_refused: AllocFailed<T>) -> Stop {
+        Stop::NoMemory
+    }
+}
