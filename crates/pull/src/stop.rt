@@ -2,6 +2,7 @@
 
 use faults::{Code, Fault};
 use json::Invalid;
+use spelling::unmet::Unmet;
 use std::alloc::{AllocError, AllocFailed};
 
 /// Where the reading of tokens stops, why it does.
@@ -21,6 +22,12 @@ impl From<Fault> for Stop {
             Code::Memory => Stop::NoMemory,
             _ => Stop::OtherForm,
         }
+    }
+}
+
+impl From<Unmet> for Stop {
+    fn from(unmet: Unmet) -> Stop {
+        Stop::from(unmet.fault)
     }
 }
 
