@@ -22,7 +22,6 @@ use Rattle.carry_laws.specs.Laws.{CarriedEndLaw}
 use Rattle.carry_laws.proofs.CarriedLaws.{carried_is_read}
 use Rattle.carry_laws.proofs.NamedEnd.{end_named}
 use Rattle.carry_laws.proofs.NamedTexts.{named_objects_fit}
-use Rattle.spelling.proofs.Demands.{asked}
 use Rattle.spelling.specs.Places.{first_fault, placed}
 
 -- a document that was read is that of a value with no fault

@@ -1,13 +1,10 @@
 -- What is said of a fault's place.
-use Rattle.std.specs.Prelude.{◌≡◌, ◌≢◌, ◌<◌, ◌≤◌, ◌⊎◌, ℕ, List, [], length, Option, None, Some, Err, option_map, string_bytes}
-use Rattle.std.specs.Prelude.{unwrap_or, String}
-use Rattle.std.specs.declared.alloc.Global.{Global}
+use Rattle.std.specs.Prelude.{◌≡◌, ◌<◌, ◌≤◌, ◌⊎◌, ℕ, List, [], length, None, Some, Err, string_bytes}
 use Rattle.serde_json.specs.Data.{Data}
 use Rattle.faults.specs.declared.fault.Fault.{Fault}
 use Rattle.lang.specs.declared.places.Place.{Place}
 use Rattle.lang.specs.declared.places.Place.TheVariants.{Whole, Pointer, LineColumn}
 use Rattle.spelling.specs.Demand.{no_counts}
-use Rattle.faults.specs.Faults.{memory_fault}
 use Rattle.spelling.specs.Places.{placed, seek}
 use Rattle.lang.specs.Reading.{value_of}
 use Rattle.lang.specs.declared.document.TheConstants.{MAX_BYTES}

@@ -10,7 +10,6 @@ use Rattle.faults.specs.declared.fault.Wrong.TheVariants.{TooMany}
 use Rattle.spelling.specs.Spelled.{document_in}
 use Rattle.spelling.proofs.DistinctTexts.{objects_differ}
 use Rattle.lang.specs.Reading.{Document, reading, spelled_by, unless_fault, value_of}
-use Rattle.spelling.proofs.Demands.{asked}
 use Rattle.spelling.specs.Places.{first_fault, placed}
 
 abbrev AreApart : Document → Type 0

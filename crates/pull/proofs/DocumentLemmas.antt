@@ -1,5 +1,5 @@
 -- A document that was read part by part.
-use Rattle.std.proofs.Common.{◌≡◌, ℕ, List, Some, None, Ok, Err, refl, sym, ap, ◌∙◌}
+use Rattle.std.proofs.Common.{◌≡◌, ℕ, List, Some, None, Ok, refl, sym, ap, ◌∙◌}
 use Rattle.serde_json.specs.Data.{Data, Items}
 use Rattle.objects.specs.Entries.{State}
 use Rattle.meaning.specs.Trees as tree
