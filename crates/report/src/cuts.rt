@@ -29,7 +29,12 @@ pub(crate) fn cuts_of(
     requires { end.entry ≤ length records.now }
     ensures { IfOk result (λ cuts. AreCuts end cuts.items) }
 {
-    let lines = lines_in_all(&records[..end.entry]).saturating_add(end.line);
+    // One worker renders all in one part, so nothing is counted for it.
+    let lines = if workers > 1 {
+        lines_in_all(&records[..end.entry]).saturating_add(end.line)
+    } else {
+        0
+    };
     let parts = (lines / ENOUGH).min(workers as usize).max(1);
     let mut cuts = Vec::new(alloc);
     let mut cut = Cut { entry: 0, line: 0 };

@@ -15,7 +15,7 @@ batch_of-requires c =
     let done = c.in_ok-parts.ensures in
     let d = done.0 in
     let parts = c.in_ok-parts.parts in
-    let last = numbers_of c.pull_bytes-parts.new.state.numbering in
+    let last = numbers_of c.pull_bytes.new.state.numbering in
     let read = same_document d parts.declared.objects (map block_view parts.transactions.items) last
     (texts_of parts.declared.names.keys) _ c.new-state.ensures.numbers done.3 done.4 in
     subst (λ (shown : Document). IsBatch shown.start shown.texts shown.transactions) (sym read)
@@ -26,8 +26,8 @@ returns c =
     let done = c.in_ok-parts.ensures in
     let d = done.0 in
     let parts = c.in_ok-parts.parts in
-    let last = numbers_of c.pull_bytes-parts.new.state.numbering in
-    let shown : document_of c.in_ok-batch.batch ≡ document_with parts c.pull_bytes-parts.new.state.numbering = grind (arith, rules) in
+    let last = numbers_of c.pull_bytes.new.state.numbering in
+    let shown : document_of c.in_ok-batch.batch ≡ document_with parts c.pull_bytes.new.state.numbering = grind (arith, rules) in
     let read = same_document d parts.declared.objects (map block_view parts.transactions.items) last
     (texts_of parts.declared.names.keys) _ c.new-state.ensures.numbers done.3 done.4 in (
       d,

@@ -1,4 +1,4 @@
-use Rattle.std.proofs.Common.{◌≡◌, [], subst, arith}
+use Rattle.std.proofs.Common.{◌≡◌, [], subst, arith, rules}
 use Rattle.json.specs.Lex.{tokens}
 use Rattle.pull.specs.Pulled.{ReadsValue}
 use Rattle.lang.proofs.RefusedLemmas.{value_known}
@@ -9,7 +9,7 @@ returns c =
     let answer = c.in_ok-answer.ensures in
     let d = answer.0 in
     let begun : c.in_ok-reader.reader ≡ tokens c.in_ok-text.text.now = c.in_ok-reader.ensures in
-    let ended : c.each_part.new.reader ≡ [] = c.in_ok-pull_end.ensures in
+    let ended : c.each_part.new.reader ≡ [] = grind (arith, rules) in
     let all = subst (λ ts. ReadsValue 127 ts d []) begun (subst (λ ts. ReadsValue 127 c.in_ok-reader.reader d ts) ended answer.1) in
     let known = value_known c.args.bytes.now c.in_ok-text.text.now 127 d (omega arith) c.in_ok-text.ensures.0 c.in_ok-text.ensures.1 all in
     (d, known, answer.2)

@@ -1,4 +1,5 @@
-use Rattle.std.proofs.Common.{◌≡◌, ◌≤◌, ◌∷◌, [], ap, map, refl, subst, arith}
+use Rattle.std.proofs.Common.{◌≡◌, ◌≤◌, ◌∷◌, [], Ok, ap, map, refl, subst, arith, rules}
+use Rattle.std.proofs.lemmas.Result.{IfOk-at_ok}
 use Rattle.json.specs.Token.{Token}
 use Rattle.serde_json.specs.Events.{items_len}
 use Rattle.serde_json.specs.View.{items_view}
@@ -13,30 +14,32 @@ use Rattle.spelling.specs.Spelled.{starts_of}
 use Rattle.pull.specs.Pulled.{ReadsItems, in_order}
 use Rattle.pull.proofs.DocumentLemmas.{same_parts}
 use Rattle.pull.proofs.PulledDocument.{in_order_met, version_is}
-use Rattle.lang.proofs.SinglyLemmas.{matched_err, matched_ok, objects_failed, transactions_failed}
+use Rattle.lang.proofs.SinglyLemmas.{known_ok, matched_err, matched_ok, objects_failed, transactions_failed}
 use Rattle.lang.proofs.singly.each_part.Goals as goal
 
 pub returns-in-Err : goal.returns-in-Err
 returns-in-Err c =
     let version = c.in_ok-version.version in
-    let known = c.in_ok-version.ensures.version in
+    let is : c.pull_head.result ≡ Ok (version, c.in_ok-version.objects) = known_ok _ _ c.in_ok-version.ensures.value in
+    let known = IfOk-at_ok _ is c.pull_head.ensures.version in
     let os = items_view c.in_ok-version.objects.items in
     let start = c.args.state.now.counts in
     let rest = c.in-Ok-pass_items.ensures.ok in
     let ts = rest.0 in
     let new = c.pull_end_object.new.reader in
     let unmet = c.in-Err.unmet in
-    let ended : c.pass_items.new.reader ≡ Token.end_object ∷ new = c.in_ok-pull_end_object-in-Err.ensures in
+    let ended : c.pass_items.new.reader ≡ Token.end_object ∷ new = grind (arith, rules) in
     let failed : IsFound start (objects_placed version [] 0 os) unmet = c.in-Err.ensures.unmet in (
       in_order version os ts,
-      c.in_ok-version.ensures.reads ts new (subst (λ l. ReadsItems 125 c.pull_head.new.reader ts l) ended rest.1),
+      IfOk-at_ok _ is c.pull_head.ensures.reads ts new (subst (λ l. ReadsItems 125 c.pull_head.new.reader ts l) ended rest.1),
       λ shape other. objects_failed version os ts known.0 known.1 start shape unmet.fault (ap fault_of (failed other)),
     )
 
 pub returns-in-Ok-answer : goal.returns-in-Ok-answer
 returns-in-Ok-answer c =
     let version = c.in_ok-version.version in
-    let known = c.in_ok-version.ensures.version in
+    let is : c.pull_head.result ≡ Ok (version, c.in_ok-version.objects) = known_ok _ _ c.in_ok-version.ensures.value in
+    let known = IfOk-at_ok _ is c.pull_head.ensures.version in
     let declared = c.in-Ok.declared in
     let setting = setting_of declared in
     let os = items_view c.in_ok-version.objects.items in
@@ -50,16 +53,16 @@ returns-in-Ok-answer c =
     let between = numbers_of c.read_objects.new.numbering in
     let last = numbers_of c.each_transaction.new.state.numbering in
     let new = c.pull_end_object-2.new.reader in
-    let ended : c.each_transaction.new.reader ≡ Token.end_object ∷ new = c.in_ok-pull_end_object.ensures in
+    let ended : c.each_transaction.new.reader ≡ Token.end_object ∷ new = grind (arith, rules) in
     let reads = subst (λ l. ReadsItems 125 c.pull_head.new.reader ts l) ended answer.1 in
     let met : AreMet start (objects_placed version [] 0 os) mid = c.in-Ok.ensures.met in
     let named : texts_of declared.names.keys ≡ names_of os = c.in-Ok.ensures.names in
     let set : setting ≡ declared_by version os = c.in-Ok.ensures.setting in
     let started : (declared.objects, between) ≡ starts_of version numbers os = c.in-Ok.ensures.objects in
     let few : items_len os ≤ 1000 = omega
-    (arith, items_len-items_view c.in_ok-version.objects.items, c.in_ok-version.ensures.objects) in (
+    (arith, items_len-items_view c.in_ok-version.objects.items, IfOk-at_ok _ is c.pull_head.ensures.objects) in (
       in_order version os ts,
-      c.in_ok-version.ensures.reads ts new reads,
+      IfOk-at_ok _ is c.pull_head.ensures.reads ts new reads,
       (
         in_order_met version os ts known.0 known.1 start mid next few done.2 met
             (subst (λ x. AreMet mid (transactions_placed x 0 ts) next) set done.0),
@@ -72,7 +75,8 @@ returns-in-Ok-answer c =
 pub returns : goal.returns
 returns c =
     let version = c.in_ok-version.version in
-    let known = c.in_ok-version.ensures.version in
+    let is : c.pull_head.result ≡ Ok (version, c.in_ok-version.objects) = known_ok _ _ c.in_ok-version.ensures.value in
+    let known = IfOk-at_ok _ is c.pull_head.ensures.version in
     let setting = setting_of c.in-Ok.declared in
     let os = items_view c.in_ok-version.objects.items in
     let answer = c.in_ok-answer.ensures in
@@ -82,13 +86,13 @@ returns c =
     let start = c.args.state.now.counts in
     let mid = c.read_objects.new.counts in
     let new = c.pull_end_object-2.new.reader in
-    let ended : c.each_transaction.new.reader ≡ Token.end_object ∷ new = c.in_ok-pull_end_object.ensures in
+    let ended : c.each_transaction.new.reader ≡ Token.end_object ∷ new = grind (arith, rules) in
     let reads = subst (λ l. ReadsItems 125 c.pull_head.new.reader ts l) ended answer.1 in
     let met : AreMet start (objects_placed version [] 0 os) mid = c.in-Ok.ensures.met in
     let set : setting ≡ declared_by version os = c.in-Ok.ensures.setting in
     let first : IsFirstOf mid (transactions_placed (declared_by version os) 0 ts) e =
     subst (λ x. IsFirstOf mid (transactions_placed x 0 ts) e) set failed in (
       in_order version os ts,
-      c.in_ok-version.ensures.reads ts new reads,
+      IfOk-at_ok _ is c.pull_head.ensures.reads ts new reads,
       λ shape other. transactions_failed version os ts known.0 known.1 start shape mid e met (first other),
     )
