@@ -30,7 +30,9 @@ use words::kind_text;
 /// Returns `NoMemory` where a request for memory was refused.
 pub fn render(alloc: Global, batch: &Batch, outcome: &Outcome) -> Result<String, NoMemory>
     requires { length outcome.now.objects < 2 ^ 32 }
-    ensures { IfOk result (λ t. string_bytes t ≡ text (names_of batch.now.names) (map block_view batch.now.transactions.items) (map record_view outcome.now.records.items) outcome.now.objects outcome.now.rounds) }
+    ensures { IfOk result (λ t. string_bytes t ≡ text (names_of batch.now.names)
+        (map block_view batch.now.transactions.items) (map record_view outcome.now.records.items)
+        outcome.now.objects outcome.now.rounds) }
 {
     let mut out = render_entries(alloc, batch, &outcome.records, &outcome.objects)?;
     let rounds = outcome.rounds;
@@ -43,7 +45,9 @@ pub fn render(alloc: Global, batch: &Batch, outcome: &Outcome) -> Result<String,
 /// Returns `NoMemory` where a request for memory was refused.
 pub fn render_plain(alloc: Global, batch: &Batch, plain: &Plain) -> Result<String, NoMemory>
     requires { length plain.now.objects < 2 ^ 32 }
-    ensures { IfOk result (λ t. string_bytes t ≡ plain_text (names_of batch.now.names) (map block_view batch.now.transactions.items) (map record_view plain.now.records.items) plain.now.objects) }
+    ensures { IfOk result (λ t. string_bytes t ≡ plain_text (names_of batch.now.names)
+        (map block_view batch.now.transactions.items) (map record_view plain.now.records.items)
+        plain.now.objects) }
 {
     render_entries(alloc, batch, &plain.records, &plain.objects)
 }
@@ -54,7 +58,9 @@ pub fn render_plain(alloc: Global, batch: &Batch, plain: &Plain) -> Result<Strin
 /// Returns `NoMemory` where a request for memory was refused.
 pub fn render_audit(alloc: Global, batch: &Batch, outcome: &Outcome) -> Result<String, NoMemory>
     requires { length outcome.now.objects < 2 ^ 32 }
-    ensures { IfOk result (λ t. string_bytes t ≡ audit_text (names_of batch.now.names) (map block_view batch.now.transactions.items) (map record_view outcome.now.records.items) outcome.now.objects outcome.now.rounds outcome.now.runs.items) }
+    ensures { IfOk result (λ t. string_bytes t ≡ audit_text (names_of batch.now.names)
+        (map block_view batch.now.transactions.items) (map record_view outcome.now.records.items)
+        outcome.now.objects outcome.now.rounds outcome.now.runs.items) }
 {
     let mut out = render(alloc, batch, outcome)?;
     write_counts(&mut out, &outcome.runs)?;
@@ -66,7 +72,9 @@ pub fn render_audit(alloc: Global, batch: &Batch, outcome: &Outcome) -> Result<S
 ///
 /// Returns `NoMemory` where a request for memory was refused.
 pub fn render_check(alloc: Global, batch: &Batch) -> Result<String, NoMemory>
-    ensures { IfOk result (λ t. string_bytes t ≡ check_text (length batch.now.objects) (length batch.now.transactions.items) (all_operations (map block_view batch.now.transactions.items))) }
+    ensures { IfOk result (λ t. string_bytes t ≡ check_text (length batch.now.objects)
+        (length batch.now.transactions.items)
+        (all_operations (map block_view batch.now.transactions.items))) }
 {
     let objects = batch.objects.len();
     let transactions = batch.transactions.len();
@@ -122,7 +130,9 @@ fn render_entries(
     objects: &Objects,
 ) -> Result<String, NoMemory>
     requires { length objects.now < 2 ^ 32 }
-    ensures { IfOk result (λ t. string_bytes t ≡ plain_text (names_of batch.now.names) (map block_view batch.now.transactions.items) (map record_view records.now) objects.now) }
+    ensures { IfOk result (λ t. string_bytes t ≡ plain_text (names_of batch.now.names)
+        (map block_view batch.now.transactions.items) (map record_view records.now)
+        objects.now) }
 {
     let first = Cut { entry: 0, line: 0 };
     let last = last_cut(batch, records, objects);
