@@ -7,9 +7,6 @@ import preloaded
 
 FAULT = (b"", 1, b"fault 20 transaction 0\n")
 
-# How many requests the place of a fault may take: at most three for each name on the way to it.
-A_PLACE = 9
-
 
 def refuse(library, number, words, path, document):
     """What a run returns whose Nth request is refused, and how many it made."""
@@ -47,8 +44,7 @@ def try_document(program, library, words, name, document, report):
 
 
 def try_tokens(program, library, case):
-    """Where reading from tokens is refused memory, that is the fault: no tree is made. Only its place may be asked for still,
-    on the way back through a small tree.
+    """Where reading from tokens is refused memory, that is the fault at once: nothing more is asked for.
 
     What serves without the memory, as a list that was to be shortened, may ask once more."""
     document = case.with_suffix(".json").read_bytes()
@@ -58,7 +54,7 @@ def try_tokens(program, library, case):
         got, made = refuse(library, number, ["check"], program.path, document)
         name = "%s, request %d refused" % (case.name, number)
         program.compare(name, ["check"], got, FAULT if got[1] == 1 else (line, 0, b""))
-        most = number + A_PLACE if got[1] == 1 else whole + 1
+        most = number if got[1] == 1 else whole + 1
         program.compare(name + ", what follows", ["check"], (made <= most, 0, b""), (True, 0, b""))
 
 

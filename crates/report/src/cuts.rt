@@ -147,3 +147,27 @@ fn lines_of_children(children: &[(Record, Option<Record>)]) -> usize {
     }
     count
 }
+
+/// About how many lines a transaction has: its own, and those of its outermost steps and of the steps
+/// in their bodies. No step further inside is looked at.
+pub(crate) fn about_lines(record: &Record) -> usize {
+    let mut lines = record.taken.len().saturating_add(1);
+    for taken in &record.taken {
+        lines = lines.saturating_add(match taken {
+            Taken::Op(_) | Taken::Abort => 0,
+            Taken::If(_, branch) => branch.taken.len(),
+            Taken::Sub(body, _) => body.taken.len(),
+            Taken::Parallel(children) => about_lines_of(children),
+        });
+    }
+    lines
+}
+
+// The same of children.
+fn about_lines_of(children: &[(Record, Option<Record>)]) -> usize {
+    let mut lines: usize = 0;
+    for (body, _) in children {
+        lines = lines.saturating_add(body.taken.len()).saturating_add(1);
+    }
+    lines
+}

@@ -98,7 +98,7 @@ pub fn run_in<T: Threads + Sync, G: Gate>(
             hashing: batch.hashing,
         },
     };
-    view.reserve(block.steps.len())?;
+    view.reserve(batch.operations_of(number as usize - 1) as usize)?;
     let spare = replace(&mut run.tree.taken, Vec::new(alloc));
     run.tree = run_block(&making, block, labels, view, width, spare)?;
     view.take_run(&mut run.entries, &mut run.net);

@@ -5,7 +5,7 @@ ghost use Rattle.spelling.specs.Answer.{found_of, pointer_text};
 ghost use Rattle.spelling.specs.Places.{found_inside, item_at, member_named};
 
 use batch::NoMemory;
-use faults::Fault;
+use faults::{Code, Fault};
 use std::alloc::{AllocError, AllocFailed, Global};
 
 /// A demand that is not met: its fault, and the pointer from a value to the part that it is asked
@@ -76,6 +76,10 @@ impl Unmet {
             → (self.fault ≢ memory_fault) × (found_of result ≡ found_inside (member_named name.now)
             (found_of self)) }
     {
+        if self.fault.code == Code::Memory {
+            // No place is asked for, which would take memory.
+            return Unmet::from(AllocError);
+        }
         let Ok(pointer) = in_front(alloc, name, self.pointer) else {
             return Unmet::from(AllocError);
         };
@@ -93,16 +97,13 @@ impl Unmet {
             → (self.fault ≢ memory_fault) × (found_of result ≡ found_inside (item_at index)
             (found_of self)) }
     {
+        if self.fault.code == Code::Memory {
+            return Unmet::from(AllocError);
+        }
         let Ok(name) = format!(in alloc; "{index}") else {
             return Unmet::from(AllocError);
         };
-        let Ok(pointer) = in_front(alloc, name.as_str(), self.pointer) else {
-            return Unmet::from(AllocError);
-        };
-        Unmet {
-            fault: self.fault,
-            pointer: Some(pointer),
-        }
+        self.in_member(alloc, name.as_str())
     }
 }
 
