@@ -1,8 +1,8 @@
 //! Whole calls, from a source to a sink.
-ghost use Rattle.std.specs.Prelude.{◌≡◌, ◌≢◌, ◌↔◌, ◌⊎◌, true, false, Err, OnOk, IfErr};
+ghost use Rattle.std.specs.Prelude.{◌≡◌, ◌≢◌, ◌↔◌, ◌⊎◌, true, false, Err, IfErr};
 ghost use Rattle.faults.specs.Faults.{input_fault, memory_fault, output_fault};
-ghost use Rattle.ordtx.specs.Answers.{IsAuditOf, IsCarriedIntoOf, IsCarriedOf, IsCarryFaultOf, IsCarryIntoFaultOf, IsCheckOf, IsExplainedOf, IsFaultOf, IsLocationOf, IsPlainReportOf, IsReportOf, fault_of, refusal_of};
-ghost use Rattle.ordtx.specs.Streams.{IsOfDocuments, IsRead, OfFirst, ReadsFault, WritesAnswer, WritesBeginning};
+ghost use Rattle.ordtx.specs.Answers.{IsAuditOf, IsCarriedIntoOf, IsCarriedOf, IsCarryFaultOf, IsCarryIntoFaultOf, IsCheckOf, IsExplainedOf, IsFaultOf, IsLocationOf, IsPlainReportOf, IsReportOf};
+ghost use Rattle.ordtx.specs.Streams.{AnswersStream, IsRead, IsRefusal, OfRead};
 ghost use Rattle.ordtx.specs.declared.carrying.Uncarried.TheVariants as uncarried;
 
 use crate::carrying::{Uncarried, carried_into_of, carried_of};
@@ -41,21 +41,9 @@ pub fn run_stream<T: Threads + Sync, R: Source, W: Sink, G: Gate>(
     requires unended { R.has_ended source.old ≡ false }
     requires unread { R.has_failed source.old ≡ false }
     requires unwritten { W.has_failed sink.old ≡ false }
-    // All bytes were read, but at most 67,108,865. After a fault of memory or of the input there may be more.
-    ensures read { result ≢ Err memory_fault → result ≢ Err input_fault
-        → IsRead (R.remaining source.old) (R.remaining source.new) }
-    // Exactly the report of what was read was written.
-    ensures written { OnOk result (WritesAnswer IsReportOf (R.remaining source.old) (W.taken sink.old) (W.taken sink.new)) }
-    // A fault of the document is that of what was read.
-    ensures fault { IfErr result (λ fault. fault ≢ memory_fault → fault ≢ input_fault → fault ≢ output_fault
-        → ReadsFault IsFaultOf (R.remaining source.old) fault) }
-    ensures input { R.has_failed source.new ≡ true ↔ result ≡ Err input_fault }
-    ensures output { W.has_failed sink.new ≡ true ↔ result ≡ Err output_fault }
-    // After any fault but that of the output nothing was written.
-    ensures untouched { IfErr result (λ fault. fault ≢ output_fault → sink.new ≡ sink.old) }
-    // After that of the output a beginning of it was written.
-    ensures beginning { result ≡ Err output_fault
-        → WritesBeginning IsReportOf (R.remaining source.old) (W.taken sink.old) (W.taken sink.new) }
+    // The report of what was read is written.
+    ensures { AnswersStream IsReportOf IsFaultOf (λ fault. fault)
+        R.Source source.old source.new W.Sink sink.old sink.new result }
 {
     let document = read_input(alloc, source, MOST_READ)?;
     let parts = report_of(threads, alloc, document, plan, gate)?;
@@ -76,21 +64,9 @@ pub fn audit_stream<T: Threads + Sync, R: Source, W: Sink, G: Gate>(
     requires unended { R.has_ended source.old ≡ false }
     requires unread { R.has_failed source.old ≡ false }
     requires unwritten { W.has_failed sink.old ≡ false }
-    // All bytes were read, but at most 67,108,865. After a fault of memory or of the input there may be more.
-    ensures read { result ≢ Err memory_fault → result ≢ Err input_fault
-        → IsRead (R.remaining source.old) (R.remaining source.new) }
-    // Exactly the report with the run counts of what was read was written.
-    ensures written { OnOk result (WritesAnswer IsAuditOf (R.remaining source.old) (W.taken sink.old) (W.taken sink.new)) }
-    // A fault of the document is that of what was read.
-    ensures fault { IfErr result (λ fault. fault ≢ memory_fault → fault ≢ input_fault → fault ≢ output_fault
-        → ReadsFault IsFaultOf (R.remaining source.old) fault) }
-    ensures input { R.has_failed source.new ≡ true ↔ result ≡ Err input_fault }
-    ensures output { W.has_failed sink.new ≡ true ↔ result ≡ Err output_fault }
-    // After any fault but that of the output nothing was written.
-    ensures untouched { IfErr result (λ fault. fault ≢ output_fault → sink.new ≡ sink.old) }
-    // After that of the output a beginning of it was written.
-    ensures beginning { result ≡ Err output_fault
-        → WritesBeginning IsAuditOf (R.remaining source.old) (W.taken sink.old) (W.taken sink.new) }
+    // The report with the run counts of what was read is written.
+    ensures { AnswersStream IsAuditOf IsFaultOf (λ fault. fault)
+        R.Source source.old source.new W.Sink sink.old sink.new result }
 {
     let document = read_input(alloc, source, MOST_READ)?;
     let parts = audit_of(threads, alloc, document, plan, gate)?;
@@ -113,21 +89,9 @@ pub fn explain_stream<T: Threads + Sync, R: Source, W: Sink, G: Gate>(
     requires unended { R.has_ended source.old ≡ false }
     requires unread { R.has_failed source.old ≡ false }
     requires unwritten { W.has_failed sink.old ≡ false }
-    // All bytes were read, but at most 67,108,865. After a fault of memory or of the input there may be more.
-    ensures read { result ≢ Err memory_fault → result ≢ Err input_fault
-        → IsRead (R.remaining source.old) (R.remaining source.new) }
-    // Exactly the report of what was read with what ended its rounds was written.
-    ensures written { OnOk result (WritesAnswer (IsExplainedOf audit) (R.remaining source.old) (W.taken sink.old) (W.taken sink.new)) }
-    // A fault of the document is that of what was read.
-    ensures fault { IfErr result (λ fault. fault ≢ memory_fault → fault ≢ input_fault → fault ≢ output_fault
-        → ReadsFault IsFaultOf (R.remaining source.old) fault) }
-    ensures input { R.has_failed source.new ≡ true ↔ result ≡ Err input_fault }
-    ensures output { W.has_failed sink.new ≡ true ↔ result ≡ Err output_fault }
-    // After any fault but that of the output nothing was written.
-    ensures untouched { IfErr result (λ fault. fault ≢ output_fault → sink.new ≡ sink.old) }
-    // After that of the output a beginning of it was written.
-    ensures beginning { result ≡ Err output_fault
-        → WritesBeginning (IsExplainedOf audit) (R.remaining source.old) (W.taken sink.old) (W.taken sink.new) }
+    // The report of what was read is written, with what ended its rounds.
+    ensures { AnswersStream (IsExplainedOf audit) IsFaultOf (λ fault. fault)
+        R.Source source.old source.new W.Sink sink.old sink.new result }
 {
     let document = read_input(alloc, source, MOST_READ)?;
     let parts = explanation_of(threads, alloc, document, plan, audit, gate)?;
@@ -146,21 +110,9 @@ pub fn serial_stream<R: Source, W: Sink>(
     requires unended { R.has_ended source.old ≡ false }
     requires unread { R.has_failed source.old ≡ false }
     requires unwritten { W.has_failed sink.old ≡ false }
-    // All bytes were read, but at most 67,108,865. After a fault of memory or of the input there may be more.
-    ensures read { result ≢ Err memory_fault → result ≢ Err input_fault
-        → IsRead (R.remaining source.old) (R.remaining source.new) }
-    // Exactly the report of one thread of what was read was written.
-    ensures written { OnOk result (WritesAnswer IsPlainReportOf (R.remaining source.old) (W.taken sink.old) (W.taken sink.new)) }
-    // A fault of the document is that of what was read.
-    ensures fault { IfErr result (λ fault. fault ≢ memory_fault → fault ≢ input_fault → fault ≢ output_fault
-        → ReadsFault IsFaultOf (R.remaining source.old) fault) }
-    ensures input { R.has_failed source.new ≡ true ↔ result ≡ Err input_fault }
-    ensures output { W.has_failed sink.new ≡ true ↔ result ≡ Err output_fault }
-    // After any fault but that of the output nothing was written.
-    ensures untouched { IfErr result (λ fault. fault ≢ output_fault → sink.new ≡ sink.old) }
-    // After that of the output a beginning of it was written.
-    ensures beginning { result ≡ Err output_fault
-        → WritesBeginning IsPlainReportOf (R.remaining source.old) (W.taken sink.old) (W.taken sink.new) }
+    // The report of one thread of what was read is written.
+    ensures { AnswersStream IsPlainReportOf IsFaultOf (λ fault. fault)
+        R.Source source.old source.new W.Sink sink.old sink.new result }
 {
     let document = read_input(alloc, source, MOST_READ)?;
     let text = plain_report_of(alloc, document)?;
@@ -182,21 +134,9 @@ pub fn carry_stream<R: Source, W: Sink>(
     requires unended { R.has_ended source.old ≡ false }
     requires unread { R.has_failed source.old ≡ false }
     requires unwritten { W.has_failed sink.old ≡ false }
-    // All bytes were read, but at most 67,108,865. After a fault of memory or of the input there may be more.
-    ensures read { result ≢ Err (uncarried.First memory_fault) → result ≢ Err (uncarried.First input_fault)
-        → IsRead (R.remaining source.old) (R.remaining source.new) }
-    // Exactly the document of the objects at the end of what was read was written.
-    ensures written { OnOk result (WritesAnswer IsCarriedOf (R.remaining source.old) (W.taken sink.old) (W.taken sink.new)) }
-    // A fault of the document, or of its objects at the end, is that of what was read.
-    ensures fault { IfErr result (λ refused. IsOfDocuments (fault_of refused)
-        → ReadsFault IsCarryFaultOf (R.remaining source.old) (refusal_of refused)) }
-    ensures input { R.has_failed source.new ≡ true ↔ result ≡ Err (uncarried.First input_fault) }
-    ensures output { W.has_failed sink.new ≡ true ↔ result ≡ Err (uncarried.First output_fault) }
-    // After any fault but that of the output nothing was written.
-    ensures untouched { IfErr result (λ refused. refused ≢ uncarried.First output_fault → sink.new ≡ sink.old) }
-    // After that of the output a beginning of it was written.
-    ensures beginning { result ≡ Err (uncarried.First output_fault)
-        → WritesBeginning IsCarriedOf (R.remaining source.old) (W.taken sink.old) (W.taken sink.new) }
+    // The document of the objects at the end of what was read is written.
+    ensures { AnswersStream IsCarriedOf (λ bytes. IsRefusal (IsCarryFaultOf bytes)) uncarried.First
+        R.Source source.old source.new W.Sink sink.old sink.new result }
 {
     let document = read_input(alloc, source, MOST_READ)?;
     let text = carried_of(alloc, document)?;
@@ -231,29 +171,18 @@ pub fn carry_into_stream<R: Source, S: Source, W: Sink>(
     requires next_unended { S.has_ended next.old ≡ false }
     requires next_unread { S.has_failed next.old ≡ false }
     requires unwritten { W.has_failed sink.old ≡ false }
-    // All bytes of the first were read, but at most 67,108,865. After a fault of memory or of its input there may be more.
-    ensures read { result ≢ Err (uncarried.First memory_fault) → result ≢ Err (uncarried.First input_fault)
-        → IsRead (R.remaining source.old) (R.remaining source.new) }
-    // So were those of the next.
-    ensures next_read { result ≢ Err (uncarried.First memory_fault) → result ≢ Err (uncarried.First input_fault)
+    // The next document of what was read is written, with the objects at the end of the first.
+    ensures answer { AnswersStream
+        (λ first text. OfRead (λ next. IsCarriedIntoOf first next text) (S.remaining next.old))
+        (λ first refused. OfRead (λ next. IsRefusal (IsCarryIntoFaultOf first next) refused)
+        (S.remaining next.old))
+        uncarried.First R.Source source.old source.new W.Sink sink.old sink.new result }
+    // All bytes of the next were read, too. After a fault of memory or of an input there may be more.
+    ensures next_read { result ≢ Err (uncarried.First memory_fault)
+        → result ≢ Err (uncarried.First input_fault)
         → result ≢ Err (uncarried.Next memory_fault) → result ≢ Err (uncarried.Next input_fault)
         → IsRead (S.remaining next.old) (S.remaining next.new) }
-    // Exactly the next document of what was read was written, with the objects at the end of the first.
-    ensures written { OnOk result (OfFirst (λ first. WritesAnswer (IsCarriedIntoOf first)
-        (S.remaining next.old) (W.taken sink.old) (W.taken sink.new)) (R.remaining source.old)) }
-    // A fault of a document, or of the objects that are carried, is that of what was read.
-    ensures fault { IfErr result (λ refused. IsOfDocuments (fault_of refused)
-        → OfFirst (λ first. ReadsFault (IsCarryIntoFaultOf first) (S.remaining next.old) (refusal_of refused))
-        (R.remaining source.old)) }
-    ensures input { R.has_failed source.new ≡ true ↔ result ≡ Err (uncarried.First input_fault) }
     ensures next_input { S.has_failed next.new ≡ true ↔ result ≡ Err (uncarried.Next input_fault) }
-    ensures output { W.has_failed sink.new ≡ true ↔ result ≡ Err (uncarried.First output_fault) }
-    // After any fault but that of the output nothing was written.
-    ensures untouched { IfErr result (λ refused. refused ≢ uncarried.First output_fault → sink.new ≡ sink.old) }
-    // After that of the output a beginning of it was written.
-    ensures beginning { result ≡ Err (uncarried.First output_fault)
-        → OfFirst (λ first. WritesBeginning (IsCarriedIntoOf first)
-        (S.remaining next.old) (W.taken sink.old) (W.taken sink.new)) (R.remaining source.old) }
 {
     let first = read_input(alloc, source, MOST_READ)?;
     let next = match read_input(alloc, next, MOST_READ) {
@@ -277,21 +206,9 @@ pub fn check_stream<R: Source, W: Sink>(
     requires unended { R.has_ended source.old ≡ false }
     requires unread { R.has_failed source.old ≡ false }
     requires unwritten { W.has_failed sink.old ≡ false }
-    // All bytes were read, but at most 67,108,865. After a fault of memory or of the input there may be more.
-    ensures read { result ≢ Err memory_fault → result ≢ Err input_fault
-        → IsRead (R.remaining source.old) (R.remaining source.new) }
-    // Exactly the line of counts of what was read was written.
-    ensures written { OnOk result (WritesAnswer IsCheckOf (R.remaining source.old) (W.taken sink.old) (W.taken sink.new)) }
-    // A fault of the document is that of what was read.
-    ensures fault { IfErr result (λ fault. fault ≢ memory_fault → fault ≢ input_fault → fault ≢ output_fault
-        → ReadsFault IsFaultOf (R.remaining source.old) fault) }
-    ensures input { R.has_failed source.new ≡ true ↔ result ≡ Err input_fault }
-    ensures output { W.has_failed sink.new ≡ true ↔ result ≡ Err output_fault }
-    // After any fault but that of the output nothing was written.
-    ensures untouched { IfErr result (λ fault. fault ≢ output_fault → sink.new ≡ sink.old) }
-    // After that of the output a beginning of it was written.
-    ensures beginning { result ≡ Err output_fault
-        → WritesBeginning IsCheckOf (R.remaining source.old) (W.taken sink.old) (W.taken sink.new) }
+    // The line of counts of what was read is written.
+    ensures { AnswersStream IsCheckOf IsFaultOf (λ fault. fault)
+        R.Source source.old source.new W.Sink sink.old sink.new result }
 {
     let document = read_input(alloc, source, MOST_READ)?;
     let text = check_of(alloc, document.as_slice())?;
@@ -315,20 +232,12 @@ pub fn locate_stream<R: Source, W: Sink>(
     requires unended { R.has_ended source.old ≡ false }
     requires unread { R.has_failed source.old ≡ false }
     requires unwritten { W.has_failed sink.old ≡ false }
-    // All bytes were read, but at most 67,108,865. After a fault of memory or of the input there may be more.
-    ensures read { result ≢ Err memory_fault → result ≢ Err input_fault
-        → IsRead (R.remaining source.old) (R.remaining source.new) }
-    // Exactly the line of the fault of what was read was written.
-    ensures written { OnOk result (WritesAnswer IsLocationOf (R.remaining source.old) (W.taken sink.old) (W.taken sink.new)) }
+    // The line of the fault of what was read is written.
+    ensures answer { AnswersStream IsLocationOf (λ _ _. ⊥) (λ fault. fault)
+        R.Source source.old source.new W.Sink sink.old sink.new result }
     // A fault of the document is no error here.
-    ensures fault { IfErr result (λ fault. (fault ≡ memory_fault) ⊎ (fault ≡ input_fault) ⊎ (fault ≡ output_fault)) }
-    ensures input { R.has_failed source.new ≡ true ↔ result ≡ Err input_fault }
-    ensures output { W.has_failed sink.new ≡ true ↔ result ≡ Err output_fault }
-    // After any error but that of the output nothing was written.
-    ensures untouched { IfErr result (λ fault. fault ≢ output_fault → sink.new ≡ sink.old) }
-    // After that of the output a beginning of it was written.
-    ensures beginning { result ≡ Err output_fault
-        → WritesBeginning IsLocationOf (R.remaining source.old) (W.taken sink.old) (W.taken sink.new) }
+    ensures fault { IfErr result (λ fault.
+        (fault ≡ memory_fault) ⊎ (fault ≡ input_fault) ⊎ (fault ≡ output_fault)) }
 {
     let document = read_input(alloc, source, MOST_READ)?;
     let text = location_of(alloc, document.as_slice())?;

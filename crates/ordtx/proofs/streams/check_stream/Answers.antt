@@ -1,17 +1,9 @@
 use Rattle.std.proofs.Common.{rules}
-use Rattle.std.proofs.lemmas.Result.{IfOk-weaker}
-use Rattle.ordtx.specs.Answers.{IsCheckOf}
-use Rattle.ordtx.proofs.Known.{writes_answer, writes_beginning}
+use Rattle.ordtx.proofs.Known.{answered}
 use Rattle.ordtx.proofs.streams.check_stream.Goals as goal
 
-pub returns-clause-written : goal.returns-clause-written
-returns-clause-written g c =
-    let is : IsCheckOf c.in_ok-document.document.items c.as_bytes.result.now = search rules in
-    IfOk-weaker c.write_text.result _ _ (λ _ written. writes_answer IsCheckOf _ _ _ _ _ _ c.in_ok-document.ensures.bytes is written)
-    c.write_text.ensures.whole
-
-pub returns-clause-beginning : goal.returns-clause-beginning
-returns-clause-beginning g c = λ failed.
-    let is : IsCheckOf c.in_ok-document.document.items c.as_bytes.result.now = search rules in
-    let written = rw failed at c.write_text.ensures.beginning in
-    writes_beginning IsCheckOf _ _ _ _ _ _ c.in_ok-document.ensures.bytes is written
+pub returns : goal.returns
+returns g c =
+    let read = c.in_ok-document.ensures in
+    let wrote = c.write_text.ensures in
+    answered (λ _ _ e. e) _ _ c.write_text.result read.bytes read.mark wrote.whole wrote.beginning wrote.fault wrote.mark (search rules)
