@@ -1,3 +1,4 @@
 pub mod Answers
 pub mod Streams
+pub mod Texts
 pub mod Laws

@@ -5,6 +5,7 @@ ghost use Rattle.faults.specs.Faults.{is_of_reading, memory_fault, wrong_outside
 ghost use Rattle.carry.specs.Joined.{start_view};
 ghost use Rattle.lang.specs.Reading.{document_of, reading};
 ghost use Rattle.ordtx.specs.Answers.{IsCarriedIntoOf, IsCarriedOf, IsCarryFaultOf, IsCarryIntoFaultOf, fault_of, name_at, of_object, refusal_of, unfit_wrong, wrong_start};
+ghost use Rattle.ordtx.specs.Texts.{GivesCarried};
 
 use crate::texts::batch_of;
 use batch::Batch;
@@ -66,10 +67,7 @@ impl From<NoMemory> for Uncarried {
 
 // The document of the objects at the end.
 pub(crate) fn carried_of(alloc: Global, document: Vec<u8>) -> Result<String, Uncarried>
-    ensures text { IfOk result (λ text. IsCarriedOf document.items (string_bytes text)) }
-    ensures fault { IfErr result (λ refused. fault_of refused ≢ memory_fault
-        → IsCarryFaultOf document.items (refusal_of refused)) }
-    ensures code { IfErr result (λ refused. is_of_reading (fault_of refused).code ≡ true) }
+    ensures { GivesCarried (IsCarriedOf document.items) (IsCarryFaultOf document.items) result }
 {
     let batch = batch_of(alloc, document)?;
     carried_of_batch(alloc, &batch)
@@ -77,9 +75,12 @@ pub(crate) fn carried_of(alloc: Global, document: Vec<u8>) -> Result<String, Unc
 
 // The same of a batch that was read.
 fn carried_of_batch(alloc: Global, batch: &Batch) -> Result<String, Uncarried>
-    ensures text { IfOk result (λ text. (bytes : List ℕ) → reading bytes ≡ Ok (document_of batch.now) → IsCarriedOf bytes (string_bytes text)) }
+    ensures text { IfOk result (λ text. (bytes : List ℕ)
+        → reading bytes ≡ Ok (document_of batch.now)
+        → IsCarriedOf bytes (string_bytes text)) }
     ensures fault { IfErr result (λ refused. fault_of refused ≢ memory_fault
-        → (bytes : List ℕ) → reading bytes ≡ Ok (document_of batch.now) → IsCarryFaultOf bytes (refusal_of refused)) }
+        → (bytes : List ℕ) → reading bytes ≡ Ok (document_of batch.now)
+        → IsCarryFaultOf bytes (refusal_of refused)) }
     ensures code { IfErr result (λ refused. is_of_reading (fault_of refused).code ≡ true) }
 {
     let objects = plain(alloc, batch)?.objects;
@@ -93,7 +94,8 @@ fn carried_of_batch(alloc: Global, batch: &Batch) -> Result<String, Uncarried>
 
 // That the object of a name is wrong so.
 fn object_refused(alloc: Global, wrong: Wrong, name: &str) -> Uncarried
-    ensures object { fault_of result ≢ memory_fault → refusal_of result ≡ of_object (wrong_outside wrong) name.now }
+    ensures object { fault_of result ≢ memory_fault
+        → refusal_of result ≡ of_object (wrong_outside wrong) name.now }
     ensures code { is_of_reading (fault_of result).code ≡ true }
 {
     match String::from_str(alloc, name) {
@@ -118,10 +120,8 @@ pub(crate) fn carried_into_of(
     first: Vec<u8>,
     next: Vec<u8>,
 ) -> Result<String, Uncarried>
-    ensures text { IfOk result (λ text. IsCarriedIntoOf first.items next.items (string_bytes text)) }
-    ensures fault { IfErr result (λ refused. fault_of refused ≢ memory_fault
-        → IsCarryIntoFaultOf first.items next.items (refusal_of refused)) }
-    ensures code { IfErr result (λ refused. is_of_reading (fault_of refused).code ≡ true) }
+    ensures { GivesCarried (IsCarriedIntoOf first.items next.items)
+        (IsCarryIntoFaultOf first.items next.items) result }
 {
     let hashing = NameHashing::of(first.as_slice());
     let batch = batch_of(alloc, first)?;
@@ -158,11 +158,14 @@ fn carried_into_batch(
 ) -> Result<String, Uncarried>
     requires first_named { texts_of first_names.now.keys ≡ first.now.names.objects }
     requires next_named { texts_of next_names.now.keys ≡ next.now.names.objects }
-    ensures text { IfOk result (λ text. (before : List ℕ) → reading before ≡ Ok (document_of first.now)
-        → reading bytes.now ≡ Ok (document_of next.now) → IsCarriedIntoOf before bytes.now (string_bytes text)) }
+    ensures text { IfOk result (λ text. (before : List ℕ)
+        → reading before ≡ Ok (document_of first.now)
+        → reading bytes.now ≡ Ok (document_of next.now)
+        → IsCarriedIntoOf before bytes.now (string_bytes text)) }
     ensures fault { IfErr result (λ refused. fault_of refused ≢ memory_fault
         → (before : List ℕ) → reading before ≡ Ok (document_of first.now)
-        → reading bytes.now ≡ Ok (document_of next.now) → IsCarryIntoFaultOf before bytes.now (refusal_of refused)) }
+        → reading bytes.now ≡ Ok (document_of next.now)
+        → IsCarryIntoFaultOf before bytes.now (refusal_of refused)) }
     ensures code { IfErr result (λ refused. is_of_reading (fault_of refused).code ≡ true) }
 {
     let end = plain(alloc, first)?.objects;

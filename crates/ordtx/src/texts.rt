@@ -3,6 +3,7 @@ ghost use Rattle.std.specs.Prelude.{◌≡◌, ◌≢◌, true, ℕ, List, IfErr
 ghost use Rattle.std.specs.List.{flat_map};
 ghost use Rattle.faults.specs.Faults.{is_of_reading, memory_fault};
 ghost use Rattle.lang.specs.Reading.{document_of, reading};
+ghost use Rattle.ordtx.specs.Texts.{GivesParts, GivesText};
 ghost use Rattle.ordtx.specs.Answers.{IsAuditOf, IsCheckOf, IsExplainedOf, IsFaultOf, IsPlainReportOf, IsReportOf, IsShownOf};
 
 use batch::Batch;
@@ -33,7 +34,8 @@ fn report_of_batch<T: Threads + Sync, G: Gate>(
     audit: bool,
     gate: &G,
 ) -> Result<Vec<String>, NoMemory>
-    ensures { IfOk result (λ parts. (bytes : List ℕ) → reading bytes ≡ Ok (document_of batch.now) → IsShownOf audit bytes (flat_map string_bytes parts.items)) }
+    ensures { IfOk result (λ parts. (bytes : List ℕ) → reading bytes ≡ Ok (document_of batch.now)
+        → IsShownOf audit bytes (flat_map string_bytes parts.items)) }
 {
     if audit {
         let outcome = execute(threads, alloc, batch, plan, gate)?;
@@ -51,9 +53,7 @@ pub(crate) fn report_of<T: Threads + Sync, G: Gate>(
     plan: Plan,
     gate: &G,
 ) -> Result<Vec<String>, Fault>
-    ensures text { IfOk result (λ parts. IsReportOf document.items (flat_map string_bytes parts.items)) }
-    ensures fault { IfErr result (λ fault. fault ≢ memory_fault → IsFaultOf document.items fault) }
-    ensures code { IfErr result (λ fault. is_of_reading fault.code ≡ true) }
+    ensures { GivesParts IsReportOf document.items result }
 {
     let batch = batch_of(alloc, document)?;
     let parts = report_of_batch(threads, alloc, &batch, plan, false, gate)?;
@@ -68,9 +68,7 @@ pub(crate) fn audit_of<T: Threads + Sync, G: Gate>(
     plan: Plan,
     gate: &G,
 ) -> Result<Vec<String>, Fault>
-    ensures text { IfOk result (λ parts. IsAuditOf document.items (flat_map string_bytes parts.items)) }
-    ensures fault { IfErr result (λ fault. fault ≢ memory_fault → IsFaultOf document.items fault) }
-    ensures code { IfErr result (λ fault. is_of_reading fault.code ≡ true) }
+    ensures { GivesParts IsAuditOf document.items result }
 {
     let batch = batch_of(alloc, document)?;
     let parts = report_of_batch(threads, alloc, &batch, plan, true, gate)?;
@@ -87,9 +85,7 @@ pub(crate) fn explanation_of<T: Threads + Sync, G: Gate>(
     audit: bool,
     gate: &G,
 ) -> Result<Vec<String>, Fault>
-    ensures text { IfOk result (λ parts. IsExplainedOf audit document.items (flat_map string_bytes parts.items)) }
-    ensures fault { IfErr result (λ fault. fault ≢ memory_fault → IsFaultOf document.items fault) }
-    ensures code { IfErr result (λ fault. is_of_reading fault.code ≡ true) }
+    ensures { GivesParts (IsExplainedOf audit) document.items result }
 {
     let batch = batch_of(alloc, document)?;
     let parts = explanation_of_batch(threads, alloc, &batch, plan, audit, gate)?;
@@ -105,7 +101,8 @@ fn explanation_of_batch<T: Threads + Sync, G: Gate>(
     audit: bool,
     gate: &G,
 ) -> Result<Vec<String>, NoMemory>
-    ensures { IfOk result (λ parts. (bytes : List ℕ) → reading bytes ≡ Ok (document_of batch.now) → IsExplainedOf audit bytes (flat_map string_bytes parts.items)) }
+    ensures { IfOk result (λ parts. (bytes : List ℕ) → reading bytes ≡ Ok (document_of batch.now)
+        → IsExplainedOf audit bytes (flat_map string_bytes parts.items)) }
 {
     let mut parts = report_of_batch(threads, alloc, batch, plan, audit, gate)?;
     let why = render_why(threads, alloc, batch)?;
@@ -115,9 +112,7 @@ fn explanation_of_batch<T: Threads + Sync, G: Gate>(
 
 // The report of one thread.
 pub(crate) fn plain_report_of(alloc: Global, document: Vec<u8>) -> Result<String, Fault>
-    ensures text { IfOk result (λ text. IsPlainReportOf document.items (string_bytes text)) }
-    ensures fault { IfErr result (λ fault. fault ≢ memory_fault → IsFaultOf document.items fault) }
-    ensures code { IfErr result (λ fault. is_of_reading fault.code ≡ true) }
+    ensures { GivesText IsPlainReportOf document.items result }
 {
     let batch = batch_of(alloc, document)?;
     let text = plain_report_of_batch(alloc, &batch)?;
@@ -126,7 +121,8 @@ pub(crate) fn plain_report_of(alloc: Global, document: Vec<u8>) -> Result<String
 
 // The same of a batch that was read.
 fn plain_report_of_batch(alloc: Global, batch: &Batch) -> Result<String, NoMemory>
-    ensures { IfOk result (λ text. (bytes : List ℕ) → reading bytes ≡ Ok (document_of batch.now) → IsPlainReportOf bytes (string_bytes text)) }
+    ensures { IfOk result (λ text. (bytes : List ℕ) → reading bytes ≡ Ok (document_of batch.now)
+        → IsPlainReportOf bytes (string_bytes text)) }
 {
     let answer = plain(alloc, batch)?;
     render_plain(alloc, batch, &answer)
@@ -134,9 +130,7 @@ fn plain_report_of_batch(alloc: Global, batch: &Batch) -> Result<String, NoMemor
 
 // How much a document holds.
 pub(crate) fn check_of(alloc: Global, document: &[u8]) -> Result<String, Fault>
-    ensures text { IfOk result (λ text. IsCheckOf document.now (string_bytes text)) }
-    ensures fault { IfErr result (λ fault. fault ≢ memory_fault → IsFaultOf document.now fault) }
-    ensures code { IfErr result (λ fault. is_of_reading fault.code ≡ true) }
+    ensures { GivesText IsCheckOf document.now result }
 {
     let batch = read(alloc, document)?;
     let text = render_check(alloc, &batch)?;

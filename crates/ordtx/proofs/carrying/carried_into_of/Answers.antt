@@ -11,18 +11,18 @@ name_table-requires-clause-apart c = names_apart c.args.first.items (document_of
 pub name_table-requires-2-clause-apart : goal.name_table-requires-2-clause-apart
 name_table-requires-2-clause-apart c = names_apart c.as_slice-2.result.now (document_of c.in-Ok.batch) c.in-Ok.ensures.batch
 
-pub returns-clause-text : goal.returns-clause-text
-returns-clause-text c =
+pub returns : goal.returns
+returns c =
     let reads = subst (λ bytes. reading bytes ≡ Ok (document_of c.in-Ok.batch))
     (c.as_slice-2.ensures.value ∙ sym c.as_slice-4.ensures.value) c.in-Ok.ensures.batch in
-    IfOk-weaker c.carried_into_batch.result _ _
-    (λ text is. subst (λ bytes. IsCarriedIntoOf c.args.first.items bytes (string_bytes text)) c.as_slice-4.ensures.value
-    (is c.args.first.items c.in_ok-batch.ensures.batch reads)) c.carried_into_batch.ensures.text
-
-pub returns-clause-fault : goal.returns-clause-fault
-returns-clause-fault c =
-    let reads = subst (λ bytes. reading bytes ≡ Ok (document_of c.in-Ok.batch))
-    (c.as_slice-2.ensures.value ∙ sym c.as_slice-4.ensures.value) c.in-Ok.ensures.batch in
-    IfErr-weaker c.carried_into_batch.result _ _
-    (λ refused is. λ of_memory. subst (λ bytes. IsCarryIntoFaultOf c.args.first.items bytes (refusal_of refused)) c.as_slice-4.ensures.value
-    (is of_memory c.args.first.items c.in_ok-batch.ensures.batch reads)) c.carried_into_batch.ensures.fault
+    let first = c.in_ok-batch.ensures.batch in
+    let given = c.carried_into_batch.ensures in
+    record {
+      answer = IfOk-weaker c.carried_into_batch.result _ _
+          (λ text is. subst (λ bytes. IsCarriedIntoOf c.args.first.items bytes (string_bytes text)) c.as_slice-4.ensures.value
+          (is c.args.first.items first reads)) given.text;
+      fault = IfErr-weaker c.carried_into_batch.result _ _
+          (λ refused is. λ of_memory. subst (λ bytes. IsCarryIntoFaultOf c.args.first.items bytes (refusal_of refused)) c.as_slice-4.ensures.value
+          (is of_memory c.args.first.items first reads)) given.fault;
+      code = given.code;
+    }

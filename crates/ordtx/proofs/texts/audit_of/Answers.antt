@@ -1,5 +1,5 @@
 use Rattle.std.proofs.Common.{rules}
 use Rattle.ordtx.proofs.texts.audit_of.Goals as goal
 
-pub returns-clause-text : goal.returns-clause-text
-returns-clause-text c = search rules
+pub returns : goal.returns
+returns g c = record { answer = search rules; fault = tt; code = tt }
