@@ -7,3 +7,5 @@ pub mod PulledDocument
 pub mod PulledHandlers
 pub mod PassLemmas
 pub mod NoteLemmas
+pub mod LongerLemmas
+pub mod RangeLemmas

@@ -1,5 +1,5 @@
 -- A document whose members come in the common order.
-use Rattle.std.proofs.Common.{◌≡◌, ◌≤◌, ◌<◌, ℕ, [], ◌++◌, Some, refl, ◌∙◌, arith, lt-ltb, le-leb}
+use Rattle.std.proofs.Common.{◌≡◌, ◌≤◌, ◌<◌, ℕ, [], Some, refl, ◌∙◌, arith, lt-ltb, le-leb}
 use Rattle.std.specs.Prelude.{codes}
 use Rattle.serde_json.specs.Data.{Items}
 use Rattle.serde_json.specs.Events.{items_len}

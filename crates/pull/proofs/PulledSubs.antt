@@ -1,5 +1,5 @@
 -- Subactions that were pulled from tokens, member by member.
-use Rattle.std.proofs.Common.{◌≡◌, ℕ, Bool, ◌||◌, true, false, List, [], ◌∷◌, ◌++◌, Option, None, Some, Ok, refl, sym, subst, ap, ◌∙◌}
+use Rattle.std.proofs.Common.{◌≡◌, ℕ, Bool, ◌||◌, true, false, List, [], ◌∷◌, Option, None, Some, Ok, refl, sym, subst, ap, ◌∙◌}
 use Rattle.std.specs.Prelude.{codes, is_some, nat_le, not}
 use Rattle.json.specs.Json.{read_key}
 use Rattle.json.specs.Token.{Token}

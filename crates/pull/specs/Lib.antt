@@ -1,2 +1,3 @@
 pub mod Pulled
 pub mod Passed
+pub mod Ranges

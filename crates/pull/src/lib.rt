@@ -7,4 +7,5 @@ pub mod pass;
 pub mod pull;
 pub mod pull_blocks;
 pub mod pull_heads;
+pub mod ranges;
 pub mod stop;

@@ -7,39 +7,36 @@
 //! The common form: the members `ordtx`, `objects` and `transactions` in this order; a step's members
 //! as `pull_blocks` says; in steps, numbers without a point or an exponent. Of the objects a small tree is made
 //! and read as in any other document.
-ghost use Rattle.std.specs.Prelude.{◌≡◌, ℕ, List, [], ◌∷◌, codes, length, map, option_map, true, Some, None, IfOk, IfSome, ◌<◌, ◌+◌, ◌*◌, ◌≤◌};
+ghost use Rattle.std.specs.Prelude.{◌≡◌, ℕ, List, ◌∷◌, ◌++◌, [], codes, length, option_map, false, true, Some, None, IfOk, IfSome, OnOk, ◌<◌, ◌+◌, ◌≤◌};
 ghost use Rattle.json.specs.Token as token;
 ghost use Rattle.fast_float.specs.Text.{with_sign};
 ghost use Rattle.serde_json.specs.Data.{Data, Items, Members, Num, member, negative, number, unsigned};
 ghost use Rattle.serde_json.specs.Find.{as_i64, of_integer};
 ghost use Rattle.serde_json.specs.Read.{number_of};
-ghost use Rattle.serde_json.specs.Events.{items_len};
 ghost use Rattle.serde_json.specs.View.{items_view, members_view, view};
-ghost use Rattle.batch.specs.Names.{texts_of};
-ghost use Rattle.batch.specs.Views.{block_view, step_view};
-ghost use Rattle.spelling.specs.Asked.{names_of, objects_in, arguments_asked, scope_after};
-ghost use Rattle.spelling.specs.Places.{Places, placed, step_placed, transaction_placed, transactions_placed};
+ghost use Rattle.batch.specs.Views.{step_view};
+ghost use Rattle.spelling.specs.Asked.{arguments_asked, scope_after};
+ghost use Rattle.spelling.specs.Places.{Places, step_placed};
 ghost use Rattle.spelling.specs.Answer.{AreMet, IsMet};
 ghost use Rattle.pull.specs.Pulled.{ReadsItems, ReadsMembers, ReadsValue, in_order, labelled, op_array};
-ghost use Rattle.spelling.specs.Scope.{Extends, numbers_of, scope_of, setting_of};
-ghost use Rattle.spelling.specs.Spelled.{Spelling, parts_in, spelled, blocks_of, block_of, call_of, step_of, steps_spelled};
+ghost use Rattle.spelling.specs.Scope.{numbers_of, scope_of, setting_of};
+ghost use Rattle.spelling.specs.Spelled.{Spelling, call_of, step_of};
 ghost use Rattle.batch.specs.Names.{is_name};
-ghost use Rattle.meaning.specs.declared.limits.TheConstants.{MAX_DEPTH, MAX_OBJECTS, MAX_TRANSACTIONS};
+ghost use Rattle.meaning.specs.declared.limits.TheConstants.{MAX_OBJECTS};
+ghost use Rattle.cuts.specs.Whole.{is_whole};
 
-use crate::pull_blocks::pull_block;
 use crate::stop::Stop;
-use batch::{Block, Call, Step, is_name};
+use batch::{Call, Step, is_name};
 use fast_float::Numeral;
 use json::{Reader, Token};
-use meaning::limits::{MAX_DEPTH, MAX_OBJECTS, MAX_TRANSACTIONS};
+use meaning::limits::MAX_OBJECTS;
 use objects::Amount;
 use serde_json::{Map, Value};
 use spelling::counts::Counts;
-use spelling::declared::{Declared, Parts};
+use spelling::declared::Declared;
 use spelling::labels::add_new_label;
 use spelling::numbers::number_of;
 use spelling::operations::{item_of, target_of};
-use spelling::starts::read_objects;
 use spelling::state::{Numbering, State};
 use spelling::subject::Subject;
 use std::alloc::Global;
@@ -375,54 +372,6 @@ pub(crate) fn pull_object(
     Ok(Value::Object(pull_members(alloc, reader, depth, found)?))
 }
 
-// ---- transactions
-
-fn pull_transaction(
-    alloc: Global,
-    reader: &mut Reader<'_>,
-    number: u32,
-    declared: &Declared,
-    state: &mut State,
-) -> Result<Block, Stop>
-    requires { scope_of state.old.labels.entries ≡ [] }
-    ensures { IfOk result (λ block. (d : Data) × ReadsValue 120 reader.old d reader.new
-        × AreMet state.old.counts (transaction_placed number (setting_of declared.now) d)
-        state.new.counts
-        × ((block_view block, numbers_of state.new.numbering)
-        ≡ block_of (setting_of declared.now) MAX_DEPTH [] (numbers_of state.old.numbering) d)
-        × (scope_of state.new.labels.entries ≡ [])) }
-{
-    state.counts.transaction = number;
-    pull_block(alloc, reader, MAX_DEPTH, declared, state)
-}
-
-/// The transactions up to the end of their array.
-fn pull_transactions(
-    alloc: Global,
-    reader: &mut Reader<'_>,
-    declared: &Declared,
-    state: &mut State,
-) -> Result<Vec<Block>, Stop>
-    requires labels { scope_of state.old.labels.entries ≡ [] }
-    ensures { IfOk result (λ blocks. (ds : Items) × ReadsItems 120 reader.old ds reader.new
-        × AreMet state.old.counts (transactions_placed (setting_of declared.now) 0 ds)
-        state.new.counts
-        × ((map block_view blocks.items, numbers_of state.new.numbering)
-        ≡ blocks_of (setting_of declared.now) (numbers_of state.old.numbering) ds)
-        × (items_len ds ≤ MAX_TRANSACTIONS)) }
-{
-    let mut blocks = Vec::new(alloc);
-    let mut number = 0;
-    while !reader.take_end_array() {
-        if number as usize >= MAX_TRANSACTIONS {
-            return Err(Stop::OtherForm);
-        }
-        number += 1;
-        blocks.push(pull_transaction(alloc, reader, number, declared, state)?)?;
-    }
-    Ok(blocks)
-}
-
 // ---- the document
 
 fn pull_version(reader: &mut Reader<'_>) -> Result<u8, Stop>
@@ -462,9 +411,13 @@ fn pull_objects(alloc: Global, reader: &mut Reader<'_>) -> Result<Vec<Value>, St
 pub fn pull_head(alloc: Global, reader: &mut Reader<'_>) -> Result<(u8, Vec<Value>), Stop>
     ensures version { IfOk result (λ head. (1 ≤ head.0) × (head.0 ≤ 4)) }
     ensures objects { IfOk result (λ head. length head.1.items ≤ MAX_OBJECTS) }
-    ensures reads { IfOk result (λ head. (ts : Items) (rest : List token.Token)
-        → ReadsItems 125 reader.new ts (token.end_object ∷ rest)
-        → ReadsValue 127 reader.old (in_order head.0 (items_view head.1.items) ts) rest) }
+    ensures reads { IfOk result (λ head. (later : List token.Token) (ts : Items)
+        (rest : List token.Token)
+        → ReadsItems 125 (reader.new ++ later) ts (token.end_object ∷ rest)
+        → ReadsValue 127 (reader.old ++ later)
+        (in_order head.0 (items_view head.1.items) ts) rest) }
+    ensures whole { OnOk result (is_whole false reader.new ≡ true
+        → is_whole false reader.old ≡ true) }
 {
     pull_begin_object(reader)?;
     pull_key(reader, "ordtx")?;
@@ -475,29 +428,4 @@ pub fn pull_head(alloc: Global, reader: &mut Reader<'_>) -> Result<(u8, Vec<Valu
     pull_key(reader, "transactions")?;
     pull_begin_array(reader)?;
     Ok((version, objects))
-}
-
-/// The parts of a document: its version, its objects and its transactions, in this order.
-pub fn pull_parts(alloc: Global, reader: &mut Reader<'_>, state: &mut State) -> Result<Parts, Stop>
-    requires { scope_of state.old.labels.entries ≡ [] }
-    ensures { IfOk result (λ parts. (d : Data) × ReadsValue 127 reader.old d reader.new
-        × AreMet state.old.counts (placed d) state.new.counts
-        × (texts_of parts.declared.names.keys ≡ names_of (objects_in d))
-        × (spelled parts.declared.objects (map block_view parts.transactions.items) (numbers_of state.new.numbering)
-        ≡ parts_in (numbers_of state.old.numbering) d)) }
-{
-    let (version, objects) = pull_head(alloc, reader)?;
-    let declared = read_objects(
-        alloc,
-        &objects,
-        version,
-        &mut state.counts,
-        &mut state.numbering,
-    )?;
-    let transactions = pull_transactions(alloc, reader, &declared, state)?;
-    pull_end_object(reader)?;
-    Ok(Parts {
-        declared,
-        transactions,
-    })
 }

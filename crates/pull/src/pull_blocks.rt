@@ -592,10 +592,33 @@ pub(crate) fn pull_block(
         (numbers_of state.old.numbering) d)
         × (scope_of state.new.labels.entries ≡ scope_of state.old.labels.entries)) }
 {
+    pull_begin_array(reader)?;
+    pull_block_begun(alloc, reader, levels, declared, state)
+}
+
+/// A block whose first bracket has been read.
+#[cycle(blocks)]
+pub(crate) fn pull_block_begun(
+    alloc: Global,
+    reader: &mut Reader<'_>,
+    levels: usize,
+    declared: &Declared,
+    state: &mut State,
+) -> Result<Block, Stop>
+    requires few { levels ≤ MAX_DEPTH }
+    ensures { IfOk result (λ block. (d : Data)
+        × ReadsValue (5 * levels) (token.begin_array ∷ reader.old) d reader.new
+        × AreMet state.old.counts
+        (block_placed (setting_of declared.now) levels (scope_of state.old.labels.entries) d)
+        state.new.counts
+        × ((block_view block, numbers_of state.new.numbering)
+        ≡ block_of (setting_of declared.now) levels (scope_of state.old.labels.entries)
+        (numbers_of state.old.numbering) d)
+        × (scope_of state.new.labels.entries ≡ scope_of state.old.labels.entries)) }
+{
     if levels == 0 {
         return Err(Stop::OtherForm);
     }
-    pull_begin_array(reader)?;
     let seen = state.labels.len();
     let steps = pull_steps(alloc, reader, levels - 1, declared, state)?;
     leave_block(&mut state.labels, seen);

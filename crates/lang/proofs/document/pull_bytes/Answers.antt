@@ -1,15 +1,15 @@
-use Rattle.std.proofs.Common.{◌≡◌, [], subst, arith}
-use Rattle.json.specs.Lex.{tokens}
-use Rattle.pull.specs.Pulled.{ReadsValue}
+use Rattle.std.proofs.Common.{arith}
+use Rattle.pull.proofs.PulledLemmas.{IfOk_then}
 use Rattle.lang.proofs.RefusedLemmas.{value_known}
 use Rattle.lang.proofs.document.pull_bytes.Goals as goal
 
 pub returns : goal.returns
 returns c =
-    let done = c.in_ok-parts.ensures in
-    let d = done.0 in
-    let begun : c.in_ok-reader.reader ≡ tokens c.in-Some.text.now = c.in_ok-reader.ensures.ok in
-    let ended : c.pull_parts.new.reader ≡ [] = c.in_ok-pull_end.ensures in
-    let all = subst (λ ts. ReadsValue 127 ts d []) begun (subst (λ ts. ReadsValue 127 c.in_ok-reader.reader d ts) ended done.1) in
-    let known = value_known c.args.bytes.now c.in-Some.text.now 127 d (omega arith) c.in-Some.ensures.0 c.in-Some.ensures.1 all in
-    (d, known, done.2, done.3, done.4)
+    IfOk_then c.pull_ranges.result c.pull_ranges.ensures
+    (λ parts w. (
+      w.0,
+      value_known c.args.bytes.now c.in-Some.text.now 127 w.0 (omega arith) c.in-Some.ensures.0 c.in-Some.ensures.1 w.1,
+      w.2,
+      w.3,
+      w.4,
+    ))

@@ -14,6 +14,7 @@ use Rattle.spelling.specs.Spelled.{starts_of}
 use Rattle.pull.specs.Pulled.{ReadsItems, in_order}
 use Rattle.pull.proofs.DocumentLemmas.{same_parts}
 use Rattle.pull.proofs.PulledDocument.{in_order_met, version_is}
+use Rattle.lang.proofs.RangeLaws.{nothing_later}
 use Rattle.lang.proofs.SinglyLemmas.{known_ok, matched_err, matched_ok, objects_failed, transactions_failed}
 use Rattle.lang.proofs.singly.each_part.Goals as goal
 
@@ -31,7 +32,8 @@ returns-in-Err c =
     let ended : c.pass_items.new.reader ≡ Token.end_object ∷ new = grind (arith, rules) in
     let failed : IsFound start (objects_placed version [] 0 os) unmet = c.in-Err.ensures.unmet in (
       in_order version os ts,
-      IfOk-at_ok _ is c.pull_head.ensures.reads ts new (subst (λ l. ReadsItems 125 c.pull_head.new.reader ts l) ended rest.1),
+      nothing_later version os c.args.reader.now c.pull_head.new.reader (IfOk-at_ok _ is c.pull_head.ensures.reads) ts new
+          (subst (λ l. ReadsItems 125 c.pull_head.new.reader ts l) ended rest.1),
       λ shape other. objects_failed version os ts known.0 known.1 start shape unmet.fault (ap fault_of (failed other)),
     )
 
@@ -62,7 +64,8 @@ returns-in-Ok-answer c =
     let few : items_len os ≤ 1000 = omega
     (arith, items_len-items_view c.in_ok-version.objects.items, IfOk-at_ok _ is c.pull_head.ensures.objects) in (
       in_order version os ts,
-      IfOk-at_ok _ is c.pull_head.ensures.reads ts new reads,
+      nothing_later version os c.args.reader.now c.pull_head.new.reader (IfOk-at_ok _ is c.pull_head.ensures.reads) ts new
+          reads,
       (
         in_order_met version os ts known.0 known.1 start mid next few done.2 met
             (subst (λ x. AreMet mid (transactions_placed x 0 ts) next) set done.0),
@@ -93,6 +96,7 @@ returns c =
     let first : IsFirstOf mid (transactions_placed (declared_by version os) 0 ts) e =
     subst (λ x. IsFirstOf mid (transactions_placed x 0 ts) e) set failed in (
       in_order version os ts,
-      IfOk-at_ok _ is c.pull_head.ensures.reads ts new reads,
+      nothing_later version os c.args.reader.now c.pull_head.new.reader (IfOk-at_ok _ is c.pull_head.ensures.reads) ts new
+          reads,
       λ shape other. transactions_failed version os ts known.0 known.1 start shape mid e met (first other),
     )

@@ -109,8 +109,8 @@ pull_steps-returns t c =
       l.invariant.4,
     )
 
-pub pull_block-returns : goal.pull_block-returns
-pull_block-returns t c =
+pub pull_block_begun-returns : goal.pull_block_begun-returns
+pull_block_begun-returns t c =
     let setting = setting_of c.args.declared.now in
     let scope = scope_of c.args.state.now.labels.entries in
     let levels = c.args.levels in
@@ -118,18 +118,28 @@ pull_block-returns t c =
     let ds = done.0 in
     let d = array ds in
     let new = c.pull_steps.new.reader in
-    let inside = c.pull_begin_array.new.reader in
-    let tokens : c.args.reader.now ≡ Token.begin_array ∷ inside = grind (arith, rules) in
     let shown = block_view-is (roll-Block (record { steps = c.in_ok-steps.steps })) in (
       d,
-      subst (λ ts. ReadsValue (5 * levels) ts d new) (sym tokens)
-          (reads_deeper (suc (5 * (levels - 1) + 4)) (5 * levels) _ d new (omega arith)
-          (reads_array (5 * (levels - 1) + 4) inside ds new done.1)),
+      reads_deeper (suc (5 * (levels - 1) + 4)) (5 * levels) _ d new (omega arith)
+          (reads_array (5 * (levels - 1) + 4) c.args.reader.now ds new done.1),
       ap (seek c.args.state.now.counts) (block_asks setting scope d (levels - 1) levels ds (omega arith) refl) ∙ done.2,
       ap (λ (b : tree.Block). (b, numbers_of c.pull_steps.new.state.numbering)) shown ∙ ap (spelled_map steps_of) done.3
           ∙ sym (block_spells setting scope d (levels - 1) levels (numbers_of c.args.state.now.numbering) ds (omega arith) refl),
       c.leave_block.ensures scope done.4 (length-map c.args.state.now.labels.entries _ ∙ sym c.len-seen.ensures.len),
     )
+
+pub pull_block-returns : goal.pull_block-returns
+pull_block-returns t c =
+    let levels = c.args.levels in
+    let tokens : c.args.reader.now ≡ Token.begin_array ∷ c.pull_begin_array.new.reader = grind (arith, rules) in
+    IfOk_then c.pull_block_begun.result c.pull_block_begun.ensures
+    (λ block w. (
+      w.0,
+      subst (λ ts. ReadsValue (5 * levels) ts w.0 c.pull_block_begun.new.reader) (sym tokens) w.1,
+      w.2,
+      w.3,
+      w.4,
+    ))
 
 pub pull_handler-returns : goal.pull_handler-returns
 pull_handler-returns t c =

@@ -32,22 +32,25 @@ abbrev pub decreases-pull_steps-loop-alloc : goal.decreases-pull_steps-loop-allo
 decreases-pull_steps-loop-alloc l = length l.reader
 
 abbrev pub decreases-pull_steps : goal.decreases-pull_steps
-decreases-pull_steps l = 10 * l.levels + 9
+decreases-pull_steps l = 11 * l.levels + 10
 
 abbrev pub decreases-pull_step : goal.decreases-pull_step
-decreases-pull_step l = 10 * l.levels + 8
+decreases-pull_step l = 11 * l.levels + 9
 
 abbrev pub decreases-pull_sub_step : goal.decreases-pull_sub_step
-decreases-pull_sub_step l = 10 * l.levels + 6
+decreases-pull_sub_step l = 11 * l.levels + 7
 
 abbrev pub decreases-pull_sub : goal.decreases-pull_sub
-decreases-pull_sub l = 10 * l.levels + 5
+decreases-pull_sub l = 11 * l.levels + 6
 
 abbrev pub decreases-pull_sub_rest : goal.decreases-pull_sub_rest
-decreases-pull_sub_rest l = 10 * l.levels + 4
+decreases-pull_sub_rest l = 11 * l.levels + 5
 
 abbrev pub decreases-pull_block : goal.decreases-pull_block
-decreases-pull_block l = 10 * l.levels
+decreases-pull_block l = 11 * l.levels + 1
+
+abbrev pub decreases-pull_block_begun : goal.decreases-pull_block_begun
+decreases-pull_block_begun l = 11 * l.levels
 
 -- what was read after the body so far, and the labels are as they were
 abbrev pub invariant-pull_sub_rest-loop-handler : goal.invariant-pull_sub_rest-loop-handler
@@ -64,10 +67,10 @@ abbrev pub decreases-pull_sub_rest-loop-handler : goal.decreases-pull_sub_rest-l
 decreases-pull_sub_rest-loop-handler l = length l.reader
 
 abbrev pub decreases-pull_parallel : goal.decreases-pull_parallel
-decreases-pull_parallel l = 10 * l.levels + 7
+decreases-pull_parallel l = 11 * l.levels + 8
 
 abbrev pub decreases-pull_children : goal.decreases-pull_children
-decreases-pull_children l = 10 * l.levels + 6
+decreases-pull_children l = 11 * l.levels + 7
 
 -- what was read comes before any children that follow, where none of all their labels is seen before them
 abbrev pub invariant-pull_children-loop-alloc : goal.invariant-pull_children-loop-alloc
@@ -93,19 +96,19 @@ abbrev pub decreases-pull_children-loop-alloc : goal.decreases-pull_children-loo
 decreases-pull_children-loop-alloc l = length l.reader
 
 abbrev pub decreases-pull_if : goal.decreases-pull_if
-decreases-pull_if l = 10 * l.levels + 4
+decreases-pull_if l = 11 * l.levels + 5
 
 abbrev pub decreases-pull_else : goal.decreases-pull_else
-decreases-pull_else l = 10 * l.levels + 1
+decreases-pull_else l = 11 * l.levels + 2
 
 abbrev pub decreases-pull_handlers : goal.decreases-pull_handlers
-decreases-pull_handlers l = 10 * l.levels + 3
+decreases-pull_handlers l = 11 * l.levels + 4
 
 abbrev pub decreases-pull_ascending : goal.decreases-pull_ascending
-decreases-pull_ascending l = 10 * l.levels + 2
+decreases-pull_ascending l = 11 * l.levels + 3
 
 abbrev pub decreases-pull_handler : goal.decreases-pull_handler
-decreases-pull_handler l = 10 * l.levels + 1
+decreases-pull_handler l = 11 * l.levels + 2
 
 -- what was read comes before any members that follow, and so does what is put among them after its last reason
 abbrev pub invariant-pull_ascending-loop-handlers : goal.invariant-pull_ascending-loop-handlers

@@ -1,0 +1,7 @@
+pub mod Contents
+pub mod Words
+pub mod Lexemes
+pub mod Places
+pub mod Longer
+pub mod Wholes
+pub mod CutLemmas

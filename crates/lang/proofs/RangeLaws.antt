@@ -1,0 +1,39 @@
+-- A document goes on with the range after a comma.
+use Rattle.std.proofs.Common.{◌≡◌, ◌≤◌, ◌<◌, ◌+◌, ◌-◌, ℕ, List, [], ◌∷◌, ◌++◌, length, take, drop, get_or, refl, sym, subst, ap}
+use Rattle.std.proofs.Common.{append-nil, ◌∙◌}
+use Rattle.json.specs.Lex.{tokens}
+use Rattle.json.specs.Token.{Token, begin_array, end_object}
+use Rattle.serde_json.specs.Data.{Items}
+use Rattle.spelling.specs.Scope.{Numbers, setting_of}
+use Rattle.spelling.specs.declared.counts.Counts.{Counts}
+use Rattle.spelling.specs.declared.declared.Declared.{Declared}
+use Rattle.cuts.specs.Whole.{is_whole}
+use Rattle.cuts.proofs.Places.{tokens_cut}
+use Rattle.pull.specs.Pulled.{ReadsItems, ReadsValue, in_order}
+use Rattle.pull.specs.Ranges.{AreRead, IsBegun, Reached}
+use Rattle.pull.proofs.RangeLemmas.{begun_on}
+use Rattle.lang.proofs.RangeEnds.{next_text}
+
+-- the text up to e was read, and then the range after the comma at e, up to f
+pub begun_further : (declared : Declared) (start : Counts) (numbers : Numbers) (t range : List ℕ) (e f : ℕ) (left rest : List Token)
+    (q r : Reached)
+    → e < length t → e + 1 ≤ f → get_or t e 0 ≡ 44 → range ≡ take (f - (e + 1)) (drop (e + 1) t)
+    → IsBegun (tokens (take e t)) [] declared start numbers q → tokens range ≡ begin_array ∷ rest
+    → AreRead (setting_of declared) (tokens range) left q r → IsBegun (tokens (take f t)) left declared start numbers r
+unfolding is_whole
+begun_further declared start numbers t range e f left rest q r within behind comma is begun begins read =
+    let whole = begun.whole refl in
+    let text : take f t ≡ take e t ++ (44 ∷ range) =
+    next_text t e f within behind comma ∙ ap (λ x. take e t ++ (44 ∷ x)) (sym is) in
+    let both : tokens (take f t) ≡ tokens (take e t) ++ tokens range =
+    ap tokens text ∙ tokens_cut (take e t) range rest whole begins in
+    subst (λ ts. IsBegun ts left declared start numbers r) (sym both)
+    (begun_on declared start numbers (tokens (take e t)) (tokens range) left q r begun read)
+
+-- a document whose transactions were read with no tokens after it
+pub nothing_later : (version : ℕ) (os : Items) (old head : List Token) → ((later : List Token) (ts : Items) (rest : List Token)
+    → ReadsItems 125 (head ++ later) ts (end_object ∷ rest) → ReadsValue 127 (old ++ later) (in_order version os ts) rest)
+    → (ts : Items) (new : List Token) → ReadsItems 125 head ts (end_object ∷ new) → ReadsValue 127 old (in_order version os ts) new
+nothing_later version os old head reads ts new items =
+    subst (λ l. ReadsValue 127 l (in_order version os ts) new) (append-nil old)
+    (reads [] ts new (subst (λ l. ReadsItems 125 l ts (end_object ∷ new)) (sym (append-nil head)) items))

@@ -1,0 +1,57 @@
+"""Documents that are read in several ranges, beside the same ones in one range."""
+
+RANGE = 1_048_576  # as in crates/lang/src/document.rt
+LEDGER = '{"name":"a","kind":"account","start":0},{"name":"s","kind":"set","start":[]}'
+
+
+def document(objects, transactions, comma):
+    return ('{"ordtx":4,"objects":[%s],"transactions":[%s]}'
+            % (objects, comma.join(transactions))).encode()
+
+
+def transactions(count):
+    """So many transactions, of which every tenth names an item that none before it names."""
+    for number in range(count):
+        step = ('{"op":["s","insert","i%d"]}' % number if number % 10 == 0
+                else '{"op":["a","deposit",%d]}' % (number + 1))
+        wide = ",".join(['{"op":["a","balance"]}'] * 16)
+        yield "[%s,%s]" % (step, wide)
+
+
+COMMAS = (",", ",\n  ", ",\t \r\n")
+
+
+def try_same(program, name, objects, listed, commands=("check", "serial", "locate"), commas=COMMAS):
+    """A comma that doesn't follow its bracket at once is no cut: so the last document is one range."""
+    whole = document(objects, listed, " ,")
+    for command in commands:
+        wanted = program.run([command], whole)
+        for comma in commas:
+            got = program.run([command], document(objects, listed, comma))
+            program.compare(name, [command], got, wanted)
+
+
+def try_faults(program, listed):
+    """A fault in each range: texts and lists with cuts, other operations, values that aren't whole."""
+    for place in (0, 3_000, 5_500, len(listed) - 1):
+        for fault in ('[{"op":["a","],[",1]}]', '[{"op":["s","insert","],["]}]',
+                      '[{"op":["a","other"]}]', "[[1],[2]]", "7"):
+            try_same(program, "fault in a range", objects=LEDGER,
+                     listed=listed[:place] + [fault] + listed[place + 1:],
+                     commands=("check", "locate"), commas=COMMAS[:1])
+        for fault in ('[{"op":["a","balance"]}', '{"op":["a","balance"]}]', "[],", ""):
+            try_same(program, "no value in a range", objects=LEDGER,
+                     listed=listed[:place] + [fault] + listed[place + 1:],
+                     commands=("check",), commas=COMMAS[:1])
+
+
+def try_all(program):
+    listed = list(transactions(8_000))
+    assert len(document(LEDGER, listed, ",")) > 3 * RANGE
+    try_same(program, "ranges", LEDGER, listed)
+    try_faults(program, listed)
+    # Pairs with cuts between them, in which the first range ends.
+    pairs = ",".join('["k%d","v%d"]' % (number, number)
+                     for number in range(90_000))
+    held = '{"name":"d","kind":"directory","start":[%s]}' % pairs
+    try_same(program, "pairs", LEDGER + "," + held, listed)
