@@ -105,11 +105,11 @@ count_six x A B C D E F = simp count-append
 
 -- ---- parts that count nothing
 
-if_shape_counts : (x : What) (d : Data) → count x (if_shape_asked d) ≡ 0
+pub if_shape_counts : (x : What) (d : Data) → count x (if_shape_asked d) ≡ 0
 unfolding if_shape_asked
 if_shape_counts x d = refl
 
-seen_counts : (x : What) (scope : Scope) (name : List ℕ) → count x (seen_asked scope name) ≡ 0
+pub seen_counts : (x : What) (scope : Scope) (name : List ℕ) → count x (seen_asked scope name) ≡ 0
 unfolding seen_asked
 seen_counts x scope name = refl
 
@@ -119,21 +119,21 @@ one_of_three x true b A B C p q r = p
 one_of_three x false true A B C p q r = q
 one_of_three x false false A B C p q r = r
 
-test_counts : (x : What) (subject : Subject) (d : Data) → count x (test_asked subject d) ≡ 0
+pub test_counts : (x : What) (subject : Subject) (d : Data) → count x (test_asked subject d) ≡ 0
 unfolding test_asked
 test_counts x subject d = one_of_three x (has (codes "is") d) (has (codes "atleast") d) (holds_word subject d) (holds_number subject d)
     (holds_item subject d) refl refl refl
 
-sub_shape_counts : (x : What) (version : ℕ) (d : Data) → count x (sub_shape_asked version d) ≡ 0
+pub sub_shape_counts : (x : What) (version : ℕ) (d : Data) → count x (sub_shape_asked version d) ≡ 0
 unfolding sub_shape_asked
 sub_shape_counts x version d = refl
 
-label_counts : (x : What) (scope earlier : Scope) (o : Option (List ℕ)) → count x (label_asked scope earlier o) ≡ 0
+pub label_counts : (x : What) (scope earlier : Scope) (o : Option (List ℕ)) → count x (label_asked scope earlier o) ≡ 0
 unfolding label_asked
 label_counts x scope earlier None = refl
 label_counts x scope earlier (Some name) = refl
 
-operation_shape_counts : (x : What) (d : Data) → count x (operation_shape_asked d) ≡ 0
+pub operation_shape_counts : (x : What) (d : Data) → count x (operation_shape_asked d) ≡ 0
 unfolding operation_shape_asked
 operation_shape_counts x d = refl
 
@@ -141,18 +141,18 @@ target_counts : (x : What) (setting : Setting) (object call : List ℕ) → coun
 unfolding target_asked
 target_counts x setting object call = refl
 
-arguments_count : (x : What) (v : Verb) (op : Data) → count x (arguments_asked v op) ≡ 0
+pub arguments_count : (x : What) (v : Verb) (op : Data) → count x (arguments_asked v op) ≡ 0
 unfolding arguments_asked amount_asked item_asked
 arguments_count x (OfAmount v) op = refl
 arguments_count x (OfItem v) op = refl
 arguments_count x (OfPair v) op = refl
 arguments_count x (Alone v) op = refl
 
-parallel_shape_counts : (x : What) (d : Data) → count x (parallel_shape_asked d) ≡ 0
+pub parallel_shape_counts : (x : What) (d : Data) → count x (parallel_shape_asked d) ≡ 0
 unfolding parallel_shape_asked
 parallel_shape_counts x d = refl
 
-reason_counts : (x : What) (o : Option (List ℕ)) → count x (reason_asked o) ≡ 0
+pub reason_counts : (x : What) (o : Option (List ℕ)) → count x (reason_asked o) ≡ 0
 unfolding reason_asked
 reason_counts x None = refl
 reason_counts x (Some reason) = refl

@@ -248,7 +248,7 @@ starts_are_small version numbers (item d ds) =
 
 -- ---- the document
 
-few : (d : Data) → AllMet (document_shape_asked d) → (items_len (objects_in d) ≤ 1000) × (items_len (transactions_in d) ≤ 10000)
+pub few : (d : Data) → AllMet (document_shape_asked d) → (items_len (objects_in d) ≤ 1000) × (items_len (transactions_in d) ≤ 10000)
 unfolding document_shape_asked
 few d met = (leb-true (items_len (objects_in d)) 1000 met.1.1.1.1.0, leb-true (items_len (transactions_in d)) 10000 met.1.1.1.1.1.0)
 
