@@ -24,24 +24,25 @@ use Rattle.carry_laws.proofs.NamedEnd.{end_named}
 use Rattle.carry_laws.proofs.NamedTexts.{named_objects_fit}
 use Rattle.spelling.specs.Places.{first_fault, placed}
 
--- a document that was read is that of a value with no fault
-pub record IsOf (document : Document) : Type 0 where
+-- a document that was read is that of the value, which has no fault
+pub record IsOf (read : Option Data) (document : Document) : Type 0 where
   pub value : Data
+  pub reads : read ≡ Some value
   pub faultless : first_fault (placed value) ≡ None
   pub is : document_in value ≡ document
 
 of_value : (document : Document) (d : Data) (fault : Option Fault) → first_fault (placed d) ≡ fault → unless_fault d fault ≡ Ok document
-    → IsOf document
-of_value document d None none e = record { value = d; faultless = none; is = cc }
+    → IsOf (Some d) document
+of_value document d None none e = record { value = d; reads = refl; faultless = none; is = cc }
 of_value document d (Some fault) none e = cc
 
 of_bytes : (document : Document) (large : Bool) (o : Option Data) → cond large (Err (wrong_outside TooMany)) (spelled_by o) ≡ Ok document
-    → IsOf document
+    → IsOf o document
 of_bytes document true o e = cc
 of_bytes document false None e = cc
 of_bytes document false (Some d) e = of_value document d (first_fault (placed d)) refl e
 
-pub of_reading : (bytes : List ℕ) (document : Document) → reading bytes ≡ Ok document → IsOf document
+pub of_reading : (bytes : List ℕ) (document : Document) → reading bytes ≡ Ok document → IsOf (value_of bytes) document
 unfolding reading
 of_reading bytes document e = of_bytes document (nat_lt 67108864 (length bytes)) (value_of bytes) e
 

@@ -122,7 +122,7 @@ module _ (names : Names) where
   pub kind_is : (n : ℕ) (v : Value) → kind_in 4 (object_data names n v) ≡ kind_of_value v
   kind_is n v = ap (λ k. unwrap_or k kind.Account) (kind_read n v)
 
-  object_meets : (n : ℕ) (v : Value) (earlier : Table) → is_name (names.object n) ≡ true → is_listed (names.object n) earlier ≡ false
+  pub object_meets : (n : ℕ) (v : Value) (earlier : Table) → is_name (names.object n) ≡ true → is_listed (names.object n) earlier ≡ false
       → size_of v ≤ 1_000_000_000_000_000 → IsWritable names v → IsApart names v
       → Meet (entries_in v) (object_asked 4 earlier (object_data names n v))
   unfolding object_asked object_shape_asked object_name_asked

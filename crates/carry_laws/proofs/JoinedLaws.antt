@@ -1,13 +1,11 @@
 -- The law of carrying into a next document.
-use Rattle.std.proofs.Common.{◌≡◌, ℕ, Bool, true, false, cond, List, length, Option, Some, None, Ok, Err, refl, sym, subst, ◌∙◌}
-use Rattle.std.specs.Prelude.{nat_lt}
+use Rattle.std.proofs.Common.{◌≡◌, ℕ, List, length, None, Ok, sym, subst, ◌∙◌}
 use Rattle.meaning.specs.Batch.{final_state}
-use Rattle.faults.specs.Faults.{wrong_outside}
-use Rattle.faults.specs.declared.fault.Wrong.TheVariants.{TooMany}
-use Rattle.lang.specs.Reading.{Document, reading, spelled_by, value_of}
+use Rattle.lang.specs.Reading.{Document, reading}
 use Rattle.lang.proofs.FaultlessBatch.{faultless_is_batch}
 use Rattle.serde_json.specs.Data.{Data}
 use Rattle.spelling.specs.Asked.{transactions_in}
+use Rattle.spelling.specs.Places.{first_fault, placed}
 use Rattle.spelling.specs.Spelled.{document_in}
 use Rattle.carry.specs.Joined.{starts_into}
 use Rattle.carry_laws.specs.Laws.{JoinedLaw, JoinedStartsLaw}
@@ -20,19 +18,24 @@ use Rattle.spelling.proofs.DistinctTexts.{items_differ}
 use Rattle.carry_laws.proofs.NamedEnd.{end_named}
 use Rattle.carry_laws.proofs.NextTree.{next_transactions}
 
-start_is_named : (bytes : List ℕ) (document : Document) → reading bytes ≡ Ok document → AreAllNamed document.texts document.start
-start_is_named bytes document reads =
-    let source = of_reading bytes document reads in
-    let batch = faultless_is_batch source.value source.faultless in
-    subst (λ (read : Document). AreAllNamed read.texts read.start) source.is (record {
+-- the objects of a value with no fault have names
+pub starts_are_named : (d : Data) → first_fault (placed d) ≡ None → AreAllNamed (document_in d).texts (document_in d).start
+starts_are_named d none =
+    let batch = faultless_is_batch d none in
+    record {
       objects = batch.object_names;
       items = batch.item_names;
       size = batch.named;
       named = batch.named_starts;
-      apart = distinct_apart (document_in source.value).texts.items (items_differ source.value);
-    })
+      apart = distinct_apart (document_in d).texts.items (items_differ d);
+    }
 
-end_is_named : (bytes : List ℕ) (document : Document) → reading bytes ≡ Ok document
+start_is_named : (bytes : List ℕ) (document : Document) → reading bytes ≡ Ok document → AreAllNamed document.texts document.start
+start_is_named bytes document reads =
+    let source = of_reading bytes document reads in
+    subst (λ (read : Document). AreAllNamed read.texts read.start) source.is (starts_are_named source.value source.faultless)
+
+pub end_is_named : (bytes : List ℕ) (document : Document) → reading bytes ≡ Ok document
     → AreAllNamed document.texts (final_state document.start document.transactions)
 end_is_named bytes document reads =
     let source = of_reading bytes document reads in
@@ -46,25 +49,14 @@ end_is_named bytes document reads =
       apart = distinct_apart d.texts.items (items_differ source.value);
     })
 
--- a document that was read has a value
-value_read : (document : Document) (large : Bool) (o : Option Data) → cond large (Err (wrong_outside TooMany)) (spelled_by o) ≡ Ok document
-    → (d : Data) × (o ≡ Some d)
-value_read document true o e = cc
-value_read document false None e = cc
-value_read document false (Some d) e = (d, refl)
-
-value_of_reading : (bytes : List ℕ) (document : Document) → reading bytes ≡ Ok document → (d : Data) × (value_of bytes ≡ Some d)
-unfolding reading
-value_of_reading bytes document e = value_read document (nat_lt 67108864 (length bytes)) (value_of bytes) e
-
 pub joined_is_read : JoinedLaw
 joined_is_read first next document next_document reads next_reads fit utf8 =
-    let source = value_of_reading next next_document next_reads in
+    let source = of_reading next next_document next_reads in
     let starts = starts_into document next_document in
     let ok = joined_can_start _ _ (end_is_named first document reads) (start_is_named next next_document next_reads) fit in (
-      source.0,
-      source.1,
-      joined_value starts next (transactions_in source.0) ok (next_transactions next source.0 source.1) utf8,
+      source.value,
+      source.reads,
+      joined_value starts next (transactions_in source.value) ok (next_transactions next source.value source.reads) utf8,
     )
 
 pub joined_starts : JoinedStartsLaw

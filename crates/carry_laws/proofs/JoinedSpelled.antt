@@ -62,14 +62,24 @@ few_entries n entries (v ∷ values) few fit =
     let fits = first_fits n entries v values fit in
     omega (arith, few_entries (n + 1) (entries + entries_in v) values fits.few fits.rest)
 
-pub starts_same : (starts : List StartOf) → first_unfit 0 0 (map value_of starts) ≡ None → AllByRecursion IsApartStart starts
-    → AreSameStarts starts (names_after (spelled_starts starts).1) (spelled_starts starts).0
-starts_same starts fit apart =
-    let state = starts_spelled 0 0 starts no_numbers fit apart in
-    let fewer = state.few in
-    let numbers = (spelled_starts starts).1 in
-    state.same (record { objects = []; items = numbers.items; reasons = numbers.reasons }) (grows_none numbers.items)
-    (omega (arith, fewer, few_entries 0 0 (map value_of starts) (omega arith) fit))
+module _ (starts : List StartOf) (fit : first_unfit 0 0 (map value_of starts) ≡ None) (apart : AllByRecursion IsApartStart starts) where
+  -- few texts are numbered
+  pub starts_few : length (spelled_starts starts).1.items ≤ 200_000
+  starts_few =
+      let fewer = (starts_spelled 0 0 starts no_numbers fit apart).few in
+      omega (arith, fewer, few_entries 0 0 (map value_of starts) (omega arith) fit)
+
+  -- by any later tables the objects are the same
+  pub starts_later : (texts : Texts) → Grows (spelled_starts starts).1.items texts.items → length texts.items ≤ 4294967295
+      → AreSameStarts starts (names_of texts) (spelled_starts starts).0
+  starts_later = (starts_spelled 0 0 starts no_numbers fit apart).same
+
+  pub starts_same : AreSameStarts starts (names_after (spelled_starts starts).1) (spelled_starts starts).0
+  starts_same =
+      let numbers = (spelled_starts starts).1 in
+      let few = starts_few in
+      starts_later (record { objects = []; items = numbers.items; reasons = numbers.reasons }) (grows_none numbers.items)
+      (omega (arith, few))
 
 pub starts_names : (starts : List StartOf) → asked.names_of (starts_data starts) ≡ map name_of starts
 starts_names [] = refl

@@ -12,6 +12,10 @@ pub mod TextLength
 pub mod Meeting
 pub mod CarriedFaultless
 pub mod NumberedTexts
+pub mod Growing
+pub mod Renumbering
+pub mod Merged
+pub mod OtherSetting
 pub mod PutIn
 pub mod CarriedLaws
 pub mod SpelledStarts
@@ -25,4 +29,8 @@ pub mod JoinedJson
 pub mod JoinedReads
 pub mod JoinedStarts
 pub mod JoinedSpelled
+pub mod JoinedSetting
+pub mod StartTexts
 pub mod JoinedLaws
+pub mod JoinedDocument
+pub mod JoinedNext

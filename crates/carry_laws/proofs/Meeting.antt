@@ -17,17 +17,19 @@ type_of {A} a = A
 abbrev pub Counts : Type 0
 Counts = type_of no_counts
 
--- they are met, and count no more entries than this
+-- they are met, and count no more entries than this, and nothing else
 pub record Meet (k : ℕ) (ds : List Demand) : Type 0 where
   pub met : (c : Counts) → c.starts + k ≤ 100000 → (next : Counts) × (check c ds ≡ Ok next) × (next.starts ≤ c.starts + k)
+      × (next.operations ≤ c.operations) × (next.nodes ≤ c.nodes)
 
 pub meet_none : Meet 0 []
-meet_none = record { met = λ c few. (c, refl, omega arith) }
+meet_none = record { met = λ c few. (c, refl, omega arith, omega arith, omega arith) }
 
 pub meet_test : (k : ℕ) (b : Bool) (wrong : Wrong) (ds : List Demand) → b ≡ true → Meet k ds → Meet k (holds b wrong ∷ ds)
 meet_test k b wrong ds is rest = record {
   met = λ c few. let later = rest.met c few in
-      (later.0, ap (λ t. and_then (cond t (Ok c) (Err (fault_at wrong c))) (λ next. check next ds)) is ∙ later.1, later.2);
+      let here = ap (λ t. and_then (cond t (Ok c) (Err (fault_at wrong c))) (λ next. check next ds)) is in
+      (later.0, here ∙ later.1, later.2, later.3, later.4);
 }
 
 pub meet_start : (k : ℕ) (ds : List Demand) → Meet k ds → Meet (suc k) (one_more_start ∷ ds)
@@ -37,12 +39,13 @@ meet_start k ds rest = record {
       let later = rest.met counted (omega arith) in
       let bound = later.2 in
       let within : c.starts < 100000 = omega arith in
-      (later.0, ap (λ t. and_then (limited t c counted) (λ next. check next ds)) (lt-ltb _ _ within) ∙ later.1, omega arith);
+      let here = ap (λ t. and_then (limited t c counted) (λ next. check next ds)) (lt-ltb _ _ within) in
+      (later.0, here ∙ later.1, omega arith, later.3, later.4);
 }
 
 pub meet_fewer : (k l : ℕ) (ds : List Demand) → k ≤ l → Meet k ds → Meet l ds
 meet_fewer k l ds le meets = record {
-  met = λ c few. let here = meets.met c (omega arith) in let bound = here.2 in (here.0, here.1, omega arith);
+  met = λ c few. let here = meets.met c (omega arith) in let bound = here.2 in (here.0, here.1, omega arith, here.3, here.4);
 }
 
 -- ---- texts that are new

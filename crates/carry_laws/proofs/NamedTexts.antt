@@ -53,7 +53,7 @@ module _ {A : Type 0} (d : A) where
 
 -- ---- objects
 
-names_from : (texts : Texts) (n : ℕ) (values : State) → n + length values ≡ length texts.objects
+pub names_from : (texts : Texts) (n : ℕ) (values : State) → n + length values ≡ length texts.objects
     → object_names (names_of texts) n values ≡ drop n texts.objects
 names_from texts n [] size = sym (drop_all n texts.objects (omega arith))
 names_from texts n (v ∷ values) size =

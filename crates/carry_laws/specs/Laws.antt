@@ -1,23 +1,28 @@
 -- The laws of carrying over, as statements.
-use Rattle.std.specs.Prelude.{◌≡◌, ◌≤◌, ℕ, List, [], length, map, None, Ok, Some}
+use Rattle.std.specs.Prelude.{◌≡◌, ◌<◌, ◌≤◌, ℕ, List, [], ◌++◌, length, map, None, Ok, Some}
 use Rattle.objects.specs.Entries.{State}
 use Rattle.meaning.specs.Words.{Names}
 use Rattle.meaning.specs.Batch.{final_state}
 use Rattle.lang.specs.Reading.{Document, reading, value_of}
-use Rattle.serde_json.specs.Data.{Data}
+use Rattle.meaning.specs.Trees.{Block}
+use Rattle.serde_json.specs.Data.{Data, Items}
 use Rattle.spelling.specs.Asked as asked
 use Rattle.spelling.specs.Asked.{transactions_in}
+use Rattle.spelling.specs.Scope.{Numbers, Setting, no_numbers}
+use Rattle.spelling.specs.Spelled.{blocks_of}
 use Rattle.carry.specs.Carried.{carried_text, first_unfit}
-use Rattle.carry.specs.Joined.{name_of, starts_into, value_of as start_value}
+use Rattle.carry.specs.Joined.{StartOf, first_clash, name_of, starts_into, value_of as start_value}
 use Rattle.carry.specs.Transactions.{joined_text}
 use Rattle.carry_laws.specs.Joined.{joined_data, names_after, spelled_starts, starts_data}
 use Rattle.std.specs.Str.{IsUtf8}
 use Rattle.std.specs.List.{IsDistinct}
 use Rattle.std.specs.Str.{bytes_eq}
-use Rattle.batch.specs.Named.{AllNamedValues}
+use Rattle.batch.specs.Named.{AllNamed, AllNamedValues}
 use Rattle.batch.specs.Names.{AreNames, Texts, names_of}
 use Rattle.carry_laws.specs.Carrying.{CanBeCarried, object_names}
+use Rattle.carry_laws.specs.Renumbered.{merged, number_in, renumbered}
 use Rattle.carry_laws.specs.Same.{AreSame, AreSameStarts}
+use Rattle.lang.specs.declared.document.TheConstants.{MAX_BYTES}
 use Rattle.meaning.specs.declared.limits.TheConstants.{MAX_OBJECTS}
 
 -- The document starts with the same objects under the same names, and has no transaction.
@@ -63,3 +68,46 @@ JoinedStartsLaw = (first next : List ℕ) (document next_document : Document) �
     → (asked.names_of (starts_data (starts_into document next_document)) ≡ map name_of (starts_into document next_document))
     × AreSameStarts (starts_into document next_document) (names_after (spelled_starts (starts_into document next_document)).1)
     (spelled_starts (starts_into document next_document)).0
+
+-- What is read after texts that are numbered before is what is read alone, where each item and each reason has the number of its
+-- text. The texts come after those before.
+pub record IsReadAfter (before : Numbers) (alone after : List Block × Numbers) : Type 0 where
+  pub transactions : after.0
+      ≡ map (renumbered (number_in after.1.items alone.1.items) (number_in after.1.reasons alone.1.reasons)) alone.0
+  pub items : after.1.items ≡ merged before.items alone.1.items
+  pub reasons : after.1.reasons ≡ merged before.reasons alone.1.reasons
+
+-- Transactions are read so after others, where no more texts are numbered than an item has numbers.
+abbrev pub ReadAfterLaw : Type 0
+ReadAfterLaw = (setting : Setting) (before : Numbers) (ds : Items) → length (blocks_of setting no_numbers ds).1.items ≤ 4294967295
+    → length (blocks_of setting no_numbers ds).1.reasons ≤ 4294967295
+    → IsReadAfter before (blocks_of setting no_numbers ds) (blocks_of setting before ds)
+
+-- The starts may start the next document, whose objects are these: an object of both is of one kind, and the text isn't too long.
+pub record MayBeJoined (next : List ℕ) (objects : State) (starts : List StartOf) : Type 0 where
+  pub one_kind : first_clash 0 objects starts ≡ None
+  pub few : length starts ≤ MAX_OBJECTS
+  pub fit : first_unfit 0 0 (map start_value starts) ≡ None
+  pub short : length (joined_text starts next) ≤ MAX_BYTES
+  pub utf8 : IsUtf8 (joined_text starts next)
+
+-- The document has these starts, and the transactions of the next, where each item has the number of its text. The next's
+-- objects come first, so that each transaction is about the objects that it was about.
+pub record IsNextWith (starts : List StartOf) (next : Document) (items : ℕ → ℕ) (document : Document) : Type 0 where
+  pub named : document.texts.objects ≡ map name_of starts
+  pub places : (others : List (List ℕ)) × (document.texts.objects ≡ next.texts.objects ++ others)
+  pub objects : AreSameStarts starts (names_of document.texts) document.start
+  pub transactions : document.transactions ≡ map (renumbered items (λ reason. reason)) next.transactions
+  -- each item that they name has a text, and that is the one it had
+  pub have_texts : AllNamed document.texts document.transactions
+  pub item_texts : (i : ℕ) → items i < length document.texts.items
+      → (names_of document.texts).item (record { 0 = items i }) ≡ (names_of next.texts).item (record { 0 = i })
+  pub reason_texts : document.texts.reasons ≡ next.texts.reasons
+
+-- What is printed of two documents, the first of which is carried into the next, is read as the next with the objects at the end of
+-- the first.
+abbrev pub JoinedReadLaw : Type 0
+JoinedReadLaw = (first next : List ℕ) (document next_document : Document) → reading first ≡ Ok document
+    → reading next ≡ Ok next_document → MayBeJoined next next_document.start (starts_into document next_document)
+    → (joined : Document) × (items : ℕ → ℕ) × (reading (joined_text (starts_into document next_document) next) ≡ Ok joined)
+    × IsNextWith (starts_into document next_document) next_document items joined

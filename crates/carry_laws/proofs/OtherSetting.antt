@@ -1,0 +1,481 @@
+-- Transactions that are read with more objects, and in a later version, are the same.
+use Rattle.std.proofs.Common.{◌≡◌, ℕ, zero, suc, ◌+◌, ◌≤◌, ◌&&◌, ◌||◌, Bool, true, false, not, cond, List, [], ◌∷◌, ◌++◌, Option, None}
+use Rattle.std.proofs.Common.{Some, Ok}
+use Rattle.std.proofs.Common.{Err, Result, refl, sym, ap, subst, ◌∙◌, arith}
+use Rattle.std.specs.Prelude.{codes, is_some, nat_le, nat_lt, option_and_then, unwrap_or, ⊤}
+use Rattle.std.proofs.lemmas.Bool.{lt-ltb, ltb-true}
+use Rattle.serde_json.specs.Data.{Data, Items, no_items, item, Members, no_members, member}
+use Rattle.serde_json.specs.Find.{as_array, as_bool, as_object, as_str, get}
+use Rattle.objects.specs.declared.kind.Kind.{Kind}
+use Rattle.batch.specs.Names.{is_name}
+use Rattle.batch.specs.Views.{children_of, steps_of}
+use Rattle.meaning.specs.Trees.{If, Operation, Parallel}
+use Rattle.faults.specs.declared.fault.Fault.{Fault}
+use Rattle.faults.specs.declared.fault.Wrong.{Wrong}
+use Rattle.faults.specs.declared.fault.Wrong.TheVariants.{Depth, Name, Shape, UnknownObject, UnknownOperation}
+use Rattle.words.specs.Verbs.{verb_of_text}
+use Rattle.words.specs.declared.verb.Verb.{Verb}
+use Rattle.words.specs.declared.verb.Verb.TheVariants.{Alone}
+use Rattle.words.specs.declared.verb.LoneVerb.TheVariants.{Balance}
+use Rattle.spelling.specs.declared.subject.Subject.TheVariants.{Outcome, Reply}
+use Rattle.spelling.specs.declared.steps.Sort.{Sort}
+use Rattle.spelling.specs.declared.steps.Sort.TheVariants.{Operation as an_operation, If as an_if, Sub as a_sub, Abort as an_abort}
+use Rattle.spelling.specs.declared.steps.Sort.TheVariants.{Parallel as a_parallel}
+use Rattle.spelling.specs.Demand.{Demand, and_then, check, fault_at, holds, in_transaction, limited, most_operations, one_more_node}
+use Rattle.spelling.specs.Demand.{one_more_operation, one_more_start}
+use Rattle.spelling.specs.Look.{has}
+use Rattle.spelling.specs.Scope.{Numbers, Scope, Setting, is_listed, kind_named, label_number, number_of, place_of, with_label}
+use Rattle.spelling.specs.Scope.{with_reason}
+use Rattle.spelling.specs.Asked.{abort_asked, abort_shape_asked, arguments_asked, call_named, children_in, handlers_are_members}
+use Rattle.spelling.specs.Asked.{handlers_in}
+use Rattle.spelling.specs.Asked.{if_label, if_shape_asked, is_abort, label_asked, label_in, object_of, operation_asked}
+use Rattle.spelling.specs.Asked.{operation_shape_asked}
+use Rattle.spelling.specs.Asked.{or_no_items, parallel_shape_asked, part, scope_after, scope_after_by, seen_asked, sort_of}
+use Rattle.spelling.specs.Asked.{sub_shape_asked, subject_of, target_asked, test_asked, verb_at, verb_in}
+use Rattle.spelling.specs.Spelled.{Spelling, block_of, block_of_if, blocks_of, call_of, children_spelled, handlers_spelled, if_of}
+use Rattle.spelling.specs.Spelled.{members_of}
+use Rattle.spelling.specs.Spelled.{operation_of, or_no_step, or_zero, parallel_of, spelled_map, step_of, step_of_by, steps_spelled, sub_of}
+use Rattle.spelling.specs.Spelled.{sub_step, target_of, test_of, tried}
+use Rattle.spelling.proofs.Checks.{and_check, check-after, check-append, check_met, failed-before}
+use Rattle.spelling.proofs.Demands.{Asks, array_asked, block_asked, block_asked_if, children_asked, handlers_asked, if_asked}
+use Rattle.spelling.proofs.Demands.{members_asked, parallel_asked, step_asked, step_asked_by, steps_asked, sub_asked, transaction_asked}
+use Rattle.spelling.proofs.Demands.{transactions_asked}
+use Rattle.spelling.proofs.MetLemmas.{What, count, count-append}
+use Rattle.lang.proofs.Faultless.{arguments_count, if_shape_counts, label_counts, operation_shape_counts, parallel_shape_counts}
+use Rattle.lang.proofs.Faultless.{reason_counts}
+use Rattle.lang.proofs.Faultless.{seen_counts, test_counts}
+use Rattle.carry_laws.proofs.Meeting.{Counts}
+
+-- What the one setting declares, the other declares at the same places, and it may have what the one may.
+pub record Declares (old new : Setting) : Type 0 where
+  pub verbs : (k : Kind) (word : List ℕ) (v : Verb) → verb_of_text old.version k word ≡ Some v → verb_of_text new.version k word ≡ Some v
+  pub reasons : nat_le 3 old.version ≡ true → nat_le 3 new.version ≡ true
+  pub operations : (n : ℕ) → nat_lt n (most_operations old.version) ≡ true → nat_lt n (most_operations new.version) ≡ true
+  pub listed : (name : List ℕ) → is_listed name old.names ≡ true → is_listed name new.names ≡ true
+  pub places : (name : List ℕ) → is_listed name old.names ≡ true → place_of name new.names ≡ place_of name old.names
+  pub kinds : (name : List ℕ) (k : Kind) → kind_named name old ≡ Some k → kind_named name new ≡ Some k
+
+-- ---- demands that are met by both
+
+-- as many operations and nodes at most
+pub record Fewer (c d : Counts) : Type 0 where
+  pub operations : c.operations ≤ d.operations
+  pub nodes : c.nodes ≤ d.nodes
+
+-- they are met, and count as much at most
+abbrev MetToo : Counts → List Demand → Counts → Type 0
+MetToo c ds next = (last : Counts) × (check c ds ≡ Ok last) × Fewer last next
+
+-- Where the one list is met, the other is, after whatever entries started before, and this is known.
+pub record Kept (old new : List Demand) (P : Type 0) : Type 0 where
+  pub kept : (c d next : Counts) → Fewer d c → check c old ≡ Ok next → MetToo d new next × P
+
+-- a list that is met is met in parts
+pub check_parts : (c next : Counts) (xs ys : List Demand) → check c (xs ++ ys) ≡ Ok next
+    → (middle : Counts) × (check c xs ≡ Ok middle) × (check middle ys ≡ Ok next)
+check_parts c next xs ys met = by (check c xs) refl (sym (check-append c xs ys) ∙ met)
+  where
+    by : (r : Result Counts Fault) → check c xs ≡ r → and_check r ys ≡ Ok next
+        → (middle : Counts) × (check c xs ≡ Ok middle) × (check middle ys ≡ Ok next)
+    by (Ok middle) here rest = (middle, here, sym (check-after middle ys) ∙ rest)
+    by (Err fault) here rest = let failed = sym (failed-before fault ys) ∙ rest in cc
+
+kept_then : (xs xs' ys ys' : List Demand) (P Q : Type 0) → Kept xs xs' P → (P → Kept ys ys' Q) → Kept (xs ++ ys) (xs' ++ ys') (P × Q)
+kept_then xs xs' ys ys' P Q first second = record {
+  kept = λ c d next fewer met.
+      let parts = check_parts c next xs ys met in
+      let one = first.kept c d parts.0 fewer parts.1 in
+      let other = (second one.1).kept parts.0 one.0.0 next one.0.2 parts.2 in
+      ((other.0.0, check_met d one.0.0 xs' ys' one.0.1 ∙ other.0.1, other.0.2), (one.1, other.1));
+}
+
+-- one list after the other, where the second may go by what is known of the first
+kept_on : (xs xs' ys ys' : List Demand) (P Q : Type 0) → Kept xs xs' P → Kept ys ys' Q → Kept (xs ++ ys) (xs' ++ ys') (P × Q)
+kept_on xs xs' ys ys' P Q first second = kept_then xs xs' ys ys' P Q first (λ _. second)
+
+-- and what follows from what is known
+kept_so : (xs ys : List Demand) (P Q : Type 0) → (P → Q) → Kept xs ys P → Kept xs ys Q
+kept_so xs ys P Q so it = record { kept = λ c d next fewer met. let both = it.kept c d next fewer met in (both.0, so both.1) }
+
+-- no demand
+none_met : (c d next : Counts) → Fewer d c → check c [] ≡ Ok next → MetToo d [] next
+none_met c d next fewer met = let same : c ≡ next = cc in (d, refl, subst (Fewer d) same fewer)
+
+-- fewer are below a limit, too
+below_too : (n m most : ℕ) → n ≤ m → nat_lt m most ≡ true → nat_lt n most ≡ true
+below_too n m most le below = let lt = ltb-true m most below in lt-ltb n most (omega (arith, lt, le))
+
+one_operation : Counts → Counts
+one_operation c = record c { operations = c.operations + 1 }
+
+one_node : Counts → Counts
+one_node c = record c { nodes = c.nodes + 1 }
+
+fewer_operations : (c d : Counts) → Fewer d c → Fewer (one_operation d) (one_operation c)
+unfolding one_operation
+fewer_operations c d fewer =
+    let o = fewer.operations in record { operations = omega (arith, o); nodes = fewer.nodes }
+
+fewer_nodes : (c d : Counts) → Fewer d c → Fewer (one_node d) (one_node c)
+unfolding one_node
+fewer_nodes c d fewer =
+    let n = fewer.nodes in record { operations = fewer.operations; nodes = omega (arith, n) }
+
+-- a list that counts no entry is met after whatever entries
+same_met : (ds : List Demand) (c d next : Counts) → Fewer d c → count What.starts ds ≡ 0 → check c ds ≡ Ok next → MetToo d ds next
+unfolding one_operation one_node
+same_met [] c d next fewer none met = none_met c d next fewer met
+same_met (holds true wrong ∷ ds) c d next fewer none met = same_met ds c d next fewer (omega (arith, none)) met
+same_met (holds false wrong ∷ ds) c d next fewer none met = cc
+same_met (one_more_start ∷ ds) c d next fewer none met = absurd (omega (arith, none))
+same_met (one_more_operation version ∷ ds) c d next fewer none met =
+    by (nat_lt c.operations (most_operations version)) refl
+    (same_met ds (one_operation c) (one_operation d) next (fewer_operations c d fewer) (omega (arith, none))) met
+  where
+    by : (b : Bool) → nat_lt c.operations (most_operations version) ≡ b
+        → (check (one_operation c) ds ≡ Ok next → MetToo (one_operation d) ds next)
+        → and_then (limited b c (one_operation c)) (λ x. check x ds) ≡ Ok next → MetToo d (one_more_operation version ∷ ds) next
+    by true within later rest =
+        let it = later rest in
+        let too = below_too d.operations c.operations (most_operations version) fewer.operations within in
+        (it.0, ap (λ t. and_then (limited t d (one_operation d)) (λ x. check x ds)) too ∙ it.1, it.2)
+    by false within later rest = cc
+same_met (one_more_node ∷ ds) c d next fewer none met =
+    by (nat_lt c.nodes 100000) refl (same_met ds (one_node c) (one_node d) next (fewer_nodes c d fewer) (omega (arith, none))) met
+  where
+    by : (b : Bool) → nat_lt c.nodes 100000 ≡ b → (check (one_node c) ds ≡ Ok next → MetToo (one_node d) ds next)
+        → and_then (limited b c (one_node c)) (λ x. check x ds) ≡ Ok next → MetToo d (one_more_node ∷ ds) next
+    by true within later rest =
+        let it = later rest in
+        let too = below_too d.nodes c.nodes 100000 fewer.nodes within in
+        (it.0, ap (λ t. and_then (limited t d (one_node d)) (λ x. check x ds)) too ∙ it.1, it.2)
+    by false within later rest = cc
+same_met (in_transaction i ∷ ds) c d next fewer none met =
+    same_met ds (record c { transaction = i }) (record d { transaction = i }) next
+    (record { operations = fewer.operations; nodes = fewer.nodes }) (omega (arith, none)) met
+
+kept_same : (xs : List Demand) (P : Type 0) → count What.starts xs ≡ 0 → P → Kept xs xs P
+kept_same xs P none known = record { kept = λ c d next fewer met. (same_met xs c d next fewer none met, known) }
+
+-- after, or before, a list that is the same
+kept_before : (xs ys ys' : List Demand) (P : Type 0) → count What.starts xs ≡ 0 → Kept ys ys' P → Kept (xs ++ ys) (xs ++ ys') P
+kept_before xs ys ys' P none rest =
+    kept_so (xs ++ ys) (xs ++ ys') (⊤ × P) P (λ both. both.1) (kept_on xs xs ys ys' ⊤ P (kept_same xs ⊤ none tt) rest)
+
+kept_after : (xs xs' ys : List Demand) (P : Type 0) → count What.starts ys ≡ 0 → Kept xs xs' P → Kept (xs ++ ys) (xs' ++ ys) P
+kept_after xs xs' ys P none first =
+    kept_so (xs ++ ys) (xs' ++ ys) (P × ⊤) P (λ both. both.0) (kept_on xs xs' ys ys P ⊤ first (kept_same ys ⊤ none tt))
+
+-- two lists count no entry
+none_on : (xs ys : List Demand) → count What.starts xs ≡ 0 → count What.starts ys ≡ 0 → count What.starts (xs ++ ys) ≡ 0
+none_on xs ys first rest = omega (arith, count-append What.starts xs ys, first, rest)
+
+-- a test that holds where another does
+kept_test : (a b : Bool) (wrong : Wrong) → (a ≡ true → b ≡ true) → Kept (holds a wrong ∷ []) (holds b wrong ∷ []) (a ≡ true)
+kept_test true b wrong so = record {
+  kept = λ c d next fewer met.
+      let it = none_met c d next fewer met in
+      ((it.0, ap (λ t. and_then (cond t (Ok d) (Err (fault_at wrong d))) (λ x. check x [])) (so refl) ∙ it.1, it.2), refl);
+}
+kept_test false b wrong so = record { kept = λ c d next fewer met. cc }
+
+-- ---- the rows that differ
+
+module _ (old new : Setting) (declares : Declares old new) where
+  -- one more operation is within the limit of the other version
+  one_more : Kept (one_more_operation old.version ∷ []) (one_more_operation new.version ∷ []) ⊤
+  unfolding one_operation
+  one_more = record { kept = λ c d next fewer met. (by c d next fewer (nat_lt c.operations (most_operations old.version)) refl met, tt) }
+    where
+      by : (c d next : Counts) → Fewer d c → (b : Bool) → nat_lt c.operations (most_operations old.version) ≡ b
+          → and_then (limited b c (one_operation c)) (λ x. check x []) ≡ Ok next
+          → MetToo d (one_more_operation new.version ∷ []) next
+      by c d next fewer true within met =
+          let it = none_met (one_operation c) (one_operation d) next (fewer_operations c d fewer) met in
+          let too = below_too d.operations c.operations (most_operations old.version) fewer.operations within in (
+            it.0,
+            ap (λ t. and_then (limited t d (one_operation d)) (λ x. check x [])) (declares.operations d.operations too) ∙ it.1,
+            it.2,
+          )
+      by c d next fewer false within met = cc
+
+  -- a word names the same verb of an object
+  verb_kept : (object call : List ℕ) → is_some (verb_at old object call) ≡ true → verb_at new object call ≡ verb_at old object call
+  verb_kept object call known = by (kind_named object old) refl known
+    where
+      by_verb : (k : Kind) (o : Option Verb) → verb_of_text old.version k call ≡ o → is_some o ≡ true
+          → verb_of_text new.version k call ≡ o
+      by_verb k None here found = cc
+      by_verb k (Some v) here found = declares.verbs k call v here
+
+      by : (o : Option Kind) → kind_named object old ≡ o → is_some (option_and_then (λ k. verb_of_text old.version k call) o) ≡ true
+          → verb_at new object call ≡ option_and_then (λ k. verb_of_text old.version k call) o
+      by None here found = cc
+      by (Some k) here found =
+          ap (option_and_then (λ x. verb_of_text new.version x call)) (declares.kinds object k here)
+          ∙ by_verb k (verb_of_text old.version k call) refl found
+
+  -- the object is the same, and so is the verb of the call
+  abbrev SameTarget : Data → Type 0
+  SameTarget op = (verb_in new op ≡ verb_in old op) × (target_of new (object_of op) ≡ target_of old (object_of op))
+
+  target_kept : (op : Data) → Kept (target_asked old (object_of op) (call_named op)) (target_asked new (object_of op) (call_named op))
+      (SameTarget op)
+  unfolding target_asked
+  target_kept op =
+      let object = object_of op in
+      let call = call_named op in
+      let A = is_listed object old.names in
+      let B = is_some (verb_at old object call) in
+      kept_so _ _ ((A ≡ true) × (B ≡ true)) (SameTarget op) (λ known. (
+        ap (λ o. unwrap_or o (Alone Balance)) (verb_kept object call known.1),
+        ap or_zero (declares.places object known.0),
+      ))
+      (kept_on (holds A UnknownObject ∷ []) (holds (is_listed object new.names) UnknownObject ∷ []) (holds B UnknownOperation ∷ [])
+      (holds (is_some (verb_at new object call)) UnknownOperation ∷ []) (A ≡ true) (B ≡ true)
+      (kept_test A _ UnknownObject (declares.listed object))
+      (kept_test B _ UnknownOperation (λ known. ap is_some (verb_kept object call known) ∙ known)))
+
+  operation_kept : (scope : Scope) (d : Data)
+      → Kept (operation_asked old scope d) (operation_asked new scope d) (SameTarget (part (codes "op") d))
+  unfolding operation_asked
+  operation_kept scope d =
+      let op = part (codes "op") d in
+      let A = operation_shape_asked d in
+      let B = one_more_operation old.version ∷ [] in
+      let B' = one_more_operation new.version ∷ [] in
+      let C = target_asked old (object_of op) (call_named op) in
+      let C' = target_asked new (object_of op) (call_named op) in
+      let D = arguments_asked (verb_in old op) op in
+      let D' = arguments_asked (verb_in new op) op in
+      let E = label_asked scope [] (label_in d) in
+      let head = kept_on (A ++ B) (A ++ B') C C' ⊤ (SameTarget op)
+      (kept_before A B B' ⊤ (operation_shape_counts What.starts d) one_more) (target_kept op) in
+      let rest = λ (same : ⊤ × SameTarget op). subst (λ v. Kept D (arguments_asked v op) ⊤) (sym same.1.0)
+      (kept_same D ⊤ (arguments_count What.starts (verb_in old op) op) tt) in
+      kept_after (A ++ B ++ C ++ D) (A ++ B' ++ C' ++ D') E (SameTarget op) (label_counts What.starts scope [] (label_in d))
+      (kept_so (A ++ B ++ C ++ D) (A ++ B' ++ C' ++ D') ((⊤ × SameTarget op) × ⊤) (SameTarget op) (λ known. known.0.1)
+      (kept_then (A ++ B ++ C) (A ++ B' ++ C') D D' (⊤ × SameTarget op) ⊤ head rest))
+
+  operation_same : (numbers : Numbers) (d : Data) → SameTarget (part (codes "op") d)
+      → operation_of new numbers d ≡ operation_of old numbers d
+  unfolding operation_of
+  operation_same numbers d same =
+      let op = part (codes "op") d in
+      λ i. spelled_map (λ call. Operation (same.1 i) call (is_some (label_in d))) (call_of (same.0 i) numbers op)
+
+  -- reasons, and handlers by reason, are in the other version, too
+  later_reasons : (a b : Bool) → (nat_le 3 old.version && b) ≡ true → (a || (nat_le 3 new.version && b)) ≡ true
+  later_reasons a b known = by a (nat_le 3 old.version) b declares.reasons known
+    where
+      by : (a o b : Bool) → (o ≡ true → nat_le 3 new.version ≡ true) → (o && b) ≡ true → (a || (nat_le 3 new.version && b)) ≡ true
+      by true o b later known = refl
+      by false true true later known = ap (λ t. t && true) (later refl)
+      by false true false later known = cc
+      by false false b later known = cc
+
+  or_reasons : (a b : Bool) → (a || (nat_le 3 old.version && b)) ≡ true → (a || (nat_le 3 new.version && b)) ≡ true
+  or_reasons true b known = refl
+  or_reasons false b known = later_reasons false b known
+
+  sub_shape_kept : (d : Data) → Kept (sub_shape_asked old.version d) (sub_shape_asked new.version d) ⊤
+  unfolding sub_shape_asked
+  sub_shape_kept d = kept_so _ _ _ ⊤ (λ _. tt) (kept_before (_ ∷ _ ∷ _ ∷ []) (holds (handlers_are_members old.version d) Shape ∷ [])
+      (holds (handlers_are_members new.version d) Shape ∷ []) _ refl (kept_test (handlers_are_members old.version d) _ Shape
+      (or_reasons (not (has (codes "handlers") d)) (is_some (option_and_then as_object (get (codes "handlers") d))))))
+
+  abort_kept : (d : Data) → Kept (abort_asked old.version d) (abort_asked new.version d) ⊤
+  unfolding abort_asked abort_shape_asked
+  abort_kept d =
+      let asked = part (codes "abort") d in
+      let test = holds (is_abort old.version asked) Shape ∷ [] in
+      let later = holds (is_abort new.version asked) Shape ∷ [] in
+      let node = one_more_node ∷ [] in
+      kept_after (_ ∷ test ++ node) (_ ∷ later ++ node) _ ⊤ (reason_counts What.starts (as_str asked))
+      (kept_before (_ ∷ []) (test ++ node) (later ++ node) ⊤ refl
+      (kept_after test later node ⊤ refl (kept_so test later _ ⊤ (λ _. tt) (kept_test (is_abort old.version asked) _ Shape
+      (or_reasons (unwrap_or (as_bool asked) false) (is_some (as_str asked)))))))
+
+  -- ---- the steps that hold blocks
+
+  module _ (old_asks new_asks : Asks) (old_block new_block : Spelling)
+      (inner : (scope : Scope) (d : Data) → Kept (old_asks scope d) (new_asks scope d)
+      ((numbers : Numbers) → new_block scope numbers d ≡ old_block scope numbers d)) where
+    block_if_kept : (scope : Scope) (o : Option Data) → Kept (block_asked_if old_asks scope o) (block_asked_if new_asks scope o)
+        ((numbers : Numbers) → block_of_if new_block scope numbers o ≡ block_of_if old_block scope numbers o)
+    unfolding block_asked_if block_of_if
+    block_if_kept scope None = kept_same [] _ refl (λ numbers. refl)
+    block_if_kept scope (Some d) = kept_so _ _ _ _ (λ same numbers. ap (spelled_map (λ b. Some b)) (same numbers)) (inner scope d)
+
+    if_kept : (scope : Scope) (d : Data) → Kept (if_asked old_asks scope d) (if_asked new_asks scope d)
+        ((numbers : Numbers) → if_of new_block scope numbers d ≡ if_of old_block scope numbers d)
+    unfolding if_asked if_of
+    if_kept scope d =
+        let then = part (codes "then") d in
+        let else = get (codes "else") d in
+        let subject = subject_of (if_label d) scope in
+        let A = if_shape_asked d in
+        let B = one_more_node ∷ [] in
+        let C = seen_asked scope (if_label d) in
+        let D = test_asked subject d in
+        let E = old_asks scope then in
+        let E' = new_asks scope then in
+        let F = block_asked_if old_asks scope else in
+        let F' = block_asked_if new_asks scope else in
+        let none = none_on (A ++ B ++ C) D (none_on (A ++ B) C (none_on A B (if_shape_counts What.starts d) refl)
+        (seen_counts What.starts scope (if_label d))) (test_counts What.starts subject d) in
+        let head = kept_before (A ++ B ++ C ++ D) E E' _ none (inner scope then) in
+        kept_so (A ++ B ++ C ++ D ++ E ++ F) (A ++ B ++ C ++ D ++ E' ++ F') _ _ (λ same numbers.
+        let test = test_of subject numbers d in
+        λ i. spelled_map (λ second. If (label_number (if_label d) scope) test.0 (same.0 test.1 i).0 (or_no_step second))
+        (same.1 (same.0 test.1 i).1 i))
+        (kept_on (A ++ B ++ C ++ D ++ E) (A ++ B ++ C ++ D ++ E') F F' _ _ head (block_if_kept scope else))
+
+    members_kept : (scope : Scope) (ds : Members) → Kept (members_asked old_asks scope ds) (members_asked new_asks scope ds)
+        ((numbers : Numbers) → members_of new_block scope numbers ds ≡ members_of old_block scope numbers ds)
+    members_kept scope no_members = kept_same [] _ refl (λ numbers. refl)
+    members_kept scope (member reason d ds) =
+        let A = holds (is_name reason) Name ∷ [] in
+        let E = old_asks scope d in
+        let E' = new_asks scope d in
+        let F = members_asked old_asks scope ds in
+        let F' = members_asked new_asks scope ds in
+        kept_so (A ++ E ++ F) (A ++ E' ++ F') _ _ (λ same numbers. λ i.
+        let one = same.0 (with_reason reason numbers) i in
+        let rest = same.1 one.1 i in
+        ((number_of reason numbers.reasons, one.0) ∷ rest.0, rest.1))
+        (kept_on (A ++ E) (A ++ E') F F' _ _ (kept_before A E E' _ refl (inner scope d)) (members_kept scope ds))
+
+    handlers_kept : (scope : Scope) (o : Option Members) → Kept (handlers_asked old_asks scope o) (handlers_asked new_asks scope o)
+        ((numbers : Numbers) → handlers_spelled new_block scope numbers o ≡ handlers_spelled old_block scope numbers o)
+    unfolding handlers_asked handlers_spelled
+    handlers_kept scope None = kept_same [] _ refl (λ numbers. refl)
+    handlers_kept scope (Some ds) = kept_so _ _ _ _ (λ same numbers. ap (spelled_map (λ handlers. Some handlers)) (same numbers))
+        (members_kept scope ds)
+
+    sub_kept : (scope earlier : Scope) (d : Data)
+        → Kept (sub_asked old.version old_asks scope earlier d) (sub_asked new.version new_asks scope earlier d)
+        ((numbers : Numbers) → sub_of new_block scope numbers d ≡ sub_of old_block scope numbers d)
+    unfolding sub_asked sub_of
+    sub_kept scope earlier d =
+        let sub = part (codes "sub") d in
+        let members = handlers_in d in
+        let handler = get (codes "handler") d in
+        let A = sub_shape_asked old.version d in
+        let A' = sub_shape_asked new.version d in
+        let B = one_more_node ∷ [] in
+        let C = label_asked scope earlier (label_in d) in
+        let D = old_asks scope sub in
+        let D' = new_asks scope sub in
+        let E = handlers_asked old_asks scope members in
+        let E' = handlers_asked new_asks scope members in
+        let F = block_asked_if old_asks scope handler in
+        let F' = block_asked_if new_asks scope handler in
+        let head = kept_after (A ++ B) (A' ++ B) C ⊤ (label_counts What.starts scope earlier (label_in d))
+        (kept_after A A' B ⊤ refl (sub_shape_kept d)) in
+        let body = kept_on (A ++ B ++ C) (A' ++ B ++ C) D D' _ _ head (inner scope sub) in
+        let handled = kept_on (A ++ B ++ C ++ D) (A' ++ B ++ C ++ D') E E' _ _ body (handlers_kept scope members) in
+        kept_so (A ++ B ++ C ++ D ++ E ++ F) (A' ++ B ++ C ++ D' ++ E' ++ F') _ _ (λ same numbers. λ i.
+        let one = same.0.0.1 numbers i in
+        let by_reasons = same.0.1 one.1 i in
+        spelled_map (λ otherwise. tried one.0 by_reasons.0 otherwise (is_some (label_in d))) (same.1 by_reasons.1 i))
+        (kept_on (A ++ B ++ C ++ D ++ E) (A' ++ B ++ C ++ D' ++ E') F F' _ _ handled (block_if_kept scope handler))
+
+    children_kept : (scope earlier : Scope) (ds : Items)
+        → Kept (children_asked old.version old_asks scope earlier ds) (children_asked new.version new_asks scope earlier ds)
+        ((numbers : Numbers) → children_spelled new_block scope numbers ds ≡ children_spelled old_block scope numbers ds)
+    children_kept scope earlier no_items = kept_same [] _ refl (λ numbers. refl)
+    children_kept scope earlier (item d ds) =
+        let next = with_label (label_in d) Outcome earlier in
+        kept_so _ _ _ _ (λ same numbers. λ i.
+        let one = same.0 numbers i in
+        let rest = same.1 one.1 i in
+        (one.0 ∷ rest.0, rest.1))
+        (kept_on (sub_asked old.version old_asks scope earlier d) (sub_asked new.version new_asks scope earlier d)
+        (children_asked old.version old_asks scope next ds) (children_asked new.version new_asks scope next ds) _ _
+        (sub_kept scope earlier d) (children_kept scope next ds))
+
+    parallel_kept : (scope : Scope) (d : Data)
+        → Kept (parallel_asked old.version old_asks scope d) (parallel_asked new.version new_asks scope d)
+        ((numbers : Numbers) → parallel_of new_block scope numbers d ≡ parallel_of old_block scope numbers d)
+    unfolding parallel_asked parallel_of
+    parallel_kept scope d =
+        let A = parallel_shape_asked d in
+        let B = one_more_node ∷ [] in
+        kept_so _ _ _ _ (λ same numbers. ap (spelled_map (λ children. Parallel (children_of children))) (same numbers))
+        (kept_before (A ++ B) (children_asked old.version old_asks scope [] (children_in d))
+        (children_asked new.version new_asks scope [] (children_in d)) _ (none_on A B (parallel_shape_counts What.starts d) refl)
+        (children_kept scope [] (children_in d)))
+
+    -- ---- any step
+
+    -- the step is the same, and so are the labels after it
+    abbrev SameStep : Option Sort → Scope → Data → Type 0
+    SameStep sort scope d =
+        ((numbers : Numbers) → step_of_by sort new_block new scope numbers d ≡ step_of_by sort old_block old scope numbers d)
+        × (scope_after_by sort new scope d ≡ scope_after_by sort old scope d)
+
+    step_kept : (sort : Option Sort) (scope : Scope) (d : Data)
+        → Kept (step_asked_by sort old_asks old scope d) (step_asked_by sort new_asks new scope d) (SameStep sort scope d)
+    step_kept None scope d = kept_same (holds false Shape ∷ []) _ refl (λ numbers. refl, refl)
+    step_kept (Some an_operation) scope d = kept_so _ _ (SameTarget (part (codes "op") d)) _
+        (λ same. (λ numbers. operation_same numbers d same, ap (λ v. with_label (label_in d) (Reply v) scope) same.0))
+        (operation_kept scope d)
+    step_kept (Some an_if) scope d = kept_so _ _ _ _ (λ same. (same, refl)) (if_kept scope d)
+    step_kept (Some a_sub) scope d =
+        kept_so _ _ _ _ (λ same. (λ numbers. ap (spelled_map sub_step) (same numbers), refl)) (sub_kept scope [] d)
+    step_kept (Some an_abort) scope d = kept_so _ _ _ _ (λ _. (λ numbers. refl, refl)) (abort_kept d)
+    step_kept (Some a_parallel) scope d = kept_so _ _ _ _ (λ same. (same, refl)) (parallel_kept scope d)
+
+    steps_kept : (scope : Scope) (ds : Items) → Kept (steps_asked old_asks old scope ds) (steps_asked new_asks new scope ds)
+        ((numbers : Numbers) → steps_spelled new_block new scope numbers ds ≡ steps_spelled old_block old scope numbers ds)
+    unfolding step_asked step_of scope_after
+    steps_kept scope no_items = kept_same [] _ refl (λ numbers. refl)
+    steps_kept scope (item d ds) =
+        let after = scope_after old scope d in
+        let Rest = λ (later : Scope). (numbers : Numbers) → steps_spelled new_block new later numbers ds
+        ≡ steps_spelled old_block old after numbers ds in
+        kept_so _ _ _ _ (λ same numbers. λ i.
+        let one = same.0.0 numbers i in
+        let rest = same.1 one.1 i in
+        (one.0 ∷ rest.0, rest.1))
+        (kept_then (step_asked old_asks old scope d) (step_asked new_asks new scope d) (steps_asked old_asks old after ds)
+        (steps_asked new_asks new (scope_after new scope d) ds) (SameStep (sort_of d) scope d) (Rest (scope_after new scope d))
+        (step_kept (sort_of d) scope d)
+        (λ same. subst (λ later. Kept (steps_asked old_asks old after ds) (steps_asked new_asks new later ds) (Rest later)) (sym same.1)
+        (steps_kept after ds)))
+
+    array_kept : (scope : Scope) (o : Option Items)
+        → Kept (array_asked (steps_asked old_asks old scope) o) (array_asked (steps_asked new_asks new scope) o)
+        ((numbers : Numbers) → steps_spelled new_block new scope numbers (or_no_items o)
+        ≡ steps_spelled old_block old scope numbers (or_no_items o))
+    array_kept scope None = kept_same (holds false Shape ∷ []) _ refl (λ numbers. refl)
+    array_kept scope (Some ds) = steps_kept scope ds
+
+  -- ---- blocks
+
+  -- a block that is too deep counts no entry
+  too_deep : (o : Option Items) → count What.starts (array_asked (λ ds. holds false Depth ∷ []) o) ≡ 0
+  too_deep None = refl
+  too_deep (Some ds) = refl
+
+  block_kept : (n : ℕ) (scope : Scope) (d : Data) → Kept (block_asked old n scope d) (block_asked new n scope d)
+      ((numbers : Numbers) → block_of new n scope numbers d ≡ block_of old n scope numbers d)
+  unfolding block_asked block_of
+  block_kept zero scope d = kept_same _ _ (too_deep (as_array d)) (λ numbers. refl)
+  block_kept (suc n) scope d = kept_so _ _ _ _ (λ same numbers. ap (spelled_map steps_of) (same numbers))
+      (array_kept (block_asked old n) (block_asked new n) (block_of old n) (block_of new n) (block_kept n) scope (as_array d))
+
+  -- transactions that meet their demands by the one setting meet them by the other, and are the same
+  pub transactions_kept : (number : ℕ) (ds : Items) → Kept (transactions_asked number old ds) (transactions_asked number new ds)
+      ((numbers : Numbers) → blocks_of new numbers ds ≡ blocks_of old numbers ds)
+  transactions_kept number no_items = kept_same [] _ refl (λ numbers. refl)
+  transactions_kept number (item d ds) =
+      kept_so _ _ _ _ (λ same numbers. λ i.
+      let one = same.0 numbers i in
+      let rest = same.1 one.1 i in
+      (one.0 ∷ rest.0, rest.1))
+      (kept_on (transaction_asked number old d) (transaction_asked number new d) (transactions_asked (number + 1) old ds)
+      (transactions_asked (number + 1) new ds) _ _
+      (kept_before (in_transaction number ∷ []) (block_asked old 24 [] d) (block_asked new 24 [] d) _ refl (block_kept 24 [] d))
+      (transactions_kept (number + 1) ds))

@@ -1,0 +1,332 @@
+-- What is read with other numbers before it is the same with other numbers.
+use Rattle.std.proofs.Common.{◌≡◌, ℕ, zero, suc, ◌≤◌, Bool, true, false, cond, List, [], ◌∷◌, length, map, Option, None, Some, refl}
+use Rattle.std.proofs.Common.{sym, ap, ◌∙◌}
+use Rattle.std.specs.Prelude.{codes, is_some, option_map}
+use Rattle.serde_json.specs.Data.{Data, Items, no_items, item, Members, no_members, member}
+use Rattle.serde_json.specs.Find.{as_array, as_str, get}
+use Rattle.atoms.specs.declared.item.Item.{Item}
+use Rattle.meaning.specs.declared.test.Test.{Test}
+use Rattle.meaning.specs.declared.test.Test.TheVariants.{IsItem}
+use Rattle.meaning.specs.Trees.{Block, Steps, Step, Operation, If, Abort, Parallel, Handlers, ForReason, Otherwise, Child}
+use Rattle.meaning.specs.Trees.{for_reasons, handlers_of}
+use Rattle.batch.specs.Views.{Tried, children_of, steps_of}
+use Rattle.words.specs.Verbs.{item_call, pair_call}
+use Rattle.words.proofs.Verbs.{amount_phrase, item_phrase, lone_phrase, pair_phrase}
+use Rattle.words.specs.declared.verb.Verb.{Verb}
+use Rattle.words.specs.declared.verb.Verb.TheVariants.{OfAmount, OfItem, OfPair, Alone}
+use Rattle.spelling.specs.declared.subject.Subject.{Subject}
+use Rattle.spelling.specs.declared.steps.Sort.{Sort}
+use Rattle.spelling.specs.declared.steps.Sort.TheVariants.{Operation as an_operation, If as an_if, Sub as a_sub, Abort as an_abort}
+use Rattle.spelling.specs.declared.steps.Sort.TheVariants.{Parallel as a_parallel}
+use Rattle.spelling.specs.Asked.{children_in, handlers_in, if_label, label_in, name_item, object_of, or_no_items, part, scope_after}
+use Rattle.spelling.specs.Asked.{sort_of}
+use Rattle.spelling.specs.Asked.{subject_of, verb_in}
+use Rattle.spelling.specs.Look.{has, or_empty, text_member}
+use Rattle.spelling.specs.Scope.{Numbers, Scope, Setting, Table, label_number, number_of, with_item, with_reason, with_text}
+use Rattle.spelling.specs.Spelled.{Spelling, abort_of, block_of, block_of_if, blocks_of, call_of, children_spelled, handlers_spelled, if_of}
+use Rattle.spelling.specs.Spelled.{item_of, members_of, operation_of, or_no_step, parallel_of, reason_of, step_of, step_of_by}
+use Rattle.spelling.specs.Spelled.{steps_spelled, sub_of, sub_step, target_of, test_of}
+use Rattle.carry_laws.specs.Renumbered.{number_in, numbered_item, renumbered, renumbered_call, renumbered_children, renumbered_handlers}
+use Rattle.carry_laws.specs.Renumbered.{renumbered_step}
+use Rattle.carry_laws.specs.Renumbered.{renumbered_test, said_with}
+use Rattle.carry_laws.proofs.Growing.{Begins, begins_both, block_if_longer, block_longer, blocks_longer, children_longer}
+use Rattle.carry_laws.proofs.Growing.{Longer, handlers_longer, longer_item, members_longer, steps_longer, weight}
+use Rattle.carry_laws.proofs.NumberedTexts.{Grows, number_later, text_later}
+
+-- a text's number is sent to its number
+pub number_sent : (text : List ℕ) (a b old new : Table) → length old ≤ 4294967295 → Grows (with_text text a) old
+    → Grows (with_text text b) new → number_of text b ≡ number_in new old (number_of text a)
+number_sent text a b old new few here there =
+    number_later text b new there ∙ ap (λ t. number_of t new) (sym (text_later text a old here few))
+
+-- two tables, of which the one is read after other texts, and how the numbers of the texts that follow are sent
+pub record Sends (Beside : Table → Table → Type 0) (old new : Table) (number : ℕ → ℕ) : Type 0 where
+  pub one_more : (text : List ℕ) (a b : Table) → Beside a b → Beside (with_text text a) (with_text text b)
+  pub sent : (text : List ℕ) (a b : Table) → Beside a b → Grows (with_text text a) old → Grows (with_text text b) new
+      → number_of text b ≡ number (number_of text a)
+
+module _ (items reasons : ℕ → ℕ) (BesideItems BesideReasons : Table → Table → Type 0) (old new : Numbers)
+    (items_sent : Sends BesideItems old.items new.items items) (reasons_sent : Sends BesideReasons old.reasons new.reasons reasons) where
+  abbrev Beside : Numbers → Numbers → Type 0
+  Beside a b = BesideItems a.items b.items × BesideReasons a.reasons b.reasons
+
+  -- A part is spelled by either tables, and the one is the other with other numbers. What is numbered so far begins the last tables.
+  abbrev Again : {A : Type 0} → (A → A) → Numbers → Numbers → A × Numbers → A × Numbers → Type 0
+  Again renumber a b here there = Beside a b → Begins here.1 old → Begins there.1 new
+      → (there.0 ≡ renumber here.0) × Beside here.1 there.1
+
+  -- tables that are beside each other stay so
+  beside_item : (text : List ℕ) (a b : Numbers) → Beside a b → Beside (with_item text a) (with_item text b)
+  beside_item text a b beside = (items_sent.one_more text a.items b.items beside.0, beside.1)
+
+  beside_reason : (text : List ℕ) (a b : Numbers) → Beside a b → Beside (with_reason text a) (with_reason text b)
+  beside_reason text a b beside = (beside.0, reasons_sent.one_more text a.reasons b.reasons beside.1)
+
+  -- an item and a reason are sent to those of the same text
+  item_again : (text : List ℕ) (a b : Numbers) → Beside a b → Begins (with_item text a) old → Begins (with_item text b) new
+      → item_of text b ≡ numbered_item items (item_of text a)
+  item_again text a b beside here there =
+      let make : ℕ → Item = λ n. record { 0 = n } in
+      ap make (items_sent.sent text a.items b.items beside.0 here.items there.items)
+
+  reason_again : (text : List ℕ) (a b : Numbers) → Beside a b → Begins (with_reason text a) old → Begins (with_reason text b) new
+      → number_of text b.reasons ≡ reasons (number_of text a.reasons)
+  reason_again text a b beside here there = reasons_sent.sent text a.reasons b.reasons beside.1 here.reasons there.reasons
+
+  -- ---- calls, tests and aborts
+
+  call_again : (v : Verb) (a b : Numbers) (op : Data) → Again (renumbered_call items) a b (call_of v a op) (call_of v b op)
+  unfolding call_of
+  call_again (OfAmount v) a b op beside here there = (sym (ap (said_with items) (amount_phrase v _)), beside)
+  call_again (OfItem v) a b op beside here there =
+      let text = name_item 2 op in (
+        ap (item_call v) (item_again text a b beside here there) ∙ sym (ap (said_with items) (item_phrase v (item_of text a))),
+        beside_item text a b beside,
+      )
+  call_again (OfPair v) a b op beside here there =
+      let key = name_item 2 op in
+      let text = name_item 3 op in
+      let after = with_item key a in
+      let then = with_item key b in
+      let later = beside_item key a b beside in
+      let first = item_again key a b beside (begins_both after (with_item text after) old (longer_item text after).begins here)
+      (begins_both then (with_item text then) new (longer_item text then).begins there) in
+      let second = item_again text after then later here there in (
+        (λ i. pair_call v (first i) (second i)) ∙ sym (ap (said_with items) (pair_phrase v (item_of key a) (item_of text after))),
+        beside_item text after then later,
+      )
+  call_again (Alone v) a b op beside here there = (sym (ap (said_with items) (lone_phrase v)), beside)
+
+  operation_again : (setting : Setting) (a b : Numbers) (d : Data)
+      → Again (renumbered_step items reasons) a b (operation_of setting a d) (operation_of setting b d)
+  unfolding operation_of
+  operation_again setting a b d beside here there =
+      let op = part (codes "op") d in
+      let call = call_again (verb_in setting op) a b op beside here there in
+      (ap (λ c. Operation (target_of setting (object_of op)) c (is_some (label_in d))) call.0, call.1)
+
+  -- one of three tests
+  one_of_three : (p q : Bool) (a b : Numbers) (x y z x' y' z' : Test × Numbers) → Again (renumbered_test items) a b x x'
+      → Again (renumbered_test items) a b y y' → Again (renumbered_test items) a b z z'
+      → Again (renumbered_test items) a b (cond p x (cond q y z)) (cond p x' (cond q y' z'))
+  one_of_three true q a b x y z x' y' z' first second third = first
+  one_of_three false true a b x y z x' y' z' first second third = second
+  one_of_three false false a b x y z x' y' z' first second third = third
+
+  test_again : (subject : Subject) (a b : Numbers) (d : Data)
+      → Again (renumbered_test items) a b (test_of subject a d) (test_of subject b d)
+  unfolding test_of
+  test_again subject a b d =
+      let text = or_empty (text_member (codes "item") d) in
+      one_of_three (has (codes "is") d) (has (codes "atleast") d) a b _ _ _ _ _ _ (λ beside here there. (refl, beside))
+      (λ beside here there. (refl, beside))
+      (λ beside here there. (ap (λ x. IsItem x) (item_again text a b beside here there), beside_item text a b beside))
+
+  abort_again : (a b : Numbers) (d : Data) → Again (renumbered_step items reasons) a b (abort_of a d) (abort_of b d)
+  unfolding abort_of reason_of
+  abort_again a b d = by (as_str (part (codes "abort") d))
+    where
+      by : (o : Option (List ℕ)) → Again (λ step. renumbered_step items reasons step) a b (Abort (reason_of a o).0, (reason_of a o).1)
+          (Abort (reason_of b o).0, (reason_of b o).1)
+      by None beside here there = (refl, beside)
+      by (Some reason) beside here there =
+          (ap (λ n. Abort (Some n)) (reason_again reason a b beside here there), beside_reason reason a b beside)
+
+  -- ---- the steps that hold blocks
+
+  abbrev block_renumbered : Block → Block
+  block_renumbered block = renumbered items reasons block
+
+  abbrev member_renumbered : ℕ × Block → ℕ × Block
+  member_renumbered pair = (reasons pair.0, renumbered items reasons pair.1)
+
+  abbrev tried_renumbered : Tried → Tried
+  tried_renumbered child = record {
+    body = renumbered items reasons child.body;
+    handlers = renumbered_handlers items reasons child.handlers;
+    labelled = child.labelled;
+  }
+
+  -- what is put together of renumbered parts is renumbered
+  else_again : (o : Option Block) → or_no_step (option_map block_renumbered o) ≡ renumbered items reasons (or_no_step o)
+  else_again None = refl
+  else_again (Some block) = refl
+
+  members_again : (members : List (ℕ × Block)) (others : Handlers)
+      → for_reasons (map member_renumbered members) (renumbered_handlers items reasons others)
+      ≡ renumbered_handlers items reasons (for_reasons members others)
+  members_again [] others = refl
+  members_again (first ∷ rest) others = ap (ForReason (reasons first.0) (renumbered items reasons first.1)) (members_again rest others)
+
+  handlers_again : (members : Option (List (ℕ × Block))) (o : Option Block)
+      → handlers_of (option_map (map member_renumbered) members) (option_map block_renumbered o)
+      ≡ renumbered_handlers items reasons (handlers_of members o)
+  handlers_again None None = refl
+  handlers_again None (Some handler) = refl
+  handlers_again (Some members) None = members_again members Handlers.Pass
+  handlers_again (Some members) (Some handler) = members_again members (Otherwise handler)
+
+  children_again : (children : List Tried) → children_of (map tried_renumbered children)
+      ≡ renumbered_children items reasons (children_of children)
+  children_again [] = refl
+  children_again (child ∷ younger) =
+      ap (Child (renumbered items reasons child.body) (renumbered_handlers items reasons child.handlers) child.labelled)
+      (children_again younger)
+
+  steps_again : (steps : List Step) → steps_of (map (renumbered_step items reasons) steps) ≡ renumbered items reasons (steps_of steps)
+  steps_again [] = refl
+  steps_again (step ∷ rest) = ap (Steps (renumbered_step items reasons step)) (steps_again rest)
+
+  module _ (block : Spelling)
+      (longer : (scope : Scope) (numbers : Numbers) (d : Data)
+      → Longer (weight (block scope numbers d).0) numbers (block scope numbers d).1)
+      (inner : (scope : Scope) (a b : Numbers) (d : Data) → Again block_renumbered a b (block scope a d) (block scope b d)) where
+    block_if_spelled : (scope : Scope) (a b : Numbers) (o : Option Data)
+        → Again (option_map block_renumbered) a b (block_of_if block scope a o) (block_of_if block scope b o)
+    unfolding block_of_if
+    block_if_spelled scope a b None beside here there = (refl, beside)
+    block_if_spelled scope a b (Some d) beside here there =
+        let it = inner scope a b d beside here there in (ap (λ x. Some x) it.0, it.1)
+
+    if_spelled : (scope : Scope) (a b : Numbers) (d : Data)
+        → Again (renumbered_step items reasons) a b (if_of block scope a d) (if_of block scope b d)
+    unfolding if_of
+    if_spelled scope a b d beside here there =
+        let subject = subject_of (if_label d) scope in
+        let then = part (codes "then") d in
+        let else = get (codes "else") d in
+        let ta = test_of subject a d in
+        let tb = test_of subject b d in
+        let fa = block scope ta.1 then in
+        let fb = block scope tb.1 then in
+        let sa = block_of_if block scope fa.1 else in
+        let sb = block_of_if block scope fb.1 else in
+        let fa_on = begins_both fa.1 sa.1 old (block_if_longer block longer scope fa.1 else).begins here in
+        let fb_on = begins_both fb.1 sb.1 new (block_if_longer block longer scope fb.1 else).begins there in
+        let ta_on = begins_both ta.1 fa.1 old (longer scope ta.1 then).begins fa_on in
+        let tb_on = begins_both tb.1 fb.1 new (longer scope tb.1 then).begins fb_on in
+        let test = test_again subject a b d beside ta_on tb_on in
+        let first = inner scope ta.1 tb.1 then test.1 fa_on fb_on in
+        let second = block_if_spelled scope fa.1 fb.1 else first.1 here there in
+        let third = ap or_no_step second.0 ∙ else_again sa.0 in
+        ((λ i. If (label_number (if_label d) scope) (test.0 i) (first.0 i) (third i)), second.1)
+
+    members_spelled : (scope : Scope) (a b : Numbers) (ds : Members)
+        → Again (map member_renumbered) a b (members_of block scope a ds) (members_of block scope b ds)
+    members_spelled scope a b no_members beside here there = (refl, beside)
+    members_spelled scope a b (member reason d ds) beside here there =
+        let wa = with_reason reason a in
+        let wb = with_reason reason b in
+        let fa = block scope wa d in
+        let fb = block scope wb d in
+        let ra = members_of block scope fa.1 ds in
+        let rb = members_of block scope fb.1 ds in
+        let fa_on = begins_both fa.1 ra.1 old (members_longer block longer scope fa.1 ds).begins here in
+        let fb_on = begins_both fb.1 rb.1 new (members_longer block longer scope fb.1 ds).begins there in
+        let number = reason_again reason a b beside (begins_both wa fa.1 old (longer scope wa d).begins fa_on)
+        (begins_both wb fb.1 new (longer scope wb d).begins fb_on) in
+        let first = inner scope wa wb d (beside_reason reason a b beside) fa_on fb_on in
+        let rest = members_spelled scope fa.1 fb.1 ds first.1 here there in
+        ((λ i. (number i, first.0 i) ∷ rest.0 i), rest.1)
+
+    handlers_are : (scope : Scope) (a b : Numbers) (o : Option Members)
+        → Again (option_map (map member_renumbered)) a b (handlers_spelled block scope a o) (handlers_spelled block scope b o)
+    unfolding handlers_spelled
+    handlers_are scope a b None beside here there = (refl, beside)
+    handlers_are scope a b (Some ds) beside here there =
+        let it = members_spelled scope a b ds beside here there in (ap (λ x. Some x) it.0, it.1)
+
+    sub_spelled : (scope : Scope) (a b : Numbers) (d : Data) → Again tried_renumbered a b (sub_of block scope a d) (sub_of block scope b d)
+    unfolding sub_of
+    sub_spelled scope a b d beside here there =
+        let sub = part (codes "sub") d in
+        let members = handlers_in d in
+        let handler = get (codes "handler") d in
+        let ba = block scope a sub in
+        let bb = block scope b sub in
+        let ha = handlers_spelled block scope ba.1 members in
+        let hb = handlers_spelled block scope bb.1 members in
+        let oa = block_of_if block scope ha.1 handler in
+        let ob = block_of_if block scope hb.1 handler in
+        let ha_on = begins_both ha.1 oa.1 old (block_if_longer block longer scope ha.1 handler).begins here in
+        let hb_on = begins_both hb.1 ob.1 new (block_if_longer block longer scope hb.1 handler).begins there in
+        let ba_on = begins_both ba.1 ha.1 old (handlers_longer block longer scope ba.1 members).begins ha_on in
+        let bb_on = begins_both bb.1 hb.1 new (handlers_longer block longer scope bb.1 members).begins hb_on in
+        let body = inner scope a b sub beside ba_on bb_on in
+        let by_reason = handlers_are scope ba.1 bb.1 members body.1 ha_on hb_on in
+        let last = block_if_spelled scope ha.1 hb.1 handler by_reason.1 here there in
+        let handlers = (λ i. handlers_of (by_reason.0 i) (last.0 i)) ∙ handlers_again ha.0 oa.0 in
+        let make : Block → Handlers → Tried = λ x hs. record { body = x; handlers = hs; labelled = is_some (label_in d) } in
+        ((λ i. make (body.0 i) (handlers i)), last.1)
+
+    children_are : (scope : Scope) (a b : Numbers) (ds : Items)
+        → Again (map tried_renumbered) a b (children_spelled block scope a ds) (children_spelled block scope b ds)
+    children_are scope a b no_items beside here there = (refl, beside)
+    children_are scope a b (item d ds) beside here there =
+        let fa = sub_of block scope a d in
+        let fb = sub_of block scope b d in
+        let ra = children_spelled block scope fa.1 ds in
+        let rb = children_spelled block scope fb.1 ds in
+        let first = sub_spelled scope a b d beside (begins_both fa.1 ra.1 old (children_longer block longer scope fa.1 ds).begins here)
+        (begins_both fb.1 rb.1 new (children_longer block longer scope fb.1 ds).begins there) in
+        let rest = children_are scope fa.1 fb.1 ds first.1 here there in
+        ((λ i. first.0 i ∷ rest.0 i), rest.1)
+
+    parallel_spelled : (scope : Scope) (a b : Numbers) (d : Data)
+        → Again (renumbered_step items reasons) a b (parallel_of block scope a d) (parallel_of block scope b d)
+    unfolding parallel_of
+    parallel_spelled scope a b d beside here there =
+        let it = children_are scope a b (children_in d) beside here there in
+        (ap (λ children. Parallel (children_of children)) it.0 ∙ ap Parallel (children_again _), it.1)
+
+    -- ---- any step
+
+    step_spelled : (sort : Option Sort) (setting : Setting) (scope : Scope) (a b : Numbers) (d : Data)
+        → Again (renumbered_step items reasons) a b (step_of_by sort block setting scope a d) (step_of_by sort block setting scope b d)
+    step_spelled None setting scope a b d beside here there = (refl, beside)
+    step_spelled (Some an_operation) setting scope a b d beside here there = operation_again setting a b d beside here there
+    step_spelled (Some an_if) setting scope a b d beside here there = if_spelled scope a b d beside here there
+    step_spelled (Some a_sub) setting scope a b d beside here there =
+        let it = sub_spelled scope a b d beside here there in (ap sub_step it.0, it.1)
+    step_spelled (Some an_abort) setting scope a b d beside here there = abort_again a b d beside here there
+    step_spelled (Some a_parallel) setting scope a b d beside here there = parallel_spelled scope a b d beside here there
+
+    steps_are : (setting : Setting) (scope : Scope) (a b : Numbers) (ds : Items)
+        → Again (map (renumbered_step items reasons)) a b (steps_spelled block setting scope a ds) (steps_spelled block setting scope b ds)
+    unfolding step_of
+    steps_are setting scope a b no_items beside here there = (refl, beside)
+    steps_are setting scope a b (item d ds) beside here there =
+        let next = scope_after setting scope d in
+        let fa = step_of block setting scope a d in
+        let fb = step_of block setting scope b d in
+        let ra = steps_spelled block setting next fa.1 ds in
+        let rb = steps_spelled block setting next fb.1 ds in
+        let first = step_spelled (sort_of d) setting scope a b d beside
+        (begins_both fa.1 ra.1 old (steps_longer block longer setting next fa.1 ds).begins here)
+        (begins_both fb.1 rb.1 new (steps_longer block longer setting next fb.1 ds).begins there) in
+        let rest = steps_are setting next fa.1 fb.1 ds first.1 here there in
+        ((λ i. first.0 i ∷ rest.0 i), rest.1)
+
+  -- ---- blocks
+
+  block_again : (setting : Setting) (n : ℕ) (scope : Scope) (a b : Numbers) (d : Data)
+      → Again block_renumbered a b (block_of setting n scope a d) (block_of setting n scope b d)
+  unfolding block_of
+  block_again setting zero scope a b d beside here there = (refl, beside)
+  block_again setting (suc n) scope a b d beside here there =
+      let it = steps_are (block_of setting n) (block_longer setting n) (block_again setting n) setting scope a b (or_no_items (as_array d))
+      beside here there in
+      (ap steps_of it.0 ∙ steps_again _, it.1)
+
+  pub blocks_again : (setting : Setting) (a b : Numbers) (ds : Items)
+      → Again (map block_renumbered) a b (blocks_of setting a ds) (blocks_of setting b ds)
+  blocks_again setting a b no_items beside here there = (refl, beside)
+  blocks_again setting a b (item d ds) beside here there =
+      let fa = block_of setting 24 [] a d in
+      let fb = block_of setting 24 [] b d in
+      let ra = blocks_of setting fa.1 ds in
+      let rb = blocks_of setting fb.1 ds in
+      let first = block_again setting 24 [] a b d beside (begins_both fa.1 ra.1 old (blocks_longer setting fa.1 ds).begins here)
+      (begins_both fb.1 rb.1 new (blocks_longer setting fb.1 ds).begins there) in
+      let rest = blocks_again setting fa.1 fb.1 ds first.1 here there in
+      ((λ i. first.0 i ∷ rest.0 i), rest.1)

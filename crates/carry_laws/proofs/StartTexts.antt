@@ -1,0 +1,124 @@
+-- The objects of a document number few texts, and no reason.
+use Rattle.std.proofs.Common.{◌≡◌, ℕ, ◌*◌, [], ◌∷◌, ◌++◌, Option, None, Some, refl, ◌∙◌, arith}
+use Rattle.std.specs.Prelude.{codes}
+use Rattle.serde_json.specs.Data.{Data, Items, no_items, item}
+use Rattle.serde_json.specs.Find.{as_array}
+use Rattle.objects.specs.declared.kind.Kind.{Kind}
+use Rattle.objects.specs.declared.kind.Kind.TheVariants as kind
+use Rattle.spelling.specs.Asked.{element_asked, entry_asked, key_of, kind_in, object_name, object_name_asked, object_shape_asked}
+use Rattle.spelling.specs.Asked.{or_no_items, pair_asked, part, text_of, value_of}
+use Rattle.spelling.specs.Scope.{Numbers, Table, with_item, with_text}
+use Rattle.spelling.specs.Spelled.{entries_of, pair_of, pairs_of, start_of, starts_of}
+use Rattle.spelling.proofs.Demands.{array_start_asked, elements_asked, entries_asked, object_asked, objects_asked, pairs_asked, start_asked}
+use Rattle.spelling.proofs.MetLemmas.{What, count, count-append}
+use Rattle.carry_laws.proofs.Growing.{Longer, longer_item, longer_none, longer_on}
+
+-- two texts at most for each entry that is counted
+abbrev twice : ℕ → ℕ
+twice n = 2 * n
+
+-- the items of a queue, of a set, and the pairs of a directory
+entries_longer : (numbers : Numbers) (ds : Items) → Longer (twice (count What.starts (entries_asked ds))) numbers (entries_of numbers ds).1
+unfolding entry_asked
+entries_longer numbers no_items = longer_none 0 numbers
+entries_longer numbers (item d ds) =
+    let next = with_item (text_of d) numbers in
+    let few = count-append What.starts (entry_asked d) (entries_asked ds) in
+    longer_on 1 (twice (count What.starts (entries_asked ds))) _ numbers next _ (omega (arith, few)) (longer_item (text_of d) numbers)
+    (entries_longer next ds)
+
+elements_longer : (earlier : Table) (numbers : Numbers) (ds : Items)
+    → Longer (twice (count What.starts (elements_asked earlier ds))) numbers (entries_of numbers ds).1
+unfolding element_asked
+elements_longer earlier numbers no_items = longer_none 0 numbers
+elements_longer earlier numbers (item d ds) =
+    let next = with_item (text_of d) numbers in
+    let after = with_text (text_of d) earlier in
+    let few = count-append What.starts (element_asked earlier d) (elements_asked after ds) in
+    longer_on 1 (twice (count What.starts (elements_asked after ds))) _ numbers next _ (omega (arith, few))
+    (longer_item (text_of d) numbers) (elements_longer after next ds)
+
+pairs_longer : (earlier : Table) (numbers : Numbers) (ds : Items)
+    → Longer (twice (count What.starts (pairs_asked earlier ds))) numbers (pairs_of numbers ds).1
+unfolding pair_asked
+pairs_longer earlier numbers no_items = longer_none 0 numbers
+pairs_longer earlier numbers (item d ds) =
+    let between = with_item (key_of d) numbers in
+    let next = with_item (value_of d) between in
+    let after = with_text (key_of d) earlier in
+    let few = count-append What.starts (pair_asked earlier d) (pairs_asked after ds) in
+    longer_on 2 (twice (count What.starts (pairs_asked after ds))) _ numbers next _ (omega (arith, few))
+    (longer_on 1 1 2 numbers between next (omega arith) (longer_item (key_of d) numbers) (longer_item (value_of d) between))
+    (pairs_longer after next ds)
+
+set_longer : (numbers : Numbers) (o : Option Items)
+    → Longer (twice (count What.starts (array_start_asked (elements_asked []) o))) numbers (entries_of numbers (or_no_items o)).1
+unfolding array_start_asked
+set_longer numbers None = longer_none 0 numbers
+set_longer numbers (Some ds) = elements_longer [] numbers ds
+
+queue_longer : (numbers : Numbers) (o : Option Items)
+    → Longer (twice (count What.starts (array_start_asked entries_asked o))) numbers (entries_of numbers (or_no_items o)).1
+unfolding array_start_asked
+queue_longer numbers None = longer_none 0 numbers
+queue_longer numbers (Some ds) = entries_longer numbers ds
+
+directory_longer : (numbers : Numbers) (o : Option Items)
+    → Longer (twice (count What.starts (array_start_asked (pairs_asked []) o))) numbers (pairs_of numbers (or_no_items o)).1
+unfolding array_start_asked
+directory_longer numbers None = longer_none 0 numbers
+directory_longer numbers (Some ds) = pairs_longer [] numbers ds
+
+start_longer : (k : Kind) (numbers : Numbers) (d : Data)
+    → Longer (twice (count What.starts (start_asked k d))) numbers (start_of k numbers d).1
+unfolding start_of start_asked
+start_longer kind.Account numbers d = longer_none 0 numbers
+start_longer kind.Counter numbers d = longer_none 0 numbers
+start_longer kind.Set numbers d = set_longer numbers (as_array d)
+start_longer kind.Queue numbers d = queue_longer numbers (as_array d)
+start_longer kind.Directory numbers d = directory_longer numbers (as_array d)
+start_longer kind.Max numbers d = longer_none 0 numbers
+
+pub starts_longer : (version : ℕ) (names : Table) (numbers : Numbers) (ds : Items)
+    → Longer (twice (count What.starts (objects_asked version names ds))) numbers (starts_of version numbers ds).1
+unfolding object_asked
+starts_longer version names numbers no_items = longer_none 0 numbers
+starts_longer version names numbers (item d ds) =
+    let k = kind_in version d in
+    let start = part (codes "start") d in
+    let here = start_of k numbers start in
+    let after = names ++ object_name d ∷ [] in
+    let A = object_shape_asked version d in
+    let B = object_name_asked names (object_name d) in
+    let C = start_asked k start in
+    let few = count-append What.starts (object_asked version names d) (objects_asked version after ds) in
+    let all = count-append What.starts (A ++ B) C in
+    longer_on (twice (count What.starts C)) (twice (count What.starts (objects_asked version after ds))) _ numbers here.1 _
+    (omega (arith, few, all)) (start_longer k numbers start) (starts_longer version after here.1 ds)
+
+-- ---- reasons
+
+-- no start has a reason
+entries_reasons : (numbers : Numbers) (ds : Items) → (entries_of numbers ds).1.reasons ≡ numbers.reasons
+entries_reasons numbers no_items = refl
+entries_reasons numbers (item d ds) = entries_reasons (with_item (text_of d) numbers) ds
+
+pairs_reasons : (numbers : Numbers) (ds : Items) → (pairs_of numbers ds).1.reasons ≡ numbers.reasons
+pairs_reasons numbers no_items = refl
+pairs_reasons numbers (item d ds) = pairs_reasons (pair_of numbers d).1 ds
+
+start_reasons : (k : Kind) (numbers : Numbers) (d : Data) → (start_of k numbers d).1.reasons ≡ numbers.reasons
+unfolding start_of
+start_reasons kind.Account numbers d = refl
+start_reasons kind.Counter numbers d = refl
+start_reasons kind.Set numbers d = entries_reasons numbers (or_no_items (as_array d))
+start_reasons kind.Queue numbers d = entries_reasons numbers (or_no_items (as_array d))
+start_reasons kind.Directory numbers d = pairs_reasons numbers (or_no_items (as_array d))
+start_reasons kind.Max numbers d = refl
+
+pub starts_reasons : (version : ℕ) (numbers : Numbers) (ds : Items) → (starts_of version numbers ds).1.reasons ≡ numbers.reasons
+starts_reasons version numbers no_items = refl
+starts_reasons version numbers (item d ds) =
+    let start = part (codes "start") d in
+    let here = start_of (kind_in version d) numbers start in
+    starts_reasons version here.1 ds ∙ start_reasons (kind_in version d) numbers start

@@ -1,0 +1,66 @@
+-- Transactions whose items and reasons have other numbers.
+use Rattle.std.specs.Prelude.{ℕ, [], ◌∷◌, get_or, option_map}
+use Rattle.atoms.specs.declared.item.Item.{Item}
+use Rattle.objects.specs.declared.call.Call.{Call}
+use Rattle.spelling.specs.Scope.{Table, number_of, with_text}
+use Rattle.words.specs.Verbs.{amount_call, item_call, lone_call, pair_call, phrase_of}
+use Rattle.words.specs.declared.verb.Phrase.{Phrase}
+use Rattle.words.specs.declared.verb.Phrase.TheVariants as phrase
+use Rattle.meaning.specs.declared.test.Test.{Test}
+use Rattle.meaning.specs.declared.test.Test.TheVariants.{IsItem}
+use Rattle.meaning.specs.Trees.{Block, NoStep, Steps, Step, Operation, If, Subaction, Abort, Parallel, Handlers, ForReason, Otherwise}
+use Rattle.meaning.specs.Trees.{GoOn, Pass, Children, NoChild, Child}
+
+-- the table with these texts after its own, each once
+abbrev pub merged : Table → Table → Table
+merged table [] = table
+merged table (text ∷ texts) = merged (with_text text table) texts
+
+-- the number in the one table, of the text that has the number in the other
+abbrev pub number_in : Table → Table → ℕ → ℕ
+number_in new old i = number_of (get_or old i []) new
+
+abbrev pub numbered_item : (ℕ → ℕ) → Item → Item
+numbered_item items x = record { 0 = items x.0 }
+
+abbrev pub said_with : (ℕ → ℕ) → Phrase → Call
+said_with items (phrase.OfAmount v a) = amount_call v a
+said_with items (phrase.OfItem v x) = item_call v (numbered_item items x)
+said_with items (phrase.OfPair v k x) = pair_call v (numbered_item items k) (numbered_item items x)
+said_with items (phrase.Alone v) = lone_call v
+
+-- the call, said with the items of these numbers
+abbrev pub renumbered_call : (ℕ → ℕ) → Call → Call
+renumbered_call items c = said_with items (phrase_of c)
+
+abbrev pub renumbered_test : (ℕ → ℕ) → Test → Test
+renumbered_test items (IsItem x) = IsItem (numbered_item items x)
+renumbered_test items test = test
+
+abbrev mutual
+  -- the same block, where each item and each reason has another number
+  pub renumbered : (ℕ → ℕ) → (ℕ → ℕ) → Block → Block
+  renumbered items reasons NoStep = NoStep
+  renumbered items reasons (Steps step rest) = Steps (renumbered_step items reasons step) (renumbered items reasons rest)
+
+  pub renumbered_step : (ℕ → ℕ) → (ℕ → ℕ) → Step → Step
+  renumbered_step items reasons (Operation object call labelled) = Operation object (renumbered_call items call) labelled
+  renumbered_step items reasons (If label test then else) =
+      If label (renumbered_test items test) (renumbered items reasons then) (renumbered items reasons else)
+  renumbered_step items reasons (Subaction body handlers labelled) =
+      Subaction (renumbered items reasons body) (renumbered_handlers items reasons handlers) labelled
+  renumbered_step items reasons (Abort reason) = Abort (option_map reasons reason)
+  renumbered_step items reasons (Parallel children) = Parallel (renumbered_children items reasons children)
+
+  pub renumbered_handlers : (ℕ → ℕ) → (ℕ → ℕ) → Handlers → Handlers
+  renumbered_handlers items reasons (ForReason reason handler others) =
+      ForReason (reasons reason) (renumbered items reasons handler) (renumbered_handlers items reasons others)
+  renumbered_handlers items reasons (Otherwise handler) = Otherwise (renumbered items reasons handler)
+  renumbered_handlers items reasons GoOn = GoOn
+  renumbered_handlers items reasons Pass = Pass
+
+  pub renumbered_children : (ℕ → ℕ) → (ℕ → ℕ) → Children → Children
+  renumbered_children items reasons NoChild = NoChild
+  renumbered_children items reasons (Child body handlers labelled younger) =
+      Child (renumbered items reasons body) (renumbered_handlers items reasons handlers) labelled
+      (renumbered_children items reasons younger)
