@@ -18,6 +18,19 @@ def transactions(count):
         yield "[%s,%s]" % (step, wide)
 
 
+def mixed(count):
+    """So many transactions with items and reasons that are new in each range, in every place that can name one."""
+    for number in range(count):
+        key, item, reason = "k%d" % (number // 7), "v%d" % (number // 3), "r%d" % (number // 5)
+        yield ('[{"op":["d","put","%s","%s"]},{"op":["d","lookup","%s"],"as":"x"},'
+               '{"if":"x","item":"%s","then":[{"op":["q","enq","%s"]}],"else":[{"abort":true}]},'
+               '{"sub":[{"op":["s","insert","%s"]},{"abort":"%s"}],'
+               '"handlers":{"%s":[{"op":["a","deposit",1]}]},"handler":[{"op":["s","remove","%s"]}]},'
+               '{"parallel":[{"sub":[{"op":["s","has","%s"]}]},{"sub":[{"op":["q","deq"]}]}]}]'
+               % (key, item, key, item, item, key, reason, reason, item, item))
+
+
+MIXED = LEDGER + ',{"name":"d","kind":"directory","start":[]},{"name":"q","kind":"queue","start":["v2"]}'
 COMMAS = (",", ",\n  ", ",\t \r\n")
 
 
@@ -29,6 +42,14 @@ def try_same(program, name, objects, listed, commands=("check", "serial", "locat
         for comma in commas:
             got = program.run([command], document(objects, listed, comma))
             program.compare(name, [command], got, wanted)
+
+
+def try_workers(program, name, whole):
+    """The report is the same, however many threads read the document."""
+    wanted = program.run(["run", "--workers", "1"], whole)
+    for workers in ("2", "3", "7", "64"):
+        words = ["run", "--workers", workers]
+        program.compare(name, words, program.run(words, whole), wanted)
 
 
 def try_faults(program, listed):
@@ -55,3 +76,9 @@ def try_all(program):
                      for number in range(90_000))
     held = '{"name":"d","kind":"directory","start":[%s]}' % pairs
     try_same(program, "pairs", LEDGER + "," + held, listed)
+    try_workers(program, "pairs", document(LEDGER + "," + held, listed, ","))
+    for comma in COMMAS:
+        try_workers(program, "threads", document(MIXED, mixed(4_000), comma))
+    broken = list(mixed(4_000))
+    broken[3_000] = '[{"op":["s","insert","],["]}]'
+    try_workers(program, "a fault and threads", document(MIXED, broken, ","))

@@ -16,7 +16,7 @@ use Rattle.carry_laws.specs.Laws.{StartsWith}
 use Rattle.carry_laws.specs.Same.{AreSame}
 use Rattle.carry_laws.proofs.Carriable.{IsApart, first_fits}
 use Rattle.carry_laws.proofs.CarriedFaultless.{kind_is}
-use Rattle.carry_laws.proofs.NumberedTexts.{Grows, grows_both, grows_none}
+use Rattle.merging.proofs.NumberedTexts.{Grows, grows_both, grows_none}
 use Rattle.carry_laws.proofs.SpelledStarts.{SpellsValue, value_spelled}
 use Rattle.carry_laws.proofs.TextLength.{all_few}
 

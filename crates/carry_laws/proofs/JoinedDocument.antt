@@ -14,7 +14,7 @@ use Rattle.spelling.specs.Look.{whole_member, within}
 use Rattle.spelling.specs.Places.{first_fault, placed}
 use Rattle.spelling.specs.Scope.{Numbers, Table, no_numbers}
 use Rattle.spelling.specs.Spelled.{blocks_of, document_in, parts_in}
-use Rattle.spelling.proofs.Checks.{check_met}
+use Rattle.spelling.proofs.Checks.{check_met, check_parts}
 use Rattle.spelling.proofs.Demands.{asked, faultless, met_faultless, object_asked, objects_asked, transactions_asked}
 use Rattle.spelling.proofs.ListLemmas.{kinds_of_starts, same_setting}
 use Rattle.spelling.proofs.MetLemmas.{What, count, count-append, first_met, passed}
@@ -31,7 +31,7 @@ use Rattle.carry_laws.proofs.JoinedSetting.{declares_more, joined_kinds, joined_
 use Rattle.carry_laws.proofs.JoinedSpelled.{starts_names}
 use Rattle.carry_laws.proofs.JoinedStarts.{IsApartStart}
 use Rattle.carry_laws.proofs.Meeting.{AreNew, Counts, all_new, new_after}
-use Rattle.carry_laws.proofs.OtherSetting.{Declares, Fewer, check_parts, transactions_kept}
+use Rattle.carry_laws.proofs.OtherSetting.{Declares, Fewer, transactions_kept}
 
 -- ---- the starts meet their demands
 

@@ -22,10 +22,10 @@ use Rattle.carry.specs.Transactions.{joined_text}
 use Rattle.carry_laws.specs.Carrying.{object_names}
 use Rattle.carry_laws.specs.Joined.{spelled_starts, starts_data}
 use Rattle.carry_laws.specs.Laws.{IsNextWith, JoinedReadLaw, MayBeJoined}
-use Rattle.carry_laws.specs.Renumbered.{number_in}
+use Rattle.merging.specs.Renumbered.{number_in}
 use Rattle.carry_laws.proofs.Among.{Apart}
 use Rattle.carry_laws.proofs.CarriedEnd.{of_reading}
-use Rattle.carry_laws.proofs.Growing.{Begins, begins_none, blocks_longer}
+use Rattle.merging.proofs.Growing.{Begins, begins_none, blocks_longer}
 use Rattle.carry_laws.proofs.JoinedDocument.{Read, few_starts, joined_of, joined_reads, next_of, parts_met, starts_with}
 use Rattle.carry_laws.proofs.JoinedLaws.{end_is_named, starts_are_named}
 use Rattle.carry_laws.proofs.JoinedReads.{joined_value}
@@ -34,8 +34,8 @@ use Rattle.carry_laws.proofs.JoinedSpelled.{starts_few, starts_later, starts_nam
 use Rattle.carry_laws.proofs.JoinedStarts.{IsApartStart, joined_apart, joined_can_start}
 use Rattle.carry_laws.proofs.NamedTexts.{distinct_apart, names_from}
 use Rattle.carry_laws.proofs.NextTree.{next_transactions}
-use Rattle.carry_laws.proofs.NumberedTexts.{number_back}
-use Rattle.carry_laws.proofs.Renumbering.{Sends, blocks_again, number_sent}
+use Rattle.merging.proofs.NumberedTexts.{number_back}
+use Rattle.merging.proofs.Renumbering.{Sends, blocks_again, number_sent}
 use Rattle.carry_laws.proofs.StartTexts.{starts_longer, starts_reasons}
 
 -- any two tables, or the same one twice

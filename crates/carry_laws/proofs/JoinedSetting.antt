@@ -30,7 +30,7 @@ use Rattle.carry_laws.specs.Joined.{starts_data}
 use Rattle.carry_laws.proofs.Among.{Among, Apart, each_of, of_each}
 use Rattle.carry_laws.proofs.CarriedFaultless.{kind_back, kind_is}
 use Rattle.carry_laws.proofs.NamedTexts.{names_from}
-use Rattle.carry_laws.proofs.NumberedTexts.{first_listed, listed_at, listed_kept}
+use Rattle.merging.proofs.NumberedTexts.{first_listed, listed_at, listed_kept}
 use Rattle.carry_laws.proofs.OtherSetting.{Declares}
 
 -- ---- names

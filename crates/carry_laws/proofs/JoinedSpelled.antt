@@ -16,7 +16,7 @@ use Rattle.carry_laws.specs.Same.{AreSameStarts}
 use Rattle.carry_laws.proofs.Carriable.{first_fits}
 use Rattle.carry_laws.proofs.CarriedFaultless.{kind_is}
 use Rattle.carry_laws.proofs.JoinedStarts.{IsApartStart}
-use Rattle.carry_laws.proofs.NumberedTexts.{Grows, grows_both, grows_none}
+use Rattle.merging.proofs.NumberedTexts.{Grows, grows_both, grows_none}
 use Rattle.carry_laws.proofs.SpelledStarts.{SpellsValue, value_spelled}
 
 -- By later tables the objects are the same. So many texts are new at most.

@@ -11,10 +11,6 @@ pub mod Carriable
 pub mod TextLength
 pub mod Meeting
 pub mod CarriedFaultless
-pub mod NumberedTexts
-pub mod Growing
-pub mod Renumbering
-pub mod Merged
 pub mod OtherSetting
 pub mod PutIn
 pub mod CarriedLaws

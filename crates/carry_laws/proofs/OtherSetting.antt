@@ -1,7 +1,7 @@
 -- Transactions that are read with more objects, and in a later version, are the same.
 use Rattle.std.proofs.Common.{◌≡◌, ℕ, zero, suc, ◌+◌, ◌≤◌, ◌&&◌, ◌||◌, Bool, true, false, not, cond, List, [], ◌∷◌, ◌++◌, Option, None}
 use Rattle.std.proofs.Common.{Some, Ok}
-use Rattle.std.proofs.Common.{Err, Result, refl, sym, ap, subst, ◌∙◌, arith}
+use Rattle.std.proofs.Common.{Err, refl, sym, ap, subst, ◌∙◌, arith}
 use Rattle.std.specs.Prelude.{codes, is_some, nat_le, nat_lt, option_and_then, unwrap_or, ⊤}
 use Rattle.std.proofs.lemmas.Bool.{lt-ltb, ltb-true}
 use Rattle.serde_json.specs.Data.{Data, Items, no_items, item, Members, no_members, member}
@@ -10,7 +10,6 @@ use Rattle.objects.specs.declared.kind.Kind.{Kind}
 use Rattle.batch.specs.Names.{is_name}
 use Rattle.batch.specs.Views.{children_of, steps_of}
 use Rattle.meaning.specs.Trees.{If, Operation, Parallel}
-use Rattle.faults.specs.declared.fault.Fault.{Fault}
 use Rattle.faults.specs.declared.fault.Wrong.{Wrong}
 use Rattle.faults.specs.declared.fault.Wrong.TheVariants.{Depth, Name, Shape, UnknownObject, UnknownOperation}
 use Rattle.words.specs.Verbs.{verb_of_text}
@@ -36,7 +35,7 @@ use Rattle.spelling.specs.Spelled.{Spelling, block_of, block_of_if, blocks_of, c
 use Rattle.spelling.specs.Spelled.{members_of}
 use Rattle.spelling.specs.Spelled.{operation_of, or_no_step, or_zero, parallel_of, spelled_map, step_of, step_of_by, steps_spelled, sub_of}
 use Rattle.spelling.specs.Spelled.{sub_step, target_of, test_of, tried}
-use Rattle.spelling.proofs.Checks.{and_check, check-after, check-append, check_met, failed-before}
+use Rattle.spelling.proofs.Checks.{check_met, check_parts}
 use Rattle.spelling.proofs.Demands.{Asks, array_asked, block_asked, block_asked_if, children_asked, handlers_asked, if_asked}
 use Rattle.spelling.proofs.Demands.{members_asked, parallel_asked, step_asked, step_asked_by, steps_asked, sub_asked, transaction_asked}
 use Rattle.spelling.proofs.Demands.{transactions_asked}
@@ -69,16 +68,6 @@ MetToo c ds next = (last : Counts) × (check c ds ≡ Ok last) × Fewer last nex
 -- Where the one list is met, the other is, after whatever entries started before, and this is known.
 pub record Kept (old new : List Demand) (P : Type 0) : Type 0 where
   pub kept : (c d next : Counts) → Fewer d c → check c old ≡ Ok next → MetToo d new next × P
-
--- a list that is met is met in parts
-pub check_parts : (c next : Counts) (xs ys : List Demand) → check c (xs ++ ys) ≡ Ok next
-    → (middle : Counts) × (check c xs ≡ Ok middle) × (check middle ys ≡ Ok next)
-check_parts c next xs ys met = by (check c xs) refl (sym (check-append c xs ys) ∙ met)
-  where
-    by : (r : Result Counts Fault) → check c xs ≡ r → and_check r ys ≡ Ok next
-        → (middle : Counts) × (check c xs ≡ Ok middle) × (check middle ys ≡ Ok next)
-    by (Ok middle) here rest = (middle, here, sym (check-after middle ys) ∙ rest)
-    by (Err fault) here rest = let failed = sym (failed-before fault ys) ∙ rest in cc
 
 kept_then : (xs xs' ys ys' : List Demand) (P Q : Type 0) → Kept xs xs' P → (P → Kept ys ys' Q) → Kept (xs ++ ys) (xs' ++ ys') (P × Q)
 kept_then xs xs' ys ys' P Q first second = record {

@@ -21,7 +21,7 @@ use Rattle.carry_laws.proofs.Among.{Among, Apart, among_from_map, among_map, apa
 use Rattle.carry_laws.proofs.Carriable.{IsApart}
 use Rattle.carry_laws.proofs.CarriedFaultless.{number_back, signed_back}
 use Rattle.carry_laws.proofs.ItemsOf.{among_bound, among_contained, bound_among, contained_among, members_few}
-use Rattle.carry_laws.proofs.NumberedTexts.{Grows, grows_both, grows_none, grows_text, item_named, one_more}
+use Rattle.merging.proofs.NumberedTexts.{Grows, grows_both, grows_none, grows_text, item_named, one_more}
 use Rattle.carry_laws.proofs.PutIn.{bound_there, had_or_bound, had_or_put, put_there}
 
 -- the names of both

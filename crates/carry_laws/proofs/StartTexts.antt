@@ -11,7 +11,7 @@ use Rattle.spelling.specs.Scope.{Numbers, Table, with_item, with_text}
 use Rattle.spelling.specs.Spelled.{entries_of, pair_of, pairs_of, start_of, starts_of}
 use Rattle.spelling.proofs.Demands.{array_start_asked, elements_asked, entries_asked, object_asked, objects_asked, pairs_asked, start_asked}
 use Rattle.spelling.proofs.MetLemmas.{What, count, count-append}
-use Rattle.carry_laws.proofs.Growing.{Longer, longer_item, longer_none, longer_on}
+use Rattle.merging.proofs.Growing.{Longer, longer_item, longer_none, longer_on}
 
 -- two texts at most for each entry that is counted
 abbrev twice : ℕ → ℕ

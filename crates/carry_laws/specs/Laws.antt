@@ -4,12 +4,9 @@ use Rattle.objects.specs.Entries.{State}
 use Rattle.meaning.specs.Words.{Names}
 use Rattle.meaning.specs.Batch.{final_state}
 use Rattle.lang.specs.Reading.{Document, reading, value_of}
-use Rattle.meaning.specs.Trees.{Block}
-use Rattle.serde_json.specs.Data.{Data, Items}
+use Rattle.serde_json.specs.Data.{Data}
 use Rattle.spelling.specs.Asked as asked
 use Rattle.spelling.specs.Asked.{transactions_in}
-use Rattle.spelling.specs.Scope.{Numbers, Setting, no_numbers}
-use Rattle.spelling.specs.Spelled.{blocks_of}
 use Rattle.carry.specs.Carried.{carried_text, first_unfit}
 use Rattle.carry.specs.Joined.{StartOf, first_clash, name_of, starts_into, value_of as start_value}
 use Rattle.carry.specs.Transactions.{joined_text}
@@ -20,7 +17,7 @@ use Rattle.std.specs.Str.{bytes_eq}
 use Rattle.batch.specs.Named.{AllNamed, AllNamedValues}
 use Rattle.batch.specs.Names.{AreNames, Texts, names_of}
 use Rattle.carry_laws.specs.Carrying.{CanBeCarried, object_names}
-use Rattle.carry_laws.specs.Renumbered.{merged, number_in, renumbered}
+use Rattle.merging.specs.Renumbered.{renumbered}
 use Rattle.carry_laws.specs.Same.{AreSame, AreSameStarts}
 use Rattle.lang.specs.declared.document.TheConstants.{MAX_BYTES}
 use Rattle.meaning.specs.declared.limits.TheConstants.{MAX_OBJECTS}
@@ -68,20 +65,6 @@ JoinedStartsLaw = (first next : List ℕ) (document next_document : Document) �
     → (asked.names_of (starts_data (starts_into document next_document)) ≡ map name_of (starts_into document next_document))
     × AreSameStarts (starts_into document next_document) (names_after (spelled_starts (starts_into document next_document)).1)
     (spelled_starts (starts_into document next_document)).0
-
--- What is read after texts that are numbered before is what is read alone, where each item and each reason has the number of its
--- text. The texts come after those before.
-pub record IsReadAfter (before : Numbers) (alone after : List Block × Numbers) : Type 0 where
-  pub transactions : after.0
-      ≡ map (renumbered (number_in after.1.items alone.1.items) (number_in after.1.reasons alone.1.reasons)) alone.0
-  pub items : after.1.items ≡ merged before.items alone.1.items
-  pub reasons : after.1.reasons ≡ merged before.reasons alone.1.reasons
-
--- Transactions are read so after others, where no more texts are numbered than an item has numbers.
-abbrev pub ReadAfterLaw : Type 0
-ReadAfterLaw = (setting : Setting) (before : Numbers) (ds : Items) → length (blocks_of setting no_numbers ds).1.items ≤ 4294967295
-    → length (blocks_of setting no_numbers ds).1.reasons ≤ 4294967295
-    → IsReadAfter before (blocks_of setting no_numbers ds) (blocks_of setting before ds)
 
 -- The starts may start the next document, whose objects are these: an object of both is of one kind, and the text isn't too long.
 pub record MayBeJoined (next : List ℕ) (objects : State) (starts : List StartOf) : Type 0 where

@@ -2,5 +2,4 @@ pub mod Carrying
 pub mod CarriedData
 pub mod Joined
 pub mod Same
-pub mod Renumbered
 pub mod Laws

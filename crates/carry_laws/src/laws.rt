@@ -1,5 +1,5 @@
 //! Laws of the document of objects as they are.
-ghost use Rattle.carry_laws.specs.Laws.{CarriedEndLaw, CarriedLaw, JoinedLaw, JoinedReadLaw, JoinedStartsLaw, NamedLaw, ReadAfterLaw};
+ghost use Rattle.carry_laws.specs.Laws.{CarriedEndLaw, CarriedLaw, JoinedLaw, JoinedReadLaw, JoinedStartsLaw, NamedLaw};
 
 /// What is printed of objects that can be carried over is read as a document that starts with them.
 pub fn carried_objects_are_read()
@@ -27,12 +27,6 @@ pub fn joined_documents_are_read()
 /// What is spelled of its objects are these starts, under the same names.
 pub fn joined_starts_are_read()
     ensures { JoinedStartsLaw }
-{}
-
-/// Transactions that are read after other texts are those that are read alone, with each item and reason
-/// under the number that its text has there.
-pub fn later_transactions_are_renumbered()
-    ensures { ReadAfterLaw }
 {}
 
 /// What is printed of a next document, into which the objects at the end of a first are carried, is read

@@ -26,6 +26,7 @@ use Rattle.words.proofs.Verbs.{HasKind, amount_phrase, item_phrase, lone_phrase,
 use Rattle.spelling.specs.Asked.{object_of, call_named, verb_at, verb_in, target_asked}
 use Rattle.spelling.specs.Spelled.{call_of, or_zero, target_of}
 use Rattle.spelling.proofs.MetLemmas.{AllMet}
+use Rattle.merging.proofs.NumberedTexts.{fit_same}
 
 -- ---- places
 
@@ -136,10 +137,6 @@ of_label : (labels : List Label) (i : ℕ) (subject : Subject) → slice_get (ma
 of_label [] i subject e = cc
 of_label (label ∷ labels) zero subject e = (label, refl, cc)
 of_label (label ∷ labels) (suc i) subject e = of_label labels i subject e
-
--- a number below the greatest stands for itself
-pub fit_same : (n : ℕ) → n < 4294967295 → fit n ≡ n
-fit_same n h = ap (λ b. cond b n 4294967295) (lt-ltb n 4294967295 h)
 
 -- a label that is seen is bound, where few are
 pub bound : (name : List ℕ) (scope : Scope) (labels : List Label) (test : Test) (subject : Subject) → AreSeen scope labels

@@ -43,7 +43,8 @@ use Rattle.spelling.specs.Spelled.{members_of, operation_of, or_no_step, or_zero
 use Rattle.spelling.specs.Spelled.{step_of_by, steps_spelled}
 use Rattle.spelling.specs.Spelled.{sub_of, test_of}
 use Rattle.lang.proofs.Later.{block_later, handlers_later, step_later, test_later}
-use Rattle.lang.proofs.Tables.{Grows, Numbered, grows_before, grows_behind, grows_item, grows_none, grows_on, grows_reason, number_below}
+use Rattle.merging.proofs.NumberedTexts.{number_below}
+use Rattle.lang.proofs.Tables.{Grows, Numbered, grows_before, grows_behind, grows_item, grows_none, grows_on, grows_reason}
 use Rattle.lang.proofs.Tables.{texts_in}
 use Rattle.spelling.proofs.Demands.{array_asked, block_asked, block_asked_if, children_asked, handlers_asked, if_asked, member_asked}
 use Rattle.spelling.proofs.Demands.{members_asked, parallel_asked, step_asked, step_asked_by, steps_asked, sub_asked, transaction_asked}

@@ -21,7 +21,8 @@ use Rattle.spelling.specs.Asked.{part, text_of, value_of}
 use Rattle.spelling.specs.Spelled.{bind_all, entries_of, item_of, pairs_of, put_all, start_of, starts_of}
 use Rattle.lang.proofs.Later.{value_later}
 use Rattle.spelling.proofs.MetLemmas.{AllMet, first_met, rest_met}
-use Rattle.lang.proofs.Tables.{Numbered, grows_behind, grows_both, grows_item, grows_none, grows_on, number_below, texts_in}
+use Rattle.merging.proofs.NumberedTexts.{number_below}
+use Rattle.lang.proofs.Tables.{Numbered, grows_behind, grows_both, grows_item, grows_none, grows_on, texts_in}
 use Rattle.spelling.proofs.Demands.{array_start_asked, elements_asked, entries_asked, object_asked, objects_asked, pairs_asked}
 use Rattle.spelling.proofs.Demands.{start_asked}
 

@@ -11,45 +11,6 @@ use Rattle.spelling.specs.Demand.{Demand}
 use Rattle.spelling.specs.Scope.{Numbers, Table, fit, is_listed, number_of, with_item, with_reason, with_text}
 use Rattle.spelling.proofs.MetLemmas.{AllMet, first_met, rest_met}
 
-first_below : (text : List ℕ) (table : Table) → is_listed text table ≡ true → position_or_len (bytes_eq text) table < length table
-first_below text [] h = cc
-first_below text (t ∷ table) h = by (bytes_eq text t) (first_below text table) h
-  where
-    by : (b : Bool) → (is_listed text table ≡ true → position_or_len (bytes_eq text) table < length table)
-        → (b || is_listed text table) ≡ true → cond (not b) (1 + position_or_len (bytes_eq text) table) 0 < length (t ∷ table)
-    by true later h = omega arith
-    by false later h = omega (arith, later h)
-
-first_at_most : (text : List ℕ) (table : Table) → position_or_len (bytes_eq text) table ≤ length table
-first_at_most text [] = omega arith
-first_at_most text (t ∷ table) = by (bytes_eq text t) (first_at_most text table)
-  where
-    by : (b : Bool) → position_or_len (bytes_eq text) table ≤ length table
-        → cond (not b) (1 + position_or_len (bytes_eq text) table) 0 ≤ length (t ∷ table)
-    by true later = omega arith
-    by false later = omega (arith, later)
-
-fit_at_most : (n : ℕ) → fit n ≤ n
-fit_at_most n = by (nat_lt n 4294967295) refl
-  where
-    by : (b : Bool) → nat_lt n 4294967295 ≡ b → cond b n 4294967295 ≤ n
-    by true e = omega arith
-    by false e = ltb-false n 4294967295 e
-
--- the number of a text is below how many there are, once it is in
-pub number_below : (text : List ℕ) (table : Table) → number_of text table < length (with_text text table)
-number_below text table = by (is_listed text table) refl
-  where
-    by : (b : Bool) → is_listed text table ≡ b → number_of text table < length (cond b table (table ++ text ∷ []))
-    by true e = omega (arith, fit_at_most (position_or_len (bytes_eq text) table), first_below text table e)
-    by false e = omega (
-      arith,
-      fit_at_most (position_or_len (bytes_eq text) table),
-      first_at_most text table,
-      length-append table
-          (text ∷ []),
-    )
-
 with_more : (text : List ℕ) (table : Table) → length table ≤ length (with_text text table)
 with_more text table = by (is_listed text table)
   where

@@ -28,7 +28,7 @@ use spelling::state::State;
 use std::alloc::Global;
 
 /// Where a range ends that begins here: at the first cut after so many bytes, or with the text.
-fn range_end(text: &[u8], begin: usize, least: usize) -> usize
+pub(crate) fn range_end(text: &[u8], begin: usize, least: usize) -> usize
     requires { begin ≤ length text.now }
     ensures within { (begin ≤ result) × (result ≤ length text.now) }
     ensures comma { result < length text.now → slice_index text.now result ≡ 44 }
@@ -43,7 +43,7 @@ fn range_end(text: &[u8], begin: usize, least: usize) -> usize
 }
 
 /// The first range of a document.
-fn first_range(
+pub(crate) fn first_range(
     alloc: Global,
     range: &str,
     scratch: &mut Scratch,

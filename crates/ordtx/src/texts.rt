@@ -7,7 +7,7 @@ ghost use Rattle.ordtx.specs.Texts.{GivesParts, GivesText};
 ghost use Rattle.ordtx.specs.Answers.{IsAuditOf, IsCheckOf, IsExplainedOf, IsFaultOf, IsPlainReportOf, IsReportOf, IsShownOf};
 
 use batch::Batch;
-use lang::{Fault, read};
+use lang::{Fault, read, read_at_once};
 use report::{render_audit_parts, render_check, render_parts, render_plain};
 use rounds::{Plan, execute, execute_ahead};
 use speculate::{Gate, NoMemory, plain};
@@ -22,6 +22,20 @@ pub(crate) fn batch_of(alloc: Global, document: Vec<u8>) -> Result<Batch, Fault>
     ensures code { IfErr result (λ fault. is_of_reading fault.code ≡ true) }
 {
     read(alloc, document.as_slice())
+}
+
+// The same, where threads read the ranges of a long document.
+fn batch_at_once<T: Threads + Sync>(
+    threads: &T,
+    alloc: Global,
+    workers: u32,
+    document: Vec<u8>,
+) -> Result<Batch, Fault>
+    ensures batch { IfOk result (λ batch. reading document.items ≡ Ok (document_of batch)) }
+    ensures fault { IfErr result (λ fault. fault ≢ memory_fault → IsFaultOf document.items fault) }
+    ensures code { IfErr result (λ fault. is_of_reading fault.code ≡ true) }
+{
+    read_at_once(threads, alloc, workers, document.as_slice())
 }
 
 // The report, or the report with the run counts, of a batch that was read. It is in parts, which follow
@@ -55,7 +69,7 @@ pub(crate) fn report_of<T: Threads + Sync, G: Gate>(
 ) -> Result<Vec<String>, Fault>
     ensures { GivesParts IsReportOf document.items result }
 {
-    let batch = batch_of(alloc, document)?;
+    let batch = batch_at_once(threads, alloc, plan.workers, document)?;
     let parts = report_of_batch(threads, alloc, &batch, plan, false, gate)?;
     Ok(parts)
 }
@@ -70,7 +84,7 @@ pub(crate) fn audit_of<T: Threads + Sync, G: Gate>(
 ) -> Result<Vec<String>, Fault>
     ensures { GivesParts IsAuditOf document.items result }
 {
-    let batch = batch_of(alloc, document)?;
+    let batch = batch_at_once(threads, alloc, plan.workers, document)?;
     let parts = report_of_batch(threads, alloc, &batch, plan, true, gate)?;
     Ok(parts)
 }
@@ -87,7 +101,7 @@ pub(crate) fn explanation_of<T: Threads + Sync, G: Gate>(
 ) -> Result<Vec<String>, Fault>
     ensures { GivesParts (IsExplainedOf audit) document.items result }
 {
-    let batch = batch_of(alloc, document)?;
+    let batch = batch_at_once(threads, alloc, plan.workers, document)?;
     let parts = explanation_of_batch(threads, alloc, &batch, plan, audit, gate)?;
     Ok(parts)
 }

@@ -21,16 +21,23 @@ use Rattle.cuts.specs.Whole.{is_whole}
 use Rattle.cuts.proofs.Wholes.{whole_append}
 use Rattle.pull.specs.Pulled.{ReadsItems, ReadsValue, in_order}
 use Rattle.pull.specs.Ranges.{AreRead, IsBegun, Reached}
+use Rattle.pull.specs.Ranges as ranges
 use Rattle.pull.proofs.DocumentLemmas.{same_parts}
 use Rattle.pull.proofs.LongerLemmas.{value_longer, value_whole}
 use Rattle.pull.proofs.PulledDocument.{in_order_met, version_is}
 use Rattle.pull.proofs.PulledLemmas.{items_deeper, reads_item, reads_no_items}
+
+-- items in front of others, one after the other
+front_both : (cs ds es : Items) → ranges.in_front cs (ranges.in_front ds es) ≡ ranges.in_front (ranges.in_front cs ds) es
+front_both no_items ds es = refl
+front_both (item c cs) ds es = ap (item c) (front_both cs ds es)
 
 module _ (setting : Setting) where
   -- no transaction was read
   pub none_read : (ts : List Token) (p : Reached) → AreRead setting ts ts p p
   none_read ts p = record {
     before = λ ds. ds;
+    front = λ ds. refl;
     reads = λ later ds rest reads. reads;
     met = λ ds. refl;
     spelled = λ ds. refl;
@@ -43,6 +50,10 @@ module _ (setting : Setting) where
       → AreRead setting old new p r
   both_read old mid new p q r first second = record {
     before = λ ds. first.before (second.before ds);
+    front = λ ds.
+        (let later = second.before no_items in
+        first.front (second.before ds) ∙ ap (ranges.in_front (first.before no_items)) (second.front ds)
+        ∙ front_both (first.before no_items) later ds ∙ ap (λ cs. ranges.in_front cs ds) (sym (first.front later)));
     reads = λ later ds rest reads. first.reads later (second.before ds) rest (second.reads later ds rest reads);
     met = λ ds. first.met (second.before ds) ∙ second.met ds;
     spelled = λ ds. first.spelled (second.before ds) ∙ second.spelled ds;
@@ -55,6 +66,7 @@ module _ (setting : Setting) where
   unfolding is_whole
   widened old more p q first = record {
     before = first.before;
+    front = first.front;
     reads = λ later ds rest reads. subst (λ ts. ReadsItems 120 ts (first.before ds) rest) (sym (append_assoc old more later))
         (first.reads (more ++ later) ds rest reads);
     met = first.met;
@@ -77,6 +89,7 @@ module _ (setting : Setting) where
       let i = length p.blocks in
       let next : length (p.blocks ++ b ∷ []) ≡ i + 1 = length-append p.blocks (b ∷ []) in record {
         before = λ ds. item d ds;
+        front = λ ds. refl;
         reads = λ later ds rest tail. reads_item 120 (begin_array ∷ (old ++ later)) (new ++ later) rest d ds refl
             (value_longer 120 (begin_array ∷ old) new later d reads) tail;
         met = λ ds. part_met p.counts counts (item_at i) (transaction_placed (i + 1) setting d) (transactions_placed setting (i + 1) ds) met

@@ -1,7 +1,7 @@
 -- A document that is read in ranges of its text, one after the other.
 use Rattle.std.specs.Prelude.{◌≡◌, ◌≤◌, ◌+◌, ℕ, List, [], ◌∷◌, ◌++◌, length, false, true}
 use Rattle.json.specs.Token.{Token, end_array, end_object}
-use Rattle.serde_json.specs.Data.{Items}
+use Rattle.serde_json.specs.Data.{Items, no_items, item}
 use Rattle.serde_json.specs.Events.{items_len}
 use Rattle.batch.specs.Names.{texts_of}
 use Rattle.meaning.specs.Trees.{Block}
@@ -37,10 +37,16 @@ reached state blocks = record { counts = state.counts; numbers = numbers_of stat
 abbrev pub behind : List Block → List Block × Numbers → List Block × Numbers
 behind blocks rest = (blocks ++ rest.0, rest.1)
 
+-- the items of the first before those of the second
+abbrev pub in_front : Items → Items → Items
+in_front no_items ds = ds
+in_front (item d es) ds = item d (in_front es ds)
+
 -- Of the tokens `old` the first make whole transactions, which lead from p to q, and `new` are left. What they are is said by what
 -- they do in front of any that follow, whatever tokens come after `new`.
 pub record AreRead (setting : Setting) (old new : List Token) (p q : Reached) : Type 0 where
   pub before : Items → Items
+  pub front : (ds : Items) → before ds ≡ in_front (before no_items) ds
   pub reads : (later : List Token) (ds : Items) (rest : List Token) → ReadsItems 120 (new ++ later) ds rest
       → ReadsItems 120 (old ++ later) (before ds) rest
   pub met : (ds : Items) → seek p.counts (transactions_placed setting (length p.blocks) (before ds))

@@ -74,3 +74,13 @@ module _ {T : Type 0} (r : Result T Fault) (c next : Counts) (xs ys : List Deman
 pub check_failed : (c : Counts) (e : Fault) (xs ys : List Demand) → check c xs ≡ Err e → check c (xs ++ ys) ≡ Err e
 unfolding and_check
 check_failed c e xs ys failed = check-append c xs ys ∙ ap (λ r. and_check r ys) failed
+
+-- a list that is met is met in parts
+pub check_parts : (c next : Counts) (xs ys : List Demand) → check c (xs ++ ys) ≡ Ok next
+    → (middle : Counts) × (check c xs ≡ Ok middle) × (check middle ys ≡ Ok next)
+check_parts c next xs ys met = by (check c xs) refl (sym (check-append c xs ys) ∙ met)
+  where
+    by : (r : Result Counts Fault) → check c xs ≡ r → and_check r ys ≡ Ok next
+        → (middle : Counts) × (check c xs ≡ Ok middle) × (check middle ys ≡ Ok next)
+    by (Ok middle) here rest = (middle, here, sym (check-after middle ys) ∙ rest)
+    by (Err fault) here rest = let failed = sym (failed-before fault ys) ∙ rest in cc

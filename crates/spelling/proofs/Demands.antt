@@ -328,7 +328,7 @@ pub objects_same : (version : ℕ) (names : Table) (i : ℕ) (ds : Items) → de
 objects_same version names i no_items = refl
 objects_same version names i (item d ds) = rw (object_same, objects_same version (names ++ object_name d ∷ []) (i + 1) ds) refl
 
-transactions_same : (setting : Setting) (i : ℕ) (ds : Items) → demands_of (transactions_placed setting i ds) ≡ transactions_asked
+pub transactions_same : (setting : Setting) (i : ℕ) (ds : Items) → demands_of (transactions_placed setting i ds) ≡ transactions_asked
     (i + 1) setting ds
 transactions_same setting i no_items = refl
 transactions_same setting i (item d ds) = rw (block_same, transactions_same setting (i + 1) ds) refl

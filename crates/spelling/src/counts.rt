@@ -20,7 +20,7 @@ pub struct Counts {
 }
 
 /// How many operations a document of a version may have.
-fn most_operations(version: u8) -> usize
+pub fn most_operations(version: u8) -> usize
     ensures { result ≡ most_operations version }
 {
     if version >= 4 {

@@ -1,14 +1,15 @@
 -- Transactions that are read after other texts are renumbered.
 use Rattle.std.proofs.Common.{◌≡◌, ◌≤◌, ◌||◌, ℕ, Bool, true, false, cond, List, [], ◌∷◌, ◌++◌, length, refl, sym, ap, subst, ◌∙◌}
 use Rattle.std.specs.Str.{bytes_eq}
+use Rattle.std.proofs.lemmas.List.{get_or-map}
 use Rattle.std.proofs.lemmas.Slice.Eq.{bytes_eq-Decides}
-use Rattle.spelling.specs.Scope.{Table, is_listed, no_numbers, with_text}
+use Rattle.spelling.specs.Scope.{Table, is_listed, no_numbers, number_of, with_text}
 use Rattle.spelling.specs.Spelled.{blocks_of}
-use Rattle.carry_laws.specs.Laws.{ReadAfterLaw}
-use Rattle.carry_laws.specs.Renumbered.{merged, number_in}
-use Rattle.carry_laws.proofs.Growing.{begins_none}
-use Rattle.carry_laws.proofs.NumberedTexts.{listed_kept}
-use Rattle.carry_laws.proofs.Renumbering.{Sends, blocks_again, number_sent}
+use Rattle.merging.specs.ReadAfter.{ReadAfterLaw}
+use Rattle.merging.specs.Renumbered.{merged, new_number, numbers_in}
+use Rattle.merging.proofs.Growing.{begins_none}
+use Rattle.merging.proofs.NumberedTexts.{listed_kept, number_within}
+use Rattle.merging.proofs.Renumbering.{Sends, blocks_again, number_sent}
 
 -- ---- what is listed
 
@@ -57,7 +58,7 @@ other_merged text table (t ∷ texts) e = by (bytes_eq text t) refl (other_merge
 -- ---- one more text
 
 -- the last text is put into both together
-merged_last : (text : List ℕ) (table texts : Table) → merged table (texts ++ text ∷ []) ≡ with_text text (merged table texts)
+pub merged_last : (text : List ℕ) (table texts : Table) → merged table (texts ++ text ∷ []) ≡ with_text text (merged table texts)
 merged_last text table [] = refl
 merged_last text table (t ∷ texts) = merged_last text (with_text t table) texts
 
@@ -76,17 +77,18 @@ abbrev After : Table → Table → Table → Type 0
 After before alone after = after ≡ merged before alone
 
 -- so are numbers sent
-after_sends : (before old new : Table) → length old ≤ 4294967295 → Sends (After before) old new (number_in new old)
+after_sends : (before old new : Table) → length old ≤ 4294967295 → Sends (After before) old new (new_number (numbers_in new old))
 after_sends before old new few = record {
   one_more = λ text a b same. ap (with_text text) same ∙ merged_more text before a;
-  sent = λ text a b same here there. number_sent text a b old new few here there;
+  sent = λ text a b same here there. number_sent text a b old new few here there
+      ∙ sym (get_or-map (λ t. number_of t new) old (number_of text a) [] (number_of text a) (number_within text a old here));
 }
 
 pub read_after : ReadAfterLaw
 read_after setting before ds few_items few_reasons =
     let alone = blocks_of setting no_numbers ds in
     let after = blocks_of setting before ds in
-    let again = blocks_again (number_in after.1.items alone.1.items) (number_in after.1.reasons alone.1.reasons) (After before.items)
+    let again = blocks_again (new_number (numbers_in after.1.items alone.1.items)) (new_number (numbers_in after.1.reasons alone.1.reasons)) (After before.items)
     (After before.reasons) alone.1 after.1 (after_sends before.items alone.1.items after.1.items few_items)
     (after_sends before.reasons alone.1.reasons after.1.reasons few_reasons) setting no_numbers before ds (refl, refl)
     (begins_none alone.1) (begins_none after.1) in

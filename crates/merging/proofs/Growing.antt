@@ -23,7 +23,7 @@ use Rattle.spelling.specs.Spelled.{abort_of, block_of, block_of_if, blocks_of, c
 use Rattle.spelling.specs.Spelled.{members_of}
 use Rattle.spelling.specs.Spelled.{Spelling, operation_of, or_no_step, parallel_of, reason_of, step_of, step_of_by, steps_spelled, sub_of}
 use Rattle.spelling.specs.Spelled.{test_of}
-use Rattle.carry_laws.proofs.NumberedTexts.{Grows, grows_both, grows_none, grows_text, one_more}
+use Rattle.merging.proofs.NumberedTexts.{Grows, grows_both, grows_none, grows_text, one_more}
 
 -- both tables with more texts after them
 pub record Begins (before after : Numbers) : Type 0 where

@@ -3,14 +3,57 @@ use Rattle.std.proofs.Common.{◌≡◌, ℕ, suc, ◌+◌, ◌<◌, ◌≤◌, 
 use Rattle.std.proofs.Common.{sym, ap, subst, ◌∙◌, arith, append-nil, append_assoc, length-append}
 use Rattle.std.specs.List.{position_or_len}
 use Rattle.std.specs.Str.{bytes_eq}
+use Rattle.std.specs.Prelude.{nat_lt}
+use Rattle.std.proofs.lemmas.Bool.{lt-ltb, ltb-false}
 use Rattle.std.proofs.lemmas.List.{get_or_append_left, get_or_push}
 use Rattle.std.proofs.lemmas.Slice.Eq.{bytes_eq-Decides}
 use Rattle.batch.specs.Names.{Texts, names_of}
 use Rattle.spelling.specs.Scope.{Numbers, Table, fit, is_listed, number_of, with_text}
 use Rattle.spelling.specs.Spelled.{item_of}
 use Rattle.spelling.proofs.TableLemmas.{unlisted_text}
-use Rattle.lang.proofs.Bound.{fit_same}
-use Rattle.lang.proofs.Tables.{number_below}
+
+-- a number below the greatest stands for itself
+pub fit_same : (n : ℕ) → n < 4294967295 → fit n ≡ n
+fit_same n h = ap (λ b. cond b n 4294967295) (lt-ltb n 4294967295 h)
+
+first_below : (text : List ℕ) (table : Table) → is_listed text table ≡ true → position_or_len (bytes_eq text) table < length table
+first_below text [] h = cc
+first_below text (t ∷ table) h = by (bytes_eq text t) (first_below text table) h
+  where
+    by : (b : Bool) → (is_listed text table ≡ true → position_or_len (bytes_eq text) table < length table)
+        → (b || is_listed text table) ≡ true → cond (not b) (1 + position_or_len (bytes_eq text) table) 0 < length (t ∷ table)
+    by true later h = omega arith
+    by false later h = omega (arith, later h)
+
+first_at_most : (text : List ℕ) (table : Table) → position_or_len (bytes_eq text) table ≤ length table
+first_at_most text [] = omega arith
+first_at_most text (t ∷ table) = by (bytes_eq text t) (first_at_most text table)
+  where
+    by : (b : Bool) → position_or_len (bytes_eq text) table ≤ length table
+        → cond (not b) (1 + position_or_len (bytes_eq text) table) 0 ≤ length (t ∷ table)
+    by true later = omega arith
+    by false later = omega (arith, later)
+
+fit_at_most : (n : ℕ) → fit n ≤ n
+fit_at_most n = by (nat_lt n 4294967295) refl
+  where
+    by : (b : Bool) → nat_lt n 4294967295 ≡ b → cond b n 4294967295 ≤ n
+    by true e = omega arith
+    by false e = ltb-false n 4294967295 e
+
+-- the number of a text is below how many there are, once it is in
+pub number_below : (text : List ℕ) (table : Table) → number_of text table < length (with_text text table)
+number_below text table = by (is_listed text table) refl
+  where
+    by : (b : Bool) → is_listed text table ≡ b → number_of text table < length (cond b table (table ++ text ∷ []))
+    by true e = omega (arith, fit_at_most (position_or_len (bytes_eq text) table), first_below text table e)
+    by false e = omega (
+      arith,
+      fit_at_most (position_or_len (bytes_eq text) table),
+      first_at_most text table,
+      length-append table
+          (text ∷ []),
+    )
 
 -- the table with more texts after it
 abbrev pub Grows : Table → Table → Type 0
@@ -146,3 +189,9 @@ number_back text table few there = by (is_listed text table) refl
         let last = unlisted_text text table e in
         let same = fit_same (position_or_len (bytes_eq text) table) (omega (arith, last, few)) in
         absurd (omega (arith, same, last, there))
+
+-- the number of a text is below how many there are in any later table
+pub number_within : (text : List ℕ) (table later : Table) → Grows (with_text text table) later → number_of text table < length later
+number_within text table later grows =
+    let size = ap (λ t. length t) grows.1 ∙ length-append (with_text text table) grows.0 in
+    omega (arith, size, number_below text table)

@@ -26,12 +26,14 @@ use Rattle.spelling.specs.Scope.{Numbers, Scope, Setting, Table, label_number, n
 use Rattle.spelling.specs.Spelled.{Spelling, abort_of, block_of, block_of_if, blocks_of, call_of, children_spelled, handlers_spelled, if_of}
 use Rattle.spelling.specs.Spelled.{item_of, members_of, operation_of, or_no_step, parallel_of, reason_of, step_of, step_of_by}
 use Rattle.spelling.specs.Spelled.{steps_spelled, sub_of, sub_step, target_of, test_of}
-use Rattle.carry_laws.specs.Renumbered.{number_in, numbered_item, renumbered, renumbered_call, renumbered_children, renumbered_handlers}
-use Rattle.carry_laws.specs.Renumbered.{renumbered_step}
-use Rattle.carry_laws.specs.Renumbered.{renumbered_test, said_with}
-use Rattle.carry_laws.proofs.Growing.{Begins, begins_both, block_if_longer, block_longer, blocks_longer, children_longer}
-use Rattle.carry_laws.proofs.Growing.{Longer, handlers_longer, longer_item, members_longer, steps_longer, weight}
-use Rattle.carry_laws.proofs.NumberedTexts.{Grows, number_later, text_later}
+use Rattle.merging.specs.Renumbered.{renumbered_member, renumbered_tried}
+use Rattle.merging.specs.Renumbered.{number_in, numbered_item, renumbered, renumbered_call, renumbered_children, renumbered_handlers}
+use Rattle.merging.specs.Renumbered.{renumbered_step}
+use Rattle.merging.specs.Renumbered.{renumbered_test, said_with}
+use Rattle.merging.proofs.RenumberedBlocks.{children_again, members_again, steps_again}
+use Rattle.merging.proofs.Growing.{Begins, begins_both, block_if_longer, block_longer, blocks_longer, children_longer}
+use Rattle.merging.proofs.Growing.{Longer, handlers_longer, longer_item, members_longer, steps_longer, weight}
+use Rattle.merging.proofs.NumberedTexts.{Grows, number_later, text_later}
 
 -- a text's number is sent to its number
 pub number_sent : (text : List ℕ) (a b old new : Table) → length old ≤ 4294967295 → Grows (with_text text a) old
@@ -138,44 +140,22 @@ module _ (items reasons : ℕ → ℕ) (BesideItems BesideReasons : Table → Ta
   block_renumbered block = renumbered items reasons block
 
   abbrev member_renumbered : ℕ × Block → ℕ × Block
-  member_renumbered pair = (reasons pair.0, renumbered items reasons pair.1)
+  member_renumbered = renumbered_member items reasons
 
   abbrev tried_renumbered : Tried → Tried
-  tried_renumbered child = record {
-    body = renumbered items reasons child.body;
-    handlers = renumbered_handlers items reasons child.handlers;
-    labelled = child.labelled;
-  }
+  tried_renumbered = renumbered_tried items reasons
 
-  -- what is put together of renumbered parts is renumbered
   else_again : (o : Option Block) → or_no_step (option_map block_renumbered o) ≡ renumbered items reasons (or_no_step o)
   else_again None = refl
   else_again (Some block) = refl
-
-  members_again : (members : List (ℕ × Block)) (others : Handlers)
-      → for_reasons (map member_renumbered members) (renumbered_handlers items reasons others)
-      ≡ renumbered_handlers items reasons (for_reasons members others)
-  members_again [] others = refl
-  members_again (first ∷ rest) others = ap (ForReason (reasons first.0) (renumbered items reasons first.1)) (members_again rest others)
 
   handlers_again : (members : Option (List (ℕ × Block))) (o : Option Block)
       → handlers_of (option_map (map member_renumbered) members) (option_map block_renumbered o)
       ≡ renumbered_handlers items reasons (handlers_of members o)
   handlers_again None None = refl
   handlers_again None (Some handler) = refl
-  handlers_again (Some members) None = members_again members Handlers.Pass
-  handlers_again (Some members) (Some handler) = members_again members (Otherwise handler)
-
-  children_again : (children : List Tried) → children_of (map tried_renumbered children)
-      ≡ renumbered_children items reasons (children_of children)
-  children_again [] = refl
-  children_again (child ∷ younger) =
-      ap (Child (renumbered items reasons child.body) (renumbered_handlers items reasons child.handlers) child.labelled)
-      (children_again younger)
-
-  steps_again : (steps : List Step) → steps_of (map (renumbered_step items reasons) steps) ≡ renumbered items reasons (steps_of steps)
-  steps_again [] = refl
-  steps_again (step ∷ rest) = ap (Steps (renumbered_step items reasons step)) (steps_again rest)
+  handlers_again (Some members) None = members_again items reasons members Handlers.Pass
+  handlers_again (Some members) (Some handler) = members_again items reasons members (Otherwise handler)
 
   module _ (block : Spelling)
       (longer : (scope : Scope) (numbers : Numbers) (d : Data)
@@ -277,7 +257,7 @@ module _ (items reasons : ℕ → ℕ) (BesideItems BesideReasons : Table → Ta
     unfolding parallel_of
     parallel_spelled scope a b d beside here there =
         let it = children_are scope a b (children_in d) beside here there in
-        (ap (λ children. Parallel (children_of children)) it.0 ∙ ap Parallel (children_again _), it.1)
+        (ap (λ children. Parallel (children_of children)) it.0 ∙ ap Parallel (children_again items reasons _), it.1)
 
     -- ---- any step
 
@@ -316,7 +296,7 @@ module _ (items reasons : ℕ → ℕ) (BesideItems BesideReasons : Table → Ta
   block_again setting (suc n) scope a b d beside here there =
       let it = steps_are (block_of setting n) (block_longer setting n) (block_again setting n) setting scope a b (or_no_items (as_array d))
       beside here there in
-      (ap steps_of it.0 ∙ steps_again _, it.1)
+      (ap steps_of it.0 ∙ steps_again items reasons _, it.1)
 
   pub blocks_again : (setting : Setting) (a b : Numbers) (ds : Items)
       → Again (map block_renumbered) a b (blocks_of setting a ds) (blocks_of setting b ds)

@@ -1,5 +1,5 @@
 -- Transactions whose items and reasons have other numbers.
-use Rattle.std.specs.Prelude.{ℕ, [], ◌∷◌, get_or, option_map}
+use Rattle.std.specs.Prelude.{ℕ, List, [], ◌∷◌, get_or, map, option_map}
 use Rattle.atoms.specs.declared.item.Item.{Item}
 use Rattle.objects.specs.declared.call.Call.{Call}
 use Rattle.spelling.specs.Scope.{Table, number_of, with_text}
@@ -10,6 +10,7 @@ use Rattle.meaning.specs.declared.test.Test.{Test}
 use Rattle.meaning.specs.declared.test.Test.TheVariants.{IsItem}
 use Rattle.meaning.specs.Trees.{Block, NoStep, Steps, Step, Operation, If, Subaction, Abort, Parallel, Handlers, ForReason, Otherwise}
 use Rattle.meaning.specs.Trees.{GoOn, Pass, Children, NoChild, Child}
+use Rattle.batch.specs.Views.{Tried}
 
 -- the table with these texts after its own, each once
 abbrev pub merged : Table → Table → Table
@@ -64,3 +65,22 @@ abbrev mutual
   renumbered_children items reasons (Child body handlers labelled younger) =
       Child (renumbered items reasons body) (renumbered_handlers items reasons handlers) labelled
       (renumbered_children items reasons younger)
+
+-- the handler of a reason, and a subaction
+abbrev pub renumbered_member : (ℕ → ℕ) → (ℕ → ℕ) → ℕ × Block → ℕ × Block
+renumbered_member items reasons member = (reasons member.0, renumbered items reasons member.1)
+
+abbrev pub renumbered_tried : (ℕ → ℕ) → (ℕ → ℕ) → Tried → Tried
+renumbered_tried items reasons child = record {
+  body = renumbered items reasons child.body;
+  handlers = renumbered_handlers items reasons child.handlers;
+  labelled = child.labelled;
+}
+
+-- the numbers of these texts in a table
+abbrev pub numbers_in : Table → Table → List ℕ
+numbers_in table texts = map (λ text. number_of text table) texts
+
+-- the new number of a number, by place; one that isn't listed stays
+abbrev pub new_number : List ℕ → ℕ → ℕ
+new_number numbers n = get_or numbers n n

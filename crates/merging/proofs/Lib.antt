@@ -1,0 +1,11 @@
+pub mod Mapped
+pub mod RenumberedBlocks
+pub mod NumberedTexts
+pub mod Growing
+pub mod Renumbering
+pub mod ReadAfter
+pub mod Merging
+pub mod InBlock
+pub mod Counting
+pub mod InFront
+pub mod AfterRange

@@ -1,0 +1,4 @@
+pub mod Renumbered
+pub mod ReadAfter
+pub mod RangeReads
+pub mod AfterRange

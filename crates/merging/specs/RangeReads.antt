@@ -1,0 +1,29 @@
+-- What was read of a range of a document alone: its transactions are numbered from 1, and nothing was counted or numbered before.
+use Rattle.std.specs.Prelude.{◌≡◌, ◌≤◌, ℕ, List, ◌∷◌, length, map, slice_range}
+use Rattle.json.specs.Lex.{tokens}
+use Rattle.json.specs.Token.{Token, begin_array}
+use Rattle.batch.specs.Views.{block_view}
+use Rattle.spelling.specs.Scope.{Setting, numbers_of}
+use Rattle.pull.specs.Ranges.{AreRead, Reached, left_by}
+use Rattle.merging.specs.AfterRange.{nothing_read}
+use Rattle.merging.specs.declared.ranges.RangeRead.{RangeRead}
+
+-- how far a range was read alone
+abbrev pub reached_alone : RangeRead → Reached
+reached_alone read = record {
+  counts = read.counts;
+  numbers = numbers_of read.numbering;
+  blocks = map block_view read.transactions.items;
+}
+
+-- the range of the text
+abbrev pub text_of : List ℕ → RangeRead → List ℕ
+text_of text read = slice_range text read.begin read.end
+
+-- It is a range of the text that begins with a transaction, and this was read of it.
+pub record IsReadAlone (setting : Setting) (text : List ℕ) (read : RangeRead) : Type 0 where
+  pub ordered : read.begin ≤ read.end
+  pub within : read.end ≤ length text
+  pub rest : List Token
+  pub begins : tokens (text_of text read) ≡ begin_array ∷ rest
+  pub read_so : AreRead setting (tokens (text_of text read)) (left_by read.last) nothing_read (reached_alone read)
