@@ -130,6 +130,17 @@ def try_rendering(program, library):
                             (got[1], started, None), (0, expected, None))
 
 
+def try_reading_at_once(program, library):
+    """Each worker reads a part of a long document. With a fault at its end nothing is run, and no report is written."""
+    deposits = block(*[op("a", "deposit", 1)] * 5)
+    for size, workers, expected in ((9_900, "1", 0), (9_900, "2", 1), (9_900, "4", 3), (3_000, "4", 0)):
+        words = ["run", "--workers", workers]
+        faulty = document([ACCOUNT], [deposits] * size + [block(op("a", "other"))])
+        got, _, started = preloaded.run(library, 0, words, program.path, faulty, together=True)
+        program.compare("threads that read %d transactions: %d" % (size, started), words,
+                        (got[1], started, None), (1, expected, None))
+
+
 # A step, and how many requests for memory its reading may take. By a tree it takes three times as many.
 STEPS = (
     ("operations", op("a", "deposit", 1), 0),
@@ -182,6 +193,7 @@ def try_all(program, library):
     """All but the shapes, whose plans `try_plan` tries one by one, since they take long."""
     try_refusing(program, library)
     try_reading(program, library)
+    try_reading_at_once(program, library)
     try_threads_of_nested(program, library)
     try_workers(program, library)
     try_rendering(program, library)
