@@ -1,5 +1,5 @@
 //! A plan, and what follows from it for a pass and for a run.
-ghost use Rattle.std.specs.Prelude.{◌≡◌, ◌≤◌, ◌<◌, ◌-◌, ◌*◌, ◌/◌, ◌↔◌, min, max, IsSome, IfSome};
+ghost use Rattle.std.specs.Prelude.{◌≡◌, ◌≤◌, ◌<◌, ◌-◌, ◌*◌, ◌/◌, ◌↔◌, min, max, IsSome, IfSome, false, true};
 ghost use Rattle.plan.specs.Plans.{IsPlan, width_of};
 
 /// How many workers there are at most.
@@ -19,19 +19,40 @@ pub struct Plan {
     pub workers: u32,
     /// How many transactions a piece of work has at most, 1 to 1,000.
     pub cut: u32,
+    /// Whether the program ends after the call with this plan.
+    pub last: bool,
     pub ghost is_plan: { IsPlan workers cut },
 }
 
 impl Plan {
-    /// The plan of these numbers, or none outside the limits.
+    /// The plan of these numbers for a call after which the program goes on, or none outside the
+    /// limits.
     pub fn new(workers: u32, cut: u32) -> Option<Plan>
         ensures some { IsSome result ↔ IsPlan workers cut }
         ensures is { IfSome result (λ plan. (plan.workers ≡ workers) × (plan.cut ≡ cut)) }
+        ensures not_last { IfSome result (λ plan. plan.last ≡ false) }
     {
         if workers < 1 || workers > MAX_WORKERS || cut < 1 || cut > MAX_CUT {
             return None;
         }
-        Some(Plan { workers, cut })
+        Some(Plan {
+            workers,
+            cut,
+            last: false,
+        })
+    }
+
+    /// The same plan for a call after which the program ends. What the call read and recorded isn't
+    /// freed then, piece by piece: all memory is freed at once as the program ends.
+    pub fn of_last_call(self) -> Plan
+        ensures same { (result.workers ≡ self.workers) × (result.cut ≡ self.cut) }
+        ensures last { result.last ≡ true }
+    {
+        Plan {
+            workers: self.workers,
+            cut: self.cut,
+            last: true,
+        }
     }
 
     /// How many workers each run gets, where so many transactions need a run. So many children of a

@@ -148,7 +148,11 @@ pub fn first_conflict<R: Threads + Sync, G: Gate>(
     let crew = Crew {
         threads,
         alloc,
-        plan: Plan { workers, cut: 1 },
+        plan: Plan {
+            workers,
+            cut: 1,
+            last: false,
+        },
         gate,
         operations_each: 1,
     };
