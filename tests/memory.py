@@ -31,16 +31,16 @@ def turned_round(document):
     return json.dumps({key: members[key] for key in reversed(members)}).encode()
 
 
-def try_document(program, library, words, name, document, report):
-    """Where reading one transaction at a time is refused memory, a tree may still be made of it."""
+def try_document(program, library, words, name, document, report, status=0):
+    """Where a request is refused, there is the fault of memory, or the same answer without what was asked for."""
     number, made = 0, 1
     while number <= made:
         number += 1
         got, made = refuse(library, number, words, program.path, document)
         program.compare("%s, request %d refused" % (name, number), words, got,
-                        FAULT if got[1] == 1 else (report, 0, b""))
+                        (report, status, b"") if got[0] else FAULT)
     program.compare("%s, no request refused" % name, words, got,
-                    (report, 0, b""))
+                    (report, status, b""))
 
 
 def try_tokens(program, library, case):
@@ -76,10 +76,10 @@ def try_places(program, library, case):
              b"fault 5 transaction 2 at /transactions/1/0/handlers/r/0/parallel/1/handler/1/else/0\n"),
             ("a fault of a start", starts, [], b"fault 13 transaction 0 at /objects/1/start/1\n")):
         document = json.dumps({"ordtx": 4, "objects": objects, "transactions": transactions}).encode()
-        try_document(program, library, ["locate"], name, document, line)
-        try_document(program, library, ["locate"], name + ", turned round", turned_round(document), line)
+        try_document(program, library, ["locate"], name, document, line, 1)
+        try_document(program, library, ["locate"], name + ", turned round", turned_round(document), line, 1)
     try_document(program, library, ["locate"], "no JSON", b'{"ordtx":4,\n"objects"?',
-                 b"fault 1 transaction 0 at line 2 column 10\n")
+                 b"fault 1 transaction 0 at line 2 column 10\n", 1)
     try_document(program, library, ["locate"], case.name, case.with_suffix(".json").read_bytes(),
                  case.with_suffix(".check").read_bytes())
 

@@ -57,7 +57,7 @@ def try_faults(program):
             elif fault and document is not None:
                 name = section.split("\n")[0]
                 program.expect_fault_everywhere(name, document, int(fault[2]), int(fault[3]))
-                program.expect(name, ["locate"], document, fault[1].encode() + b"\n")
+                program.expect(name, ["locate"], document, fault[1].encode() + b"\n", 1)
                 if fault[4] and fault[4].startswith("/") and shutil.which("jq"):
                     try_pointer(program, JQ.search(text)[1], document, fault[4])
                 shown += 1

@@ -191,7 +191,7 @@ def expect_place(program, name, value, number, transaction, way):
     """In the usual order of the members, which is read without a tree, and in the opposite order."""
     for given in (value, dict(reversed(value.items())) if isinstance(value, dict) else value):
         program.expect("%s at %s" % (name, pointer(way)), ["locate"],
-                       bytes_of(given), located(number, transaction, way))
+                       bytes_of(given), located(number, transaction, way), 1)
 
 
 def inside(ways, block, way):
@@ -259,7 +259,7 @@ def try_wholes(program):
             (2, {**batch([], []), "more": 1}), (2, batch([], [], 5)), (2, batch({}, [])), (2, batch([], "")),
             (12, batch([ACCOUNT] * 1_001, [])), (12, batch([], [[]] * 10_001))):
         expect_place(program, "fault %d of a whole document" % number, value, number, 0, [])
-    program.expect("a byte too many", ["locate"], b" " * 67_108_865, located(12, 0, []))
+    program.expect("a byte too many", ["locate"], b" " * 67_108_865, located(12, 0, []), 1)
 
 
 def no_json(before):
@@ -274,12 +274,12 @@ def try_no_json(program):
     """A text that is cut off, and one with a byte that can't be there, which is counted."""
     whole = json.dumps(batch(OBJECTS, [[GOOD], [{"sub": [], "as": "l"}]]), indent=2).encode()
     for length in range(len(whole)):
-        program.expect("the first %d bytes" % length, ["locate"], whole[:length], no_json(whole[:length]))
+        program.expect("the first %d bytes" % length, ["locate"], whole[:length], no_json(whole[:length]), 1)
     for place in (whole.index(word) for word in (
             b"{", b'"ordtx"', b"4", b'"objects"', b'"name"', b'"kind"', b"9", b'"transactions"', b'"op"', b'"sub"')):
         given = whole[:place] + b"?" + whole[place:]
-        program.expect("a question mark at %d" % place, ["locate"], given, no_json(given[:place + 1]))
-    program.expect("a second text", ["locate"], whole + b"\n7", no_json(whole + b"\n7"))
+        program.expect("a question mark at %d" % place, ["locate"], given, no_json(given[:place + 1]), 1)
+    program.expect("a second text", ["locate"], whole + b"\n7", no_json(whole + b"\n7"), 1)
 
 
 def part_at(value, path):
@@ -301,7 +301,7 @@ def leads_somewhere(document, place):
 def try_fault_of_a_case(program, name, document, fault):
     out, status, err = program.run(["locate"], document)
     line, at, place = out.decode().rstrip("\n").partition(" at")
-    program.compare(name, ["locate"], (line.encode() + b"\n", status, err), (fault, 0, b""))
+    program.compare(name, ["locate"], (line.encode() + b"\n", status, err), (fault, 1, b""))
     program.compare(name + " has a place", ["locate"], (at, out.count(b"\n")), (" at", 1))
     if fault.startswith(b"fault 1 "):
         program.compare(name + " has a line", ["locate"], (place.startswith(" line "),), (True,))
@@ -321,10 +321,10 @@ def try_cases(program):
 def try_lines(program):
     for objects, transactions, line in LINES:
         given = '{"ordtx":4,"objects":[%s],"transactions":[%s]}' % (objects, transactions)
-        program.expect(line, ["locate"], given.encode(), line.encode() + b"\n")
+        program.expect(line, ["locate"], given.encode(), line.encode() + b"\n", 1)
     for given, line, column in NO_JSON:
         program.expect("no JSON", ["locate"], given,
-                       b"fault 1 transaction 0 at line %d column %d\n" % (line, column))
+                       b"fault 1 transaction 0 at line %d column %d\n" % (line, column), 1)
 
 
 def try_all(program):

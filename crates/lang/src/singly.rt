@@ -1,8 +1,8 @@
 //! Reads a document with a tree of one transaction at a time.
 //!
-//! `None` says that the document's members come in another order, or that memory was refused; the
-//! whole document is then read as one tree (`document`).
-ghost use Rattle.std.specs.Prelude.{◌≡◌, [], ◌∷◌, map, Some, IfSome, MatchResult, ◌≤◌};
+//! Where the document's members come in another order, or twice, the whole document is read as one tree
+//! (`document`).
+ghost use Rattle.std.specs.Prelude.{◌≡◌, [], ◌∷◌, map, IfOk, MatchResult, ◌≤◌};
 ghost use Rattle.serde_json.specs.Data.{Data, Items};
 ghost use Rattle.serde_json.specs.Events.{items_len};
 ghost use Rattle.batch.specs.Names.{texts_of};
@@ -21,6 +21,7 @@ use json::Reader;
 use meaning::limits::MAX_TRANSACTIONS;
 use pull::pass::pass_items;
 use pull::pull::{PART_DEPTH, pull_end_object, pull_head, pull_value};
+use pull::stop::Stop;
 use spelling::declared::{Declared, Parts};
 use spelling::starts::read_objects;
 use spelling::state::State;
@@ -34,9 +35,9 @@ fn one_transaction(
     number: u32,
     declared: &Declared,
     state: &mut State,
-) -> Option<Result<Block, Fault>>
+) -> Result<Result<Block, Fault>, Stop>
     requires { scope_of state.old.labels.entries ≡ [] }
-    ensures { IfSome result (λ answer. (d : Data) × ReadsValue 125 reader.old d reader.new
+    ensures { IfOk result (λ answer. (d : Data) × ReadsValue 125 reader.old d reader.new
         × MatchResult answer
         (λ block. AreMet state.old.counts (transaction_placed number (setting_of declared.now) d)
         state.new.counts
@@ -45,10 +46,10 @@ fn one_transaction(
         × (scope_of state.new.labels.entries ≡ []))
         (IsFirstOf state.old.counts (transaction_placed number (setting_of declared.now) d))) }
 {
-    let value = pull_value(alloc, reader, PART_DEPTH).ok()?;
+    let value = pull_value(alloc, reader, PART_DEPTH)?;
     match read_transaction(alloc, &value, number, declared, state) {
-        Ok(block) => Some(Ok(block)),
-        Err(unmet) => Some(Err(unmet.fault)),
+        Ok(block) => Ok(Ok(block)),
+        Err(unmet) => Ok(Err(unmet.fault)),
     }
 }
 
@@ -58,9 +59,9 @@ fn each_transaction(
     reader: &mut Reader<'_>,
     declared: &Declared,
     state: &mut State,
-) -> Option<Result<Vec<Block>, Fault>>
+) -> Result<Result<Vec<Block>, Fault>, Stop>
     requires labels { scope_of state.old.labels.entries ≡ [] }
-    ensures { IfSome result (λ answer. (ds : Items) × ReadsItems 125 reader.old ds reader.new
+    ensures { IfOk result (λ answer. (ds : Items) × ReadsItems 125 reader.old ds reader.new
         × MatchResult answer
         (λ blocks. AreMet state.old.counts (transactions_placed (setting_of declared.now) 0 ds)
         state.new.counts
@@ -73,20 +74,18 @@ fn each_transaction(
     let mut number = 0;
     while !reader.take_end_array() {
         if number as usize >= MAX_TRANSACTIONS {
-            return None;
+            return Err(Stop::OtherForm);
         }
         number += 1;
         match one_transaction(alloc, reader, number, declared, state)? {
-            Ok(block) => blocks.push(block).ok()?,
+            Ok(block) => blocks.push(block)?,
             Err(fault) => {
-                let Ok(_) = pass_items(reader, PART_DEPTH) else {
-                    return None;
-                };
-                return Some(Err(fault));
+                pass_items(reader, PART_DEPTH)?;
+                return Ok(Err(fault));
             }
         }
     }
-    Some(Ok(blocks))
+    Ok(Ok(blocks))
 }
 
 /// The parts of a document whose members come in the common order, or its first fault, once its
@@ -95,9 +94,9 @@ pub(crate) fn each_part(
     alloc: Global,
     reader: &mut Reader<'_>,
     state: &mut State,
-) -> Option<Result<Parts, Fault>>
+) -> Result<Result<Parts, Fault>, Stop>
     requires { scope_of state.old.labels.entries ≡ [] }
-    ensures { IfSome result (λ answer. (d : Data) × ReadsValue 127 reader.old d reader.new
+    ensures { IfOk result (λ answer. (d : Data) × ReadsValue 127 reader.old d reader.new
         × MatchResult answer
         (λ parts. AreMet state.old.counts (placed d) state.new.counts
         × (texts_of parts.declared.names.keys ≡ names_of (objects_in d))
@@ -106,7 +105,7 @@ pub(crate) fn each_part(
         (λ fault. IsMet state.old.counts (document_shape_asked d) state.old.counts
         → IsFirstOf state.old.counts (placed d) fault)) }
 {
-    let (version, objects) = pull_head(alloc, reader).ok()?;
+    let (version, objects) = pull_head(alloc, reader)?;
     let declared = match read_objects(
         alloc,
         &objects,
@@ -116,20 +115,18 @@ pub(crate) fn each_part(
     ) {
         Ok(declared) => declared,
         Err(unmet) => {
-            let Ok(_) = pass_items(reader, PART_DEPTH) else {
-                return None;
-            };
-            pull_end_object(reader).ok()?;
-            return Some(Err(unmet.fault));
+            pass_items(reader, PART_DEPTH)?;
+            pull_end_object(reader)?;
+            return Ok(Err(unmet.fault));
         }
     };
     let answer = each_transaction(alloc, reader, &declared, state)?;
-    pull_end_object(reader).ok()?;
+    pull_end_object(reader)?;
     match answer {
-        Ok(transactions) => Some(Ok(Parts {
+        Ok(transactions) => Ok(Ok(Parts {
             declared,
             transactions,
         })),
-        Err(fault) => Some(Err(fault)),
+        Err(fault) => Ok(Err(fault)),
     }
 }

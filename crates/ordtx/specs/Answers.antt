@@ -1,6 +1,6 @@
 -- What is written for a document, and its fault.
 use Rattle.std.specs.Prelude.{◌≡◌, ℕ, Bool, true, false, ◌<◌, ◌≤◌, ◌⊎◌, ◌++◌, List, [], codes, length, map, slice_get, slice_index_or}
-use Rattle.std.specs.Prelude.{Err, Ok, Option, Some, None, if◌then◌else◌, nat_lt, option_map, string_bytes, unwrap_or}
+use Rattle.std.specs.Prelude.{Err, Ok, Result, Option, Some, None, if◌then◌else◌, nat_lt, option_map, string_bytes, unwrap_or}
 use Rattle.std.specs.Fmt.{decimal}
 use Rattle.std.specs.Str.{IsUtf8}
 use Rattle.objects.specs.Entries.{State}
@@ -27,6 +27,8 @@ use Rattle.lang.specs.declared.places.Place.{Place}
 use Rattle.lang.specs.declared.places.Place.TheVariants.{Whole, Pointer, LineColumn}
 use Rattle.meaning.specs.declared.limits.TheConstants.{MAX_OBJECTS}
 use Rattle.ordtx.specs.declared.carrying.Uncarried.{Uncarried}
+use Rattle.ordtx.specs.declared.location.Located.{Located}
+use Rattle.ordtx.specs.declared.location.Located.TheVariants.{Faultless, Faulty}
 use Rattle.ordtx.specs.declared.carrying.Uncarried.TheVariants as uncarried
 
 -- The bytes spell a document, and the text is the report of running its transactions by number, depth
@@ -218,3 +220,8 @@ pub record IsPlacedFaultOf (bytes text : List ℕ) : Type 0 where
 -- The text says where the first fault of the bytes is, or how much they hold.
 abbrev pub IsLocationOf : List ℕ → List ℕ → Type 0
 IsLocationOf bytes text = IsCheckOf bytes text ⊎ IsPlacedFaultOf bytes text
+
+-- what is found of bytes that are read so
+abbrev pub located_by : Result Document Fault → Located
+located_by (Ok document) = Faultless
+located_by (Err fault) = Faulty

@@ -11,6 +11,7 @@ pub use carrying::Uncarried;
 pub use command_line::{Command, Line, Refused, line};
 pub use devices::{Failed, Marked, Sink, Source};
 pub use lang::{Code, Fault, Wrong};
+pub use location::Located;
 pub use plan::Plan;
 pub use speculate::{Gate, NoGate, Progress, Run};
 pub use streams::{

@@ -1,25 +1,37 @@
 //! Where a document's first fault is, as a line.
 ghost use Rattle.std.specs.Prelude.{◌≡◌, IfErr, IfOk, string_bytes};
+ghost use Rattle.lang.specs.Reading.{reading};
 ghost use Rattle.faults.specs.Faults.{memory_fault};
-ghost use Rattle.ordtx.specs.Answers.{IsFaultOf, IsLocationOf, IsPlacedFaultOf, place_line, place_text};
+ghost use Rattle.ordtx.specs.Answers.{IsFaultOf, IsLocationOf, IsPlacedFaultOf, located_by, place_line, place_text};
 
 use lang::{Code, Fault, Place, locate, read};
 use report::render_check;
 use std::alloc::{AllocError, Global};
 
+/// Whether a document has a fault.
+#[derive(Clone, Copy, Debug, Drop, PartialEq, Eq)]
+pub enum Located {
+    /// It has none.
+    Faultless,
+    /// It has one.
+    Faulty,
+}
+
 /// The line of a document's first fault and its place, or that of `check` where it has no fault.
-pub(crate) fn location_of(alloc: Global, document: &[u8]) -> Result<String, Fault>
-    ensures text { IfOk result (λ text. IsLocationOf document.now (string_bytes text)) }
+pub(crate) fn location_of(alloc: Global, document: &[u8]) -> Result<(String, Located), Fault>
+    ensures text { IfOk result (λ located. IsLocationOf document.now (string_bytes located.0)) }
+    ensures located { IfOk result (λ located. located.1 ≡ located_by (reading document.now)) }
     ensures fault { IfErr result (λ fault. fault ≡ memory_fault) }
 {
     let fault = match read(alloc, document) {
-        Ok(batch) => return Ok(render_check(alloc, &batch)?),
+        Ok(batch) => return Ok((render_check(alloc, &batch)?, Located::Faultless)),
         Err(fault) => fault,
     };
     if fault.code == Code::Memory {
         return Err(Code::Memory.outside());
     }
-    fault_line(alloc, document, fault)
+    let text = fault_line(alloc, document, fault)?;
+    Ok((text, Located::Faulty))
 }
 
 // The line of a document's first fault and its place.

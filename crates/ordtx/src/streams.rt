@@ -1,12 +1,13 @@
 //! Whole calls, from a source to a sink.
-ghost use Rattle.std.specs.Prelude.{◌≡◌, ◌≢◌, ◌↔◌, ◌⊎◌, true, false, Err, IfErr};
+ghost use Rattle.std.specs.Prelude.{◌≡◌, ◌≢◌, ◌↔◌, ◌⊎◌, true, false, Err, IfErr, IfOk};
+ghost use Rattle.lang.specs.Reading.{reading};
 ghost use Rattle.faults.specs.Faults.{input_fault, memory_fault, output_fault};
-ghost use Rattle.ordtx.specs.Answers.{IsAuditOf, IsCarriedIntoOf, IsCarriedOf, IsCarryFaultOf, IsCarryIntoFaultOf, IsCheckOf, IsExplainedOf, IsFaultOf, IsLocationOf, IsPlainReportOf, IsReportOf};
+ghost use Rattle.ordtx.specs.Answers.{IsAuditOf, IsCarriedIntoOf, IsCarriedOf, IsCarryFaultOf, IsCarryIntoFaultOf, IsCheckOf, IsExplainedOf, IsFaultOf, IsLocationOf, IsPlainReportOf, IsReportOf, located_by};
 ghost use Rattle.ordtx.specs.Streams.{AnswersStream, IsRead, IsRefusal, OfRead};
 ghost use Rattle.ordtx.specs.declared.carrying.Uncarried.TheVariants as uncarried;
 
 use crate::carrying::{Uncarried, carried_into_of, carried_of};
-use crate::location::location_of;
+use crate::location::{Located, location_of};
 use crate::texts::{audit_of, check_of, explanation_of, plain_report_of, report_of};
 use devices::{Sink, Source, read_input, write_text, write_texts};
 use lang::{Fault, MAX_BYTES};
@@ -216,7 +217,8 @@ pub fn check_stream<R: Source, W: Sink>(
 }
 
 /// Reads a document from the source, and writes to the sink where its first fault is. For a
-/// document without a fault it writes the line of [`check_stream`]. Nothing is run.
+/// document without a fault it writes the line of [`check_stream`]. Nothing is run. Returns whether
+/// there is a fault.
 ///
 /// The line is `fault NUMBER transaction NUMBER at PLACE`. The place is a JSON Pointer (RFC 6901) to
 /// the member or item that the fault is of, or `line NUMBER column NUMBER` where the bytes are no
@@ -228,18 +230,21 @@ pub fn locate_stream<R: Source, W: Sink>(
     alloc: Global,
     source: &mut R,
     sink: &mut W,
-) -> Result<(), Fault>
+) -> Result<Located, Fault>
     requires unended { R.has_ended source.old ≡ false }
     requires unread { R.has_failed source.old ≡ false }
     requires unwritten { W.has_failed sink.old ≡ false }
     // The line of the fault of what was read is written.
     ensures answer { AnswersStream IsLocationOf (λ _ _. ⊥) (λ fault. fault)
         R.Source source.old source.new W.Sink sink.old sink.new result }
+    ensures located { IfOk result (λ located. OfRead (λ bytes. located ≡ located_by (reading bytes))
+        (R.remaining source.old)) }
     // A fault of the document is no error here.
     ensures fault { IfErr result (λ fault.
         (fault ≡ memory_fault) ⊎ (fault ≡ input_fault) ⊎ (fault ≡ output_fault)) }
 {
     let document = read_input(alloc, source, MOST_READ)?;
-    let text = location_of(alloc, document.as_slice())?;
-    write_text(sink, text.as_bytes())
+    let (text, located) = location_of(alloc, document.as_slice())?;
+    write_text(sink, text.as_bytes())?;
+    Ok(located)
 }

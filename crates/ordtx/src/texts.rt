@@ -12,6 +12,7 @@ use report::{render_audit_parts, render_check, render_parts, render_plain};
 use rounds::{Plan, execute, execute_ahead};
 use speculate::{Gate, NoMemory, plain};
 use std::alloc::Global;
+use std::mem::forget;
 use std::thread::Threads;
 use why::render_why;
 
@@ -38,6 +39,13 @@ fn batch_at_once<T: Threads + Sync>(
     read_at_once(threads, alloc, workers, document.as_slice())
 }
 
+// Frees a value, or leaves its memory to the end of the program, which comes after a last call.
+fn free<T: Drop>(value: T, plan: Plan) {
+    if plan.last {
+        forget(value);
+    }
+}
+
 // The report, or the report with the run counts, of a batch that was read. It is in parts, which follow
 // one another.
 fn report_of_batch<T: Threads + Sync, G: Gate>(
@@ -53,10 +61,14 @@ fn report_of_batch<T: Threads + Sync, G: Gate>(
 {
     if audit {
         let outcome = execute(threads, alloc, batch, plan, gate)?;
-        return render_audit_parts(threads, alloc, plan.workers, batch, &outcome);
+        let parts = render_audit_parts(threads, alloc, plan.workers, batch, &outcome)?;
+        free(outcome, plan);
+        return Ok(parts);
     }
     let outcome = execute_ahead(threads, alloc, batch, plan, gate)?;
-    render_parts(threads, alloc, plan.workers, batch, &outcome)
+    let parts = render_parts(threads, alloc, plan.workers, batch, &outcome)?;
+    free(outcome, plan);
+    Ok(parts)
 }
 
 // The report of a document.
@@ -71,6 +83,7 @@ pub(crate) fn report_of<T: Threads + Sync, G: Gate>(
 {
     let batch = batch_at_once(threads, alloc, plan.workers, document)?;
     let parts = report_of_batch(threads, alloc, &batch, plan, false, gate)?;
+    free(batch, plan);
     Ok(parts)
 }
 
@@ -86,6 +99,7 @@ pub(crate) fn audit_of<T: Threads + Sync, G: Gate>(
 {
     let batch = batch_at_once(threads, alloc, plan.workers, document)?;
     let parts = report_of_batch(threads, alloc, &batch, plan, true, gate)?;
+    free(batch, plan);
     Ok(parts)
 }
 
@@ -103,6 +117,7 @@ pub(crate) fn explanation_of<T: Threads + Sync, G: Gate>(
 {
     let batch = batch_at_once(threads, alloc, plan.workers, document)?;
     let parts = explanation_of_batch(threads, alloc, &batch, plan, audit, gate)?;
+    free(batch, plan);
     Ok(parts)
 }
 

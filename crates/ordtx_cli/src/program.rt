@@ -6,7 +6,7 @@ use crate::carrying::{carry_alone, carry_into};
 use crate::input::{is_standard, open, tell_refused};
 use crate::progress::ProgressLine;
 use ordtx::{
-    Code, Command, Fault, Gate, Line, Marked, NoGate, Refused, Sink, Source, audit_stream,
+    Code, Command, Fault, Gate, Line, Located, Marked, NoGate, Refused, Sink, Source, audit_stream,
     check_stream, explain_stream, line, locate_stream, run_stream, serial_stream,
 };
 use std::alloc::{AllocError, Global};
@@ -65,11 +65,16 @@ fn word_texts(rt: &HostRuntime, alloc: Global) -> Result<Vec<String>, AllocError
     Ok(texts)
 }
 
-fn answer_line<T: Threads + Sync>(rt: &HostRuntime, threads: &T, line: &Line) -> Result<(), Fault> {
+// The status of the answer to a line.
+fn answer_line<T: Threads + Sync>(
+    rt: &HostRuntime,
+    threads: &T,
+    line: &Line,
+) -> Result<ExitCode, Fault> {
     let name = text_in(&line.file);
     let mut source = Marked::new(open(rt, name)?);
     let answer = match text_in(&line.into) {
-        Some(next) => carry_into(rt, name, &mut source, next),
+        Some(next) => carry_into(rt, name, &mut source, next).map(|()| ExitCode::SUCCESS),
         None => answer_source(rt, threads, line, &mut source),
     };
     tell_refused(rt, name, &source.into_inner());
@@ -85,7 +90,7 @@ fn answer_source<T: Threads + Sync, R: Source>(
     threads: &T,
     line: &Line,
     source: &mut R,
-) -> Result<(), Fault>
+) -> Result<ExitCode, Fault>
     requires unended { R.has_ended source.old ≡ false }
     requires unread { R.has_failed source.old ≡ false }
 {
@@ -96,14 +101,19 @@ fn answer_source<T: Threads + Sync, R: Source>(
             let shown = ProgressLine::new(rt);
             let answer = run_seen(threads, alloc, line, source, &mut sink, &shown);
             shown.end();
-            answer
+            answer?;
         }
-        Command::Run => run_seen(threads, alloc, line, source, &mut sink, &NoGate),
-        Command::Serial => serial_stream(alloc, source, &mut sink),
-        Command::Carry => carry_alone(rt, source),
-        Command::Check => check_stream(alloc, source, &mut sink),
-        Command::Locate => locate_stream(alloc, source, &mut sink),
+        Command::Run => run_seen(threads, alloc, line, source, &mut sink, &NoGate)?,
+        Command::Serial => serial_stream(alloc, source, &mut sink)?,
+        Command::Carry => carry_alone(rt, source)?,
+        Command::Check => check_stream(alloc, source, &mut sink)?,
+        Command::Locate => {
+            if locate_stream(alloc, source, &mut sink)? == Located::Faulty {
+                return Ok(ExitCode::FAILURE);
+            }
+        }
     }
+    Ok(ExitCode::SUCCESS)
 }
 
 // Runs a document, with the gate that sees its rounds.
@@ -119,25 +129,27 @@ fn run_seen<T: Threads + Sync, R: Source, W: Sink, G: Gate>(
     requires unread { R.has_failed source.old ≡ false }
     requires unwritten { W.has_failed sink.old ≡ false }
 {
+    // The program ends after this call.
+    let plan = line.plan.of_last_call();
     if line.why {
-        return explain_stream(threads, alloc, source, sink, line.plan, line.audit, gate);
+        return explain_stream(threads, alloc, source, sink, plan, line.audit, gate);
     }
     if line.audit {
-        return audit_stream(threads, alloc, source, sink, line.plan, gate);
+        return audit_stream(threads, alloc, source, sink, plan, gate);
     }
-    run_stream(threads, alloc, source, sink, line.plan, gate)
+    run_stream(threads, alloc, source, sink, plan, gate)
 }
 
-fn print_help(rt: &HostRuntime, text: &str) -> Result<(), Fault> {
+fn print_help(rt: &HostRuntime, text: &str) -> Result<ExitCode, Fault> {
     match rt.print(text) {
-        Ok(()) => Ok(()),
+        Ok(()) => Ok(ExitCode::SUCCESS),
         Err(_) => Err(Code::Output.outside()),
     }
 }
 
-fn status_of(rt: &HostRuntime, answer: Result<(), Fault>) -> ExitCode {
+fn status_of(rt: &HostRuntime, answer: Result<ExitCode, Fault>) -> ExitCode {
     match answer {
-        Ok(()) => ExitCode::SUCCESS,
+        Ok(status) => status,
         Err(fault) => {
             let _ = eprintln!(rt; "{fault}");
             ExitCode::FAILURE
