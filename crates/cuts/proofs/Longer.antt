@@ -8,7 +8,7 @@ use Rattle.json.specs.Json.{Json, array, object, Items, item, Members, member, P
 use Rattle.json.specs.Json.{members_step, items, members, value_with, value}
 use Rattle.json.specs.Print.{ends}
 use Rattle.json.specs.Token.{Token, begin_object, end_object, begin_array, end_array, key, string, number, boolean, null, bad}
-use Rattle.cuts.specs.Whole.{is_whole}
+use Rattle.cuts.specs.Whole.{is_left, is_whole}
 
 -- two tests that hold hold together
 both_true : (a b : Bool) → a ≡ true → b ≡ true → (a && b) ≡ true
@@ -34,7 +34,7 @@ module _ (more : List Token) where
 
   -- with a token in front
   behind : {A : Type 0} (t : Token) (ts : List Token) (x y : Option (A × List Token)) → is_good t ≡ true → Kept ts x y → Kept (t ∷ ts) x y
-  unfolding is_whole
+  unfolding is_left
   behind t ts None y good k = tt
   behind t ts (Some q) y good k = (k.0, λ b h. both_true (is_good t) (is_whole (ends t) ts) good (k.1 (ends t) h))
 
@@ -51,7 +51,7 @@ module _ (more : List Token) where
     -- one turn of a list
     item_turn : (a b : Parse Items) → ((ts : List Token) → Kept ts (a ts) (b (ts ++ more))) → (ts : List Token)
         → Kept ts (items_step p a ts (after_end_array ts)) (items_step p b (ts ++ more) (after_end_array (ts ++ more)))
-    unfolding is_whole
+    unfolding is_left
     item_turn a b all [] =
         subst (λ o. Kept [] (option_and_then (λ v. parse_map (item v.0) (a v.1)) o) (items_step p b more (after_end_array more)))
         (sym none) tt
@@ -77,7 +77,7 @@ module _ (more : List Token) where
     member_turn : (a b : Parse Members) → ((ts : List Token) → Kept ts (a ts) (b (ts ++ more))) → (ts : List Token)
         → Kept ts (option_and_then (λ q. members_step p a q.0 q.1) (read_key ts))
         (option_and_then (λ q. members_step p b q.0 q.1) (read_key (ts ++ more)))
-    unfolding is_whole
+    unfolding is_left
     member_turn a b all [] = tt
     member_turn a b all (begin_object ∷ ts) = tt
     member_turn a b all (end_object ∷ ts) = (refl, λ b h. h)
@@ -101,7 +101,7 @@ module _ (more : List Token) where
   with_kept : (a c : Parse Items) (o u : Parse Members) → ((ts : List Token) → Kept ts (a ts) (c (ts ++ more)))
       → ((ts : List Token) → Kept ts (o ts) (u (ts ++ more))) → (ts : List Token)
       → Kept ts (value_with a o ts) (value_with c u (ts ++ more))
-  unfolding is_whole
+  unfolding is_left
   with_kept a c o u f g [] = tt
   with_kept a c o u f g (begin_object ∷ ts) = behind begin_object ts _ _ refl (mapped object ts (o ts) (u (ts ++ more)) (g ts))
   with_kept a c o u f g (end_object ∷ ts) = tt
