@@ -1,4 +1,4 @@
--- The lexemes of a text with a comma and more after it.
+-- The lexemes of a text with a comma or a bracket and more after it.
 use Rattle.std.proofs.Common.{◌≡◌, ℕ, Bool, true, false, cond, ◌&&◌, ◌==◌, nat_lt, List, [], ◌∷◌, ◌++◌, Option, Some, None}
 use Rattle.std.proofs.Common.{option_and_then, refl, sym, ap, ap₂, ◌∙◌}
 use Rattle.std.proofs.lemmas.Bool.{false≢true, eqb-true, and_parts}
@@ -11,7 +11,7 @@ use Rattle.json.specs.Text.{code_unit, short_escape, is_high_surrogate, is_low_s
 use Rattle.json.specs.Text.{after_u, after_high, prepend, content}
 use Rattle.json.specs.Word.{is_operator, is_space, word}
 use Rattle.cuts.proofs.Contents.{Keeps, content_kept}
-use Rattle.cuts.proofs.Words.{word_same}
+use Rattle.cuts.proofs.Words.{mark, of_mark, word_same}
 
 -- a lexeme is no bad token
 abbrev is_good_lexeme : Lexeme → Bool
@@ -192,19 +192,20 @@ text_same : (xs more : List ℕ) (o p : Option (List ℕ)) → Keeps o p → IfF
 text_same xs more None p kept found good = absurd (false≢true good)
 text_same xs more (Some s) p kept found good = (ap string_token kept, found)
 
-module _ (y : List ℕ) where
+module _ (v : Bool) (y : List ℕ) where
   -- what follows the text
   abbrev behind : List ℕ
-  behind = 44 ∷ y
+  behind = mark v ∷ y
 
   -- the lexemes in a mode go on after the text
   abbrev GoesOn : Mode → List ℕ → Type 0
-  GoesOn m xs = all_good (lex m xs) ≡ true → has_close m xs ≡ true → lex m (xs ++ behind) ≡ lex m xs ++ (comma ∷ lex between y)
+  GoesOn m xs = all_good (lex m xs) ≡ true → has_close m xs ≡ true
+      → lex m (xs ++ behind) ≡ lex m xs ++ (operator_lexeme (mark v) ∷ lex between y)
 
   -- the same of a byte before the text
   step : (m : Mode) (c : Class) (x : ℕ) (xs : List ℕ) → ((n : Mode) → GoesOn n xs)
       → all_good (lex_byte m c x xs (λ n. lex n xs)) ≡ true → closing_byte m c (λ n. has_close n xs) ≡ true
-      → lex_byte m c x (xs ++ behind) (λ n. lex n (xs ++ behind)) ≡ lex_byte m c x xs (λ n. lex n xs) ++ (comma ∷ lex between y)
+      → lex_byte m c x (xs ++ behind) (λ n. lex n (xs ++ behind)) ≡ lex_byte m c x xs (λ n. lex n xs) ++ (operator_lexeme (mark v) ∷ lex between y)
   unfolding all_good
   step between quote x xs on good close =
       let parts = and_parts (is_good (string_token (content plain xs))) _ good in
@@ -216,7 +217,7 @@ module _ (y : List ℕ) where
       ap (λ ls. operator_lexeme x ∷ ls) (on between (and_parts (is_good_lexeme (operator_lexeme x)) _ good).1 (outside xs).0)
   step between space x xs on good close = on between good (outside xs).0
   step between other x xs on good close =
-      ap₂ (λ t ls. token t ∷ ls) (word_same y x xs) (on in_word (and_parts (is_good (word (x ∷ xs))) _ good).1 (outside xs).1)
+      ap₂ (λ t ls. token t ∷ ls) (word_same v y x xs) (on in_word (and_parts (is_good (word (x ∷ xs))) _ good).1 (outside xs).1)
   step in_word quote x xs on good close = on in_word good (outside xs).1
   step in_word backslash x xs on good close = on in_word good (outside xs).1
   step in_word operator x xs on good close =
@@ -233,12 +234,13 @@ module _ (y : List ℕ) where
   -- the same of a whole text
   goes_on : (m : Mode) (xs : List ℕ) → GoesOn m xs
   unfolding lex has_close
-  goes_on between [] good close = refl
-  goes_on in_word [] good close = refl
+  goes_on between [] good close = of_mark (λ c. lex between (c ∷ y) ≡ operator_lexeme c ∷ lex between y) refl refl v
+  goes_on in_word [] good close = of_mark (λ c. lex in_word (c ∷ y) ≡ operator_lexeme c ∷ lex between y) refl refl v
   goes_on in_string [] good close = absurd (false≢true close)
   goes_on in_escape [] good close = absurd (false≢true close)
   goes_on m (x ∷ xs) good close = step m (class x) x xs (λ n. goes_on n xs) good close
 
-  -- after good lexemes come a comma and the lexemes of the rest
-  pub lexed : (xs : List ℕ) → all_good (lex between xs) ≡ true → lex between (xs ++ behind) ≡ lex between xs ++ (comma ∷ lex between y)
+  -- after good lexemes come the mark's and the lexemes of the rest
+  pub lexed : (xs : List ℕ) → all_good (lex between xs) ≡ true
+      → lex between (xs ++ behind) ≡ lex between xs ++ (operator_lexeme (mark v) ∷ lex between y)
   lexed xs good = goes_on between xs good (outside xs).0

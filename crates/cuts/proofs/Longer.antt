@@ -8,17 +8,17 @@ use Rattle.json.specs.Json.{Json, array, object, Items, item, Members, member, P
 use Rattle.json.specs.Json.{members_step, items, members, value_with, value}
 use Rattle.json.specs.Print.{ends}
 use Rattle.json.specs.Token.{Token, begin_object, end_object, begin_array, end_array, key, string, number, boolean, null, bad}
-use Rattle.cuts.specs.Whole.{is_whole}
+use Rattle.cuts.specs.Whole.{is_left}
 
 -- two tests that hold hold together
 both_true : (a b : Bool) → a ≡ true → b ≡ true → (a && b) ≡ true
 both_true a b f g = λ i. f i && g i
 
 module _ (more : List Token) where
-  -- what the tokens begin with is read again with more tokens, and they are whole where those after it are
+  -- what the tokens begin with is read again with more tokens, and more may follow them where more may follow those after it
   abbrev pub Kept : {A : Type 0} → List Token → Option (A × List Token) → Option (A × List Token) → Type 0
   Kept ts None y = ⊤
-  Kept ts (Some p) y = (y ≡ Some (p.0, p.1 ++ more)) × ((b : Bool) → is_whole true p.1 ≡ true → is_whole b ts ≡ true)
+  Kept ts (Some p) y = (y ≡ Some (p.0, p.1 ++ more)) × ((v b : Bool) → is_left v true p.1 ≡ true → is_left v b ts ≡ true)
 
   -- of a result that is wrapped
   mapped : {A B : Type 0} (f : A → B) (ts : List Token) (x y : Option (A × List Token)) → Kept ts x y
@@ -27,16 +27,16 @@ module _ (more : List Token) where
   mapped f ts (Some p) y k = (ap (parse_map f) k.0, k.1)
 
   -- of what is read after some tokens
-  passed : {A : Type 0} (ts r : List Token) (x y : Option (A × List Token)) → ((b : Bool) → is_whole true r ≡ true → is_whole b ts ≡ true)
+  passed : {A : Type 0} (ts r : List Token) (x y : Option (A × List Token)) → ((v b : Bool) → is_left v true r ≡ true → is_left v b ts ≡ true)
       → Kept r x y → Kept ts x y
   passed ts r None y w k = tt
-  passed ts r (Some q) y w k = (k.0, λ b h. w b (k.1 true h))
+  passed ts r (Some q) y w k = (k.0, λ v b h. w v b (k.1 v true h))
 
   -- with a token in front
   behind : {A : Type 0} (t : Token) (ts : List Token) (x y : Option (A × List Token)) → is_good t ≡ true → Kept ts x y → Kept (t ∷ ts) x y
-  unfolding is_whole
+  unfolding is_left
   behind t ts None y good k = tt
-  behind t ts (Some q) y good k = (k.0, λ b h. both_true (is_good t) (is_whole (ends t) ts) good (k.1 (ends t) h))
+  behind t ts (Some q) y good k = (k.0, λ v b h. both_true (is_good t) (is_left v (ends t) ts) good (k.1 v (ends t) h))
 
   -- of a value and what is read after it
   then : {B : Type 0} (f : Json → B → B) (p q : Parse B) → ((ts : List Token) → Kept ts (p ts) (q (ts ++ more)))
@@ -51,14 +51,14 @@ module _ (more : List Token) where
     -- one turn of a list
     item_turn : (a b : Parse Items) → ((ts : List Token) → Kept ts (a ts) (b (ts ++ more))) → (ts : List Token)
         → Kept ts (items_step p a ts (after_end_array ts)) (items_step p b (ts ++ more) (after_end_array (ts ++ more)))
-    unfolding is_whole
+    unfolding is_left
     item_turn a b all [] =
         subst (λ o. Kept [] (option_and_then (λ v. parse_map (item v.0) (a v.1)) o) (items_step p b more (after_end_array more)))
         (sym none) tt
     item_turn a b all (begin_object ∷ ts) = then item a b all (begin_object ∷ ts) _ _ (kept (begin_object ∷ ts))
     item_turn a b all (end_object ∷ ts) = then item a b all (end_object ∷ ts) _ _ (kept (end_object ∷ ts))
     item_turn a b all (begin_array ∷ ts) = then item a b all (begin_array ∷ ts) _ _ (kept (begin_array ∷ ts))
-    item_turn a b all (end_array ∷ ts) = (refl, λ b h. h)
+    item_turn a b all (end_array ∷ ts) = (refl, λ v b h. h)
     item_turn a b all (key s ∷ ts) = then item a b all (key s ∷ ts) _ _ (kept (key s ∷ ts))
     item_turn a b all (string s ∷ ts) = then item a b all (string s ∷ ts) _ _ (kept (string s ∷ ts))
     item_turn a b all (number s ∷ ts) = then item a b all (number s ∷ ts) _ _ (kept (number s ∷ ts))
@@ -77,10 +77,10 @@ module _ (more : List Token) where
     member_turn : (a b : Parse Members) → ((ts : List Token) → Kept ts (a ts) (b (ts ++ more))) → (ts : List Token)
         → Kept ts (option_and_then (λ q. members_step p a q.0 q.1) (read_key ts))
         (option_and_then (λ q. members_step p b q.0 q.1) (read_key (ts ++ more)))
-    unfolding is_whole
+    unfolding is_left
     member_turn a b all [] = tt
     member_turn a b all (begin_object ∷ ts) = tt
-    member_turn a b all (end_object ∷ ts) = (refl, λ b h. h)
+    member_turn a b all (end_object ∷ ts) = (refl, λ v b h. h)
     member_turn a b all (begin_array ∷ ts) = tt
     member_turn a b all (end_array ∷ ts) = tt
     member_turn a b all (key s ∷ ts) = behind (key s) ts _ _ refl (then (member s) a b all ts _ _ (kept ts))
@@ -101,17 +101,17 @@ module _ (more : List Token) where
   with_kept : (a c : Parse Items) (o u : Parse Members) → ((ts : List Token) → Kept ts (a ts) (c (ts ++ more)))
       → ((ts : List Token) → Kept ts (o ts) (u (ts ++ more))) → (ts : List Token)
       → Kept ts (value_with a o ts) (value_with c u (ts ++ more))
-  unfolding is_whole
+  unfolding is_left
   with_kept a c o u f g [] = tt
   with_kept a c o u f g (begin_object ∷ ts) = behind begin_object ts _ _ refl (mapped object ts (o ts) (u (ts ++ more)) (g ts))
   with_kept a c o u f g (end_object ∷ ts) = tt
   with_kept a c o u f g (begin_array ∷ ts) = behind begin_array ts _ _ refl (mapped array ts (a ts) (c (ts ++ more)) (f ts))
   with_kept a c o u f g (end_array ∷ ts) = tt
   with_kept a c o u f g (key s ∷ ts) = tt
-  with_kept a c o u f g (string s ∷ ts) = (refl, λ b h. h)
-  with_kept a c o u f g (number s ∷ ts) = (refl, λ b h. h)
-  with_kept a c o u f g (boolean v ∷ ts) = (refl, λ b h. h)
-  with_kept a c o u f g (null ∷ ts) = (refl, λ b h. h)
+  with_kept a c o u f g (string s ∷ ts) = (refl, λ v b h. h)
+  with_kept a c o u f g (number s ∷ ts) = (refl, λ v b h. h)
+  with_kept a c o u f g (boolean v ∷ ts) = (refl, λ v b h. h)
+  with_kept a c o u f g (null ∷ ts) = (refl, λ v b h. h)
   with_kept a c o u f g (bad ∷ ts) = tt
 
   -- no token is no value

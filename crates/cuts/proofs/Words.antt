@@ -1,4 +1,4 @@
--- A word is the same whatever comes after the comma that ends it.
+-- A word is the same whatever comes after the comma or the bracket that ends it.
 use Rattle.std.proofs.Common.{◌≡◌, ◌≤◌, ℕ, ◌+◌, ◌-◌, Bool, true, false, cond, ◌&&◌, ◌||◌, ◌==◌, nat_eq, List, [], ◌∷◌, ◌++◌, length, take}
 use Rattle.std.proofs.Common.{drop, Option, Some, None, option_and_then, refl, sym, ap, ◌∙◌, subst, arith}
 use Rattle.std.specs.Prelude.{⊤}
@@ -28,11 +28,26 @@ either : (b : Bool) (n : ℕ) (more : List ℕ) (x y p q : Option (List ℕ)) �
 either true n more x y p q f g = f
 either false n more x y p q f g = g
 
--- the rest of the text from a comma on
-module _ (y : List ℕ) where
-  -- the comma and what follows it
+-- a comma where a value comes before it, or the bracket that begins an array
+abbrev pub mark : Bool → ℕ
+mark true = 44
+mark false = 91
+
+-- what holds of both
+pub of_mark : (P : ℕ → Type 0) → P 44 → P 91 → (v : Bool) → P (mark v)
+of_mark P f g true = f
+of_mark P f g false = g
+
+-- no byte of a name is this one
+abbrev HasNone : ℕ → List ℕ → Type 0
+HasNone c [] = ⊤
+HasNone c (x ∷ name) = (nat_eq x c ≡ false) × HasNone c name
+
+-- the rest of the text from the mark on
+module _ (v : Bool) (y : List ℕ) where
+  -- the mark and what follows it
   abbrev behind : List ℕ
-  behind = 44 ∷ y
+  behind = mark v ∷ y
 
   -- of one part of a number after another
   then : (f : List ℕ → Option (List ℕ)) → ((t : List ℕ) → Follows (length t) behind (f t) (f (t ++ behind)))
@@ -41,8 +56,8 @@ module _ (y : List ℕ) where
   then f all n (Some rest) p h =
       subst (λ o. Follows n behind (f rest) (option_and_then f o)) (sym h.0) (weaker (length rest) n behind (f rest) _ h.1 (all rest))
 
-  -- a run that no comma is in is as long
-  prefix_same : (p : ℕ → Bool) → p 44 ≡ false → (t : List ℕ) → prefix_len p (t ++ behind) ≡ prefix_len p t
+  -- a run that no mark is in is as long
+  prefix_same : (p : ℕ → Bool) → p (mark v) ≡ false → (t : List ℕ) → prefix_len p (t ++ behind) ≡ prefix_len p t
   prefix_same p e [] = ap (λ b. cond b (1 + prefix_len p y) 0) e
   prefix_same p e (x ∷ t) = ap (λ n. cond (p x) (1 + n) 0) (prefix_same p e t)
 
@@ -56,7 +71,7 @@ module _ (y : List ℕ) where
   digits : (t : List ℕ) → Follows (length t) behind (after_digits t) (after_digits (t ++ behind))
   digits t =
       subst (λ k. Follows (length t) behind (after_digits t) (cond (k == 0) None (Some (drop k (t ++ behind)))))
-      (sym (prefix_same is_ascii_digit refl t)) (dropped t (prefix_len is_ascii_digit t) (prefix_len-le-length is_ascii_digit t))
+      (sym (prefix_same is_ascii_digit (of_mark (λ c. is_ascii_digit c ≡ false) refl refl v) t)) (dropped t (prefix_len is_ascii_digit t) (prefix_len-le-length is_ascii_digit t))
 
   -- what is left of a text, of which a first byte may be passed
   abbrev Passed : List ℕ → List ℕ → List ℕ → Type 0
@@ -69,22 +84,22 @@ module _ (y : List ℕ) where
 
   -- a minus
   minus : (t : List ℕ) → Passed t (after_minus t) (after_minus (t ++ behind))
-  minus [] = (refl, omega arith)
+  minus [] = (of_mark (λ c. after_minus (c ∷ y) ≡ c ∷ y) refl refl v, omega arith)
   minus (x ∷ t) = passed (x == ascii.minus) x t
 
   -- a sign
   sign : (t : List ℕ) → Passed t (after_sign t) (after_sign (t ++ behind))
-  sign [] = (refl, omega arith)
+  sign [] = (of_mark (λ c. after_sign (c ∷ y) ≡ c ∷ y) refl refl v, omega arith)
   sign (x ∷ t) = passed ((x == ascii.minus) || (x == ascii.plus)) x t
 
   -- the whole part
   whole : (t : List ℕ) → Follows (length t) behind (after_whole t) (after_whole (t ++ behind))
-  whole [] = refl
+  whole [] = of_mark (λ c. after_whole (c ∷ y) ≡ None) refl refl v
   whole (x ∷ t) = either (x == ascii.zero) (length (x ∷ t)) behind (Some t) _ _ _ (refl, omega arith) (digits (x ∷ t))
 
   -- the fraction
   fraction : (t : List ℕ) → Follows (length t) behind (after_fraction t) (after_fraction (t ++ behind))
-  fraction [] = (refl, omega arith)
+  fraction [] = (of_mark (λ c. after_fraction (c ∷ y) ≡ Some (c ∷ y)) refl refl v, omega arith)
   fraction (x ∷ t) =
       either (x == ascii.dot) (length (x ∷ t)) behind _ (Some (x ∷ t)) _ _ (weaker (length t) _ behind _ _ (omega arith) (digits t))
       (refl, omega arith)
@@ -97,7 +112,7 @@ module _ (y : List ℕ) where
 
   -- the exponent
   exponent : (t : List ℕ) → Follows (length t) behind (after_exponent t) (after_exponent (t ++ behind))
-  exponent [] = (refl, omega arith)
+  exponent [] = (of_mark (λ c. after_exponent (c ∷ y) ≡ Some (c ∷ y)) refl refl v, omega arith)
   exponent (x ∷ t) =
       either ((x == ascii.lower_e) || (x == ascii.upper_e)) (length (x ∷ t)) behind _ (Some (x ∷ t)) _ _
       (weaker (length t) _ behind _ _ (omega arith) (signed t)) (refl, omega arith)
@@ -117,9 +132,9 @@ module _ (y : List ℕ) where
       (option_and_then after_exponent (option_and_then after_fraction (after_whole l)))) (sym (minus t).0)
       (weaker (length (after_minus t)) (length t) behind (after_number t) _ (minus t).1 (unsigned (after_minus t)))
 
-  -- a word ends before a comma as at the end of a text
+  -- a word ends before a mark as at the end of a text
   ends_same : (t : List ℕ) → ends_word (t ++ behind) ≡ ends_word t
-  ends_same [] = refl
+  ends_same [] = of_mark (λ c. ends_word (c ∷ y) ≡ true) refl refl v
   ends_same (x ∷ t) = refl
 
   -- a number is the same token
@@ -132,18 +147,13 @@ module _ (y : List ℕ) where
       ∙ (λ i. cond (ends_same rest i) (number (take (long i) (t ++ behind))) bad)
       ∙ ap (λ l. cond (ends_word rest) (number l) bad) (take-append-le (length t - length rest) t behind (omega arith))
 
-  -- no byte of a name is a comma
-  abbrev HasNoComma : List ℕ → Type 0
-  HasNoComma [] = ⊤
-  HasNoComma (x ∷ name) = (nat_eq x 44 ≡ false) × HasNoComma name
-
   -- two tests with another in front
   guarded : (b p q r u : Bool) → (p && q) ≡ (r && u) → ((b && p) && q) ≡ ((b && r) && u)
   guarded true p q r u e = e
   guarded false p q r u e = refl
 
   -- a literal is the same
-  literal_ends : (name t : List ℕ) → HasNoComma name
+  literal_ends : (name t : List ℕ) → HasNone (mark v) name
       → (pointwise nat_eq name (take (length name) (t ++ behind)) && ends_word (drop (length name) (t ++ behind)))
       ≡ (pointwise nat_eq name (take (length name) t) && ends_word (drop (length name) t))
   literal_ends [] t none = ends_same t
@@ -156,9 +166,9 @@ module _ (y : List ℕ) where
   unfolding word
   word_same x t =
       let w = x ∷ t in
-      let yes = literal_ends ascii.true_text w (refl, (refl, (refl, (refl, tt)))) in
-      let no = literal_ends ascii.false_text w (refl, (refl, (refl, (refl, (refl, tt))))) in
-      let none = literal_ends ascii.null_text w (refl, (refl, (refl, (refl, tt)))) in
+      let yes = literal_ends ascii.true_text w (of_mark (λ c. HasNone c ascii.true_text) (refl, (refl, (refl, (refl, tt)))) (refl, (refl, (refl, (refl, tt)))) v) in
+      let no = literal_ends ascii.false_text w (of_mark (λ c. HasNone c ascii.false_text) (refl, (refl, (refl, (refl, (refl, tt))))) (refl, (refl, (refl, (refl, (refl, tt))))) v) in
+      let none = literal_ends ascii.null_text w (of_mark (λ c. HasNone c ascii.null_text) (refl, (refl, (refl, (refl, tt)))) (refl, (refl, (refl, (refl, tt)))) v) in
       let numbers = number_same w (after_number w) _ (numeral w) in
       λ i. cond (x == ascii.lower_t) (cond (yes i) (boolean true) bad) (cond (x == ascii.lower_f) (cond (no i) (boolean false) bad)
       (cond (x == ascii.lower_n) (cond (none i) null bad) (numbers i)))

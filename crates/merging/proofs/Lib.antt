@@ -9,3 +9,6 @@ pub mod InBlock
 pub mod Counting
 pub mod InFront
 pub mod AfterRange
+pub mod OwnNumbers
+pub mod Unchanged
+pub mod PartLemmas

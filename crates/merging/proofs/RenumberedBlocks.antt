@@ -10,7 +10,7 @@ use Rattle.std.specs.declared.boxed.Box.{Box}
 use Rattle.std.specs.declared.vec.Vec.{Vec}
 use Rattle.batch.specs.declared.tree.Block as declared_block
 use Rattle.batch.specs.declared.tree.Step.{If as an_if, Sub, Parallel as a_parallel}
-use Rattle.batch.specs.declared.tree.Subaction.{Subaction, out-Subaction, roll-Subaction}
+use Rattle.batch.specs.declared.tree.Subaction.{Subaction, out-Subaction}
 use Rattle.batch.proofs.ViewLemmas.{subaction_view-body, subaction_view-handlers, subaction_view-labelled, step_view-If, step_view-Sub, step_view-Parallel}
 use Rattle.merging.specs.Renumbered.{renumbered, renumbered_children, renumbered_handlers, renumbered_member, renumbered_step, renumbered_test, renumbered_tried}
 

@@ -7,8 +7,8 @@ use Rattle.serde_json.specs.Find.{as_array, as_str, get}
 use Rattle.atoms.specs.declared.item.Item.{Item}
 use Rattle.meaning.specs.declared.test.Test.{Test}
 use Rattle.meaning.specs.declared.test.Test.TheVariants.{IsItem}
-use Rattle.meaning.specs.Trees.{Block, Steps, Step, Operation, If, Abort, Parallel, Handlers, ForReason, Otherwise, Child}
-use Rattle.meaning.specs.Trees.{for_reasons, handlers_of}
+use Rattle.meaning.specs.Trees.{Block, Operation, If, Abort, Parallel, Handlers, Otherwise}
+use Rattle.meaning.specs.Trees.{handlers_of}
 use Rattle.batch.specs.Views.{Tried, children_of, steps_of}
 use Rattle.words.specs.Verbs.{item_call, pair_call}
 use Rattle.words.proofs.Verbs.{amount_phrase, item_phrase, lone_phrase, pair_phrase}
@@ -27,7 +27,7 @@ use Rattle.spelling.specs.Spelled.{Spelling, abort_of, block_of, block_of_if, bl
 use Rattle.spelling.specs.Spelled.{item_of, members_of, operation_of, or_no_step, parallel_of, reason_of, step_of, step_of_by}
 use Rattle.spelling.specs.Spelled.{steps_spelled, sub_of, sub_step, target_of, test_of}
 use Rattle.merging.specs.Renumbered.{renumbered_member, renumbered_tried}
-use Rattle.merging.specs.Renumbered.{number_in, numbered_item, renumbered, renumbered_call, renumbered_children, renumbered_handlers}
+use Rattle.merging.specs.Renumbered.{number_in, numbered_item, renumbered, renumbered_call, renumbered_handlers}
 use Rattle.merging.specs.Renumbered.{renumbered_step}
 use Rattle.merging.specs.Renumbered.{renumbered_test, said_with}
 use Rattle.merging.proofs.RenumberedBlocks.{children_again, members_again, steps_again}

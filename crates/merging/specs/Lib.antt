@@ -2,3 +2,4 @@ pub mod Renumbered
 pub mod ReadAfter
 pub mod RangeReads
 pub mod AfterRange
+pub mod Parts

@@ -1,5 +1,5 @@
 //! Gives the items and the reasons of a block other numbers.
-ghost use Rattle.std.specs.Prelude.{◌≡◌, map, option_map};
+ghost use Rattle.std.specs.Prelude.{◌≡◌, [], map, option_map, true};
 ghost use Rattle.batch.specs.Views.{block_view, handler_view, otherwise_view, step_view, subaction_view};
 ghost use Rattle.merging.specs.Renumbered.{new_number, numbered_item, renumbered, renumbered_call, renumbered_handlers, renumbered_member, renumbered_step, renumbered_test, renumbered_tried};
 
@@ -12,6 +12,16 @@ use words::{Phrase, phrase_of};
 pub struct NewNumbers {
     pub items: Vec<u32>,
     pub reasons: Vec<u32>,
+}
+
+impl NewNumbers {
+    /// Whether none is listed, so that all stay.
+    pub(crate) fn are_none(&self) -> bool
+        ensures items { result ≡ true → self.now.items.items ≡ [] }
+        ensures reasons { result ≡ true → self.now.reasons.items ≡ [] }
+    {
+        self.items.is_empty() && self.reasons.is_empty()
+    }
 }
 
 fn new_number(numbers: &[u32], number: u32) -> u32

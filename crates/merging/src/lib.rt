@@ -1,8 +1,10 @@
-//! Blocks whose items and reasons get other numbers.
+//! Reads ranges of a document alone, and puts what was read after one another, with the numbers that
+//! the document's items and reasons have.
 #![tactic(auto)]
 
 mod blocks;
 pub mod laws;
+mod parts;
 pub mod ranges;
 mod tables;
 

@@ -1,17 +1,17 @@
-//! Reads a range of a document alone, and puts what was read after what comes before it.
-ghost use Rattle.std.specs.Prelude.{◌≡◌, ◌≤◌, ◌+◌, List, [], length, map, IfOk, OnOk};
-ghost use Rattle.json.specs.Token.{Token};
+//! Reads a range of a document alone, and puts what was read of ranges after one another.
+ghost use Rattle.std.specs.Prelude.{◌≡◌, ◌≤◌, ◌+◌, [], length, map, IfOk, OnOk};
 ghost use Rattle.batch.specs.Views.{block_view};
 ghost use Rattle.meaning.specs.declared.limits.TheConstants.{MAX_NODES, MAX_TRANSACTIONS};
-ghost use Rattle.merging.specs.AfterRange.{counts_after, nothing_read};
-ghost use Rattle.merging.specs.RangeReads.{IsReadAlone, reached_alone};
-ghost use Rattle.merging.specs.Renumbered.{new_number, renumbered};
-ghost use Rattle.pull.specs.Ranges.{AreRead, left_by, reached};
+ghost use Rattle.merging.specs.AfterRange.{counts_after};
+ghost use Rattle.merging.specs.Parts.{IsPlaced, renumbered_parts};
+ghost use Rattle.merging.specs.RangeReads.{AreMerged, IsReadAlone};
+ghost use Rattle.pull.specs.Ranges.{reached};
 ghost use Rattle.spelling.specs.Demand.{most_operations};
 ghost use Rattle.spelling.specs.Scope.{scope_of, setting_of};
 
-use crate::blocks::{NewNumbers, renumber_block};
-use crate::tables::merge_texts;
+use crate::blocks::NewNumbers;
+use crate::parts::{Part, append_parts, renumber_parts};
+use crate::tables::{MOST_TEXTS, merge_texts};
 use batch::Block;
 use json::{Reader, Scratch};
 use meaning::limits::{MAX_NODES, MAX_TRANSACTIONS};
@@ -22,9 +22,7 @@ use spelling::declared::Declared;
 use spelling::hashing::NameHashing;
 use spelling::state::{Numbering, State};
 use std::alloc::Global;
-
-/// How many texts have a number of their own.
-const MOST_TEXTS: usize = 4_294_967_295;
+use std::thread::Threads;
 
 /// What was read of a range of a document, with counts and numbers of its own.
 #[derive(Drop)]
@@ -51,7 +49,9 @@ pub fn read_range(
     declared: &Declared,
     hashing: NameHashing,
 ) -> Result<RangeRead, Stop>
-    ensures { IfOk result (IsReadAlone (setting_of declared.now) text.now) }
+    ensures read { IfOk result (IsReadAlone (setting_of declared.now) text.now) }
+    ensures begin { IfOk result (λ read. read.begin ≡ begin) }
+    ensures end { IfOk result (λ read. read.end ≡ end) }
 {
     let range = text.get(begin..end).ok_or(Stop::OtherForm)?;
     let mut scratch = Scratch::new(alloc);
@@ -90,55 +90,85 @@ fn add_counts(counts: &mut Counts, more: &Counts, version: u8, before: u32) -> R
     Ok(())
 }
 
-/// Gives each item and each reason in these blocks its new number.
-fn renumber_blocks(numbers: &NewNumbers, blocks: &mut Vec<Block>)
-    ensures { map block_view blocks.new.items ≡ map (renumbered (new_number numbers.now.items.items)
-        (new_number numbers.now.reasons.items)) (map block_view blocks.old.items) }
-{
-    for place in 0..blocks.len() {
-        renumber_block(numbers, &mut blocks[place]);
-    }
-}
-
-/// Puts what was read of a range alone after the transactions before it.
-///
-/// [`Stop::OtherForm`] where a document may not have so much of something.
-pub fn merge_range(
+/// Counts and numbers what was read of a range alone, after so many transactions before it. Returns
+/// its blocks with the new numbers of their items and reasons.
+fn place_range(
     alloc: Global,
     read: RangeRead,
+    before: usize,
     declared: &Declared,
-    transactions: &mut Vec<Block>,
     state: &mut State,
-) -> Result<(), Stop>
-    requires { scope_of state.old.labels.entries ≡ [] }
-    ensures read { OnOk result ((old : List Token)
-        → AreRead (setting_of declared.now) old (left_by read.last) nothing_read (reached_alone read)
-        → AreRead (setting_of declared.now) old (left_by read.last)
-        (reached state.old (map block_view transactions.old.items))
-        (reached state.new (map block_view transactions.new.items))) }
-    ensures few { OnOk result (length transactions.new.items ≤ MAX_TRANSACTIONS) }
-    ensures scope { OnOk result (scope_of state.new.labels.entries ≡ []) }
+) -> Result<Part, Stop>
+    requires { before ≤ MAX_TRANSACTIONS }
+    ensures read { IfOk result (λ part. IsPlaced (setting_of declared.now) read before state.old part
+        state.new) }
+    ensures few { IfOk result (λ part. before + length part.blocks.items ≤ MAX_TRANSACTIONS) }
+    ensures labels { OnOk result (state.new.labels ≡ state.old.labels) }
 {
     let RangeRead {
-        transactions: mut more,
+        transactions: blocks,
         counts,
         numbering,
         ..
     } = read;
     let Numbering { items, reasons, .. } = numbering;
-    if transactions.len() + more.len() > MAX_TRANSACTIONS
+    if before + blocks.len() > MAX_TRANSACTIONS
         || items.len() > MOST_TEXTS
         || reasons.len() > MOST_TEXTS
     {
         return Err(Stop::OtherForm);
     }
-    let before = transactions.len() as u32;
-    add_counts(&mut state.counts, &counts, declared.version, before)?;
+    add_counts(&mut state.counts, &counts, declared.version, before as u32)?;
+    let new_items = merge_texts(alloc, &mut state.numbering.items, items)?;
+    let new_reasons = merge_texts(alloc, &mut state.numbering.reasons, reasons)?;
     let numbers = NewNumbers {
-        items: merge_texts(alloc, &mut state.numbering.items, items)?,
-        reasons: merge_texts(alloc, &mut state.numbering.reasons, reasons)?,
+        items: new_items,
+        reasons: new_reasons,
     };
-    renumber_blocks(&numbers, &mut more);
-    transactions.append(&mut more)?;
-    Ok(())
+    Ok(Part { numbers, blocks })
+}
+
+/// Counts and numbers what was read of ranges, one after the other.
+fn place_ranges(
+    alloc: Global,
+    reads: Vec<RangeRead>,
+    declared: &Declared,
+    state: &mut State,
+) -> Result<Vec<Part>, Stop>
+    ensures read { IfOk result (λ parts. AreMerged (setting_of declared.now) reads.items
+        (reached state.old []) (reached state.new (renumbered_parts parts.items))) }
+    ensures few { IfOk result (λ parts. length (renumbered_parts parts.items) ≤ MAX_TRANSACTIONS) }
+    ensures labels { OnOk result (state.new.labels ≡ state.old.labels) }
+{
+    let mut parts = Vec::with_capacity(alloc, reads.len())?;
+    let mut before = 0;
+    for read in reads {
+        let part = place_range(alloc, read, before, declared, state)?;
+        before += part.blocks.len();
+        parts.push(part)?;
+    }
+    Ok(parts)
+}
+
+/// Puts what was read of ranges alone after one another. Threads give the items and the reasons of
+/// the ranges their new numbers.
+///
+/// [`Stop::OtherForm`] where a document may not have so much of something.
+pub fn merge_ranges<T: Threads + Sync>(
+    threads: &T,
+    alloc: Global,
+    reads: Vec<RangeRead>,
+    declared: &Declared,
+    state: &mut State,
+) -> Result<Vec<Block>, Stop>
+    requires { scope_of state.old.labels.entries ≡ [] }
+    ensures read { IfOk result (λ blocks. AreMerged (setting_of declared.now) reads.items
+        (reached state.old []) (reached state.new (map block_view blocks.items))) }
+    ensures few { IfOk result (λ blocks. length blocks.items ≤ MAX_TRANSACTIONS) }
+    ensures scope { IfOk result (λ _. scope_of state.new.labels.entries ≡ []) }
+{
+    let mut parts = place_ranges(alloc, reads, declared, state)?;
+    renumber_parts(threads, &mut parts);
+    let blocks = append_parts(alloc, parts)?;
+    Ok(blocks)
 }

@@ -5,7 +5,7 @@ use Rattle.json.specs.Json as json
 use Rattle.json.specs.Token.{Token}
 use Rattle.serde_json.specs.Data.{Data, Items}
 use Rattle.serde_json.specs.Read.{converted, of_items, of_json}
-use Rattle.cuts.specs.Whole.{is_whole}
+use Rattle.cuts.specs.Whole.{is_left, is_whole}
 use Rattle.cuts.proofs.Longer.{Kept, listed_kept, value_kept}
 use Rattle.pull.specs.Pulled.{ReadsItems, ReadsValue}
 use Rattle.pull.proofs.PulledLemmas.{converted_some}
@@ -32,14 +32,14 @@ pub value_whole : (k : ℕ) (old new : List Token) (d : Data) → ReadsValue k o
 value_whole k old new d reads whole b =
     let j = converted_some of_json (json.value k old) d new (reads k (omega arith)) in
     let kept = subst (λ o. Kept [] old o (json.value k (old ++ []))) j.1 (value_kept [] k old) in
-    kept.1 b whole
+    kept.1 true b whole
 
--- so do items
-pub items_whole : (k : ℕ) (old new : List Token) (ds : Items) → ReadsItems k old ds new → is_whole true new ≡ true → (b : Bool)
-    → is_whole b old ≡ true
-items_whole k old new ds reads whole b =
+-- items in front of tokens after which more may follow
+pub items_left : (k : ℕ) (old new : List Token) (ds : Items) → ReadsItems k old ds new → (v : Bool) → is_left v true new ≡ true
+    → (b : Bool) → is_left v b old ≡ true
+items_left k old new ds reads v left b =
     let j = converted_some of_items (json.items (json.value k) (length old) old) ds new
     (reads k (length old) (omega arith) (omega arith)) in
     let kept = subst (λ o. Kept [] old o (json.items (json.value k) (length old) (old ++ []))) j.1
     (listed_kept [] k (length old) (length old) old (omega arith)) in
-    kept.1 b whole
+    kept.1 v b left

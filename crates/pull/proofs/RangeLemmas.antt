@@ -17,10 +17,10 @@ use Rattle.spelling.specs.declared.counts.Counts.{Counts}
 use Rattle.spelling.specs.declared.declared.Declared.{Declared}
 use Rattle.spelling.proofs.ListLemmas.{in_front, in_front_none, in_front_push}
 use Rattle.spelling.proofs.PlaceLemmas.{part_met}
-use Rattle.cuts.specs.Whole.{is_whole}
+use Rattle.cuts.specs.Whole.{is_left, is_whole}
 use Rattle.cuts.proofs.Wholes.{whole_append}
 use Rattle.pull.specs.Pulled.{ReadsItems, ReadsValue, in_order}
-use Rattle.pull.specs.Ranges.{AreRead, IsBegun, Reached}
+use Rattle.pull.specs.Ranges.{AreRead, IsBegun, IsHead, Reached}
 use Rattle.pull.specs.Ranges as ranges
 use Rattle.pull.proofs.DocumentLemmas.{same_parts}
 use Rattle.pull.proofs.LongerLemmas.{value_longer, value_whole}
@@ -63,7 +63,7 @@ module _ (setting : Setting) where
 
   -- those of a range with the tokens of the next after it
   widened : (old more : List Token) (p q : Reached) → AreRead setting old [] p q → AreRead setting (old ++ more) more p q
-  unfolding is_whole
+  unfolding is_left
   widened old more p q first = record {
     before = first.before;
     front = first.front;
@@ -103,91 +103,77 @@ module _ (setting : Setting) where
       }
 
 module _ (declared : Declared) (start : Counts) (numbers : Numbers) where
+  -- a head with more tokens after it
+  pub head_longer : (old new more : List Token) (mid : Counts) (between : Numbers) → IsHead old new declared start numbers mid between
+      → IsHead (old ++ more) (new ++ more) declared start numbers mid between
+  head_longer old new more mid between head = record {
+    version = head.version;
+    known = head.known;
+    os = head.os;
+    few = head.few;
+    objects = head.objects;
+    named = head.named;
+    set = head.set;
+    started = head.started;
+    begins = λ later inside ts rest is reads.
+        subst (λ us. ReadsValue 127 us (in_order head.version head.os ts) rest) (sym (append_assoc old more later))
+        (head.begins (more ++ later) inside ts rest (sym (append_assoc new more later) ∙ is) reads);
+  }
+
   -- a document that was begun goes on with a range
   pub begun_on : (old more left : List Token) (q r : Reached) → IsBegun old [] declared start numbers q
       → AreRead (setting_of declared) more left q r → IsBegun (old ++ more) left declared start numbers r
-  unfolding is_whole
+  unfolding is_left
   begun_on old more left q r begun next = record {
-    version = begun.version;
-    known = begun.known;
-    os = begun.os;
-    few = begun.few;
     mid = begun.mid;
     between = begun.between;
-    objects = begun.objects;
-    named = begun.named;
-    set = begun.set;
-    started = begun.started;
     inside = begun.inside ++ more;
-    begins = λ later ts rest reads.
-        (let o = append_assoc old more later in
-        let i = append_assoc begun.inside more later in
-        subst (λ us. ReadsValue 127 us (in_order begun.version begun.os ts) rest) (sym o)
-        (begun.begins (more ++ later) ts rest (subst (λ us. ReadsItems 125 us ts (end_object ∷ rest)) i reads)));
+    head = head_longer old (begin_array ∷ begun.inside) more begun.mid begun.between begun.head;
     transactions = read_on (setting_of declared) begun.inside more left _ q r begun.transactions next;
     whole = λ h. whole_append false old more (begun.whole refl) (next.whole h);
   }
+
+  -- a document whose head and whose transactions were read to its end
+  pub head_whole : (old inside : List Token) (mid : Counts) (between : Numbers) (q : Reached)
+      → IsHead old (begin_array ∷ inside) declared start numbers mid between
+      → AreRead (setting_of declared) inside (end_array ∷ end_object ∷ []) (record { counts = mid; numbers = between; blocks = [] }) q
+      → length q.blocks ≤ 10000 → (d : Data) × ReadsValue 127 old d [] × AreMet start (placed d) q.counts
+      × (texts_of declared.names.keys ≡ names_of (objects_in d))
+      × (spelled declared.objects q.blocks q.numbers ≡ parts_in numbers d)
+  head_whole old inside mid between q head read few =
+      let setting = setting_of declared in
+      let version = head.version in
+      let os = head.os in
+      let ts = read.before no_items in
+      let end = end_array ∷ end_object ∷ [] in
+      let items = read.reads [] no_items (end_object ∷ []) (reads_no_items 120 end (end_object ∷ []) refl) in
+      let reads = subst (λ us. ReadsValue 127 us (in_order version os ts) []) (append-nil old)
+      (head.begins [] (inside ++ []) ts [] refl (items_deeper 120 125 _ ts (end_object ∷ []) (omega arith) items)) in
+      let fewer : items_len ts ≤ 10000 = omega (arith, read.counted no_items, few) in
+      let spells : (q.blocks, q.numbers) ≡ blocks_of setting between ts =
+      sym (read.spelled no_items ∙ in_front_none q.blocks q.numbers) in (
+        in_order version os ts,
+        reads,
+        in_order_met version os ts head.known.0 head.known.1 start mid q.counts head.few fewer head.objects
+            (subst (λ s. AreMet mid (transactions_placed s 0 ts) q.counts) head.set (read.met no_items)),
+        head.named,
+        same_parts (in_order version os ts) numbers between q.numbers version os ts setting declared.objects q.blocks
+            (version_is version os ts head.known.0 head.known.1) refl refl head.set head.started spells,
+      )
 
   -- a document that was read to its end
   pub begun_whole : (old : List Token) (q : Reached) → IsBegun old (end_array ∷ end_object ∷ []) declared start numbers q
       → length q.blocks ≤ 10000 → (d : Data) × ReadsValue 127 old d [] × AreMet start (placed d) q.counts
       × (texts_of declared.names.keys ≡ names_of (objects_in d))
       × (spelled declared.objects q.blocks q.numbers ≡ parts_in numbers d)
-  begun_whole old q begun few =
-      let read = begun.transactions in
-      let setting = setting_of declared in
-      let version = begun.version in
-      let os = begun.os in
-      let ts = read.before no_items in
-      let end = end_array ∷ end_object ∷ [] in
-      let items = read.reads [] no_items (end_object ∷ []) (reads_no_items 120 end (end_object ∷ []) refl) in
-      let reads = subst (λ us. ReadsValue 127 us (in_order version os ts) []) (append-nil old)
-      (begun.begins [] ts [] (items_deeper 120 125 _ ts (end_object ∷ []) (omega arith) items)) in
-      let fewer : items_len ts ≤ 10000 = omega (arith, read.counted no_items, few) in
-      let spells : (q.blocks, q.numbers) ≡ blocks_of setting begun.between ts =
-      sym (read.spelled no_items ∙ in_front_none q.blocks q.numbers) in (
-        in_order version os ts,
-        reads,
-        in_order_met version os ts begun.known.0 begun.known.1 start begun.mid q.counts begun.few fewer begun.objects
-            (subst (λ s. AreMet begun.mid (transactions_placed s 0 ts) q.counts) begun.set (read.met no_items)),
-        begun.named,
-        same_parts (in_order version os ts) numbers begun.between q.numbers version os ts setting declared.objects q.blocks
-            (version_is version os ts begun.known.0 begun.known.1) refl refl begun.set begun.started spells,
-      )
-
-  -- a document whose head was read is begun
-  pub first_begun : (old head left : List Token) (version : ℕ) (os : Items) (mid : Counts) (between : Numbers) (q : Reached)
-      → (1 ≤ version) × (version ≤ 4) → items_len os ≤ 1000 → AreMet start (objects_placed version [] 0 os) mid
-      → texts_of declared.names.keys ≡ names_of os → setting_of declared ≡ declared_by version os
-      → (declared.objects, between) ≡ starts_of version numbers os
-      → ((later : List Token) (ts : Items) (rest : List Token) → ReadsItems 125 (head ++ later) ts (end_object ∷ rest)
-      → ReadsValue 127 (old ++ later) (in_order version os ts) rest)
-      → (is_whole false head ≡ true → is_whole false old ≡ true)
-      → AreRead (setting_of declared) head left (record { counts = mid; numbers = between; blocks = [] }) q
-      → (is_whole true left ≡ true → is_whole false head ≡ true) → IsBegun old left declared start numbers q
-  first_begun old head left version os mid between q known few met named set started reads passes read whole = record {
-    version = version;
-    known = known;
-    os = os;
-    few = few;
-    mid = mid;
-    between = between;
-    objects = met;
-    named = named;
-    set = set;
-    started = started;
-    inside = head;
-    begins = reads;
-    transactions = read;
-    whole = λ h. passes (whole h);
-  }
+  begun_whole old q begun few = head_whole old begun.inside begun.mid begun.between q begun.head begun.transactions few
 
 -- tokens that begin with an array are whole wherever they are
 pub array_whole : (head rest : List Token) → head ≡ begin_array ∷ rest → is_whole true head ≡ true → is_whole false head ≡ true
-unfolding is_whole
+unfolding is_left
 array_whole head rest is h = ap (is_whole false) is ∙ sym (ap (is_whole true) is) ∙ h
 
 -- so are those after a list with no transaction
 pub end_whole : (head : List Token) → head ≡ end_array ∷ end_object ∷ [] → is_whole false head ≡ true
-unfolding is_whole
+unfolding is_left
 end_whole head is = ap (is_whole false) is

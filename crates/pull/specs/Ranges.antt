@@ -1,6 +1,6 @@
 -- A document that is read in ranges of its text, one after the other.
 use Rattle.std.specs.Prelude.{◌≡◌, ◌≤◌, ◌+◌, ℕ, List, [], ◌∷◌, ◌++◌, length, false, true}
-use Rattle.json.specs.Token.{Token, end_array, end_object}
+use Rattle.json.specs.Token.{Token, begin_array, end_array, end_object}
 use Rattle.serde_json.specs.Data.{Items, no_items, item}
 use Rattle.serde_json.specs.Events.{items_len}
 use Rattle.batch.specs.Names.{texts_of}
@@ -55,20 +55,25 @@ pub record AreRead (setting : Setting) (old new : List Token) (p q : Reached) : 
   pub counted : (ds : Items) → length p.blocks + items_len (before ds) ≡ length q.blocks + items_len ds
   pub whole : is_whole true new ≡ true → is_whole true old ≡ true
 
--- The tokens `old` begin a document that declares this, with transactions up to q, and `left` are left of them.
-pub record IsBegun (old left : List Token) (declared : Declared) (start : Counts) (numbers : Numbers) (q : Reached) : Type 0 where
+-- The tokens `old` begin with the head of a document that declares this, up to the bracket before its transactions; `new` are left.
+pub record IsHead (old new : List Token) (declared : Declared) (start : Counts) (numbers : Numbers) (mid : Counts) (between : Numbers)
+    : Type 0 where
   pub version : ℕ
   pub known : (1 ≤ version) × (version ≤ 4)
   pub os : Items
   pub few : items_len os ≤ MAX_OBJECTS
-  pub mid : Counts
-  pub between : Numbers
   pub objects : AreMet start (objects_placed version [] 0 os) mid
   pub named : texts_of declared.names.keys ≡ names_of os
   pub set : setting_of declared ≡ declared_by version os
   pub started : (declared.objects, between) ≡ starts_of version numbers os
+  pub begins : (later inside : List Token) (ts : Items) (rest : List Token) → new ++ later ≡ begin_array ∷ inside
+      → ReadsItems 125 inside ts (end_object ∷ rest) → ReadsValue 127 (old ++ later) (in_order version os ts) rest
+
+-- The tokens `old` begin a document that declares this, with transactions up to q, and `left` are left of them.
+pub record IsBegun (old left : List Token) (declared : Declared) (start : Counts) (numbers : Numbers) (q : Reached) : Type 0 where
+  pub mid : Counts
+  pub between : Numbers
   pub inside : List Token
-  pub begins : (later : List Token) (ts : Items) (rest : List Token) → ReadsItems 125 (inside ++ later) ts (end_object ∷ rest)
-      → ReadsValue 127 (old ++ later) (in_order version os ts) rest
+  pub head : IsHead old (begin_array ∷ inside) declared start numbers mid between
   pub transactions : AreRead (setting_of declared) inside left (record { counts = mid; numbers = between; blocks = [] }) q
   pub whole : is_whole true left ≡ true → is_whole false old ≡ true

@@ -7,7 +7,7 @@
 //! The common form: the members `ordtx`, `objects` and `transactions` in this order; a step's members
 //! as `pull_blocks` says; in steps, numbers without a point or an exponent. Of the objects a small tree is made
 //! and read as in any other document.
-ghost use Rattle.std.specs.Prelude.{◌≡◌, ℕ, List, ◌∷◌, ◌++◌, [], codes, length, option_map, false, true, Some, None, IfOk, IfSome, OnOk, ◌<◌, ◌+◌, ◌≤◌};
+ghost use Rattle.std.specs.Prelude.{◌≡◌, ℕ, Bool, List, ◌∷◌, ◌++◌, [], codes, length, option_map, false, true, Some, None, IfOk, IfSome, OnOk, ◌<◌, ◌+◌, ◌≤◌};
 ghost use Rattle.json.specs.Token as token;
 ghost use Rattle.fast_float.specs.Text.{with_sign};
 ghost use Rattle.serde_json.specs.Data.{Data, Items, Members, Num, member, negative, number, unsigned};
@@ -23,7 +23,7 @@ ghost use Rattle.spelling.specs.Scope.{numbers_of, scope_of, setting_of};
 ghost use Rattle.spelling.specs.Spelled.{Spelling, call_of, step_of};
 ghost use Rattle.batch.specs.Names.{is_name};
 ghost use Rattle.meaning.specs.declared.limits.TheConstants.{MAX_OBJECTS};
-ghost use Rattle.cuts.specs.Whole.{is_whole};
+ghost use Rattle.cuts.specs.Whole.{is_left};
 
 use crate::stop::Stop;
 use batch::{Call, Step, is_name};
@@ -407,6 +407,31 @@ fn pull_objects(alloc: Global, reader: &mut Reader<'_>) -> Result<Vec<Value>, St
     Ok(found)
 }
 
+/// A document up to the key of its transactions: its version, and of its objects a tree.
+pub(crate) fn pull_opening(
+    alloc: Global,
+    reader: &mut Reader<'_>,
+) -> Result<(u8, Vec<Value>), Stop>
+    ensures version { IfOk result (λ head. (1 ≤ head.0) × (head.0 ≤ 4)) }
+    ensures objects { IfOk result (λ head. length head.1.items ≤ MAX_OBJECTS) }
+    ensures reads { IfOk result (λ head. (later inside : List token.Token) (ts : Items)
+        (rest : List token.Token) → reader.new ++ later ≡ token.begin_array ∷ inside
+        → ReadsItems 125 inside ts (token.end_object ∷ rest)
+        → ReadsValue 127 (reader.old ++ later)
+        (in_order head.0 (items_view head.1.items) ts) rest) }
+    ensures left { OnOk result ((v : Bool) → is_left v false reader.new ≡ true
+        → is_left v false reader.old ≡ true) }
+{
+    pull_begin_object(reader)?;
+    pull_key(reader, "ordtx")?;
+    let version = pull_version(reader)?;
+    pull_key(reader, "objects")?;
+    pull_begin_array(reader)?;
+    let objects = pull_objects(alloc, reader)?;
+    pull_key(reader, "transactions")?;
+    Ok((version, objects))
+}
+
 /// A document up to where its transactions begin: its version, and of its objects a tree.
 pub fn pull_head(alloc: Global, reader: &mut Reader<'_>) -> Result<(u8, Vec<Value>), Stop>
     ensures version { IfOk result (λ head. (1 ≤ head.0) × (head.0 ≤ 4)) }
@@ -416,16 +441,8 @@ pub fn pull_head(alloc: Global, reader: &mut Reader<'_>) -> Result<(u8, Vec<Valu
         → ReadsItems 125 (reader.new ++ later) ts (token.end_object ∷ rest)
         → ReadsValue 127 (reader.old ++ later)
         (in_order head.0 (items_view head.1.items) ts) rest) }
-    ensures whole { OnOk result (is_whole false reader.new ≡ true
-        → is_whole false reader.old ≡ true) }
 {
-    pull_begin_object(reader)?;
-    pull_key(reader, "ordtx")?;
-    let version = pull_version(reader)?;
-    pull_key(reader, "objects")?;
+    let head = pull_opening(alloc, reader)?;
     pull_begin_array(reader)?;
-    let objects = pull_objects(alloc, reader)?;
-    pull_key(reader, "transactions")?;
-    pull_begin_array(reader)?;
-    Ok((version, objects))
+    Ok(head)
 }

@@ -4,7 +4,7 @@
 //! begins with a transaction. A range ends after a transaction or, where it is the last one, after
 //! the document. All of them go on with the same counts, numbers and labels. A range that isn't so
 //! is out of the common form.
-ghost use Rattle.std.specs.Prelude.{◌≡◌, ◌≤◌, List, [], ◌∷◌, length, map, IfOk};
+ghost use Rattle.std.specs.Prelude.{◌≡◌, ◌≤◌, Bool, List, [], ◌∷◌, false, length, map, true, IfOk, OnOk};
 ghost use Rattle.json.specs.Token as token;
 ghost use Rattle.batch.specs.Views.{block_view};
 ghost use Rattle.serde_json.specs.Data.{Data};
@@ -13,10 +13,11 @@ ghost use Rattle.spelling.specs.Answer.{AreMet};
 ghost use Rattle.spelling.specs.Places.{transaction_placed};
 ghost use Rattle.spelling.specs.Spelled.{block_of};
 ghost use Rattle.pull.specs.Pulled.{ReadsValue};
-ghost use Rattle.pull.specs.Ranges.{AreRead, IsBegun, left_by, reached};
+ghost use Rattle.cuts.specs.Whole.{is_left, is_open};
+ghost use Rattle.pull.specs.Ranges.{AreRead, IsBegun, IsHead, left_by, reached};
 ghost use Rattle.spelling.specs.Scope.{numbers_of, scope_of, setting_of};
 
-use crate::pull::{pull_begin_array, pull_end, pull_end_object, pull_head};
+use crate::pull::{pull_begin_array, pull_end, pull_end_object, pull_opening};
 use crate::pull_blocks::pull_block_begun;
 use crate::stop::Stop;
 use batch::Block;
@@ -126,6 +127,51 @@ pub fn pull_range(
     pull_document_end(reader)
 }
 
+/// What a document declares, of which the reader is then at its transactions.
+fn pull_declared(
+    alloc: Global,
+    reader: &mut Reader<'_>,
+    state: &mut State,
+) -> Result<Declared, Stop>
+    requires labels { scope_of state.old.labels.entries ≡ [] }
+    ensures head { IfOk result (λ declared. IsHead reader.old reader.new declared
+        state.old.counts (numbers_of state.old.numbering)
+        state.new.counts (numbers_of state.new.numbering)) }
+    ensures left { OnOk result ((v : Bool) → is_left v false reader.new ≡ true
+        → is_left v false reader.old ≡ true) }
+    ensures scope { OnOk result (scope_of state.new.labels.entries ≡ []) }
+{
+    let (version, objects) = pull_opening(alloc, reader)?;
+    let declared = read_objects(
+        alloc,
+        &objects,
+        version,
+        &mut state.counts,
+        &mut state.numbering,
+    )?;
+    Ok(declared)
+}
+
+/// The head of a document alone: its version and its objects, up to the bracket that begins its
+/// transactions.
+///
+/// [`Stop::OtherForm`] where anything else comes first, or the bracket or more after it.
+pub fn pull_head_alone(
+    alloc: Global,
+    reader: &mut Reader<'_>,
+    state: &mut State,
+) -> Result<Declared, Stop>
+    requires labels { scope_of state.old.labels.entries ≡ [] }
+    ensures head { IfOk result (λ declared. IsHead reader.old [] declared state.old.counts
+        (numbers_of state.old.numbering) state.new.counts (numbers_of state.new.numbering)) }
+    ensures begun { OnOk result (is_open false reader.old ≡ true) }
+    ensures scope { OnOk result (scope_of state.new.labels.entries ≡ []) }
+{
+    let declared = pull_declared(alloc, reader, state)?;
+    pull_end(reader)?;
+    Ok(declared)
+}
+
 /// The first range of a document: its version, its objects, and the transactions of the range.
 ///
 /// [`Stop::OtherForm`] where the range doesn't end after a transaction or the document.
@@ -141,14 +187,8 @@ pub fn pull_first_range(
     ensures few { IfOk result (λ first. length first.0.transactions.items ≤ MAX_TRANSACTIONS) }
     ensures scope { IfOk result (λ _. scope_of state.new.labels.entries ≡ []) }
 {
-    let (version, objects) = pull_head(alloc, reader)?;
-    let declared = read_objects(
-        alloc,
-        &objects,
-        version,
-        &mut state.counts,
-        &mut state.numbering,
-    )?;
+    let declared = pull_declared(alloc, reader, state)?;
+    pull_begin_array(reader)?;
     if reader.take_end_array() {
         let end = pull_document_end(reader)?;
         let transactions = Vec::new(alloc);

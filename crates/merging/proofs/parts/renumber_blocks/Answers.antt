@@ -3,7 +3,7 @@ use Rattle.std.proofs.lemmas.List.{length-map}
 use Rattle.batch.specs.Views.{block_view}
 use Rattle.merging.specs.Renumbered.{new_number, renumbered}
 use Rattle.merging.proofs.Mapped.{mapped_whole, view_more}
-use Rattle.merging.proofs.ranges.renumber_blocks.Goals as goal
+use Rattle.merging.proofs.parts.renumber_blocks.Goals as goal
 
 pub loop-place-init : goal.loop-place-init
 loop-place-init c = refl

@@ -1,7 +1,7 @@
 -- The texts so far are in the table, and the others are left.
 use Rattle.batch.specs.Names.{texts_of}
 use Rattle.merging.proofs.Merging.{Merging}
-use Rattle.merging.proofs.tables.merge_texts.Given as goal
+use Rattle.merging.proofs.tables.put_texts.Given as goal
 
 abbrev pub invariant-loop-text : goal.invariant-loop-text
 invariant-loop-text l = Merging (texts_of l.fn.table.keys) (texts_of l.fn.texts.keys) (texts_of l.table.keys) l.numbers.items

@@ -3,7 +3,7 @@ use Rattle.std.proofs.Common.{◌≡◌, map}
 use Rattle.batch.specs.Views.{block_view}
 use Rattle.merging.specs.Renumbered.{new_number, renumbered}
 use Rattle.merging.proofs.Mapped.{mapped_to}
-use Rattle.merging.proofs.ranges.renumber_blocks.Given as goal
+use Rattle.merging.proofs.parts.renumber_blocks.Given as goal
 
 abbrev pub invariant-loop-place : goal.invariant-loop-place
 invariant-loop-place l =
