@@ -9,13 +9,16 @@ use std::alloc::Global;
 /// How many lines are enough for a thread. Fewer are rendered sooner than it starts.
 const ENOUGH: usize = 4_096;
 
-/// How many outermost steps are looked at to tell how many lines a report has. They are about so
-/// many, evenly spread, and at least one of each transaction.
+/// How many outermost steps are looked at to estimate how many lines a report has. They are about
+/// so many, evenly spread, and at least one of each transaction.
 const LOOKS: usize = 4_096;
 
 /// How many steps of a block further inside are looked at, and how many children of a parallel
 /// step.
 const INSIDE: usize = 16;
+
+/// How many levels of a step are looked at.
+const LEVELS: usize = 16;
 
 /// How many entries of an object take as long as a line.
 const ENTRIES: usize = 4;
@@ -118,7 +121,7 @@ fn pass_steps(
         let step = line.max(1);
         let next = step.saturating_add(stride.max(1)).min(end);
         let one = match record.taken.get(step - 1) {
-            Some(taken) => lines_of(taken),
+            Some(taken) => lines_of(taken, LEVELS),
             None => 0,
         };
         let lines = one.saturating_mul(next - step).saturating_add(step - line);
@@ -194,40 +197,46 @@ fn stride_of(records: &[Record]) -> usize {
     steps / LOOKS + 1
 }
 
-// About how many lines the steps of a record have. The first ones stand for all.
+// About how many lines the steps of a record have. The first ones stand for all, and of those below
+// so many levels each counts as one line.
 #[cycle(lines)]
-fn lines_in(record: &Record) -> usize {
+fn lines_in(record: &Record, levels: usize) -> usize {
+    if levels == 0 {
+        return record.taken.len();
+    }
     let mut count: usize = 0;
     let mut looked = 0;
     for taken in &record.taken {
         if looked >= INSIDE {
             return count.saturating_mul(record.taken.len()) / INSIDE;
         }
-        count = count.saturating_add(lines_of(taken));
+        count = count.saturating_add(lines_of(taken, levels - 1));
         looked += 1;
     }
     count
 }
 
 #[cycle(lines)]
-fn lines_of(taken: &Taken) -> usize {
+fn lines_of(taken: &Taken, levels: usize) -> usize {
     match taken {
         Taken::Op(_) => 1,
-        Taken::If(_, branch) => lines_in(branch).saturating_add(1),
+        Taken::If(_, branch) => lines_in(branch, levels).saturating_add(1),
         Taken::Sub(body, handler) => {
             let handled = match handler {
-                Some(record) => lines_in(record),
+                Some(record) => lines_in(record, levels),
                 None => 0,
             };
-            lines_in(body).saturating_add(handled).saturating_add(1)
+            lines_in(body, levels)
+                .saturating_add(handled)
+                .saturating_add(1)
         }
         Taken::Abort => 1,
-        Taken::Parallel(children) => lines_of_children(children),
+        Taken::Parallel(children) => lines_of_children(children, levels),
     }
 }
 
 #[cycle(lines)]
-fn lines_of_children(children: &[(Record, Option<Record>)]) -> usize {
+fn lines_of_children(children: &[(Record, Option<Record>)], levels: usize) -> usize {
     let mut count: usize = 0;
     let mut looked = 0;
     for (body, handler) in children {
@@ -235,11 +244,11 @@ fn lines_of_children(children: &[(Record, Option<Record>)]) -> usize {
             return count.saturating_mul(children.len()) / INSIDE;
         }
         let handled = match handler {
-            Some(record) => lines_in(record),
+            Some(record) => lines_in(record, levels),
             None => 0,
         };
         count = count
-            .saturating_add(lines_in(body))
+            .saturating_add(lines_in(body, levels))
             .saturating_add(handled)
             .saturating_add(1);
         looked += 1;
