@@ -95,10 +95,7 @@ fn text_between(alloc: Global, records: &[Record], from: Cut, to: Cut) -> String
     requires within { to.entry ≤ length records.now }
     ensures { string_bytes result ≡ [] }
 {
-    let mut lines = to.line;
-    for record in &records[from.entry..to.entry] {
-        lines = lines.saturating_add(about_lines(record));
-    }
+    let lines = about_lines(&records[from.entry..to.entry]).saturating_add(to.line);
     let mut text = String::new(alloc);
     // Where this is refused, the text grows as it is written.
     let _ = text.reserve(lines.saturating_sub(from.line).saturating_mul(LINE));

@@ -1,5 +1,6 @@
 //! The lines of a record.
 ghost use Rattle.std.specs.Prelude.{◌≡◌, ◌++◌, IfOk, OnOk, codes, option_copied, string_bytes};
+ghost use Rattle.meaning.specs.Words.{reply_text};
 ghost use Rattle.meaning.specs.Texts.{line, part, reason_text, outcome_text, choice_text, operation_line, steps_text, step_text, child_text, children_text};
 ghost use Rattle.batch.specs.Names.{names_of};
 ghost use Rattle.batch.specs.Views.{block_view, record_view, step_view, taken_view, subaction_view, tried_view, children_view, all_tried_view};
@@ -9,7 +10,9 @@ use crate::names::{object_name, reason_name};
 use crate::paths::{branch_path, handler_place, longer_path, part_path, reason_of};
 use batch::{Block, Names, Record, Step, Subaction, Taken};
 use meaning::End;
-use objects::{Call, NoMemory, Reply};
+use objects::{
+    AccountReply, Call, CounterReply, DirectoryReply, MaxReply, NoMemory, QueueReply, Reply,
+};
 use std::alloc::Global;
 
 // Writes the lines of the steps of a block at a path.
@@ -162,9 +165,26 @@ fn write_operation(
     write_place(out, path, number)?;
     write_name(out, object_name(names, object))?;
     write_call(out, names, call)?;
-    out.push_str(" = ")?;
-    write_reply(out, names, reply)?;
-    out.push('\n')?;
+    write_line_end(out, names, reply)
+}
+
+// Ends the line of an operation with its reply. Most replies are `ok`: these are written at once.
+fn write_line_end(out: &mut String, names: &Names, reply: &Reply) -> Result<(), NoMemory>
+    ensures { OnOk result (string_bytes out.new
+        ≡ string_bytes out.old ++ line (codes " = " ++ reply_text (names_of names.now) reply.now)) }
+{
+    match reply {
+        Reply::Account(AccountReply::Ok)
+        | Reply::Counter(CounterReply::Ok)
+        | Reply::Queue(QueueReply::Ok)
+        | Reply::Directory(DirectoryReply::Ok)
+        | Reply::Max(MaxReply::Ok) => out.push_str(" = ok\n")?,
+        _ => {
+            out.push_str(" = ")?;
+            write_reply(out, names, reply)?;
+            out.push('\n')?;
+        }
+    }
     Ok(())
 }
 

@@ -77,7 +77,7 @@ fn render_entry_parts<R: Threads + Sync>(
     ensures { IfOk result (λ parts. flat_map string_bytes parts.items ≡ plain_text (names_of batch.now.names) (map block_view batch.now.transactions.items) (map record_view outcome.now.records.items) outcome.now.objects) }
 {
     let last = last_cut(batch, &outcome.records, &outcome.objects);
-    let cuts = cuts_of(alloc, &outcome.records, last, workers)?;
+    let cuts = cuts_of(alloc, &outcome.records, &outcome.objects, last, workers)?;
     let made = render_each(threads, alloc, batch, outcome, &cuts)?;
     gathered(alloc, made)
 }
