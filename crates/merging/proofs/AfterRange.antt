@@ -13,6 +13,7 @@ use Rattle.spelling.specs.Spelled.{blocks_of}
 use Rattle.spelling.proofs.ListLemmas.{in_front, in_front_none}
 use Rattle.pull.specs.Ranges.{AreRead, Reached, behind}
 use Rattle.merging.specs.AfterRange.{after_range, nothing_read, numbers_after}
+use Rattle.merging.specs.declared.tables.TheConstants.{MOST_TEXTS}
 use Rattle.merging.specs.ReadAfter.{IsReadAfter}
 use Rattle.merging.specs.Renumbered.{new_number, numbers_in, renumbered}
 use Rattle.merging.proofs.Counting.{counts_add_up}
@@ -38,7 +39,7 @@ module _ (setting : Setting) (old new : List Token) (base alone : Reached) (read
   -- The range counts no more than the limits leave, and no more texts than there are numbers.
   pub range_after : base.counts.operations + alone.counts.operations ≤ most_operations setting.version
       → base.counts.nodes + alone.counts.nodes ≤ MAX_NODES
-      → length alone.numbers.items ≤ 4294967295 → length alone.numbers.reasons ≤ 4294967295
+      → length alone.numbers.items ≤ MOST_TEXTS → length alone.numbers.reasons ≤ MOST_TEXTS
       → AreRead setting old new base (after_range base alone)
   unfolding moved
   range_after few_operations few_nodes few_items few_reasons =
@@ -47,8 +48,8 @@ module _ (setting : Setting) (old new : List Token) (base alone : Reached) (read
       let after = after_range base alone in
       let blocks = moved after.numbers alone.numbers alone.blocks in
       let first = read.spelled no_items ∙ in_front_none alone.blocks alone.numbers in
-      let items = subst (λ (x : List Block × Numbers). length x.1.items ≤ 4294967295) (sym first) few_items in
-      let reasons = subst (λ (x : List Block × Numbers). length x.1.reasons ≤ 4294967295) (sym first) few_reasons in
+      let items = subst (λ (x : List Block × Numbers). length x.1.items ≤ MOST_TEXTS) (sym first) few_items in
+      let reasons = subst (λ (x : List Block × Numbers). length x.1.reasons ≤ MOST_TEXTS) (sym first) few_reasons in
       let spelled = after_is base.numbers alone.numbers alone.blocks (blocks_of setting no_numbers es) (blocks_of setting base.numbers es)
       first (read_after setting base.numbers es items reasons) in
       let met = counts_add_up setting n base.counts es alone.counts (few_operations, few_nodes) (read.met no_items) in

@@ -12,6 +12,7 @@ use Rattle.std.proofs.lemmas.Slice.Eq.{bytes_eq-Decides}
 use Rattle.batch.specs.Names.{texts_of}
 use Rattle.spelling.specs.Scope.{Table, fit, is_listed, number_of}
 use Rattle.spelling.proofs.TableLemmas.{length-texts_of}
+use Rattle.merging.specs.declared.tables.TheConstants.{MOST_TEXTS}
 use Rattle.merging.specs.Renumbered.{merged, new_number, numbers_in}
 use Rattle.merging.proofs.NumberedTexts.{fit_same, listed_at}
 
@@ -62,7 +63,7 @@ pub merged_alone : (keys : List (String Global)) → IsDistinct string_eq keys �
 merged_alone keys distinct = put_apart [] (texts_of keys) (keys_apart keys distinct)
 
 -- a text that stands nowhere before its place is first there
-number_at_place : (table : Table) (n : ℕ) → Apart table → n < length table → length table ≤ 4294967295
+number_at_place : (table : Table) (n : ℕ) → Apart table → n < length table → length table ≤ MOST_TEXTS
     → number_of (get_or table n []) table ≡ n
 number_at_place table n apart below few =
     let text = get_or table n [] in
@@ -71,7 +72,7 @@ number_at_place table n apart below few =
     ap fit place ∙ fit_same n (omega (arith, below, few))
 
 -- so the numbers of a table's own texts are their places
-pub own_numbers : (keys : List (String Global)) → IsDistinct string_eq keys → length keys ≤ 4294967295
+pub own_numbers : (keys : List (String Global)) → IsDistinct string_eq keys → length keys ≤ MOST_TEXTS
     → (n : ℕ) → new_number (numbers_in (texts_of keys) (texts_of keys)) n ≡ n
 own_numbers keys distinct few n = by (cases_lt n (length (texts_of keys)))
   where

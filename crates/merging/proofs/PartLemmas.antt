@@ -1,5 +1,7 @@
 -- The blocks of ranges, one range after the other.
-use Rattle.std.proofs.Common.{◌≡◌, ℕ, suc, ◌<◌, List, [], ◌∷◌, ◌++◌, length, map, get_or, refl, sym, ap, ◌∙◌, append_assoc, append-nil, arith}
+use Rattle.std.proofs.Common.{◌≡◌, ℕ, suc, ◌<◌, List, [], ◌∷◌, ◌++◌, drop, length, map, take, get_or, refl, sym, ap, ◌∙◌}
+use Rattle.std.proofs.Common.{append_assoc, append-nil, arith}
+use Rattle.std.proofs.Math.Seq.{take-append_seam}
 use Rattle.batch.specs.Views.{block_view}
 use Rattle.merging.specs.Parts.{blocks_in, renumbered_part, renumbered_parts}
 use Rattle.merging.specs.declared.parts.Part.{Part}
@@ -22,3 +24,7 @@ all_renumbered (part ∷ old) (now ∷ new) size each =
     let here = each 0 part (omega arith) in
     let rest = all_renumbered old new (omega (arith, size)) (λ i d below. each (suc i) d (omega (arith, below))) in
     λ i. here i ++ rest i
+
+-- a list in whose memory another of its length was put
+pub in_place : {A : Type 0} (n : ℕ) (old new : List A) → n ≡ length new → take n (new ++ drop (length new) old) ≡ new
+in_place n old new size = ap (λ k. take k (new ++ drop (length new) old)) size ∙ take-append_seam new (drop (length new) old)

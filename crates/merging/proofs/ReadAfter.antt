@@ -7,6 +7,7 @@ use Rattle.spelling.specs.Scope.{Table, is_listed, no_numbers, number_of, with_t
 use Rattle.spelling.specs.Spelled.{blocks_of}
 use Rattle.merging.specs.ReadAfter.{ReadAfterLaw}
 use Rattle.merging.specs.Renumbered.{merged, new_number, numbers_in}
+use Rattle.merging.specs.declared.tables.TheConstants.{MOST_TEXTS}
 use Rattle.merging.proofs.Growing.{begins_none}
 use Rattle.merging.proofs.NumberedTexts.{listed_kept, number_within}
 use Rattle.merging.proofs.Renumbering.{Sends, blocks_again, number_sent}
@@ -77,7 +78,7 @@ abbrev After : Table → Table → Table → Type 0
 After before alone after = after ≡ merged before alone
 
 -- so are numbers sent
-after_sends : (before old new : Table) → length old ≤ 4294967295 → Sends (After before) old new (new_number (numbers_in new old))
+after_sends : (before old new : Table) → length old ≤ MOST_TEXTS → Sends (After before) old new (new_number (numbers_in new old))
 after_sends before old new few = record {
   one_more = λ text a b same. ap (with_text text) same ∙ merged_more text before a;
   sent = λ text a b same here there. number_sent text a b old new few here there

@@ -26,6 +26,7 @@ use Rattle.spelling.specs.Scope.{Numbers, Scope, Setting, Table, label_number, n
 use Rattle.spelling.specs.Spelled.{Spelling, abort_of, block_of, block_of_if, blocks_of, call_of, children_spelled, handlers_spelled, if_of}
 use Rattle.spelling.specs.Spelled.{item_of, members_of, operation_of, or_no_step, parallel_of, reason_of, step_of, step_of_by}
 use Rattle.spelling.specs.Spelled.{steps_spelled, sub_of, sub_step, target_of, test_of}
+use Rattle.merging.specs.declared.tables.TheConstants.{MOST_TEXTS}
 use Rattle.merging.specs.Renumbered.{renumbered_member, renumbered_tried}
 use Rattle.merging.specs.Renumbered.{number_in, numbered_item, renumbered, renumbered_call, renumbered_handlers}
 use Rattle.merging.specs.Renumbered.{renumbered_step}
@@ -36,7 +37,7 @@ use Rattle.merging.proofs.Growing.{Longer, handlers_longer, longer_item, members
 use Rattle.merging.proofs.NumberedTexts.{Grows, number_later, text_later}
 
 -- a text's number is sent to its number
-pub number_sent : (text : List ℕ) (a b old new : Table) → length old ≤ 4294967295 → Grows (with_text text a) old
+pub number_sent : (text : List ℕ) (a b old new : Table) → length old ≤ MOST_TEXTS → Grows (with_text text a) old
     → Grows (with_text text b) new → number_of text b ≡ number_in new old (number_of text a)
 number_sent text a b old new few here there =
     number_later text b new there ∙ ap (λ t. number_of t new) (sym (text_later text a old here few))

@@ -4,6 +4,7 @@ use Rattle.serde_json.specs.Data.{Items}
 use Rattle.meaning.specs.Trees.{Block}
 use Rattle.spelling.specs.Scope.{Numbers, Setting, no_numbers}
 use Rattle.spelling.specs.Spelled.{blocks_of}
+use Rattle.merging.specs.declared.tables.TheConstants.{MOST_TEXTS}
 use Rattle.merging.specs.Renumbered.{merged, new_number, numbers_in, renumbered}
 
 -- What is read after texts that are numbered before is what is read alone, where each item and each reason has the number of its
@@ -17,6 +18,6 @@ pub record IsReadAfter (before : Numbers) (alone after : List Block × Numbers) 
 
 -- Transactions are read so after others, where no more texts are numbered than an item has numbers.
 abbrev pub ReadAfterLaw : Type 0
-ReadAfterLaw = (setting : Setting) (before : Numbers) (ds : Items) → length (blocks_of setting no_numbers ds).1.items ≤ 4294967295
-    → length (blocks_of setting no_numbers ds).1.reasons ≤ 4294967295
+ReadAfterLaw = (setting : Setting) (before : Numbers) (ds : Items) → length (blocks_of setting no_numbers ds).1.items ≤ MOST_TEXTS
+    → length (blocks_of setting no_numbers ds).1.reasons ≤ MOST_TEXTS
     → IsReadAfter before (blocks_of setting no_numbers ds) (blocks_of setting before ds)

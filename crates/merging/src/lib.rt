@@ -1,5 +1,5 @@
-//! Reads ranges of a document alone, and puts what was read after one another, with the numbers that
-//! the document's items and reasons have.
+//! Reads ranges of a document alone, and puts what was read after one another, by the numbers that
+//! items and reasons have in the whole document.
 #![tactic(auto)]
 
 mod blocks;

@@ -27,7 +27,7 @@ fn renumber_blocks(numbers: &NewNumbers, blocks: &mut Vec<Block>)
     }
 }
 
-/// Gives each item and each reason of a range its new number. Where all stay, no block is looked at.
+/// Gives each item and each reason of a range its new number. Where all stay, no block is read.
 fn renumber_part(part: &mut Part)
     ensures { map block_view part.new.blocks.items ≡ renumbered_part part.old }
 {

@@ -100,8 +100,8 @@ fn place_range(
     state: &mut State,
 ) -> Result<Part, Stop>
     requires { before ≤ MAX_TRANSACTIONS }
-    ensures read { IfOk result (λ part. IsPlaced (setting_of declared.now) read before state.old part
-        state.new) }
+    ensures read { IfOk result (λ part. IsPlaced (setting_of declared.now) read before state.old
+        part state.new) }
     ensures few { IfOk result (λ part. before + length part.blocks.items ≤ MAX_TRANSACTIONS) }
     ensures labels { OnOk result (state.new.labels ≡ state.old.labels) }
 {

@@ -1,32 +1,29 @@
-use Rattle.std.proofs.Common.{◌≡◌, [], ◌++◌, drop, length, take, subst, sym, ap, ◌∙◌, arith, rules}
-use Rattle.std.proofs.Math.Seq.{take-append_seam}
+use Rattle.std.proofs.Common.{◌≡◌, [], length, subst, sym, ap, ◌∙◌, arith, rules}
 use Rattle.std.proofs.lemmas.List.{length-map}
 use Rattle.batch.specs.Views.{block_view}
 use Rattle.pull.specs.Ranges.{reached}
 use Rattle.spelling.specs.Scope.{setting_of}
 use Rattle.merging.specs.Parts.{blocks_in, renumbered_parts}
 use Rattle.merging.specs.RangeReads.{AreMerged}
+use Rattle.merging.proofs.PartLemmas.{in_place}
 use Rattle.merging.proofs.ranges.merge_ranges.Goals as goal
 
 pub returns-clause-read : goal.returns-clause-read
 returns-clause-read g c =
     let parts = c.in_ok-parts.parts in
     let new = c.renumber_parts.new.parts in
+    let start = reached c.args.state.now [] in
     let old : c.deref_mut.result.now ≡ parts.items = search rules in
-    let size : parts.len ≡ length new = search rules in
-    let kept : take parts.len (new ++ drop (length new) parts.items) ≡ new =
-    ap (λ n. take n (new ++ drop (length new) parts.items)) size ∙ take-append_seam new _ in
+    let kept = in_place parts.len parts.items new (search rules) in
     let all = c.in_ok-blocks.ensures ∙ ap blocks_in kept ∙ c.renumber_parts.ensures ∙ ap renumbered_parts old in
-    subst (λ bs. AreMerged (setting_of c.args.declared.now) c.args.reads.items (reached c.args.state.now []) (reached c.place_ranges.new.state bs))
-    (sym all) c.in_ok-parts.ensures.read
+    subst (λ bs. AreMerged (setting_of c.args.declared.now) c.args.reads.items start (reached c.place_ranges.new.state bs)) (sym all)
+    c.in_ok-parts.ensures.read
 
 pub returns-clause-few : goal.returns-clause-few
 returns-clause-few g c =
     let parts = c.in_ok-parts.parts in
     let new = c.renumber_parts.new.parts in
     let old : c.deref_mut.result.now ≡ parts.items = search rules in
-    let size : parts.len ≡ length new = search rules in
-    let kept : take parts.len (new ++ drop (length new) parts.items) ≡ new =
-    ap (λ n. take n (new ++ drop (length new) parts.items)) size ∙ take-append_seam new _ in
+    let kept = in_place parts.len parts.items new (search rules) in
     let all = c.in_ok-blocks.ensures ∙ ap blocks_in kept ∙ c.renumber_parts.ensures ∙ ap renumbered_parts old in
     omega (arith, ap length all, length-map c.in_ok-blocks.blocks.items block_view, c.in_ok-parts.ensures.few)

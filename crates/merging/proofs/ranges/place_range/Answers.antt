@@ -1,10 +1,11 @@
-use Rattle.std.proofs.Common.{◌≡◌, ◌≤◌, ◌++◌, map, length, ap, sym, subst, ◌∙◌, arith}
+use Rattle.std.proofs.Common.{◌≡◌, ◌≤◌, ◌++◌, ℕ, List, map, length, ap, sym, subst, ◌∙◌, arith}
 use Rattle.batch.specs.Names.{texts_of}
 use Rattle.spelling.specs.Scope.{setting_of}
 use Rattle.spelling.proofs.TableLemmas.{length-texts_of}
 use Rattle.pull.specs.Ranges.{AreRead, left_by, reached}
 use Rattle.merging.specs.AfterRange.{counts_after, numbers_after}
 use Rattle.merging.specs.RangeReads.{reached_alone}
+use Rattle.merging.specs.declared.tables.TheConstants.{MOST_TEXTS}
 use Rattle.merging.specs.Renumbered.{new_number, numbers_in, renumbered}
 use Rattle.merging.proofs.AfterRange.{range_after}
 use Rattle.merging.proofs.ranges.place_range.Goals as goal
@@ -21,13 +22,13 @@ returns-clause-read c blocks size old read =
     let counted = c.in_ok-add_counts.ensures in
     let first = c.in_ok-new_items.ensures in
     let second = c.in_ok-new_reasons.ensures in
-    let few_items : length items ≤ 4294967295 = omega (
+    let few_items : length items ≤ MOST_TEXTS = omega (
       arith,
       length-texts_of c.args.read.numbering.items.keys,
       c.len-else-before-len-gt-MAX_TRANSACTIONS.ensures.len,
       c.if-len-gt-MOST_TEXTS.false,
     ) in
-    let few_reasons : length reasons ≤ 4294967295 = omega (
+    let few_reasons : length reasons ≤ MOST_TEXTS = omega (
       arith,
       length-texts_of c.args.read.numbering.reasons.keys,
       c.len-else-len-gt-MOST_TEXTS.ensures.len,
@@ -36,13 +37,13 @@ returns-clause-read c blocks size old read =
     let later = range_after setting old (left_by c.args.read.last) base alone read counted.operations counted.nodes few_items few_reasons in
     let counts : counts_after (length blocks) c.args.state.now.counts c.args.read.counts ≡ c.add_counts.new.counts =
     ap (λ n. counts_after n c.args.state.now.counts c.args.read.counts) size ∙ sym counted.counts in
-    let named : blocks ++ map (renumbered (new_number (numbers_in (numbers_after base.numbers alone.numbers).items items))
-    (new_number (numbers_in (numbers_after base.numbers alone.numbers).reasons reasons))) alone.blocks
-    ≡ blocks ++ map (renumbered (new_number (numbers_in new_items items)) (new_number (numbers_in new_reasons reasons))) alone.blocks =
-    λ i. blocks ++ map (renumbered (new_number (numbers_in (sym first.table i) items))
-    (new_number (numbers_in (sym second.table i) reasons))) alone.blocks in
-    let moved : blocks ++ map (renumbered (new_number (numbers_in new_items items)) (new_number (numbers_in new_reasons reasons))) alone.blocks
-    ≡ blocks ++ map (renumbered (new_number c.in_ok-new_items.new_items.items) (new_number c.in_ok-new_reasons.new_reasons.items)) alone.blocks =
+    let under = λ (is rs : List ℕ). blocks ++ map (renumbered (new_number is) (new_number rs)) alone.blocks in
+    let all = numbers_after base.numbers alone.numbers in
+    let named : under (numbers_in all.items items) (numbers_in all.reasons reasons)
+    ≡ under (numbers_in new_items items) (numbers_in new_reasons reasons) =
+    λ i. under (numbers_in (sym first.table i) items) (numbers_in (sym second.table i) reasons) in
+    let moved : under (numbers_in new_items items) (numbers_in new_reasons reasons)
+    ≡ under c.in_ok-new_items.new_items.items c.in_ok-new_reasons.new_reasons.items =
     λ i. blocks ++ map (renumbered (λ n. sym (first.numbers n) i) (λ n. sym (second.numbers n) i)) alone.blocks in
     let together = named ∙ moved in
     subst (AreRead setting old (left_by c.args.read.last) base)

@@ -24,6 +24,7 @@ loop-read-preserved c =
     let blocks = renumbered_parts l.parts.items in
     let all = ap renumbered_parts c.in_ok-push.ensures.items ∙ one_more l.parts.items part in
     let new = c.place_range.new.state in
+    let size = ap length all ∙ length-append blocks (renumbered_part part) in
     let change = renumbered (new_number part.numbers.items.items) (new_number part.numbers.reasons.items) in
     let many = length-map (map block_view part.blocks.items) change ∙ length-map part.blocks.items block_view in (
       λ q merged. l.invariant.0 q (subst (λ reads. AreMerged setting reads (reached l.state blocks) q) (sym rest) (
@@ -31,7 +32,7 @@ loop-read-preserved c =
         placed.read blocks (sym l.invariant.1),
         subst (λ bs. AreMerged setting others (reached new bs) q) all merged,
       )),
-      omega (arith, l.invariant.1, c.len-before.ensures, part.blocks.ok.0, ap length all, length-append blocks (renumbered_part part), many),
+      omega (arith, l.invariant.1, c.len-before.ensures, part.blocks.ok.0, size, many),
       omega (arith, c.len-before.ensures, part.blocks.ok.0, placed.few),
       placed.labels ∙ l.invariant.3,
     )
