@@ -10,7 +10,7 @@ ghost use Rattle.batch.specs.Names.{names_of};
 ghost use Rattle.batch.specs.Views.{block_view, record_view};
 ghost use Rattle.report.specs.Parts.{IsBefore, last_cut, lines_from, objects_from, transaction_from, transactions};
 
-use crate::cuts::{Cut, about_lines};
+use crate::cuts::{Cut, least_lines};
 use crate::lines::{write_end, write_step};
 use crate::names::object_name;
 use crate::values::write_value;
@@ -95,7 +95,10 @@ fn text_between(alloc: Global, records: &[Record], from: Cut, to: Cut) -> String
     requires within { to.entry ≤ length records.now }
     ensures { string_bytes result ≡ [] }
 {
-    let lines = about_lines(&records[from.entry..to.entry]).saturating_add(to.line);
+    let mut lines = to.line;
+    for record in &records[from.entry..to.entry] {
+        lines = lines.saturating_add(least_lines(record));
+    }
     let mut text = String::new(alloc);
     // Where this is refused, the text grows as it is written.
     let _ = text.reserve(lines.saturating_sub(from.line).saturating_mul(LINE));

@@ -174,12 +174,7 @@ fn entries_of(value: &Value) -> usize {
     }
 }
 
-/// About how many lines transactions have.
-pub(crate) fn about_lines(records: &[Record]) -> usize {
-    lines_by(records, stride_of(records))
-}
-
-// The same, where one outermost step of so many is looked at.
+// About how many lines transactions have, where one outermost step of so many is looked at.
 fn lines_by(records: &[Record], stride: usize) -> usize {
     let mut count = 0;
     for record in records {
@@ -254,4 +249,28 @@ fn lines_of_children(children: &[(Record, Option<Record>)], levels: usize) -> us
         looked += 1;
     }
     count
+}
+
+/// At least so many lines a transaction has: its own, and those of its outermost steps and of the
+/// steps in their bodies. No step further inside is looked at.
+pub(crate) fn least_lines(record: &Record) -> usize {
+    let mut lines = record.taken.len().saturating_add(1);
+    for taken in &record.taken {
+        lines = lines.saturating_add(match taken {
+            Taken::Op(_) | Taken::Abort => 0,
+            Taken::If(_, branch) => branch.taken.len(),
+            Taken::Sub(body, _) => body.taken.len(),
+            Taken::Parallel(children) => least_lines_of(children),
+        });
+    }
+    lines
+}
+
+// The same of children.
+fn least_lines_of(children: &[(Record, Option<Record>)]) -> usize {
+    let mut lines: usize = 0;
+    for (body, _) in children {
+        lines = lines.saturating_add(body.taken.len()).saturating_add(1);
+    }
+    lines
 }
