@@ -1,7 +1,6 @@
 -- Documents that are read a transaction at a time.
 use Rattle.std.proofs.Common.{◌≡◌, ◌≤◌, ℕ, [], Some, Result, Ok, Err, subst, ap, ◌∙◌}
 use Rattle.std.specs.Prelude.{MatchResult, codes}
-use Rattle.std.specs.Result.{result_ok}
 use Rattle.serde_json.specs.Data.{Items}
 use Rattle.spelling.specs.declared.counts.Counts.{Counts}
 use Rattle.faults.specs.declared.fault.Fault.{Fault}
@@ -12,11 +11,6 @@ use Rattle.spelling.specs.Places.{transactions_placed}
 use Rattle.pull.specs.Pulled.{in_order}
 use Rattle.lang.proofs.AskedLemmas.{after_objects, after_shape, behind, objects, transactions}
 use Rattle.pull.proofs.PulledDocument.{version_read}
-
--- a result of which the value is kept
-pub known_ok : {T E : Type 0} (r : Result T E) (x : T) → Some x ≡ result_ok r → r ≡ Ok x
-known_ok (Ok y) x e = cc
-known_ok (Err y) x e = absurd cc
 
 -- what is said of a result that is known
 pub matched_ok : {T E : Type 0} (r : Result T E) (x : T) (P : T → Type 0) (Q : E → Type 0) → r ≡ Ok x → MatchResult r P Q → P x

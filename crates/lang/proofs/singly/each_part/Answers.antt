@@ -21,18 +21,17 @@ use Rattle.lang.proofs.singly.each_part.Goals as goal
 pub returns-in-Err : goal.returns-in-Err
 returns-in-Err c =
     let version = c.in_ok-version.version in
-    let is : c.pull_head.result ≡ Ok (version, c.in_ok-version.objects) = known_ok _ _ c.in_ok-version.ensures.value in
-    let known = IfOk-at_ok _ is c.pull_head.ensures.version in
+    let known = c.in_ok-version.ensures.version in
     let os = items_view c.in_ok-version.objects.items in
     let start = c.args.state.now.counts in
-    let rest = c.in-Ok-pass_items.ensures.ok in
+    let rest = c.in_ok-pass_items-in-Err.ensures.ok in
     let ts = rest.0 in
     let new = c.pull_end_object.new.reader in
     let unmet = c.in-Err.unmet in
     let ended : c.pass_items.new.reader ≡ Token.end_object ∷ new = grind (arith, rules) in
     let failed : IsFound start (objects_placed version [] 0 os) unmet = c.in-Err.ensures.unmet in (
       in_order version os ts,
-      nothing_later version os c.args.reader.now c.pull_head.new.reader (IfOk-at_ok _ is c.pull_head.ensures.reads) ts new
+      nothing_later version os c.args.reader.now c.pull_head.new.reader (c.in_ok-version.ensures.reads) ts new
           (subst (λ l. ReadsItems 125 c.pull_head.new.reader ts l) ended rest.1),
       λ shape other. objects_failed version os ts known.0 known.1 start shape unmet.fault (ap fault_of (failed other)),
     )
@@ -40,8 +39,7 @@ returns-in-Err c =
 pub returns-in-Ok-answer : goal.returns-in-Ok-answer
 returns-in-Ok-answer c =
     let version = c.in_ok-version.version in
-    let is : c.pull_head.result ≡ Ok (version, c.in_ok-version.objects) = known_ok _ _ c.in_ok-version.ensures.value in
-    let known = IfOk-at_ok _ is c.pull_head.ensures.version in
+    let known = c.in_ok-version.ensures.version in
     let declared = c.in-Ok.declared in
     let setting = setting_of declared in
     let os = items_view c.in_ok-version.objects.items in
@@ -62,9 +60,9 @@ returns-in-Ok-answer c =
     let set : setting ≡ declared_by version os = c.in-Ok.ensures.setting in
     let started : (declared.objects, between) ≡ starts_of version numbers os = c.in-Ok.ensures.objects in
     let few : items_len os ≤ 1000 = omega
-    (arith, items_len-items_view c.in_ok-version.objects.items, IfOk-at_ok _ is c.pull_head.ensures.objects) in (
+    (arith, items_len-items_view c.in_ok-version.objects.items, c.in_ok-version.ensures.objects) in (
       in_order version os ts,
-      nothing_later version os c.args.reader.now c.pull_head.new.reader (IfOk-at_ok _ is c.pull_head.ensures.reads) ts new
+      nothing_later version os c.args.reader.now c.pull_head.new.reader (c.in_ok-version.ensures.reads) ts new
           reads,
       (
         in_order_met version os ts known.0 known.1 start mid next few done.2 met
@@ -78,8 +76,7 @@ returns-in-Ok-answer c =
 pub returns : goal.returns
 returns c =
     let version = c.in_ok-version.version in
-    let is : c.pull_head.result ≡ Ok (version, c.in_ok-version.objects) = known_ok _ _ c.in_ok-version.ensures.value in
-    let known = IfOk-at_ok _ is c.pull_head.ensures.version in
+    let known = c.in_ok-version.ensures.version in
     let setting = setting_of c.in-Ok.declared in
     let os = items_view c.in_ok-version.objects.items in
     let answer = c.in_ok-answer.ensures in
@@ -96,7 +93,7 @@ returns c =
     let first : IsFirstOf mid (transactions_placed (declared_by version os) 0 ts) e =
     subst (λ x. IsFirstOf mid (transactions_placed x 0 ts) e) set failed in (
       in_order version os ts,
-      nothing_later version os c.args.reader.now c.pull_head.new.reader (IfOk-at_ok _ is c.pull_head.ensures.reads) ts new
+      nothing_later version os c.args.reader.now c.pull_head.new.reader (c.in_ok-version.ensures.reads) ts new
           reads,
       λ shape other. transactions_failed version os ts known.0 known.1 start shape mid e met (first other),
     )

@@ -75,7 +75,7 @@ returns-in-Err c =
     let new = c.pass_items.new.reader in
     let e = c.in-Err.fault in
     let failed = matched_err c.in_ok-block.field-0 e _ _ c.in-Err.is answer.2 in
-    let rest = c.in-Ok-pass_items.ensures.ok in
+    let rest = c.in_ok-pass_items-in-Err.ensures.ok in
     let ds = rest.0 in (
       l.invariant.0 (item d ds),
       l.invariant.1 (item d ds) new
