@@ -1,17 +1,15 @@
 -- Ranges of a document that threads read, put together.
-use Rattle.std.proofs.Common.{◌≡◌, ◌≤◌, ◌<◌, ◌+◌, ◌-◌, ◌⊎◌, inl, inr, ℕ, suc, List, [], ◌∷◌, ◌++◌, length, map, take, drop, get_or}
+use Rattle.std.proofs.Common.{◌≡◌, ◌≤◌, ◌<◌, ◌+◌, ◌-◌, inl, inr, ℕ, suc, List, [], ◌∷◌, ◌++◌, length, map, take, drop, get_or}
 use Rattle.std.proofs.Common.{Result, Ok, refl, sym, subst, ap, ◌∙◌, arith}
 use Rattle.std.proofs.lemmas.List.{drop-drop, drop_more, take-append-drop, take_rest}
-use Rattle.std.specs.Prelude.{IfOk, slice_range}
+use Rattle.std.specs.Prelude.{IfOk}
 use Rattle.json.specs.Lex.{tokens}
 use Rattle.json.specs.Token.{Token, begin_array, end_array, end_object}
 use Rattle.spelling.specs.Scope.{Setting}
 use Rattle.cuts.specs.Whole.{is_left}
 use Rattle.cuts.proofs.Places.{tokens_cut}
 use Rattle.pull.specs.Ranges.{AreRead, Reached, left_by}
-use Rattle.pull.specs.declared.ranges.RangeEnd.TheVariants.{Transaction, Document}
 use Rattle.pull.proofs.RangeLemmas.{array_whole, read_on}
-use Rattle.pull.specs.declared.ranges.RangeEnd.{RangeEnd}
 use Rattle.pull.specs.declared.stop.Stop.{Stop}
 use Rattle.merging.specs.RangeReads.{AreMerged, IsReadAlone, text_of}
 use Rattle.merging.specs.declared.ranges.RangeRead.{RangeRead}
