@@ -205,7 +205,8 @@ module _ (v : Bool) (y : List ℕ) where
   -- the same of a byte before the text
   step : (m : Mode) (c : Class) (x : ℕ) (xs : List ℕ) → ((n : Mode) → GoesOn n xs)
       → all_good (lex_byte m c x xs (λ n. lex n xs)) ≡ true → closing_byte m c (λ n. has_close n xs) ≡ true
-      → lex_byte m c x (xs ++ behind) (λ n. lex n (xs ++ behind)) ≡ lex_byte m c x xs (λ n. lex n xs) ++ (operator_lexeme (mark v) ∷ lex between y)
+      → lex_byte m c x (xs ++ behind) (λ n. lex n (xs ++ behind))
+      ≡ lex_byte m c x xs (λ n. lex n xs) ++ (operator_lexeme (mark v) ∷ lex between y)
   unfolding all_good
   step between quote x xs on good close =
       let parts = and_parts (is_good (string_token (content plain xs))) _ good in

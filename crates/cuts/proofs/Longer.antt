@@ -27,7 +27,8 @@ module _ (more : List Token) where
   mapped f ts (Some p) y k = (ap (parse_map f) k.0, k.1)
 
   -- of what is read after some tokens
-  passed : {A : Type 0} (ts r : List Token) (x y : Option (A × List Token)) → ((v b : Bool) → is_left v true r ≡ true → is_left v b ts ≡ true)
+  passed : {A : Type 0} (ts r : List Token) (x y : Option (A × List Token))
+      → ((v b : Bool) → is_left v true r ≡ true → is_left v b ts ≡ true)
       → Kept r x y → Kept ts x y
   passed ts r None y w k = tt
   passed ts r (Some q) y w k = (k.0, λ v b h. w v b (k.1 v true h))

@@ -60,7 +60,8 @@ module _ (v : Bool) where
   allowed_good false e t next ls all h = absurd (false≢true h)
 
   -- the same of any token
-  token_good : (p : Place) (t : Token) (c e : Bool) (ls : List Lexeme) → Good ls → is_left v e (place_token p t c (λ n. punctuate n ls)) ≡ true
+  token_good : (p : Place) (t : Token) (c e : Bool) (ls : List Lexeme) → Good ls
+      → is_left v e (place_token p t c (λ n. punctuate n ls)) ≡ true
       → all_good (token t ∷ ls) ≡ true
   unfolding is_left all_good
   token_good p begin_object c e ls all h = allowed_good (may_begin p) e begin_object fresh ls all h

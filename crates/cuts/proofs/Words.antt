@@ -71,7 +71,8 @@ module _ (v : Bool) (y : List ℕ) where
   digits : (t : List ℕ) → Follows (length t) behind (after_digits t) (after_digits (t ++ behind))
   digits t =
       subst (λ k. Follows (length t) behind (after_digits t) (cond (k == 0) None (Some (drop k (t ++ behind)))))
-      (sym (prefix_same is_ascii_digit (of_mark (λ c. is_ascii_digit c ≡ false) refl refl v) t)) (dropped t (prefix_len is_ascii_digit t) (prefix_len-le-length is_ascii_digit t))
+      (sym (prefix_same is_ascii_digit (of_mark (λ c. is_ascii_digit c ≡ false) refl refl v) t))
+      (dropped t (prefix_len is_ascii_digit t) (prefix_len-le-length is_ascii_digit t))
 
   -- what is left of a text, of which a first byte may be passed
   abbrev Passed : List ℕ → List ℕ → List ℕ → Type 0
@@ -161,14 +162,21 @@ module _ (v : Bool) (y : List ℕ) where
       ap (λ b. (b && pointwise nat_eq name (take (length name) y)) && ends_word (drop (length name) y)) none.0
   literal_ends (a ∷ name) (x ∷ t) none = guarded (nat_eq a x) _ _ _ _ (literal_ends name t none.1)
 
+  -- a name that has neither mark
+  of_name : (name : List ℕ) → HasNone 44 name → HasNone 91 name → HasNone (mark v) name
+  of_name name f g = of_mark (λ c. HasNone c name) f g v
+
   -- a word is the same token
   pub word_same : (x : ℕ) (t : List ℕ) → word (x ∷ (t ++ behind)) ≡ word (x ∷ t)
   unfolding word
   word_same x t =
       let w = x ∷ t in
-      let yes = literal_ends ascii.true_text w (of_mark (λ c. HasNone c ascii.true_text) (refl, (refl, (refl, (refl, tt)))) (refl, (refl, (refl, (refl, tt)))) v) in
-      let no = literal_ends ascii.false_text w (of_mark (λ c. HasNone c ascii.false_text) (refl, (refl, (refl, (refl, (refl, tt))))) (refl, (refl, (refl, (refl, (refl, tt))))) v) in
-      let none = literal_ends ascii.null_text w (of_mark (λ c. HasNone c ascii.null_text) (refl, (refl, (refl, (refl, tt)))) (refl, (refl, (refl, (refl, tt)))) v) in
+      let yes = literal_ends ascii.true_text w
+      (of_name ascii.true_text (refl, (refl, (refl, (refl, tt)))) (refl, (refl, (refl, (refl, tt))))) in
+      let no = literal_ends ascii.false_text w
+      (of_name ascii.false_text (refl, (refl, (refl, (refl, (refl, tt))))) (refl, (refl, (refl, (refl, (refl, tt)))))) in
+      let none = literal_ends ascii.null_text w
+      (of_name ascii.null_text (refl, (refl, (refl, (refl, tt)))) (refl, (refl, (refl, (refl, tt))))) in
       let numbers = number_same w (after_number w) _ (numeral w) in
       λ i. cond (x == ascii.lower_t) (cond (yes i) (boolean true) bad) (cond (x == ascii.lower_f) (cond (no i) (boolean false) bad)
       (cond (x == ascii.lower_n) (cond (none i) null bad) (numbers i)))

@@ -7,7 +7,7 @@ use Rattle.serde_json.specs.Data.{Items}
 use Rattle.spelling.specs.Scope.{Numbers, setting_of}
 use Rattle.spelling.specs.declared.counts.Counts.{Counts}
 use Rattle.spelling.specs.declared.declared.Declared.{Declared}
-use Rattle.cuts.specs.Whole.{is_whole}
+use Rattle.cuts.specs.Whole.{is_left}
 use Rattle.cuts.proofs.Places.{tokens_cut}
 use Rattle.pull.specs.Pulled.{ReadsItems, ReadsValue, in_order}
 use Rattle.pull.specs.Ranges.{AreRead, IsBegun, Reached}
@@ -20,7 +20,7 @@ pub begun_further : (declared : Declared) (start : Counts) (numbers : Numbers) (
     → e < length t → e + 1 ≤ f → get_or t e 0 ≡ 44 → range ≡ take (f - (e + 1)) (drop (e + 1) t)
     → IsBegun (tokens (take e t)) [] declared start numbers q → tokens range ≡ begin_array ∷ rest
     → AreRead (setting_of declared) (tokens range) left q r → IsBegun (tokens (take f t)) left declared start numbers r
-unfolding is_whole
+unfolding is_left
 begun_further declared start numbers t range e f left rest q r within behind comma is begun begins read =
     let whole = begun.whole refl in
     let text : take f t ≡ take e t ++ (44 ∷ range) =

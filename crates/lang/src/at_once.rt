@@ -1,26 +1,30 @@
 //! Reads a document in the common form in ranges of its text, which threads read side by side.
 //!
-//! The head and the first transaction are read first. Then each thread reads a range alone, with
-//! counts and numbers of its own, and what was read is put together in the order of the text.
-ghost use Rattle.std.specs.Prelude.{◌≡◌, ◌≤◌, ◌<◌, ◌+◌, ℕ, [], length, map, slice_index, slice_index_or, true, IfOk};
+//! The calling thread reads the head, up to the bracket that begins the transactions. Each thread
+//! then reads a range of them alone, with counts and numbers of its own. What was read is put
+//! together in the order of the text.
+ghost use Rattle.std.specs.Prelude.{◌≡◌, ◌≤◌, ◌<◌, ◌+◌, ℕ, [], false, length, map, slice_index};
+ghost use Rattle.std.specs.Prelude.{slice_index_or, true, IfOk, IfSome, Ok, OnOk};
 ghost use Rattle.json.specs.Lex.{tokens};
 ghost use Rattle.serde_json.specs.Data.{Data};
 ghost use Rattle.batch.specs.Names.{texts_of};
 ghost use Rattle.batch.specs.Views.{block_view};
+ghost use Rattle.cuts.specs.Whole.{is_open};
+ghost use Rattle.lang.specs.AtOnce.{Follow};
 ghost use Rattle.merging.specs.RangeReads.{IsReadAlone};
 ghost use Rattle.pull.specs.Pulled.{ReadsValue};
+ghost use Rattle.pull.specs.Ranges.{IsHead};
 ghost use Rattle.spelling.specs.Answer.{AreMet};
 ghost use Rattle.spelling.specs.Asked.{names_of, objects_in};
 ghost use Rattle.spelling.specs.Places.{placed};
 ghost use Rattle.spelling.specs.Scope.{numbers_of, scope_of, setting_of};
 ghost use Rattle.spelling.specs.Spelled.{parts_in, spelled};
 
-use crate::ranges::{first_range, range_end};
-use cuts::next_cut;
-use json::Scratch;
+use crate::ranges::range_end;
+use json::{Reader, Scratch};
 use memchr::memmem;
-use merging::ranges::{RangeRead, merge_range, read_range};
-use pull::ranges::RangeEnd;
+use merging::ranges::{RangeRead, merge_ranges, read_range};
+use pull::ranges::{RangeEnd, pull_head_alone};
 use pull::stop::Stop;
 use spelling::declared::{Declared, Parts};
 use spelling::hashing::NameHashing;
@@ -28,31 +32,86 @@ use spelling::state::State;
 use std::alloc::Global;
 use std::thread::{Threads, map_indices};
 
-/// Where the first transaction ends, if others come after it.
-fn head_end(text: &[u8]) -> Option<usize> {
-    let member = memmem::find(text, b"\"transactions\"")?;
-    let bracket = next_cut(text, member)?;
-    Some(bracket + 1)
+/// The name of the member that has the transactions.
+const NAME: &[u8] = b"\"transactions\"";
+
+/// The place of this byte, if it comes first from a place on but for white space.
+fn byte_next(text: &[u8], from: usize, byte: u8) -> Option<usize>
+    requires { from ≤ length text.now }
+    ensures { IfSome result (λ at. (at < length text.now) × (slice_index text.now at ≡ byte)) }
+{
+    let mut at = from;
+    while at < text.len() {
+        if text[at] == byte {
+            return Some(at);
+        }
+        if !text[at].is_ascii_whitespace() {
+            return None;
+        }
+        at += 1;
+    }
+    None
 }
 
-/// Where the ranges after the head begin and end: so many at most, of about the same length.
-fn ranges_after(
+/// The place of the bracket that begins the transactions: the first one that comes, after a colon,
+/// behind the name of this member. But for white space nothing is in between.
+fn head_end(text: &[u8]) -> Option<usize>
+    ensures { IfSome result (λ at. (at < length text.now) × (slice_index text.now at ≡ 91)) }
+{
+    let mut from = 0;
+    while let Some(found) = memmem::find(&text[from..], NAME) {
+        from += found + NAME.len();
+        if let Some(colon) = byte_next(text, from, b':') {
+            if let Some(bracket) = byte_next(text, colon + 1, b'[') {
+                return Some(bracket);
+            }
+        }
+    }
+    None
+}
+
+/// How long a range is at the least, where so many are to come of a text of this length.
+fn least_of(length: usize, parts: usize) -> usize
+    ensures { result ≤ length }
+{
+    let share = length / parts.max(1);
+    if parts < 2 { length } else { share - share / 32 }
+}
+
+/// Where the ranges begin and end: so many at most, of about the same length.
+fn ranges_from(
     alloc: Global,
     text: &[u8],
-    head: usize,
+    begin: usize,
     parts: usize,
 ) -> Result<Vec<(usize, usize)>, Stop>
-    requires { head ≤ length text.now }
+    requires { begin ≤ length text.now }
 {
-    let share = (text.len() - head) / parts.max(1);
     let mut ranges = Vec::new(alloc);
-    let mut end = head;
+    let mut left = parts;
+    let mut end = range_end(text, begin, least_of(text.len() - begin, left));
+    ranges.push((begin, end))?;
     while end < text.len() {
-        let begin = end + 1;
-        end = range_end(text, begin, share);
-        ranges.push((begin, end))?;
+        left = left.saturating_sub(1);
+        let next = end + 1;
+        end = range_end(text, next, least_of(text.len() - next, left));
+        ranges.push((next, end))?;
     }
     Ok(ranges)
+}
+
+/// What the text declares, which is the head of a document.
+fn read_head(alloc: Global, head: &str, state: &mut State) -> Result<Declared, Stop>
+    requires { scope_of state.old.labels.entries ≡ [] }
+    ensures head { IfOk result (λ declared. IsHead (tokens head.now) [] declared
+        state.old.counts (numbers_of state.old.numbering)
+        state.new.counts (numbers_of state.new.numbering)) }
+    ensures begun { OnOk result (is_open false (tokens head.now) ≡ true) }
+    ensures scope { OnOk result (scope_of state.new.labels.entries ≡ []) }
+{
+    let mut scratch = Scratch::new(alloc);
+    let mut reader = Reader::new(head, &mut scratch)?;
+    pull_head_alone(alloc, &mut reader, state)
 }
 
 /// What the threads read: each range alone.
@@ -78,16 +137,48 @@ fn read_each<T: Threads + Sync>(
     Ok(reads)
 }
 
-/// Whether a comma is at the end of a range, and the next one begins right after it.
-fn follows(text: &[u8], end: usize, begin: usize) -> bool
-    ensures { result ≡ true → (end < length text.now) × (slice_index text.now end ≡ 44)
-        × (begin ≡ end + 1) }
+/// The ranges, where each was read.
+fn gathered(alloc: Global, found: Vec<Result<RangeRead, Stop>>) -> Result<Vec<RangeRead>, Stop>
+    ensures { IfOk result (λ reads. map Ok reads.items ≡ found.items) }
 {
-    end < text.len() && text[end] == b',' && begin == end + 1
+    let mut reads = Vec::with_capacity(alloc, found.len())?;
+    for read in found {
+        reads.push(read?)?;
+    }
+    Ok(reads)
+}
+
+/// Whether the ranges follow one another from this place to the end of the text, which is that of
+/// the document: each but the last ends after a transaction, at a comma.
+fn follow(text: &[u8], begin: usize, reads: &[RangeRead]) -> bool
+    ensures { result ≡ true → Follow text.now begin reads.now }
+{
+    let mut next = begin;
+    let mut ended = false;
+    for read in reads {
+        if ended || read.begin != next || read.end > text.len() {
+            return false;
+        }
+        match read.last {
+            RangeEnd::Document => {
+                ended = true;
+                if read.end < text.len() {
+                    return false;
+                }
+            }
+            RangeEnd::Transaction => {
+                if read.end == text.len() || text[read.end] != b',' {
+                    return false;
+                }
+                next = read.end + 1;
+            }
+        }
+    }
+    ended
 }
 
 /// The parts of the document that the text spells, if it is in the common form, from so many
-/// ranges at most after the first transaction, each of which a thread reads.
+/// ranges at most, each of which a thread reads.
 pub(crate) fn pull_at_once<T: Threads + Sync>(
     threads: &T,
     alloc: Global,
@@ -105,31 +196,18 @@ pub(crate) fn pull_at_once<T: Threads + Sync>(
         ≡ parts_in (numbers_of state.old.numbering) d)) }
 {
     let bytes = text.as_bytes();
-    let mut end = head_end(bytes).ok_or(Stop::OtherForm)?;
-    let head = text.get(0..end).ok_or(Stop::OtherForm)?;
-    let mut scratch = Scratch::new(alloc);
-    let (first, mut last) = first_range(alloc, head, &mut scratch, state)?;
-    let declared = first.declared;
-    let mut transactions = first.transactions;
-    let ranges = ranges_after(alloc, bytes, end, parts)?;
-    let reads = read_each(threads, alloc, text, &ranges, &declared, hashing)?;
-    for read in reads {
-        let read = read?;
-        let RangeEnd::Transaction = last else {
-            return Err(Stop::OtherForm);
-        };
-        if !follows(bytes, end, read.begin) {
-            return Err(Stop::OtherForm);
-        }
-        end = read.end;
-        last = read.last;
-        merge_range(alloc, read, &declared, &mut transactions, state)?;
+    let bracket = head_end(bytes).ok_or(Stop::OtherForm)?;
+    let head = text.get(0..bracket).ok_or(Stop::OtherForm)?;
+    let declared = read_head(alloc, head, state)?;
+    let ranges = ranges_from(alloc, bytes, bracket + 1, parts)?;
+    let found = read_each(threads, alloc, text, &ranges, &declared, hashing)?;
+    let reads = gathered(alloc, found)?;
+    if !follow(bytes, bracket + 1, &reads) {
+        return Err(Stop::OtherForm);
     }
-    match last {
-        RangeEnd::Document if end == bytes.len() => Ok(Parts {
-            declared,
-            transactions,
-        }),
-        _ => Err(Stop::OtherForm),
-    }
+    let transactions = merge_ranges(threads, alloc, reads, &declared, state)?;
+    Ok(Parts {
+        declared,
+        transactions,
+    })
 }

@@ -43,7 +43,7 @@ pub(crate) fn range_end(text: &[u8], begin: usize, least: usize) -> usize
 }
 
 /// The first range of a document.
-pub(crate) fn first_range(
+fn first_range(
     alloc: Global,
     range: &str,
     scratch: &mut Scratch,

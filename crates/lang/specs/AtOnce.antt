@@ -1,0 +1,25 @@
+-- Ranges of a document that threads read.
+use Rattle.std.specs.Prelude.{⊤, ◌≡◌, ◌<◌, ◌⊎◌, ℕ, ◌+◌, List, [], ◌∷◌, length, slice_index}
+use Rattle.spelling.specs.Scope.{Setting}
+use Rattle.pull.specs.declared.ranges.RangeEnd.TheVariants.{Transaction, Document}
+use Rattle.merging.specs.RangeReads.{IsReadAlone}
+use Rattle.merging.specs.declared.ranges.RangeRead.{RangeRead}
+
+-- each range of the text was read alone
+abbrev pub AreReadAlone : Setting → List ℕ → List RangeRead → Type 0
+AreReadAlone setting text [] = ⊤
+AreReadAlone setting text (read ∷ reads) = IsReadAlone setting text read × AreReadAlone setting text reads
+
+-- the range ends with the document and the text
+abbrev pub EndsText : List ℕ → RangeRead → Type 0
+EndsText text read = (read.last ≡ Document) × (read.end ≡ length text)
+
+-- the range ends after a transaction, at a comma
+abbrev pub EndsAtComma : List ℕ → RangeRead → Type 0
+EndsAtComma text read = (read.last ≡ Transaction) × (read.end < length text) × (slice_index text read.end ≡ 44)
+
+-- The first range begins here, and each other one right after the comma that ends the one before it. The last one ends the text.
+abbrev pub Follow : List ℕ → ℕ → List RangeRead → Type 0
+Follow text begin [] = ⊥
+Follow text begin (read ∷ reads) =
+    (read.begin ≡ begin) × ((EndsText text read × (reads ≡ [])) ⊎ (EndsAtComma text read × Follow text (read.end + 1) reads))
