@@ -15,7 +15,7 @@ use Rattle.merging.specs.RangeReads.{AreMerged, IsReadAlone, text_of}
 use Rattle.merging.specs.declared.ranges.RangeRead.{RangeRead}
 use Rattle.lang.specs.AtOnce.{AreReadAlone, EndsAtComma, EndsText, Follow}
 
--- the text from a place on is the range up to a comma, the comma, and what is behind it
+-- the text from a place on is the range up to a comma, the comma, and what is after it
 pub text_from : (t : List ℕ) (begin end : ℕ) → begin ≤ end → end < length t → get_or t end 0 ≡ 44
     → drop begin t ≡ take (end - begin) (drop begin t) ++ (44 ∷ drop (end + 1) t)
 text_from t begin end ordered within comma =

@@ -53,8 +53,8 @@ fn byte_next(text: &[u8], from: usize, byte: u8) -> Option<usize>
     None
 }
 
-/// The place of the bracket that begins the transactions: the first one that comes, after a colon,
-/// behind the name of this member. But for white space nothing is in between.
+/// The place of the bracket that begins the transactions: the first one that comes after the name of
+/// this member and a colon. But for white space nothing is in between.
 fn head_end(text: &[u8]) -> Option<usize>
     ensures { IfSome result (λ at. (at < length text.now) × (slice_index text.now at ≡ 91)) }
 {

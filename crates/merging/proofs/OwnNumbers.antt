@@ -37,7 +37,7 @@ keys_apart (k ∷ keys) distinct i j less within =
     let second = get_or-map string_bytes (k ∷ keys) j k [] below in
     (λ t. bytes_eq (first t) (second t)) ∙ apart_from_distinct string_eq (k ∷ keys) i j k distinct less below
 
--- a text that stands after others isn't listed among them
+-- a text that comes after others isn't listed among them
 not_before : (done : Table) (text : List ℕ) (rest : Table) → Apart (done ++ text ∷ rest) → is_listed text done ≡ false
 not_before done text rest apart = false_from_ne_true _ (λ listed.
     let at = listed_at text done listed in
@@ -62,7 +62,7 @@ put_apart done (text ∷ rest) apart =
 pub merged_alone : (keys : List (String Global)) → IsDistinct string_eq keys → merged [] (texts_of keys) ≡ texts_of keys
 merged_alone keys distinct = put_apart [] (texts_of keys) (keys_apart keys distinct)
 
--- a text that stands nowhere before its place is first there
+-- a text that is nowhere before its place is first there
 number_at_place : (table : Table) (n : ℕ) → Apart table → n < length table → length table ≤ MOST_TEXTS
     → number_of (get_or table n []) table ≡ n
 number_at_place table n apart below few =

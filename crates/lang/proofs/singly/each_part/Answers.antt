@@ -15,7 +15,7 @@ use Rattle.pull.specs.Pulled.{ReadsItems, in_order}
 use Rattle.pull.proofs.DocumentLemmas.{same_parts}
 use Rattle.pull.proofs.PulledDocument.{in_order_met, version_is}
 use Rattle.lang.proofs.RangeLaws.{nothing_later}
-use Rattle.lang.proofs.SinglyLemmas.{known_ok, matched_err, matched_ok, objects_failed, transactions_failed}
+use Rattle.lang.proofs.SinglyLemmas.{matched_err, matched_ok, objects_failed, transactions_failed}
 use Rattle.lang.proofs.singly.each_part.Goals as goal
 
 pub returns-in-Err : goal.returns-in-Err
