@@ -1,5 +1,5 @@
 -- Ranges that follow one another.
-use Rattle.std.proofs.Common.{◌≡◌, ◌≤◌, ◌+◌, ℕ, List, [], ◌∷◌, ◌++◌, length, false, true, refl, sym, subst, ap, ◌∙◌, append_assoc}
+use Rattle.std.proofs.Common.{◌≡◌, ◌≤◌, ◌+◌, List, [], ◌∷◌, ◌++◌, length, false, true, refl, sym, subst, ap, ◌∙◌, append_assoc}
 use Rattle.std.proofs.Common.{append-nil, arith}
 use Rattle.std.proofs.lemmas.List.{length-append}
 use Rattle.json.specs.Token.{Token, begin_array, end_array, end_object}
@@ -9,10 +9,10 @@ use Rattle.batch.specs.Names.{texts_of}
 use Rattle.meaning.specs.Trees as tree
 use Rattle.meaning.specs.declared.limits.TheConstants.{MAX_DEPTH}
 use Rattle.spelling.specs.Answer.{AreMet}
-use Rattle.spelling.specs.Asked.{declared_by, names_of, objects_in}
-use Rattle.spelling.specs.Places.{item_at, objects_placed, placed, seek, transaction_placed, transactions_placed}
+use Rattle.spelling.specs.Asked.{names_of, objects_in}
+use Rattle.spelling.specs.Places.{item_at, placed, seek, transaction_placed, transactions_placed}
 use Rattle.spelling.specs.Scope.{Numbers, Setting, setting_of}
-use Rattle.spelling.specs.Spelled.{block_of, blocks_of, parts_in, spelled, starts_of}
+use Rattle.spelling.specs.Spelled.{block_of, blocks_of, parts_in, spelled}
 use Rattle.spelling.specs.declared.counts.Counts.{Counts}
 use Rattle.spelling.specs.declared.declared.Declared.{Declared}
 use Rattle.spelling.proofs.ListLemmas.{in_front, in_front_none, in_front_push}

@@ -1,6 +1,6 @@
-use Rattle.std.proofs.Common.{◌≡◌, [], ◌∷◌, List, Some, false, true, map, refl, sym, subst, ap, ◌∙◌, arith, rules}
+use Rattle.std.proofs.Common.{◌≡◌, [], ◌∷◌, List, Some, false, true, map, sym, subst, ap, ◌∙◌, arith, rules}
 use Rattle.json.specs.Json.{after_end_array}
-use Rattle.json.specs.Token.{Token, begin_array, end_array, end_object}
+use Rattle.json.specs.Token.{begin_array, end_array, end_object}
 use Rattle.json.proofs.Grammar.{closed_array}
 use Rattle.batch.specs.Views.{block_view}
 use Rattle.meaning.specs.Trees as tree

@@ -1,4 +1,4 @@
-use Rattle.std.proofs.Common.{ap, refl, sym, ◌∙◌}
+use Rattle.std.proofs.Common.{ap}
 use Rattle.std.specs.Prelude.{false}
 use Rattle.cuts.specs.Whole.{is_left}
 use Rattle.pull.proofs.ranges.pull_head_alone.Goals as goal
