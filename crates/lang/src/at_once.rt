@@ -75,7 +75,11 @@ fn least_of(length: usize, parts: usize) -> usize
     ensures { result ≤ length }
 {
     let share = length / parts.max(1);
-    if parts < 2 { length } else { share - share / 32 }
+    if parts < 2 {
+        length
+    } else {
+        share - share / 32
+    }
 }
 
 /// Where the ranges begin and end: so many at most, of about the same length.

@@ -408,10 +408,7 @@ fn pull_objects(alloc: Global, reader: &mut Reader<'_>) -> Result<Vec<Value>, St
 }
 
 /// A document up to the key of its transactions: its version, and of its objects a tree.
-pub(crate) fn pull_opening(
-    alloc: Global,
-    reader: &mut Reader<'_>,
-) -> Result<(u8, Vec<Value>), Stop>
+pub(crate) fn pull_opening(alloc: Global, reader: &mut Reader<'_>) -> Result<(u8, Vec<Value>), Stop>
     ensures version { IfOk result (λ head. (1 ≤ head.0) × (head.0 ≤ 4)) }
     ensures objects { IfOk result (λ head. length head.1.items ≤ MAX_OBJECTS) }
     ensures reads { IfOk result (λ head. (later inside : List token.Token) (ts : Items)
