@@ -1,5 +1,4 @@
 use Rattle.std.proofs.Common.{◌≡◌, ◌∙◌, List, ℕ, Bool, true, false, true≢false, sym, ap₂}
-use Rattle.std.proofs.lemmas.Result.{IfOk-weaker}
 use Rattle.objects.specs.Entries.{State}
 use Rattle.meaning.specs.Shown.{Shown}
 use Rattle.meaning.specs.Texts.{text, audit_text}
@@ -18,13 +17,13 @@ report_shown false bytes written asked is = is
 report_shown true bytes written asked is = absurd (true≢false asked)
 
 pub returns-then-audit : goal.returns-then-audit
-returns-then-audit g c =
+returns-then-audit g c bytes reads =
     let given = c.args.batch.now in
     let rounds = c.in_ok-outcome.outcome.rounds in
     let counts = c.in_ok-outcome.outcome.runs.items in
     let of_parts : List Shown → State → List ℕ = λ shown objects. audit_text (names_of given.names) (blocks_of given) shown objects rounds
     counts in
-    IfOk-weaker c.render_audit_parts.result _ _ (λ written is bytes reads. audit_shown c.args.audit bytes _ c.if-audit.true (record {
+    audit_shown c.args.audit bytes _ c.if-audit.true (record {
       document = document_of given;
       reads = reads;
       rounds = rounds;
@@ -33,19 +32,19 @@ returns-then-audit g c =
       counts = counts;
       all = c.in_ok-outcome.ensures.runs.all;
       each = c.in_ok-outcome.ensures.runs.each;
-      is = is ∙ ap₂ of_parts c.in_ok-outcome.ensures.records c.in_ok-outcome.ensures.objects;
-    })) c.render_audit_parts.ensures
+      is = c.in_ok-parts.ensures ∙ ap₂ of_parts c.in_ok-outcome.ensures.records c.in_ok-outcome.ensures.objects;
+    })
 
 pub returns : goal.returns
-returns g c =
+returns g c bytes reads =
     let given = c.args.batch.now in
     let rounds = c.in_ok-outcome-2.outcome.rounds in
     let of_parts : List Shown → State → List ℕ = λ shown objects. text (names_of given.names) (blocks_of given) shown objects rounds in
-    IfOk-weaker c.render_parts.result _ _ (λ written is bytes reads. report_shown c.args.audit bytes _ c.if-audit.false (record {
+    report_shown c.args.audit bytes _ c.if-audit.false (record {
       document = document_of given;
       reads = reads;
       rounds = rounds;
       counted = c.in_ok-outcome-2.ensures.rounds;
       few = c.in_ok-outcome-2.ensures.few;
-      is = is ∙ ap₂ of_parts c.in_ok-outcome-2.ensures.records c.in_ok-outcome-2.ensures.objects;
-    })) c.render_parts.ensures
+      is = c.in_ok-parts-2.ensures ∙ ap₂ of_parts c.in_ok-outcome-2.ensures.records c.in_ok-outcome-2.ensures.objects;
+    })
