@@ -1,6 +1,4 @@
-use Rattle.std.proofs.Common.{Err, ap, rules}
-use Rattle.ordtx.specs.Answers.{IsLocationOf}
-use Rattle.ordtx.specs.Streams.{AnswersStream}
+use Rattle.std.proofs.Common.{rules}
 use Rattle.ordtx.proofs.Known.{answered, ok_or_err}
 use Rattle.ordtx.proofs.streams.locate_stream.Goals as goal
 
