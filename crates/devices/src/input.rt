@@ -1,5 +1,5 @@
 //! Reading the bytes of a source.
-ghost use Rattle.std.specs.Prelude.{◌≡◌, ◌+◌, ◌<◌, ◌≤◌, ◌⊎◌, ◌↔◌, true, false, Err, IfOk, OnOk, IfErr, is_err, take, drop, vec_len};
+ghost use Rattle.std.specs.Prelude.{◌≡◌, ◌+◌, ◌<◌, ◌≤◌, ◌⊎◌, ◌↔◌, true, false, Err, IfOk, OnOk, IfErr, is_err, take, drop, vec_len, []};
 ghost use Rattle.std.specs.Io.KnownBytes.{Consumes, IsAtEnd};
 ghost use Rattle.faults.specs.Faults.{input_fault, memory_fault};
 ghost use Rattle.devices.specs.Devices.{ReadsUpTo};
@@ -20,7 +20,7 @@ pub fn read_input<R: Source>(alloc: Global, source: &mut R, most: usize) -> Resu
     ensures faults { IfErr result (λ fault. (fault ≡ memory_fault) ⊎ (fault ≡ input_fault)) }
     ensures mark { R.has_failed source.new ≡ true ↔ result ≡ Err input_fault }
 {
-    let mut bytes = Vec::new(alloc);
+    let mut bytes = buffer(alloc, source.expected(), most);
     let mut filled = 0;
     while filled < most {
         make_room(&mut bytes, filled, most)?;
@@ -32,6 +32,18 @@ pub fn read_input<R: Source>(alloc: Global, source: &mut R, most: usize) -> Resu
     }
     bytes.truncate(filled);
     Ok(bytes)
+}
+
+// An empty buffer, with room for the bytes that are expected and for the fetch that meets the end.
+// Where that much memory is refused, room is made as the bytes come.
+fn buffer(alloc: Global, expected: usize, most: usize) -> Vec<u8>
+    ensures { result.items ≡ [] }
+{
+    let room = expected.saturating_add(PIECE).min(most);
+    match Vec::with_capacity(alloc, room) {
+        Ok(buffer) => buffer,
+        Err(_) => Vec::new(alloc),
+    }
 }
 
 // Makes room for a fetch after the filled bytes. Memory that no fetch comes to is not written.

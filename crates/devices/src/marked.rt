@@ -11,6 +11,7 @@ use std::io::{Read, Write};
 #[derive(Drop)]
 pub struct Marked<D> {
     device: D,
+    expected: usize,
     ended: bool,
     failed: bool,
 }
@@ -22,8 +23,18 @@ impl<D> Marked<D> {
         ensures unended { result.ended ≡ false }
         ensures unmarked { result.failed ≡ false }
     {
+        Marked::expecting(device, 0)
+    }
+
+    /// This device as [`Marked::new`] makes it, which is expected to give about so many bytes.
+    pub fn expecting(device: D, expected: usize) -> Marked<D>
+        ensures device { result.device ≡ device }
+        ensures unended { result.ended ≡ false }
+        ensures unmarked { result.failed ≡ false }
+    {
         Marked {
             device,
+            expected,
             ended: false,
             failed: false,
         }
@@ -55,6 +66,10 @@ impl<R: Read> Source for Marked<R> {
                 Err(Failed)
             }
         }
+    }
+
+    fn expected(&self) -> usize {
+        self.expected
     }
 
     fn ended(&self) -> bool {

@@ -28,6 +28,12 @@ pub trait Source {
         ensures end { has_ended self.new ≡ meets_end result (length piece.new) }
         ensures mark { has_failed self.new ≡ is_err result };
 
+    /// About how many bytes are left, where the device knows. Nothing rests on it: where it is wrong,
+    /// more memory is asked for, or it is asked for more often.
+    fn expected(&self) -> usize {
+        0
+    }
+
     /// Whether a fetch met the end.
     fn ended(&self) -> bool
         ensures { result ≡ has_ended self.now };

@@ -33,7 +33,9 @@ pub fn carry_into<R: Source>(
     requires unended { R.has_ended source.old ≡ false }
     requires unread { R.has_failed source.old ≡ false }
 {
-    let mut next_source = Marked::new(open(rt, Some(next))?);
+    let input = open(rt, Some(next))?;
+    let size = input.size();
+    let mut next_source = Marked::expecting(input, size);
     let mut sink = Marked::new(rt.stdout());
     let answer = carry_into_stream(rt.alloc(), source, &mut next_source, &mut sink);
     tell_refused(rt, Some(next), &next_source.into_inner());

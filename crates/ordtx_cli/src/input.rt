@@ -31,6 +31,17 @@ impl Input {
             refused: None,
         })
     }
+
+    /// How many bytes a file has, or 0 where that isn't known.
+    pub fn size(&self) -> usize {
+        match &self.device {
+            Device::Standard(_) => 0,
+            Device::Named(file) => match file.metadata() {
+                Ok(metadata) => usize::try_from(metadata.len()).unwrap_or(0),
+                Err(_) => 0,
+            },
+        }
+    }
 }
 
 /// Whether a name stands for standard input, as no name and `-` do.

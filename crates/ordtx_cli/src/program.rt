@@ -72,7 +72,9 @@ fn answer_line<T: Threads + Sync>(
     line: &Line,
 ) -> Result<ExitCode, Fault> {
     let name = text_in(&line.file);
-    let mut source = Marked::new(open(rt, name)?);
+    let input = open(rt, name)?;
+    let size = input.size();
+    let mut source = Marked::expecting(input, size);
     let answer = match text_in(&line.into) {
         Some(next) => carry_into(rt, name, &mut source, next).map(|()| ExitCode::SUCCESS),
         None => answer_source(rt, threads, line, &mut source),
