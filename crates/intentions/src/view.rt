@@ -167,17 +167,6 @@ impl<'s> View<'s> {
         Ok(reply)
     }
 
-    /// Makes room for so many more calls. It changes nothing that is shown or recorded.
-    ///
-    /// Returns `NoMemory` where a request for memory was refused.
-    pub fn reserve(&mut self, calls: usize) -> Result<(), NoMemory>
-        ensures { self.new ≡ self.old }
-    {
-        self.entries.reserve(calls)?;
-        self.net.reserve(calls)?;
-        Ok(())
-    }
-
     /// Opens a level, with an empty net. On `NoMemory` the view is unchanged.
     pub fn begin(&mut self) -> Result<(), NoMemory>
         ensures ok { OnOk result (self.new ≡ begun self.old) }

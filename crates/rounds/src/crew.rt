@@ -32,11 +32,7 @@ impl<'a, R, G> Crew<'a, R, G> {
             alloc,
             plan,
             gate,
-            operations_each: if plan.workers > 1 {
-                operations_each(batch)
-            } else {
-                1
-            },
+            operations_each: operations_each(batch),
         }
     }
 }

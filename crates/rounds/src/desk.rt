@@ -22,11 +22,17 @@ pub(crate) struct Desk<'s> {
     view: View<'s>,
     labels: Vec<Held>,
     run: Run,
+    /// For how many operations the lists of a run have room from the first.
+    room: usize,
 }
 
 impl<'s> Desk<'s> {
-    /// A desk for runs on these objects.
-    pub(crate) fn open(alloc: Global, objects: &'s Objects) -> Result<Desk<'s>, NoMemory>
+    /// A desk on these objects, for runs of about so many operations each.
+    pub(crate) fn open(
+        alloc: Global,
+        objects: &'s Objects,
+        room: usize,
+    ) -> Result<Desk<'s>, NoMemory>
         ensures opened { IfOk result (λ desk. desk.view ≡ opened objects.now) }
         ensures unlabelled { IfOk result (λ desk. desk.labels.items ≡ []) }
     {
@@ -34,6 +40,7 @@ impl<'s> Desk<'s> {
             view: View::open(alloc, objects)?,
             labels: Vec::new(alloc),
             run: Run::empty(alloc),
+            room,
         })
     }
 
@@ -62,6 +69,7 @@ impl<'s> Desk<'s> {
         ensures unlabelled { OnOk result (self.new.labels.items ≡ []) }
     {
         swap(&mut pending.tree, &mut self.run.tree);
+        self.run.make_room(self.room)?;
         run_in(
             threads,
             alloc,

@@ -56,10 +56,11 @@ fn make_group<R: Threads + Sync, G: Gate>(
     Ok(())
 }
 
-// The desk of a worker, which is opened where there is none.
+// The desk of a worker, which is opened where there is none, with room for so many operations.
 fn desk_or_new<'s>(
     alloc: Global,
     objects: &'s Objects,
+    room: usize,
     desk: Option<Box<Desk<'s>>>,
 ) -> Result<Box<Desk<'s>>, NoMemory>
     requires { IfSome desk (λ desk. IsDeskOn objects.now desk.value) }
@@ -67,7 +68,7 @@ fn desk_or_new<'s>(
 {
     match desk {
         Some(desk) => Ok(desk),
-        None => Ok(Box::new(alloc, Desk::open(alloc, objects)?)?),
+        None => Ok(Box::new(alloc, Desk::open(alloc, objects, room)?)?),
     }
 }
 
@@ -114,7 +115,7 @@ pub(crate) fn make_all<R: Threads + Sync, G: Gate>(
         alloc,
         plan,
         gate,
-        ..
+        operations_each,
     } = *crew;
     let workers = makers(crew, numbers.len());
     let cut = group_size(plan, numbers.len(), workers);
@@ -132,7 +133,7 @@ pub(crate) fn make_all<R: Threads + Sync, G: Gate>(
             ensures { IfOk result (λ after. IfSome after.desk (λ desk. IsDeskOn objects.entry.now desk.value) × AreAdded batch.entry.now objects.entry.now (slice_chunk numbers.entry.now cut piece) bench.entry.items.items after.items.items) }
         {
             let Bench { desk, mut items } = bench;
-            let mut desk = desk_or_new(alloc, objects, desk)?;
+            let mut desk = desk_or_new(alloc, objects, operations_each, desk)?;
             let group = group_at(numbers, cut, piece);
             make_group(
                 threads,

@@ -132,7 +132,7 @@ pub(crate) fn seek<R: Threads + Sync, G: Gate>(
     ensures seen { IfOk result (IsRoundSeen batch.now opened window.new nets.new) }
 {
     let count = batch.transactions.len();
-    let mut desk = Desk::open(crew.alloc, objects)?;
+    let mut desk = Desk::open(crew.alloc, objects, crew.operations_each)?;
     let mut from = opened;
     let mut block = expected;
     'looking: while from < count {

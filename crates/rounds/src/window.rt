@@ -131,7 +131,7 @@ impl Window {
         ensures valid { OnOk result (All (λ n. IsValid self.new n) numbers.now) }
     {
         let width = crew.plan.width(numbers.len() as u32);
-        let mut desk = Desk::open(crew.alloc, objects)?;
+        let mut desk = Desk::open(crew.alloc, objects, crew.operations_each)?;
         for number in numbers {
             self.make_at(crew, batch, opened, *number, width, &mut desk)?;
         }

@@ -2,7 +2,7 @@
 ghost use Rattle.std.specs.Prelude.{◌≡◌, []};
 
 use batch::Record;
-use intentions::{Entry, Lists};
+use intentions::{Entry, Lists, NoMemory};
 use meaning::End;
 use std::alloc::Global;
 
@@ -34,5 +34,20 @@ impl Run {
             entries,
             net,
         }
+    }
+
+    /// Drops what is listed, and makes room for so many operations in both lists.
+    ///
+    /// Returns `NoMemory` where a request for memory was refused.
+    pub fn make_room(&mut self, operations: usize) -> Result<(), NoMemory>
+        ensures tree { self.new.tree ≡ self.old.tree }
+        ensures entries { self.new.entries.items ≡ [] }
+        ensures net { self.new.net.items ≡ [] }
+    {
+        self.entries.clear();
+        self.net.clear();
+        self.entries.reserve(operations)?;
+        self.net.reserve(operations)?;
+        Ok(())
     }
 }

@@ -43,6 +43,7 @@ pub fn run<T: Threads + Sync, G: Gate>(
     let mut view = View::open(alloc, objects)?;
     let mut labels = Vec::new(alloc);
     let mut run = Run::empty(alloc);
+    run.make_room(batch.operations_of(number as usize - 1) as usize)?;
     run_in(
         threads,
         alloc,
@@ -98,7 +99,6 @@ pub fn run_in<T: Threads + Sync, G: Gate>(
             hashing: batch.hashing,
         },
     };
-    view.reserve(batch.operations_of(number as usize - 1) as usize)?;
     let spare = replace(&mut run.tree.taken, Vec::new(alloc));
     run.tree = run_block(&making, block, labels, view, width, spare)?;
     view.take_run(&mut run.entries, &mut run.net);
