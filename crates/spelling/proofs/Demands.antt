@@ -25,8 +25,8 @@ use Rattle.spelling.specs.Asked.{seen_asked, setting_in, signed_start, sort_of, 
 use Rattle.spelling.specs.Asked.{transactions_in, version_in}
 use Rattle.spelling.specs.Places.{Found, Placed, Places, Token, array_placed, below, block_placed, block_placed_if, children_placed}
 use Rattle.spelling.specs.Places.{elements_placed, entries_placed, fault_of, first_fault, go_on, handlers_placed, here, if_placed, inside}
-use Rattle.spelling.specs.Places.{itself, members_placed, nothing, object_placed, objects_placed, pairs_placed, parallel_placed, placed, seek}
-use Rattle.spelling.specs.Places.{start_placed, step_placed, step_placed_by, steps_placed, sub_placed, transactions_placed}
+use Rattle.spelling.specs.Places.{itself, members_placed, nothing, object_placed, objects_placed, pairs_placed, parallel_placed, placed}
+use Rattle.spelling.specs.Places.{seek, start_placed, step_placed, step_placed_by, steps_placed, sub_placed, transactions_placed}
 use Rattle.spelling.proofs.Checks.{and_check, check-after, check-append, failed-before}
 
 -- the demands without their places
@@ -46,10 +46,10 @@ unfoldable pub block_asked_if : Asks → Scope → Option Data → List Demand
 block_asked_if asks scope None = []
 block_asked_if asks scope (Some d) = asks scope d
 
-unfoldable pub if_asked : Asks → Scope → Data → List Demand
-if_asked asks scope d =
+unfoldable pub if_asked : ℕ → Asks → Scope → Data → List Demand
+if_asked version asks scope d =
     if_shape_asked d
-    ++ one_more_node ∷ []
+    ++ one_more_node version ∷ []
     ++ seen_asked scope (if_label d)
     ++ test_asked (subject_of (if_label d) scope) d
     ++ asks scope (part (codes "then") d)
@@ -71,7 +71,7 @@ handlers_asked asks scope (Some ds) = members_asked asks scope ds
 unfoldable pub sub_asked : ℕ → Asks → Scope → Scope → Data → List Demand
 sub_asked version asks scope earlier d =
     sub_shape_asked version d
-    ++ one_more_node ∷ []
+    ++ one_more_node version ∷ []
     ++ label_asked scope earlier (label_in d)
     ++ asks scope (part (codes "sub") d)
     ++ handlers_asked asks scope (handlers_in d)
@@ -86,13 +86,13 @@ children_asked version asks scope earlier (item d ds) = sub_asked version asks s
 unfoldable pub parallel_asked : ℕ → Asks → Scope → Data → List Demand
 parallel_asked version asks scope d =
     parallel_shape_asked d
-    ++ one_more_node ∷ []
+    ++ one_more_node version ∷ []
     ++ children_asked version asks scope [] (children_in d)
 
 abbrev pub step_asked_by : Option Sort → Asks → Setting → Scope → Data → List Demand
 step_asked_by None asks setting scope d = holds false Shape ∷ []
 step_asked_by (Some an_operation) asks setting scope d = operation_asked setting scope d
-step_asked_by (Some an_if) asks setting scope d = if_asked asks scope d
+step_asked_by (Some an_if) asks setting scope d = if_asked setting.version asks scope d
 step_asked_by (Some a_sub) asks setting scope d = sub_asked setting.version asks scope [] d
 step_asked_by (Some an_abort) asks setting scope d = abort_asked setting.version d
 step_asked_by (Some a_parallel) asks setting scope d = parallel_asked setting.version asks scope d
@@ -114,37 +114,38 @@ block_asked setting zero scope d = array_asked (λ ds. holds false Depth ∷ [])
 block_asked setting (suc n) scope d = array_asked (steps_asked (block_asked setting n) setting scope) (as_array d)
 
 -- the entries of a queue
-abbrev pub entries_asked : Items → List Demand
-entries_asked no_items = []
-entries_asked (item d ds) = entry_asked d ++ entries_asked ds
+abbrev pub entries_asked : ℕ → Items → List Demand
+entries_asked version no_items = []
+entries_asked version (item d ds) = entry_asked version d ++ entries_asked version ds
 
 -- the entries of a set, which differ from these earlier ones
-abbrev pub elements_asked : Table → Items → List Demand
-elements_asked earlier no_items = []
-elements_asked earlier (item d ds) = element_asked earlier d ++ elements_asked (with_text (text_of d) earlier) ds
+abbrev pub elements_asked : ℕ → Table → Items → List Demand
+elements_asked version earlier no_items = []
+elements_asked version earlier (item d ds) = element_asked version earlier d
+    ++ elements_asked version (with_text (text_of d) earlier) ds
 
 -- the entries of a directory, whose keys differ from these earlier ones
-abbrev pub pairs_asked : Table → Items → List Demand
-pairs_asked earlier no_items = []
-pairs_asked earlier (item d ds) = pair_asked earlier d ++ pairs_asked (with_text (key_of d) earlier) ds
+abbrev pub pairs_asked : ℕ → Table → Items → List Demand
+pairs_asked version earlier no_items = []
+pairs_asked version earlier (item d ds) = pair_asked version earlier d ++ pairs_asked version (with_text (key_of d) earlier) ds
 
 unfoldable pub array_start_asked : (Items → List Demand) → Option Items → List Demand
 array_start_asked asks None = holds false Start ∷ []
 array_start_asked asks (Some ds) = asks ds
 
-unfoldable pub start_asked : Kind → Data → List Demand
-start_asked kind.Account d = holds (is_some (number_start d)) Start ∷ []
-start_asked kind.Counter d = holds (is_some (signed_start d)) Start ∷ []
-start_asked kind.Set d = array_start_asked (elements_asked []) (as_array d)
-start_asked kind.Queue d = array_start_asked entries_asked (as_array d)
-start_asked kind.Directory d = array_start_asked (pairs_asked []) (as_array d)
-start_asked kind.Max d = holds (is_some (number_start d)) Start ∷ []
+unfoldable pub start_asked : ℕ → Kind → Data → List Demand
+start_asked version kind.Account d = holds (is_some (number_start d)) Start ∷ []
+start_asked version kind.Counter d = holds (is_some (signed_start d)) Start ∷ []
+start_asked version kind.Set d = array_start_asked (elements_asked version []) (as_array d)
+start_asked version kind.Queue d = array_start_asked (entries_asked version) (as_array d)
+start_asked version kind.Directory d = array_start_asked (pairs_asked version []) (as_array d)
+start_asked version kind.Max d = holds (is_some (number_start d)) Start ∷ []
 
 unfoldable pub object_asked : ℕ → Table → Data → List Demand
 object_asked version names d =
     object_shape_asked version d
     ++ object_name_asked names (object_name d)
-    ++ start_asked (kind_in version d) (part (codes "start") d)
+    ++ start_asked version (kind_in version d) (part (codes "start") d)
 
 -- the objects, where these names come before them
 abbrev pub objects_asked : ℕ → Table → Items → List Demand
@@ -224,9 +225,10 @@ module _ (places : Places) (asks : Asks) (same : Agrees places asks) where
   block_if_same scope None = refl
   block_if_same scope (Some d) = same scope d
 
-  if_same : (scope : Scope) (d : Data) → demands_of (if_placed places scope d) ≡ if_asked asks scope d
+  if_same : (version : ℕ) (scope : Scope) (d : Data) → demands_of (if_placed version places scope d) ≡ if_asked version asks scope d
   unfolding if_placed if_asked
-  if_same scope d = rw (same, block_if_same, append-nil) (six (if_shape_asked d) (one_more_node ∷ []) (seen_asked scope (if_label d))
+  if_same version scope d = rw (same, block_if_same, append-nil)
+      (six (if_shape_asked d) (one_more_node version ∷ []) (seen_asked scope (if_label d))
       (test_asked (subject_of (if_label d) scope) d) _ _)
 
   members_same : (scope : Scope) (ds : Members) → demands_of (members_placed places scope ds) ≡ members_asked asks scope ds
@@ -242,7 +244,7 @@ module _ (places : Places) (asks : Asks) (same : Agrees places asks) where
       ≡ sub_asked version asks scope earlier d
   unfolding sub_placed sub_asked
   sub_same version scope earlier d = rw (same, handlers_same, block_if_same, append-nil)
-      (six (sub_shape_asked version d) (one_more_node ∷ []) (label_asked scope earlier (label_in d)) _ _ _)
+      (six (sub_shape_asked version d) (one_more_node version ∷ []) (label_asked scope earlier (label_in d)) _ _ _)
 
   children_same : (version : ℕ) (scope earlier : Scope) (i : ℕ) (ds : Items)
       → demands_of (children_placed version places scope earlier i ds)
@@ -257,13 +259,13 @@ module _ (places : Places) (asks : Asks) (same : Agrees places asks) where
   parallel_same : (version : ℕ) (scope : Scope) (d : Data) → demands_of (parallel_placed version places scope d)
       ≡ parallel_asked version asks scope d
   unfolding parallel_placed parallel_asked
-  parallel_same version scope d = rw (children_same, append-nil) (three (parallel_shape_asked d) (one_more_node ∷ []) _)
+  parallel_same version scope d = rw (children_same, append-nil) (three (parallel_shape_asked d) (one_more_node version ∷ []) _)
 
   step_same_by : (sort : Option Sort) (setting : Setting) (scope : Scope) (d : Data)
       → demands_of (step_placed_by sort places setting scope d) ≡ step_asked_by sort asks setting scope d
   step_same_by None setting scope d = refl
   step_same_by (Some an_operation) setting scope d = append-nil _
-  step_same_by (Some an_if) setting scope d = if_same scope d
+  step_same_by (Some an_if) setting scope d = if_same setting.version scope d
   step_same_by (Some a_sub) setting scope d = sub_same setting.version scope [] d
   step_same_by (Some an_abort) setting scope d = append-nil _
   step_same_by (Some a_parallel) setting scope d = parallel_same setting.version scope d
@@ -298,26 +300,30 @@ block_same setting (suc n) scope d = array_same (steps_asked (block_asked settin
     (steps_placed (block_placed setting n) setting scope 0) (as_array d)
     (steps_same (block_placed setting n) (block_asked setting n) (block_same setting n) setting scope 0)
 
-entries_same : (i : ℕ) (ds : Items) → demands_of (entries_placed i ds) ≡ entries_asked ds
-entries_same i no_items = refl
-entries_same i (item d ds) = rw (append-nil, entries_same (i + 1) ds) refl
+entries_same : (version i : ℕ) (ds : Items) → demands_of (entries_placed version i ds) ≡ entries_asked version ds
+entries_same version i no_items = refl
+entries_same version i (item d ds) = rw (append-nil, entries_same version (i + 1) ds) refl
 
-elements_same : (earlier : Table) (i : ℕ) (ds : Items) → demands_of (elements_placed earlier i ds) ≡ elements_asked earlier ds
-elements_same earlier i no_items = refl
-elements_same earlier i (item d ds) = rw (append-nil, elements_same (with_text (text_of d) earlier) (i + 1) ds) refl
+elements_same : (version : ℕ) (earlier : Table) (i : ℕ) (ds : Items) → demands_of (elements_placed version earlier i ds)
+    ≡ elements_asked version earlier ds
+elements_same version earlier i no_items = refl
+elements_same version earlier i (item d ds) = rw (append-nil, elements_same version (with_text (text_of d) earlier) (i + 1) ds) refl
 
-pairs_same : (earlier : Table) (i : ℕ) (ds : Items) → demands_of (pairs_placed earlier i ds) ≡ pairs_asked earlier ds
-pairs_same earlier i no_items = refl
-pairs_same earlier i (item d ds) = rw (append-nil, pairs_same (with_text (key_of d) earlier) (i + 1) ds) refl
+pairs_same : (version : ℕ) (earlier : Table) (i : ℕ) (ds : Items) → demands_of (pairs_placed version earlier i ds)
+    ≡ pairs_asked version earlier ds
+pairs_same version earlier i no_items = refl
+pairs_same version earlier i (item d ds) = rw (append-nil, pairs_same version (with_text (key_of d) earlier) (i + 1) ds) refl
 
-start_same : (k : Kind) (d : Data) → demands_of (start_placed k d) ≡ start_asked k d
+start_same : (version : ℕ) (k : Kind) (d : Data) → demands_of (start_placed version k d) ≡ start_asked version k d
 unfolding start_placed start_asked
-start_same kind.Account d = refl
-start_same kind.Counter d = refl
-start_same kind.Set d = list_same (elements_asked []) (elements_placed [] 0) (as_array d) (elements_same [] 0)
-start_same kind.Queue d = list_same entries_asked (entries_placed 0) (as_array d) (entries_same 0)
-start_same kind.Directory d = list_same (pairs_asked []) (pairs_placed [] 0) (as_array d) (pairs_same [] 0)
-start_same kind.Max d = refl
+start_same version kind.Account d = refl
+start_same version kind.Counter d = refl
+start_same version kind.Set d = list_same (elements_asked version []) (elements_placed version [] 0) (as_array d)
+    (elements_same version [] 0)
+start_same version kind.Queue d = list_same (entries_asked version) (entries_placed version 0) (as_array d) (entries_same version 0)
+start_same version kind.Directory d = list_same (pairs_asked version []) (pairs_placed version [] 0) (as_array d)
+    (pairs_same version [] 0)
+start_same version kind.Max d = refl
 
 object_same : (version : ℕ) (names : Table) (d : Data) → demands_of (object_placed version names d) ≡ object_asked version names d
 unfolding object_placed object_asked

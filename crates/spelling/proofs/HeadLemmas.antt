@@ -19,15 +19,15 @@ use Rattle.spelling.specs.Spelled.{Spelling, block_of_if, handlers_spelled, if_o
 use Rattle.spelling.proofs.Checks.{check-append, check-after, check_failed, check_met, failed-before}
 use Rattle.spelling.proofs.PlaceLemmas.{inside_met, inside_unmet, own_both, own_first, own_unmet}
 
-if_placed-is : (places : Places) (scope : Scope) (d : Data) (c : Counts) → seek c (if_placed places scope d)
-    ≡ seek c (itself (if_head_asked scope d) (inside (member_named (codes "then")) (places scope (part (codes "then") d))
+if_placed-is : (version : ℕ) (places : Places) (scope : Scope) (d : Data) (c : Counts) → seek c (if_placed version places scope d)
+    ≡ seek c (itself (if_head_asked version scope d) (inside (member_named (codes "then")) (places scope (part (codes "then") d))
     (inside (member_named (codes "else")) (block_placed_if places scope (get (codes "else") d)) nothing)))
 unfolding if_placed if_head_asked
-if_placed-is places scope d c =
+if_placed-is version places scope d c =
     let branches = inside (member_named (codes "then")) (places scope (part (codes "then") d))
     (inside (member_named (codes "else")) (block_placed_if places scope (get (codes "else") d)) nothing) in
     let shape = if_shape_asked d in
-    let node = one_more_node ∷ [] in
+    let node = one_more_node version ∷ [] in
     let named = seen_asked scope (if_label d) in
     let tested = test_asked (subject_of (if_label d) scope) d in
     own_both c shape node (itself named (itself tested branches))
@@ -45,16 +45,16 @@ sub_placed-is version places scope earlier d c =
     (inside (member_named (codes "handlers")) (handlers_placed places scope (handlers_in d))
     (inside (member_named (codes "handler")) (block_placed_if places scope (get (codes "handler") d)) nothing)) in
     let shape = sub_shape_asked version d in
-    let node = one_more_node ∷ [] in
+    let node = one_more_node version ∷ [] in
     let named = label_asked scope earlier (label_in d) in
     own_both c shape node (itself named blocks) ∙ own_both c (shape ++ node) named blocks
 
 parallel_placed-is : (version : ℕ) (places : Places) (scope : Scope) (d : Data) (c : Counts)
     → seek c (parallel_placed version places scope d)
-    ≡ seek c (itself (parallel_head_asked d) (inside (member_named (codes "parallel"))
+    ≡ seek c (itself (parallel_head_asked version d) (inside (member_named (codes "parallel"))
     (children_placed version places scope [] 0 (children_in d)) nothing))
 unfolding parallel_placed parallel_head_asked
-parallel_placed-is version places scope d c = own_both c (parallel_shape_asked d) (one_more_node ∷ [])
+parallel_placed-is version places scope d c = own_both c (parallel_shape_asked d) (one_more_node version ∷ [])
     (inside (member_named (codes "parallel")) (children_placed version places scope [] 0 (children_in d)) nothing)
 
 pub operation_asked-is : (setting : Setting) (scope : Scope) (d : Data) → operation_asked setting scope d
@@ -115,9 +115,9 @@ module _ (setting : Setting) (scope : Scope) (d : Data) (start : Counts) where
 
 -- ---- an `if`
 
-module _ (places : Places) (scope : Scope) (d : Data) (start : Counts) where
+module _ (version : ℕ) (places : Places) (scope : Scope) (d : Data) (start : Counts) where
   abbrev head : List Demand
-  head = if_head_asked scope d
+  head = if_head_asked version scope d
 
   abbrev first : Placed → Placed
   first = inside (member_named (codes "then")) (places scope (part (codes "then") d))
@@ -126,32 +126,32 @@ module _ (places : Places) (scope : Scope) (d : Data) (start : Counts) where
   second = inside (member_named (codes "else")) (block_placed_if places scope (get (codes "else") d)) nothing
 
   -- the first fault is before the branches
-  pub if_head_failed : (e : Fault) → check start head ≡ Err e → seek start (if_placed places scope d) ≡ Err (found_here e)
-  if_head_failed e failed = if_placed-is places scope d start ∙ own_unmet start e head (first second) failed
+  pub if_head_failed : (e : Fault) → check start head ≡ Err e → seek start (if_placed version places scope d) ≡ Err (found_here e)
+  if_head_failed e failed = if_placed-is version places scope d start ∙ own_unmet start e head (first second) failed
 
   -- they decide
-  if_after_head : (next : Counts) → check start head ≡ Ok next → seek start (if_placed places scope d) ≡ seek next (first second)
-  if_after_head next met = if_placed-is places scope d start ∙ own_first start next head (first second) met
+  if_after_head : (next : Counts) → check start head ≡ Ok next → seek start (if_placed version places scope d) ≡ seek next (first second)
+  if_after_head next met = if_placed-is version places scope d start ∙ own_first start next head (first second) met
 
   -- it is in the first branch
   pub if_then_failed : (next : Counts) (found : Found) → check start head ≡ Ok next → seek next (first nothing) ≡ Err found
-      → seek start (if_placed places scope d) ≡ Err found
+      → seek start (if_placed version places scope d) ≡ Err found
   if_then_failed next found met failed = if_after_head next met
       ∙ inside_unmet next found (member_named (codes "then")) (places scope (part (codes "then") d)) second failed
 
   -- it is in the second
   if_after_then : (next after : Counts) → check start head ≡ Ok next → seek next (first nothing) ≡ Ok after
-      → seek start (if_placed places scope d) ≡ seek after second
+      → seek start (if_placed version places scope d) ≡ seek after second
   if_after_then next after met also = if_after_head next met
       ∙ inside_met next after (member_named (codes "then")) (places scope (part (codes "then") d)) second also
 
   pub if_else_failed : (next after : Counts) (found : Found) → check start head ≡ Ok next → seek next (first nothing) ≡ Ok after
-      → seek after second ≡ Err found → seek start (if_placed places scope d) ≡ Err found
+      → seek after second ≡ Err found → seek start (if_placed version places scope d) ≡ Err found
   if_else_failed next after found met also failed = if_after_then next after met also ∙ failed
 
   -- there is none
   pub if_parts_met : (next after last : Counts) → check start head ≡ Ok next → seek next (first nothing) ≡ Ok after
-      → seek after second ≡ Ok last → seek start (if_placed places scope d) ≡ Ok last
+      → seek after second ≡ Ok last → seek start (if_placed version places scope d) ≡ Ok last
   if_parts_met next after last met also rest = if_after_then next after met also ∙ rest
 
 -- what the parts of an `if` spell is what it spells
@@ -180,7 +180,8 @@ module _ (version : ℕ) (places : Places) (scope earlier : Scope) (d : Data) (s
   -- the first fault is before the blocks
   pub sub_head_failed : (e : Fault) → check start sub_head ≡ Err e → seek start (sub_placed version places scope earlier d)
       ≡ Err (found_here e)
-  sub_head_failed e failed = sub_placed-is version places scope earlier d start ∙ own_unmet start e sub_head (body (handlers handler)) failed
+  sub_head_failed e failed = sub_placed-is version places scope earlier d start
+      ∙ own_unmet start e sub_head (body (handlers handler)) failed
 
   -- they decide
   sub_after_head : (next : Counts) → check start sub_head ≡ Ok next → seek start (sub_placed version places scope earlier d)
@@ -236,7 +237,7 @@ sub_read block scope d numbers after between last b hs h e f g = rw (← e, ← 
 
 module _ (version : ℕ) (places : Places) (scope : Scope) (d : Data) (start : Counts) where
   abbrev list : List Demand
-  list = parallel_head_asked d
+  list = parallel_head_asked version d
 
   abbrev children : Placed
   children = inside (member_named (codes "parallel")) (children_placed version places scope [] 0 (children_in d)) nothing
@@ -270,12 +271,12 @@ module _ (setting : Setting) (d : Data) (start : Counts) where
   operation_count_failed e right failed = check_failed start e (operation_shape ++ counted) target
       (second_failed start start e operation_shape counted right failed)
 
-module _ (scope : Scope) (d : Data) (start : Counts) where
+module _ (version : ℕ) (scope : Scope) (d : Data) (start : Counts) where
   abbrev shape : List Demand
   shape = if_shape_asked d
 
   abbrev node : List Demand
-  node = one_more_node ∷ []
+  node = one_more_node version ∷ []
 
   abbrev named : List Demand
   named = seen_asked scope (if_label d)
@@ -284,34 +285,35 @@ module _ (scope : Scope) (d : Data) (start : Counts) where
   tested = test_asked (subject_of (if_label d) scope) d
 
   -- the shape of an `if` is wrong
-  pub if_shape_failed : (e : Fault) → check start shape ≡ Err e → check start (if_head_asked scope d) ≡ Err e
+  pub if_shape_failed : (e : Fault) → check start shape ≡ Err e → check start (if_head_asked version scope d) ≡ Err e
   unfolding if_head_asked
   if_shape_failed e failed = check_failed start e (shape ++ node ++ named) tested
       (check_failed start e (shape ++ node) named (check_failed start e shape node failed))
 
   -- there are too many steps
-  pub if_node_failed : (e : Fault) → check start shape ≡ Ok start → check start node ≡ Err e → check start (if_head_asked scope d) ≡ Err e
+  pub if_node_failed : (e : Fault) → check start shape ≡ Ok start → check start node ≡ Err e
+      → check start (if_head_asked version scope d) ≡ Err e
   unfolding if_head_asked
   if_node_failed e right failed = check_failed start e (shape ++ node ++ named) tested
       (check_failed start e (shape ++ node) named (second_failed start start e shape node right failed))
 
   -- its label is not seen
   pub if_label_failed : (counted : Counts) (e : Fault) → check start shape ≡ Ok start → check start node ≡ Ok counted
-      → check counted named ≡ Err e → check start (if_head_asked scope d) ≡ Err e
+      → check counted named ≡ Err e → check start (if_head_asked version scope d) ≡ Err e
   unfolding if_head_asked
   if_label_failed counted e right one failed = check_failed start e (shape ++ node ++ named) tested
       (second_failed start counted e (shape ++ node) named (both_met start start counted shape node right one) failed)
 
   -- its test doesn't fit
   pub if_test_failed : (counted : Counts) (e : Fault) → check start shape ≡ Ok start → check start node ≡ Ok counted
-      → check counted named ≡ Ok counted → check counted tested ≡ Err e → check start (if_head_asked scope d) ≡ Err e
+      → check counted named ≡ Ok counted → check counted tested ≡ Err e → check start (if_head_asked version scope d) ≡ Err e
   unfolding if_head_asked
   if_test_failed counted e right one seen failed = second_failed start counted e (shape ++ node ++ named) tested
       (both_met start counted counted (shape ++ node) named (both_met start start counted shape node right one) seen) failed
 
   -- there is no fault
   pub if_head_met : (counted : Counts) → check start shape ≡ Ok start → check start node ≡ Ok counted
-      → check counted named ≡ Ok counted → check counted tested ≡ Ok counted → check start (if_head_asked scope d) ≡ Ok counted
+      → check counted named ≡ Ok counted → check counted tested ≡ Ok counted → check start (if_head_asked version scope d) ≡ Ok counted
   unfolding if_head_asked
   if_head_met counted right one seen fits = both_met start counted counted (shape ++ node ++ named) tested
       (both_met start counted counted (shape ++ node) named (both_met start start counted shape node right one) seen) fits
@@ -321,7 +323,7 @@ module _ (version : ℕ) (scope earlier : Scope) (d : Data) (start : Counts) whe
   sub_shape = sub_shape_asked version d
 
   abbrev sub_node : List Demand
-  sub_node = one_more_node ∷ []
+  sub_node = one_more_node version ∷ []
 
   abbrev sub_named : List Demand
   sub_named = label_asked scope earlier (label_in d)

@@ -5,6 +5,7 @@ pub mod Checks
 pub mod PlaceLemmas
 pub mod Demands
 pub mod HeadLemmas
+pub mod LimitLemmas
 pub mod AmountLemmas
 pub mod ListLemmas
 pub mod BlockLemmas

@@ -85,7 +85,8 @@ module _ (c : Counts) (places : Places) (scope : Scope) (reason : List ℕ) (d :
 
   pub member_unmet : (found : Found) → seek c (member_placed places scope reason d nothing) ≡ Err found
       → seek c (member_placed places scope reason d rest) ≡ Err found
-  member_unmet found failed = over_unmet (check c (holds (is_name reason) Name ∷ [])) found (member_named reason) (places scope d) rest failed
+  member_unmet found failed =
+      over_unmet (check c (holds (is_name reason) Name ∷ [])) found (member_named reason) (places scope d) rest failed
 
 -- ---- what is returned of a demand that is not met
 

@@ -26,7 +26,9 @@ use Rattle.batch.specs.Names.{is_name}
 use Rattle.spelling.specs.Subjects.{fits_word, fits_number, fits_item}
 use Rattle.words.specs.Verbs.{verb_of_text}
 use Rattle.words.specs.Words.{kind_of_text, word_of_text}
-use Rattle.meaning.specs.declared.limits.TheConstants.{MAX_OBJECTS, MAX_START, MAX_TRANSACTIONS}
+use Rattle.meaning.specs.declared.limits.TheConstants.{MAX_START}
+use Rattle.spelling.specs.Limits.{limits_of}
+use Rattle.spelling.specs.declared.limits.TheConstants.{LAST_VERSION}
 use Rattle.meaning.specs.WellFormed.{largest_amount}
 
 -- the member, or null
@@ -195,7 +197,7 @@ reason_asked (Some reason) = holds (is_name reason) Name ∷ []
 
 unfoldable pub abort_shape_asked : ℕ → Data → List Demand
 abort_shape_asked version d = holds (has_only (codes "abort" ∷ []) d) Shape ∷ holds (is_abort version (part (codes "abort") d)) Shape
-    ∷ one_more_node ∷ []
+    ∷ one_more_node version ∷ []
 
 unfoldable pub abort_asked : ℕ → Data → List Demand
 abort_asked version d = abort_shape_asked version d ++ reason_asked (as_str (part (codes "abort") d))
@@ -243,12 +245,13 @@ scope_after setting scope d = scope_after_by (sort_of d) setting scope d
 abbrev pub text_of : Data → List ℕ
 text_of d = or_empty (as_str d)
 
-unfoldable pub entry_asked : Data → List Demand
-entry_asked d = holds (is_some (as_str d)) Start ∷ holds (is_name (text_of d)) Name ∷ one_more_start ∷ []
+unfoldable pub entry_asked : ℕ → Data → List Demand
+entry_asked version d = holds (is_some (as_str d)) Start ∷ holds (is_name (text_of d)) Name ∷ one_more_start version ∷ []
 
-unfoldable pub element_asked : Table → Data → List Demand
-element_asked earlier d = holds (is_some (as_str d)) Start ∷ holds (is_name (text_of d)) Name ∷ holds (not (is_listed (text_of d) earlier))
-    Start ∷ one_more_start ∷ []
+unfoldable pub element_asked : ℕ → Table → Data → List Demand
+element_asked version earlier d =
+    holds (is_some (as_str d)) Start ∷ holds (is_name (text_of d)) Name ∷ holds (not (is_listed (text_of d) earlier)) Start
+    ∷ one_more_start version ∷ []
 
 abbrev pub key_of : Data → List ℕ
 key_of d = or_empty (text_item 0 d)
@@ -256,11 +259,11 @@ key_of d = or_empty (text_item 0 d)
 abbrev pub value_of : Data → List ℕ
 value_of d = or_empty (text_item 1 d)
 
-unfoldable pub pair_asked : Table → Data → List Demand
-pair_asked earlier d =
+unfoldable pub pair_asked : ℕ → Table → Data → List Demand
+pair_asked version earlier d =
     holds (has_count 2 d) Start ∷ holds (is_some (text_item 0 d)) Start ∷ holds (is_some (text_item 1 d)) Start
     ∷ holds (is_name (key_of d)) Name ∷ holds (is_name (value_of d)) Name
-    ∷ holds (not (is_listed (key_of d) earlier)) Start ∷ one_more_start ∷ []
+    ∷ holds (not (is_listed (key_of d) earlier)) Start ∷ one_more_start version ∷ []
 
 -- the number within a limit on its size
 abbrev pub number_start : Data → Option ℕ
@@ -315,7 +318,7 @@ abbrev pub transactions_in : Data → Items
 transactions_in d = or_no_items (list_member (codes "transactions") d)
 
 abbrev pub version_of : Data → Option ℕ
-version_of d = option_and_then (within 1 4) (whole_member (codes "ordtx") d)
+version_of d = option_and_then (within 1 LAST_VERSION) (whole_member (codes "ordtx") d)
 
 abbrev pub version_in : Data → ℕ
 version_in d = unwrap_or (version_of d) 1
@@ -326,8 +329,8 @@ document_shape_asked d =
     ∷ holds (is_some (version_of d)) Shape
     ∷ holds (is_some (list_member (codes "objects") d)) Shape
     ∷ holds (is_some (list_member (codes "transactions") d)) Shape
-    ∷ holds (nat_le (items_len (objects_in d)) MAX_OBJECTS) TooMany
-    ∷ holds (nat_le (items_len (transactions_in d)) MAX_TRANSACTIONS) TooMany
+    ∷ holds (nat_le (items_len (objects_in d)) (limits_of (version_in d)).objects) TooMany
+    ∷ holds (nat_le (items_len (transactions_in d)) (limits_of (version_in d)).transactions) TooMany
     ∷ []
 
 abbrev pub setting_in : Data → Setting

@@ -18,10 +18,10 @@ operation_head_asked setting d =
     ++ target_asked setting (object_of (part (codes "op") d)) (call_named (part (codes "op") d))
 
 -- of an `if`: its shape, its label and its test
-unfoldable pub if_head_asked : Scope → Data → List Demand
-if_head_asked scope d =
+unfoldable pub if_head_asked : ℕ → Scope → Data → List Demand
+if_head_asked version scope d =
     if_shape_asked d
-    ++ one_more_node ∷ []
+    ++ one_more_node version ∷ []
     ++ seen_asked scope (if_label d)
     ++ test_asked (subject_of (if_label d) scope) d
 
@@ -29,18 +29,18 @@ if_head_asked scope d =
 unfoldable pub sub_head_asked : ℕ → Scope → Scope → Data → List Demand
 sub_head_asked version scope earlier d =
     sub_shape_asked version d
-    ++ one_more_node ∷ []
+    ++ one_more_node version ∷ []
     ++ label_asked scope earlier (label_in d)
 
 -- of a parallel step: its shape
-unfoldable pub parallel_head_asked : Data → List Demand
-parallel_head_asked d =
+unfoldable pub parallel_head_asked : ℕ → Data → List Demand
+parallel_head_asked version d =
     parallel_shape_asked d
-    ++ one_more_node ∷ []
+    ++ one_more_node version ∷ []
 
 -- of an item of a set or a key: that it differs from these earlier ones
-unfoldable pub new_start_asked : Table → List ℕ → List Demand
-new_start_asked earlier name = holds (not (is_listed name earlier)) Start ∷ one_more_start ∷ []
+unfoldable pub new_start_asked : ℕ → Table → List ℕ → List Demand
+new_start_asked version earlier name = holds (not (is_listed name earlier)) Start ∷ one_more_start version ∷ []
 
 -- of a key and its item: their names
 unfoldable pub pair_names_asked : Data → List Demand

@@ -1,4 +1,5 @@
 pub mod Hashing
+pub mod Limits
 pub mod Demand
 pub mod Amounts
 pub mod Subjects

@@ -90,10 +90,10 @@ unfoldable pub block_placed_if : Places → Scope → Option Data → Placed
 block_placed_if places scope None = nothing
 block_placed_if places scope (Some d) = places scope d
 
-unfoldable pub if_placed : Places → Scope → Data → Placed
-if_placed places scope d =
+unfoldable pub if_placed : ℕ → Places → Scope → Data → Placed
+if_placed version places scope d =
     itself (if_shape_asked d)
-    (itself (one_more_node ∷ [])
+    (itself (one_more_node version ∷ [])
     (itself (seen_asked scope (if_label d))
     (itself (test_asked (subject_of (if_label d) scope) d)
     (inside (member_named (codes "then")) (places scope (part (codes "then") d))
@@ -116,7 +116,7 @@ handlers_placed places scope (Some ds) = members_placed places scope ds
 unfoldable pub sub_placed : ℕ → Places → Scope → Scope → Data → Placed
 sub_placed version places scope earlier d =
     itself (sub_shape_asked version d)
-    (itself (one_more_node ∷ [])
+    (itself (one_more_node version ∷ [])
     (itself (label_asked scope earlier (label_in d))
     (inside (member_named (codes "sub")) (places scope (part (codes "sub") d))
     (inside (member_named (codes "handlers")) (handlers_placed places scope (handlers_in d))
@@ -132,14 +132,14 @@ children_placed version places scope earlier i (item d ds) = inside (item_at i) 
 unfoldable pub parallel_placed : ℕ → Places → Scope → Data → Placed
 parallel_placed version places scope d =
     itself (parallel_shape_asked d)
-    (itself (one_more_node ∷ [])
+    (itself (one_more_node version ∷ [])
     (inside (member_named (codes "parallel")) (children_placed version places scope [] 0 (children_in d))
     nothing))
 
 abbrev pub step_placed_by : Option Sort → Places → Setting → Scope → Data → Placed
 step_placed_by None places setting scope d = itself (holds false Shape ∷ []) nothing
 step_placed_by (Some an_operation) places setting scope d = itself (operation_asked setting scope d) nothing
-step_placed_by (Some an_if) places setting scope d = if_placed places scope d
+step_placed_by (Some an_if) places setting scope d = if_placed setting.version places scope d
 step_placed_by (Some a_sub) places setting scope d = sub_placed setting.version places scope [] d
 step_placed_by (Some an_abort) places setting scope d = itself (abort_asked setting.version d) nothing
 step_placed_by (Some a_parallel) places setting scope d = parallel_placed setting.version places scope d
@@ -166,35 +166,35 @@ block_placed setting (suc n) scope d = array_placed Shape (steps_placed (block_p
 -- ---- objects
 
 -- the entries of a queue from an index on
-abbrev pub entries_placed : ℕ → Items → Placed
-entries_placed i no_items = nothing
-entries_placed i (item d ds) = inside (item_at i) (itself (entry_asked d) nothing) (entries_placed (i + 1) ds)
+abbrev pub entries_placed : ℕ → ℕ → Items → Placed
+entries_placed version i no_items = nothing
+entries_placed version i (item d ds) = inside (item_at i) (itself (entry_asked version d) nothing) (entries_placed version (i + 1) ds)
 
 -- the entries of a set, which differ from these earlier ones
-abbrev pub elements_placed : Table → ℕ → Items → Placed
-elements_placed earlier i no_items = nothing
-elements_placed earlier i (item d ds) = inside (item_at i) (itself (element_asked earlier d) nothing)
-    (elements_placed (with_text (text_of d) earlier) (i + 1) ds)
+abbrev pub elements_placed : ℕ → Table → ℕ → Items → Placed
+elements_placed version earlier i no_items = nothing
+elements_placed version earlier i (item d ds) = inside (item_at i) (itself (element_asked version earlier d) nothing)
+    (elements_placed version (with_text (text_of d) earlier) (i + 1) ds)
 
 -- the entries of a directory, whose keys differ from these earlier ones
-abbrev pub pairs_placed : Table → ℕ → Items → Placed
-pairs_placed earlier i no_items = nothing
-pairs_placed earlier i (item d ds) = inside (item_at i) (itself (pair_asked earlier d) nothing)
-    (pairs_placed (with_text (key_of d) earlier) (i + 1) ds)
+abbrev pub pairs_placed : ℕ → Table → ℕ → Items → Placed
+pairs_placed version earlier i no_items = nothing
+pairs_placed version earlier i (item d ds) = inside (item_at i) (itself (pair_asked version earlier d) nothing)
+    (pairs_placed version (with_text (key_of d) earlier) (i + 1) ds)
 
-unfoldable pub start_placed : Kind → Data → Placed
-start_placed kind.Account d = itself (holds (is_some (number_start d)) Start ∷ []) nothing
-start_placed kind.Counter d = itself (holds (is_some (signed_start d)) Start ∷ []) nothing
-start_placed kind.Set d = array_placed Start (elements_placed [] 0) (as_array d)
-start_placed kind.Queue d = array_placed Start (entries_placed 0) (as_array d)
-start_placed kind.Directory d = array_placed Start (pairs_placed [] 0) (as_array d)
-start_placed kind.Max d = itself (holds (is_some (number_start d)) Start ∷ []) nothing
+unfoldable pub start_placed : ℕ → Kind → Data → Placed
+start_placed version kind.Account d = itself (holds (is_some (number_start d)) Start ∷ []) nothing
+start_placed version kind.Counter d = itself (holds (is_some (signed_start d)) Start ∷ []) nothing
+start_placed version kind.Set d = array_placed Start (elements_placed version [] 0) (as_array d)
+start_placed version kind.Queue d = array_placed Start (entries_placed version 0) (as_array d)
+start_placed version kind.Directory d = array_placed Start (pairs_placed version [] 0) (as_array d)
+start_placed version kind.Max d = itself (holds (is_some (number_start d)) Start ∷ []) nothing
 
 unfoldable pub object_placed : ℕ → Table → Data → Placed
 object_placed version names d =
     itself (object_shape_asked version d)
     (itself (object_name_asked names (object_name d))
-    (inside (member_named (codes "start")) (start_placed (kind_in version d) (part (codes "start") d))
+    (inside (member_named (codes "start")) (start_placed version (kind_in version d) (part (codes "start") d))
     nothing))
 
 -- the objects from an index on, where these names come before them

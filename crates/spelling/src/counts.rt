@@ -1,13 +1,10 @@
 //! What has been counted of the document so far.
 ghost use Rattle.std.specs.Prelude.{◌≡◌, [], ◌∷◌, MatchResult, true, false};
 ghost use Rattle.spelling.specs.Answer.{IsFirst, IsMet};
-ghost use Rattle.spelling.specs.Demand.{fault_at, most_operations, one_more_node, one_more_operation, one_more_start};
+ghost use Rattle.spelling.specs.Demand.{fault_at, one_more_node, one_more_operation, one_more_start};
 
+use crate::limits::Limits;
 use faults::{Code, Fault, Wrong};
-use meaning::limits::{MAX_ENTRIES, MAX_NODES, MAX_OPERATIONS};
-
-/// How many operations a document before version 4 has at most.
-const MAX_OPERATIONS_BEFORE_4: usize = 100_000;
 
 /// Where the reader is, and how much of what is limited it has met.
 #[derive(Clone, Copy, Drop)]
@@ -17,17 +14,6 @@ pub struct Counts {
     pub operations: u32,
     pub nodes: u32,
     pub starts: u32,
-}
-
-/// How many operations a document of a version may have.
-pub fn most_operations(version: u8) -> usize
-    ensures { result ≡ most_operations version }
-{
-    if version >= 4 {
-        MAX_OPERATIONS
-    } else {
-        MAX_OPERATIONS_BEFORE_4
-    }
 }
 
 impl Counts {
@@ -53,36 +39,39 @@ impl Counts {
         }
     }
 
-    /// Counts an operation of a document of a version.
+    /// Counts an operation of a document of a version. Returns the fault `TooMany` where the
+    /// version has no more.
     pub fn one_more_operation(&mut self, version: u8) -> Result<(), Fault>
         ensures { MatchResult result (λ _. IsMet self.old (one_more_operation version ∷ []) self.new)
             (IsFirst self.old (one_more_operation version ∷ [])) }
     {
-        if self.operations as usize >= most_operations(version) {
+        if self.operations as usize >= Limits::of(version).operations {
             return Err(self.fault(Wrong::TooMany));
         }
         self.operations += 1;
         Ok(())
     }
 
-    /// Counts a step that is no operation, or a child.
-    pub fn one_more_node(&mut self) -> Result<(), Fault>
-        ensures { MatchResult result (λ _. IsMet self.old (one_more_node ∷ []) self.new)
-            (IsFirst self.old (one_more_node ∷ [])) }
+    /// Counts a step that is no operation, or a child, of a document of a version. Returns the
+    /// fault `TooMany` where the version has no more.
+    pub fn one_more_node(&mut self, version: u8) -> Result<(), Fault>
+        ensures { MatchResult result (λ _. IsMet self.old (one_more_node version ∷ []) self.new)
+            (IsFirst self.old (one_more_node version ∷ [])) }
     {
-        if self.nodes as usize >= MAX_NODES {
+        if self.nodes as usize >= Limits::of(version).nodes {
             return Err(self.fault(Wrong::TooMany));
         }
         self.nodes += 1;
         Ok(())
     }
 
-    /// Counts a starting entry.
-    pub(crate) fn one_more_start(&mut self) -> Result<(), Fault>
-        ensures { MatchResult result (λ _. IsMet self.old (one_more_start ∷ []) self.new)
-            (IsFirst self.old (one_more_start ∷ [])) }
+    /// Counts a starting entry of a document of a version. Returns the fault `TooMany` where the
+    /// version has no more.
+    pub fn one_more_start(&mut self, version: u8) -> Result<(), Fault>
+        ensures { MatchResult result (λ _. IsMet self.old (one_more_start version ∷ []) self.new)
+            (IsFirst self.old (one_more_start version ∷ [])) }
     {
-        if self.starts as usize >= MAX_ENTRIES {
+        if self.starts as usize >= Limits::of(version).entries {
             return Err(self.fault(Wrong::TooMany));
         }
         self.starts += 1;

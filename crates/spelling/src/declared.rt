@@ -1,10 +1,14 @@
 //! The objects that a document declares, and with them its transactions.
-ghost use Rattle.std.specs.Prelude.{◌≡◌, ◌≤◌, length};
+ghost use Rattle.std.specs.Prelude.{◌≡◌, ◌≤◌, length, IfErr, IfOk};
+ghost use Rattle.faults.specs.Faults.{memory_fault};
+ghost use Rattle.spelling.specs.Limits.{limits_of};
 ghost use Rattle.meaning.specs.declared.limits.TheConstants.{MAX_OBJECTS};
 
 use crate::hashing::Texts;
 use crate::hints::Hints;
 use batch::{Block, Objects};
+use faults::Fault;
+use std::alloc::Global;
 
 /// The objects by place, with their names, and the version that says what words there are.
 #[derive(Drop)]
@@ -15,6 +19,31 @@ pub struct Declared {
     pub(crate) hints: Hints,
     ghost named: { length names.keys ≡ length objects },
     ghost few: { length objects ≤ MAX_OBJECTS },
+}
+
+impl Declared {
+    /// The declared objects under these names. The fault is one of memory.
+    pub fn new(
+        alloc: Global,
+        version: u8,
+        names: Texts,
+        objects: Objects,
+    ) -> Result<Declared, Fault>
+        requires named { length names.keys ≡ length objects }
+        requires few { length objects ≤ (limits_of version).objects }
+        ensures version { IfOk result (λ declared. declared.version ≡ version) }
+        ensures names { IfOk result (λ declared. declared.names.keys ≡ names.keys) }
+        ensures objects { IfOk result (λ declared. declared.objects ≡ objects) }
+        ensures err { IfErr result (λ fault. fault ≡ memory_fault) }
+    {
+        let hints = Hints::of(alloc, &names)?;
+        Ok(Declared {
+            version,
+            names,
+            objects,
+            hints,
+        })
+    }
 }
 
 /// The objects and the transactions of a document.

@@ -40,10 +40,13 @@ pub(crate) struct IfHead<'v> {
 pub(crate) fn if_head<'v>(
     alloc: Global,
     step: &'v Value,
+    version: u8,
     state: &mut State,
 ) -> Result<IfHead<'v>, Fault>
-    ensures met { OnOk result (IsMet state.old.counts (if_head_asked (scope_of state.old.labels.entries) (view step.now)) state.new.counts) }
-    ensures first { IfErr result (IsFirst state.old.counts (if_head_asked (scope_of state.old.labels.entries) (view step.now))) }
+    ensures met { OnOk result (IsMet state.old.counts (if_head_asked version
+        (scope_of state.old.labels.entries) (view step.now)) state.new.counts) }
+    ensures first { IfErr result (IsFirst state.old.counts (if_head_asked version
+        (scope_of state.old.labels.entries) (view step.now))) }
     ensures label { IfOk result (λ head. head.label ≡ label_number (if_label (view step.now)) (scope_of state.old.labels.entries)) }
     ensures test { IfOk result (λ head. (head.test, numbers_of state.new.numbering)
         ≡ test_of (subject_of (if_label (view step.now)) (scope_of state.old.labels.entries)) (numbers_of state.old.numbering) (view step.now)) }
@@ -51,7 +54,7 @@ pub(crate) fn if_head<'v>(
     ensures labels { OnOk result (scope_of state.new.labels.entries ≡ scope_of state.old.labels.entries) }
 {
     let shape = if_shape_of(step, &state.counts)?;
-    state.counts.one_more_node()?;
+    state.counts.one_more_node(version)?;
     let (label, subject) = seen_label(shape.label, &state.labels, &state.counts)?;
     let test = read_test(alloc, subject, step, &state.counts, &mut state.numbering)?;
     Ok(IfHead {
@@ -105,7 +108,7 @@ pub(crate) fn sub_head<'v>(
         ≡ handlers_in (view step.now)) }
 {
     let shape = sub_shape_of(step, version, counts)?;
-    counts.one_more_node()?;
+    counts.one_more_node(version)?;
     check_label(shape.label, labels, earlier, counts)?;
     Ok(shape)
 }
@@ -159,14 +162,17 @@ pub fn no_labels(alloc: Global, labels: &Labels) -> Labels
 #[tactic(auto, using(crate::proofs::Checks::parts), unfolding(crate::specs::Heads::parallel_head_asked))]
 pub(crate) fn parallel_head<'v>(
     step: &'v Value,
+    version: u8,
     counts: &mut Counts,
 ) -> Result<&'v Vec<Value>, Fault>
-    ensures met { OnOk result (IsMet counts.old (parallel_head_asked (view step.now)) counts.new) }
-    ensures first { IfErr result (IsFirst counts.old (parallel_head_asked (view step.now))) }
+    ensures met { OnOk result (IsMet counts.old (parallel_head_asked version
+        (view step.now)) counts.new) }
+    ensures first { IfErr result (IsFirst counts.old (parallel_head_asked version
+        (view step.now))) }
     ensures children { IfOk result (λ list. items_view list.now.items ≡ children_in (view step.now)) }
 {
     let list = children_of(step, counts)?;
-    counts.one_more_node()?;
+    counts.one_more_node(version)?;
     Ok(list)
 }
 

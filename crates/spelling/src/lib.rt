@@ -9,6 +9,7 @@ pub mod hashing;
 pub mod heads;
 mod hints;
 pub mod labels;
+pub mod limits;
 pub mod look;
 pub mod numbers;
 pub mod operations;

@@ -7,15 +7,14 @@ ghost use Rattle.batch.specs.Names.{texts_of};
 ghost use Rattle.spelling.specs.Answer.{AreMet, IsFirst, IsFound, IsMet};
 ghost use Rattle.spelling.specs.Asked.{declared_by, element_asked, entry_asked, key_of, kind_in, names_of, number_start, object_kind, object_name, object_name_asked, object_shape_asked, pair_asked, part, signed_start, text_of, value_of};
 ghost use Rattle.spelling.specs.Heads.{new_start_asked, pair_names_asked};
+ghost use Rattle.spelling.specs.Limits.{limits_of};
 ghost use Rattle.spelling.specs.Places.{elements_placed, entries_placed, object_placed, objects_placed, pairs_placed, start_placed};
 ghost use Rattle.spelling.specs.Scope.{numbers_of, setting_of, with_item, with_text};
 ghost use Rattle.spelling.specs.Spelled.{bind_all, entries_of, item_of, pair_of, pairs_of, put_all, spelled_map, start_of, starts_of};
-ghost use Rattle.meaning.specs.declared.limits.TheConstants.{MAX_OBJECTS};
 
 use crate::counts::Counts;
 use crate::declared::Declared;
 use crate::hashing::Texts;
-use crate::hints::Hints;
 use crate::look::{count, has_only, text_item, text_member};
 use crate::operations::{item_of, items_of};
 use crate::state::{Numbering, add_text};
@@ -35,7 +34,7 @@ const MAX_NUMBER: i64 = MAX_START as i64;
 // ---- starts
 
 /// A number that an account or a maximum register may start with.
-fn number_start(value: &Value) -> Option<u64>
+pub fn number_start(value: &Value) -> Option<u64>
     ensures { result ≡ number_start (view value.now) }
 {
     match value.as_i64() {
@@ -45,7 +44,7 @@ fn number_start(value: &Value) -> Option<u64>
 }
 
 /// A number that a counter may start with.
-fn signed_start(value: &Value) -> Option<i64>
+pub fn signed_start(value: &Value) -> Option<i64>
     ensures { result ≡ signed_start (view value.now) }
 {
     match value.as_i64() {
@@ -59,11 +58,12 @@ fn signed_start(value: &Value) -> Option<i64>
 fn read_entry(
     alloc: Global,
     value: &Value,
+    version: u8,
     counts: &mut Counts,
     numbering: &mut Numbering,
 ) -> Result<Item, Fault>
-    ensures met { OnOk result (IsMet counts.old (entry_asked (view value.now)) counts.new) }
-    ensures first { IfErr result (IsFirst counts.old (entry_asked (view value.now))) }
+    ensures met { OnOk result (IsMet counts.old (entry_asked version (view value.now)) counts.new) }
+    ensures first { IfErr result (IsFirst counts.old (entry_asked version (view value.now))) }
     ensures item { IfOk result (λ item. item ≡ item_of (text_of (view value.now)) (numbers_of numbering.old)) }
     ensures numbers { OnOk result (numbers_of numbering.new ≡ with_item (text_of (view value.now)) (numbers_of numbering.old)) }
 {
@@ -71,24 +71,26 @@ fn read_entry(
         return Err(counts.fault(Wrong::Start));
     };
     counts.demand(is_name(name), Wrong::Name)?;
-    counts.one_more_start()?;
+    counts.one_more_start(version)?;
     item_of(alloc, name, numbering)
 }
 
 fn read_queue(
     alloc: Global,
     list: &Vec<Value>,
+    version: u8,
     counts: &mut Counts,
     numbering: &mut Numbering,
 ) -> Result<Queue, Unmet>
-    ensures met { OnOk result (AreMet counts.old (entries_placed 0 (items_view list.now.items))
-        counts.new) }
-    ensures unmet { IfErr result (IsFound counts.old (entries_placed 0 (items_view list.now.items))) }
+    ensures met { OnOk result (AreMet counts.old (entries_placed version 0
+        (items_view list.now.items)) counts.new) }
+    ensures unmet { IfErr result (IsFound counts.old (entries_placed version 0
+        (items_view list.now.items))) }
     ensures value { IfOk result (λ queue. (queue, numbers_of numbering.new) ≡ entries_of (numbers_of numbering.old) (items_view list.now.items)) }
 {
     let mut queue = Queue::new(alloc);
     for (index, entry) in list.iter().enumerate() {
-        match read_entry(alloc, entry, counts, numbering) {
+        match read_entry(alloc, entry, version, counts, numbering) {
             Ok(item) => queue.push_back(item)?,
             Err(fault) => return Err(Unmet::from(fault).in_item(alloc, index)),
         }
@@ -101,16 +103,19 @@ fn read_queue(
 fn add_start(
     alloc: Global,
     name: &str,
+    version: u8,
     earlier: &mut Texts,
     counts: &mut Counts,
 ) -> Result<(), Fault>
-    ensures met { OnOk result (IsMet counts.old (new_start_asked (texts_of earlier.old.keys) name.now) counts.new) }
-    ensures first { IfErr result (IsFirst counts.old (new_start_asked (texts_of earlier.old.keys) name.now)) }
+    ensures met { OnOk result (IsMet counts.old (new_start_asked version
+        (texts_of earlier.old.keys) name.now) counts.new) }
+    ensures first { IfErr result (IsFirst counts.old (new_start_asked version
+        (texts_of earlier.old.keys) name.now)) }
     ensures earlier { OnOk result (texts_of earlier.new.keys ≡ with_text name.now (texts_of earlier.old.keys)) }
 {
     let new = add_text(alloc, earlier, name)?;
     counts.demand(new, Wrong::Start)?;
-    counts.one_more_start()?;
+    counts.one_more_start(version)?;
     Ok(())
 }
 
@@ -119,12 +124,15 @@ fn add_start(
 fn read_element(
     alloc: Global,
     value: &Value,
+    version: u8,
     earlier: &mut Texts,
     counts: &mut Counts,
     numbering: &mut Numbering,
 ) -> Result<Item, Fault>
-    ensures met { OnOk result (IsMet counts.old (element_asked (texts_of earlier.old.keys) (view value.now)) counts.new) }
-    ensures first { IfErr result (IsFirst counts.old (element_asked (texts_of earlier.old.keys) (view value.now))) }
+    ensures met { OnOk result (IsMet counts.old (element_asked version (texts_of earlier.old.keys)
+        (view value.now)) counts.new) }
+    ensures first { IfErr result (IsFirst counts.old (element_asked version
+        (texts_of earlier.old.keys) (view value.now))) }
     ensures item { IfOk result (λ item. item ≡ item_of (text_of (view value.now)) (numbers_of numbering.old)) }
     ensures numbers { OnOk result (numbers_of numbering.new ≡ with_item (text_of (view value.now)) (numbers_of numbering.old)) }
     ensures earlier { OnOk result (texts_of earlier.new.keys ≡ with_text (text_of (view value.now)) (texts_of earlier.old.keys)) }
@@ -133,7 +141,7 @@ fn read_element(
         return Err(counts.fault(Wrong::Start));
     };
     counts.demand(is_name(name), Wrong::Name)?;
-    add_start(alloc, name, earlier, counts)?;
+    add_start(alloc, name, version, earlier, counts)?;
     item_of(alloc, name, numbering)
 }
 
@@ -141,19 +149,20 @@ fn read_element(
 fn read_elements(
     alloc: Global,
     list: &Vec<Value>,
+    version: u8,
     earlier: &mut Texts,
     counts: &mut Counts,
     numbering: &mut Numbering,
 ) -> Result<ItemSet, Unmet>
-    ensures met { OnOk result (AreMet counts.old (elements_placed (texts_of earlier.old.keys) 0
-        (items_view list.now.items)) counts.new) }
-    ensures unmet { IfErr result (IsFound counts.old (elements_placed (texts_of earlier.old.keys) 0
-        (items_view list.now.items))) }
+    ensures met { OnOk result (AreMet counts.old (elements_placed version
+        (texts_of earlier.old.keys) 0 (items_view list.now.items)) counts.new) }
+    ensures unmet { IfErr result (IsFound counts.old (elements_placed version
+        (texts_of earlier.old.keys) 0 (items_view list.now.items))) }
     ensures value { IfOk result (λ set. (set, numbers_of numbering.new) ≡ spelled_map (put_all finite_set.empty) (entries_of (numbers_of numbering.old) (items_view list.now.items))) }
 {
     let mut set = ItemSet::new(alloc);
     for (index, element) in list.iter().enumerate() {
-        match read_element(alloc, element, earlier, counts, numbering) {
+        match read_element(alloc, element, version, earlier, counts, numbering) {
             Ok(item) => set.insert(item)?,
             Err(fault) => return Err(Unmet::from(fault).in_item(alloc, index)),
         };
@@ -164,12 +173,13 @@ fn read_elements(
 fn read_set(
     alloc: Global,
     list: &Vec<Value>,
+    version: u8,
     counts: &mut Counts,
     numbering: &mut Numbering,
 ) -> Result<ItemSet, Unmet>
-    ensures met { OnOk result (AreMet counts.old (elements_placed [] 0 (items_view list.now.items))
-        counts.new) }
-    ensures unmet { IfErr result (IsFound counts.old (elements_placed [] 0 (items_view
+    ensures met { OnOk result (AreMet counts.old (elements_placed version [] 0
+        (items_view list.now.items)) counts.new) }
+    ensures unmet { IfErr result (IsFound counts.old (elements_placed version [] 0 (items_view
         list.now.items))) }
     ensures value { IfOk result (λ set. (set, numbers_of numbering.new) ≡ spelled_map (put_all finite_set.empty) (entries_of (numbers_of numbering.old) (items_view list.now.items))) }
 {
@@ -178,7 +188,7 @@ fn read_set(
         list.len(),
         *numbering.items.hasher(),
     )?;
-    read_elements(alloc, list, &mut earlier, counts, numbering)
+    read_elements(alloc, list, version, &mut earlier, counts, numbering)
 }
 
 /// The names of a key and its item.
@@ -206,17 +216,20 @@ fn pair_names<'v>(value: &'v Value, counts: &Counts) -> Result<(&'v str, &'v str
 fn check_pair<'v>(
     alloc: Global,
     value: &'v Value,
+    version: u8,
     earlier: &mut Texts,
     counts: &mut Counts,
 ) -> Result<(&'v str, &'v str), Fault>
-    ensures met { OnOk result (IsMet counts.old (pair_asked (texts_of earlier.old.keys) (view value.now)) counts.new) }
-    ensures first { IfErr result (IsFirst counts.old (pair_asked (texts_of earlier.old.keys) (view value.now))) }
+    ensures met { OnOk result (IsMet counts.old (pair_asked version (texts_of earlier.old.keys)
+        (view value.now)) counts.new) }
+    ensures first { IfErr result (IsFirst counts.old (pair_asked version
+        (texts_of earlier.old.keys) (view value.now))) }
     ensures key { IfOk result (λ pair. pair.0.now ≡ key_of (view value.now)) }
     ensures value { IfOk result (λ pair. pair.1.now ≡ value_of (view value.now)) }
     ensures earlier { OnOk result (texts_of earlier.new.keys ≡ with_text (key_of (view value.now)) (texts_of earlier.old.keys)) }
 {
     let (key, bound) = pair_names(value, counts)?;
-    add_start(alloc, key, earlier, counts)?;
+    add_start(alloc, key, version, earlier, counts)?;
     Ok((key, bound))
 }
 
@@ -224,16 +237,19 @@ fn check_pair<'v>(
 fn read_pair(
     alloc: Global,
     value: &Value,
+    version: u8,
     earlier: &mut Texts,
     counts: &mut Counts,
     numbering: &mut Numbering,
 ) -> Result<(Item, Item), Fault>
-    ensures met { OnOk result (IsMet counts.old (pair_asked (texts_of earlier.old.keys) (view value.now)) counts.new) }
-    ensures first { IfErr result (IsFirst counts.old (pair_asked (texts_of earlier.old.keys) (view value.now))) }
+    ensures met { OnOk result (IsMet counts.old (pair_asked version (texts_of earlier.old.keys)
+        (view value.now)) counts.new) }
+    ensures first { IfErr result (IsFirst counts.old (pair_asked version
+        (texts_of earlier.old.keys) (view value.now))) }
     ensures pair { IfOk result (λ pair. (pair, numbers_of numbering.new) ≡ pair_of (numbers_of numbering.old) (view value.now)) }
     ensures earlier { OnOk result (texts_of earlier.new.keys ≡ with_text (key_of (view value.now)) (texts_of earlier.old.keys)) }
 {
-    let (key_name, name) = check_pair(alloc, value, earlier, counts)?;
+    let (key_name, name) = check_pair(alloc, value, version, earlier, counts)?;
     items_of(alloc, key_name, name, numbering)
 }
 
@@ -241,19 +257,20 @@ fn read_pair(
 fn read_pairs(
     alloc: Global,
     list: &Vec<Value>,
+    version: u8,
     earlier: &mut Texts,
     counts: &mut Counts,
     numbering: &mut Numbering,
 ) -> Result<Directory, Unmet>
-    ensures met { OnOk result (AreMet counts.old (pairs_placed (texts_of earlier.old.keys) 0
+    ensures met { OnOk result (AreMet counts.old (pairs_placed version (texts_of earlier.old.keys) 0
         (items_view list.now.items)) counts.new) }
-    ensures unmet { IfErr result (IsFound counts.old (pairs_placed (texts_of earlier.old.keys) 0
-        (items_view list.now.items))) }
+    ensures unmet { IfErr result (IsFound counts.old (pairs_placed version
+        (texts_of earlier.old.keys) 0 (items_view list.now.items))) }
     ensures value { IfOk result (λ directory. (directory, numbers_of numbering.new) ≡ spelled_map (bind_all finite_map.empty) (pairs_of (numbers_of numbering.old) (items_view list.now.items))) }
 {
     let mut directory = Directory::new(alloc);
     for (index, pair) in list.iter().enumerate() {
-        match read_pair(alloc, pair, earlier, counts, numbering) {
+        match read_pair(alloc, pair, version, earlier, counts, numbering) {
             Ok((key, item)) => directory.put(key, item)?,
             Err(fault) => return Err(Unmet::from(fault).in_item(alloc, index)),
         }
@@ -264,12 +281,13 @@ fn read_pairs(
 fn read_directory(
     alloc: Global,
     list: &Vec<Value>,
+    version: u8,
     counts: &mut Counts,
     numbering: &mut Numbering,
 ) -> Result<Directory, Unmet>
-    ensures met { OnOk result (AreMet counts.old (pairs_placed [] 0 (items_view list.now.items))
-        counts.new) }
-    ensures unmet { IfErr result (IsFound counts.old (pairs_placed [] 0 (items_view
+    ensures met { OnOk result (AreMet counts.old (pairs_placed version [] 0
+        (items_view list.now.items)) counts.new) }
+    ensures unmet { IfErr result (IsFound counts.old (pairs_placed version [] 0 (items_view
         list.now.items))) }
     ensures value { IfOk result (λ directory. (directory, numbers_of numbering.new) ≡ spelled_map (bind_all finite_map.empty) (pairs_of (numbers_of numbering.old) (items_view list.now.items))) }
 {
@@ -278,7 +296,7 @@ fn read_directory(
         list.len(),
         *numbering.items.hasher(),
     )?;
-    read_pairs(alloc, list, &mut earlier, counts, numbering)
+    read_pairs(alloc, list, version, &mut earlier, counts, numbering)
 }
 
 /// What a set starts with.
@@ -286,18 +304,20 @@ fn read_directory(
 fn read_set_start(
     alloc: Global,
     value: &Value,
+    version: u8,
     counts: &mut Counts,
     numbering: &mut Numbering,
 ) -> Result<ObjectValue, Unmet>
-    ensures met { OnOk result (AreMet counts.old (start_placed Kind.Set (view value.now))
+    ensures met { OnOk result (AreMet counts.old (start_placed version Kind.Set (view value.now))
         counts.new) }
-    ensures unmet { IfErr result (IsFound counts.old (start_placed Kind.Set (view value.now))) }
+    ensures unmet { IfErr result (IsFound counts.old (start_placed version Kind.Set
+        (view value.now))) }
     ensures value { IfOk result (λ start. (start, numbers_of numbering.new) ≡ start_of Kind.Set (numbers_of numbering.old) (view value.now)) }
 {
     let Some(list) = value.as_array() else {
         return Err(Unmet::from(counts.fault(Wrong::Start)));
     };
-    let start = read_set(alloc, list, counts, numbering)?;
+    let start = read_set(alloc, list, version, counts, numbering)?;
     Ok(ObjectValue::Set(start))
 }
 
@@ -306,18 +326,20 @@ fn read_set_start(
 fn read_queue_start(
     alloc: Global,
     value: &Value,
+    version: u8,
     counts: &mut Counts,
     numbering: &mut Numbering,
 ) -> Result<ObjectValue, Unmet>
-    ensures met { OnOk result (AreMet counts.old (start_placed Kind.Queue (view value.now))
+    ensures met { OnOk result (AreMet counts.old (start_placed version Kind.Queue (view value.now))
         counts.new) }
-    ensures unmet { IfErr result (IsFound counts.old (start_placed Kind.Queue (view value.now))) }
+    ensures unmet { IfErr result (IsFound counts.old (start_placed version Kind.Queue
+        (view value.now))) }
     ensures value { IfOk result (λ start. (start, numbers_of numbering.new) ≡ start_of Kind.Queue (numbers_of numbering.old) (view value.now)) }
 {
     let Some(list) = value.as_array() else {
         return Err(Unmet::from(counts.fault(Wrong::Start)));
     };
-    let start = read_queue(alloc, list, counts, numbering)?;
+    let start = read_queue(alloc, list, version, counts, numbering)?;
     Ok(ObjectValue::Queue(start))
 }
 
@@ -326,18 +348,20 @@ fn read_queue_start(
 fn read_directory_start(
     alloc: Global,
     value: &Value,
+    version: u8,
     counts: &mut Counts,
     numbering: &mut Numbering,
 ) -> Result<ObjectValue, Unmet>
-    ensures met { OnOk result (AreMet counts.old (start_placed Kind.Directory (view value.now))
-        counts.new) }
-    ensures unmet { IfErr result (IsFound counts.old (start_placed Kind.Directory (view value.now))) }
+    ensures met { OnOk result (AreMet counts.old (start_placed version Kind.Directory
+        (view value.now)) counts.new) }
+    ensures unmet { IfErr result (IsFound counts.old (start_placed version Kind.Directory
+        (view value.now))) }
     ensures value { IfOk result (λ start. (start, numbers_of numbering.new) ≡ start_of Kind.Directory (numbers_of numbering.old) (view value.now)) }
 {
     let Some(list) = value.as_array() else {
         return Err(Unmet::from(counts.fault(Wrong::Start)));
     };
-    let start = read_directory(alloc, list, counts, numbering)?;
+    let start = read_directory(alloc, list, version, counts, numbering)?;
     Ok(ObjectValue::Directory(start))
 }
 
@@ -349,11 +373,13 @@ fn read_start(
     alloc: Global,
     kind: Kind,
     value: &Value,
+    version: u8,
     counts: &mut Counts,
     numbering: &mut Numbering,
 ) -> Result<ObjectValue, Unmet>
-    ensures met { OnOk result (AreMet counts.old (start_placed kind (view value.now)) counts.new) }
-    ensures unmet { IfErr result (IsFound counts.old (start_placed kind (view value.now))) }
+    ensures met { OnOk result (AreMet counts.old (start_placed version kind
+        (view value.now)) counts.new) }
+    ensures unmet { IfErr result (IsFound counts.old (start_placed version kind (view value.now))) }
     ensures value { IfOk result (λ start. (start, numbers_of numbering.new) ≡ start_of kind (numbers_of numbering.old) (view value.now)) }
 {
     match kind {
@@ -369,9 +395,9 @@ fn read_start(
             Some(number) => Ok(ObjectValue::Max(number)),
             None => Err(Unmet::from(counts.fault(Wrong::Start))),
         },
-        Kind::Set => read_set_start(alloc, value, counts, numbering),
-        Kind::Queue => read_queue_start(alloc, value, counts, numbering),
-        Kind::Directory => read_directory_start(alloc, value, counts, numbering),
+        Kind::Set => read_set_start(alloc, value, version, counts, numbering),
+        Kind::Queue => read_queue_start(alloc, value, version, counts, numbering),
+        Kind::Directory => read_directory_start(alloc, value, version, counts, numbering),
     }
 }
 
@@ -413,9 +439,10 @@ fn kind_member(value: &Value, version: u8) -> Option<Kind>
     kind_of_text(version, text_member(value, "kind")?)
 }
 
-/// Adds an object's name to the others.
+/// Adds an object's name to the others. Returns the fault of a text that is no name or is there
+/// already, or of memory.
 #[tactic(auto, unfolding(crate::specs::Asked::object_name_asked))]
-fn add_name(alloc: Global, name: &str, names: &mut Texts, counts: &Counts) -> Result<(), Fault>
+pub fn add_name(alloc: Global, name: &str, names: &mut Texts, counts: &Counts) -> Result<(), Fault>
     ensures met { OnOk result (IsMet counts.now (object_name_asked (texts_of names.old.keys) name.now) counts.now) }
     ensures first { IfErr result (IsFirst counts.now (object_name_asked (texts_of names.old.keys) name.now)) }
     ensures names { OnOk result (texts_of names.new.keys ≡ texts_of names.old.keys ++ name.now ∷ []) }
@@ -426,8 +453,11 @@ fn add_name(alloc: Global, name: &str, names: &mut Texts, counts: &Counts) -> Re
     Ok(())
 }
 
+/// The value that an object starts with. Its name joins these.
+///
+/// Returns the first demand that isn't met, with its place in the object, or that memory was refused.
 #[tactic(auto, unfolding(crate::specs::Places::object_placed))]
-fn read_object(
+pub fn read_object(
     alloc: Global,
     value: &Value,
     version: u8,
@@ -444,7 +474,7 @@ fn read_object(
 {
     let shape = shape_of(value, version, counts)?;
     add_name(alloc, shape.name, names, counts)?;
-    match read_start(alloc, shape.kind, shape.start, counts, numbering) {
+    match read_start(alloc, shape.kind, shape.start, version, counts, numbering) {
         Ok(start) => Ok(start),
         Err(unmet) => Err(unmet.in_member(alloc, "start")),
     }
@@ -486,7 +516,7 @@ pub fn read_objects(
     counts: &mut Counts,
     numbering: &mut Numbering,
 ) -> Result<Declared, Unmet>
-    requires few { length list.now.items ≤ MAX_OBJECTS }
+    requires few { length list.now.items ≤ (limits_of version).objects }
     ensures met { OnOk result (AreMet counts.old (objects_placed version [] 0 (items_view
         list.now.items)) counts.new) }
     ensures unmet { IfErr result (IsFound counts.old (objects_placed version [] 0 (items_view
@@ -501,11 +531,6 @@ pub fn read_objects(
         *numbering.items.hasher(),
     )?;
     let objects = read_values(alloc, list, version, &mut names, counts, numbering)?;
-    let hints = Hints::of(alloc, &names)?;
-    Ok(Declared {
-        version,
-        names,
-        objects,
-        hints,
-    })
+    let declared = Declared::new(alloc, version, names, objects)?;
+    Ok(declared)
 }

@@ -9,10 +9,11 @@ ghost use Rattle.spelling.specs.Answer.{AreMet, IsFirst, IsFound, IsMet};
 ghost use Rattle.spelling.specs.Asked.{abort_asked, abort_shape_asked, children_in, handlers_are_members, handlers_in, is_abort, label_in, labels_of, parallel_shape_asked, part, reason_asked, scope_after, sort_of, sub_shape_asked};
 ghost use Rattle.spelling.specs.Demand.{fault_at};
 ghost use Rattle.faults.specs.Faults.{memory_fault};
+ghost use Rattle.spelling.specs.Limits.{limits_of};
 ghost use Rattle.spelling.specs.Places.{block_placed, block_placed_if, children_placed, handlers_placed, if_placed, inside, member_named, member_placed, members_placed, nothing, parallel_placed, step_placed, steps_placed, sub_placed, transaction_placed, transactions_placed};
 ghost use Rattle.spelling.specs.Scope.{Extends, number_of, numbers_of, scope_of, setting_of, with_label, with_labels, with_text};
 ghost use Rattle.spelling.specs.Spelled.{abort_of, block_of, block_of_if, blocks_of, children_spelled, handlers_spelled, if_of, member_of, members_of, parallel_of, reason_of, spelled_map, step_of, steps_spelled, sub_of, sub_step};
-ghost use Rattle.meaning.specs.declared.limits.TheConstants.{MAX_DEPTH, MAX_TRANSACTIONS};
+ghost use Rattle.meaning.specs.declared.limits.TheConstants.{MAX_DEPTH};
 
 use crate::counts::Counts;
 use crate::declared::Declared;
@@ -130,7 +131,7 @@ fn abort_of<'v>(step: &'v Value, version: u8, counts: &mut Counts) -> Result<Opt
         return Err(counts.fault(Wrong::Shape));
     };
     counts.demand(is_abort(version, value), Wrong::Shape)?;
-    counts.one_more_node()?;
+    counts.one_more_node(version)?;
     Ok(value.as_str())
 }
 
@@ -187,18 +188,18 @@ fn read_if(
     declared: &Declared,
     state: &mut State,
 ) -> Result<Step, Unmet>
-    ensures met { OnOk result (AreMet state.old.counts (if_placed (block_placed (setting_of
-        declared.now) levels)
-        (scope_of state.old.labels.entries) (view step.now)) state.new.counts) }
-    ensures unmet { IfErr result (IsFound state.old.counts (if_placed (block_placed (setting_of
-        declared.now) levels)
-        (scope_of state.old.labels.entries) (view step.now))) }
+    ensures met { OnOk result (AreMet state.old.counts (if_placed declared.now.version
+        (block_placed (setting_of declared.now) levels) (scope_of state.old.labels.entries)
+        (view step.now)) state.new.counts) }
+    ensures unmet { IfErr result (IsFound state.old.counts (if_placed declared.now.version
+        (block_placed (setting_of declared.now) levels) (scope_of state.old.labels.entries)
+        (view step.now))) }
     ensures value { IfOk result (λ read. (step_view read, numbers_of state.new.numbering)
         ≡ if_of (block_of (setting_of declared.now) levels) (scope_of state.old.labels.entries)
         (numbers_of state.old.numbering) (view step.now)) }
     ensures labels { OnOk result (scope_of state.new.labels.entries ≡ scope_of state.old.labels.entries) }
 {
-    let head = if_head(alloc, step, state)?;
+    let head = if_head(alloc, step, declared.version, state)?;
     let then = read_part(alloc, "then", head.then, levels, declared, state)?;
     let otherwise = read_part_if(alloc, "else", step.get("else"), levels, declared, state)?;
     let step = if_step(alloc, head.label, head.test, then, otherwise)?;
@@ -511,7 +512,7 @@ fn read_parallel(
     ensures labels { OnOk result (scope_of state.new.labels.entries
         ≡ with_labels (labels_of [] (children_in (view step.now))) (scope_of state.old.labels.entries)) }
 {
-    let list = parallel_head(step, &mut state.counts)?;
+    let list = parallel_head(step, declared.version, &mut state.counts)?;
     let mut earlier = no_labels(alloc, &state.labels);
     let children = match read_children(alloc, list, levels, declared, &mut earlier, state) {
         Ok(children) => children,
@@ -694,7 +695,7 @@ pub fn read_transactions(
     declared: &Declared,
     state: &mut State,
 ) -> Result<Vec<Block>, Unmet>
-    requires transactions { length list.now.items ≤ MAX_TRANSACTIONS }
+    requires transactions { length list.now.items ≤ (limits_of declared.now.version).transactions }
     requires labels { scope_of state.old.labels.entries ≡ [] }
     ensures met { OnOk result (AreMet state.old.counts (transactions_placed (setting_of
         declared.now) 0 (items_view list.now.items)) state.new.counts) }

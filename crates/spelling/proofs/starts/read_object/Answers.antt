@@ -15,7 +15,7 @@ returns-in_err-shape-clause-unmet c =
     let names = texts_of c.args.names.now.keys in
     let version = c.args.version in
     let e = c.in_err-shape.field-0.0 in
-    let starts = inside (member_named (codes "start")) (start_placed (kind_in version d) (part (codes "start") d)) nothing in
+    let starts = inside (member_named (codes "start")) (start_placed version (kind_in version d) (part (codes "start") d)) nothing in
     raised c.from_residual.result start (object_placed version names d) e c.from_residual.ensures.1
     (λ other. own_unmet start e (object_shape_asked version d) (itself (object_name_asked names (object_name d)) starts)
     (c.in_err-shape.ensures.first other))
@@ -29,7 +29,7 @@ returns-in_err-add_name-clause-unmet c =
     let version = c.args.version in
     let shape = c.in_ok-shape.ensures in
     let e = c.in_err-add_name.field-0.0 in
-    let starts = inside (member_named (codes "start")) (start_placed (kind_in version d) (part (codes "start") d)) nothing in
+    let starts = inside (member_named (codes "start")) (start_placed version (kind_in version d) (part (codes "start") d)) nothing in
     raised c.from_residual-in_err-add_name.result start (object_placed version names d) e c.from_residual-in_err-add_name.ensures.1
     (λ other. own_first start start (object_shape_asked version d) (itself (object_name_asked names (object_name d)) starts) shape.met
     ∙ own_unmet start e (object_name_asked names (object_name d)) starts (rw shape.name at (c.in_err-add_name.ensures.first other)))
@@ -42,7 +42,7 @@ returns-in-Ok-clause-met c =
     let names = texts_of c.args.names.now.keys in
     let version = c.args.version in
     let shape = c.in_ok-shape.ensures in
-    let started = start_placed (kind_in version d) (part (codes "start") d) in
+    let started = start_placed version (kind_in version d) (part (codes "start") d) in
     let starts = inside (member_named (codes "start")) started nothing in
     own_first start start (object_shape_asked version d) (itself (object_name_asked names (object_name d)) starts) shape.met
     ∙ own_first start start (object_name_asked names (object_name d)) starts (rw shape.name at c.in_ok-add_name.ensures.met)
@@ -57,7 +57,7 @@ returns-in-Err-clause-unmet c other =
     let names = texts_of c.args.names.now.keys in
     let version = c.args.version in
     let shape = c.in_ok-shape.ensures in
-    let started = start_placed (kind_in version d) (part (codes "start") d) in
+    let started = start_placed version (kind_in version d) (part (codes "start") d) in
     let starts = inside (member_named (codes "start")) started nothing in
     own_first start start (object_shape_asked version d) (itself (object_name_asked names (object_name d)) starts) shape.met
     ∙ own_first start start (object_name_asked names (object_name d)) starts (rw shape.name at c.in_ok-add_name.ensures.met)

@@ -12,7 +12,7 @@ returns-clause-met c = on_ok c.items_of.result _ c.in_ok-key_name.ensures.met
 
 pub returns-clause-first : goal.returns-clause-first
 returns-clause-first c = memory_only c.items_of.result c.args.counts.now
-    (pair_asked (texts_of c.args.earlier.now.keys) (view c.args.value.now)) c.items_of.ensures.err
+    (pair_asked c.args.version (texts_of c.args.earlier.now.keys) (view c.args.value.now)) c.items_of.ensures.err
 
 pub returns-clause-pair : goal.returns-clause-pair
 returns-clause-pair c =

@@ -12,17 +12,19 @@ use Rattle.spelling.proofs.starts.read_queue.Goals as goal
 pub returns-in-Err-clause-unmet : goal.returns-in-Err-clause-unmet
 returns-in-Err-clause-unmet c other =
     let l = c.loop-index in
+    let version = c.args.version in
     let xs = c.deref-entry-items.result.now in
     let x = c.entry-item.result in
     let rest = items_view (drop (l.index + 1) xs) in
-    ap (λ vs. seek c.args.counts.now (entries_placed 0 (items_view vs))) (sym c.deref-entry-items.ensures.value) ∙ l.invariant.asked
-    ∙ ap (λ ds. seek l.counts (entries_placed l.index ds)) (items_from xs l.index x (omega arith) c.entry-item.is)
-    ∙ entry_unmet l.counts l.index (entry_asked (view x)) (entries_placed (l.index + 1) rest) c.in-Err.fault c.from.result c.in_item.result
-    c.from.ensures c.in_item.ensures c.in-Err.ensures.first other
+    ap (λ vs. seek c.args.counts.now (entries_placed version 0 (items_view vs))) (sym c.deref-entry-items.ensures.value) ∙ l.invariant.asked
+    ∙ ap (λ ds. seek l.counts (entries_placed version l.index ds)) (items_from xs l.index x (omega arith) c.entry-item.is)
+    ∙ entry_unmet l.counts l.index (entry_asked version (view x)) (entries_placed version (l.index + 1) rest)
+    c.in-Err.fault c.from.result c.in_item.result c.from.ensures c.in_item.ensures c.in-Err.ensures.first other
 
 pub loop-index-preserved : goal.loop-index-preserved
 loop-index-preserved c =
     let l = c.loop-index in
+    let version = c.args.version in
     let xs = c.deref-entry-items.result.now in
     let x = c.entry-item.result in
     let rest = items_view (drop (l.index + 1) xs) in
@@ -31,9 +33,9 @@ loop-index-preserved c =
     let next = c.read_entry.new.counts in
     let later : List Item × Numbers = entries_of (numbers_of c.read_entry.new.numbering) rest in
     record {
-      asked = l.invariant.asked ∙ ap (λ ds. seek l.counts (entries_placed l.index ds)) split
-          ∙ part_met l.counts next (item_at l.index) (itself (entry_asked (view x)) nothing) (entries_placed (l.index + 1) rest)
-          (own_met l.counts next (entry_asked (view x)) done.met);
+      asked = l.invariant.asked ∙ ap (λ ds. seek l.counts (entries_placed version l.index ds)) split
+          ∙ part_met l.counts next (item_at l.index) (itself (entry_asked version (view x)) nothing)
+          (entries_placed version (l.index + 1) rest) (own_met l.counts next (entry_asked version (view x)) done.met);
       spelled = l.invariant.spelled ∙ ap (λ ds. in_front l.queue (entries_of (numbers_of l.numbering) ds)) split
           ∙ ap₂ (λ (i : Item) (n : Numbers). in_front l.queue (i ∷ (entries_of n rest).0, (entries_of n rest).1)) (sym done.item)
           (sym done.numbers)

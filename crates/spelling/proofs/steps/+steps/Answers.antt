@@ -391,26 +391,29 @@ pub read_if-returns-in_err-then-clause-unmet : goal.read_if-returns-in_err-then-
 read_if-returns-in_err-then-clause-unmet t c =
     let places = block_placed (setting_of c.args.declared.now) c.args.levels in
     let scope = scope_of c.args.state.now.labels.entries in
+    let version = c.args.declared.now.version in
     let d = view c.args.step.now in
     let start = c.args.state.now.counts in
     let head = c.in_ok-head.ensures in
     let unmet = c.in_err-then.field-0.0 in
-    passed_on c.from_residual-in_err-then.result (IsFound start (if_placed places scope d)) unmet c.from_residual-in_err-then.ensures.1
-    (λ other. if_then_failed places scope d start c.if_head.new.state.counts (found_of unmet) head.met
+    passed_on c.from_residual-in_err-then.result (IsFound start (if_placed version places scope d)) unmet
+    c.from_residual-in_err-then.ensures.1
+    (λ other. if_then_failed version places scope d start c.if_head.new.state.counts (found_of unmet) head.met
     (rw (head.then, head.labels) at (c.in_err-then.ensures.unmet other)))
 
 pub read_if-returns-in_err-otherwise-clause-unmet : goal.read_if-returns-in_err-otherwise-clause-unmet
 read_if-returns-in_err-otherwise-clause-unmet t c =
     let places = block_placed (setting_of c.args.declared.now) c.args.levels in
     let scope = scope_of c.args.state.now.labels.entries in
+    let version = c.args.declared.now.version in
     let d = view c.args.step.now in
     let start = c.args.state.now.counts in
     let head = c.in_ok-head.ensures in
     let done = c.in_ok-then.ensures in
     let unmet = c.in_err-otherwise.field-0.0 in
-    passed_on c.from_residual-in_err-otherwise.result (IsFound start (if_placed places scope d)) unmet
+    passed_on c.from_residual-in_err-otherwise.result (IsFound start (if_placed version places scope d)) unmet
     c.from_residual-in_err-otherwise.ensures.1
-    (λ other. if_else_failed places scope d start c.if_head.new.state.counts c.read_part.new.state.counts (found_of unmet) head.met
+    (λ other. if_else_failed version places scope d start c.if_head.new.state.counts c.read_part.new.state.counts (found_of unmet) head.met
     (rw (head.then, head.labels) at done.met)
     (rw (done.labels, head.labels, c.get.ensures) at (c.in_err-otherwise.ensures.unmet other)))
 
@@ -423,7 +426,8 @@ read_sub-returns-in_err-body-clause-unmet t c =
     let start = c.args.state.now.counts in
     let head = c.in_ok-head.ensures in
     let unmet = c.in_err-body.field-0.0 in
-    passed_on c.from_residual-in_err-body.result (IsFound start (sub_placed version places scope _ d)) unmet c.from_residual-in_err-body.ensures.1
+    passed_on c.from_residual-in_err-body.result (IsFound start (sub_placed version places scope _ d)) unmet
+    c.from_residual-in_err-body.ensures.1
     (λ other. sub_body_failed version places scope _ d start c.sub_head.new.counts (found_of unmet) head.met
     (rw head.body at (c.in_err-body.ensures.unmet other)))
 
@@ -439,8 +443,8 @@ read_sub-returns-in_err-handlers-clause-unmet t c =
     let unmet = c.in_err-handlers.field-0.0 in
     passed_on c.from_residual-in_err-handlers.result (IsFound start (sub_placed version places scope _ d)) unmet
     c.from_residual-in_err-handlers.ensures.1
-    (λ other. sub_handlers_failed version places scope _ d start c.sub_head.new.counts c.read_part.new.state.counts (found_of unmet) head.met
-    (rw head.body at done.met) (rw (done.labels, head.handlers) at (c.in_err-handlers.ensures.unmet other)))
+    (λ other. sub_handlers_failed version places scope _ d start c.sub_head.new.counts c.read_part.new.state.counts (found_of unmet)
+    head.met (rw head.body at done.met) (rw (done.labels, head.handlers) at (c.in_err-handlers.ensures.unmet other)))
 
 pub read_sub-returns-in_err-handler-clause-unmet : goal.read_sub-returns-in_err-handler-clause-unmet
 read_sub-returns-in_err-handler-clause-unmet t c =
@@ -463,11 +467,12 @@ pub read_if-returns-in_err-head-clause-unmet : goal.read_if-returns-in_err-head-
 read_if-returns-in_err-head-clause-unmet t c =
     let places = block_placed (setting_of c.args.declared.now) c.args.levels in
     let scope = scope_of c.args.state.now.labels.entries in
+    let version = c.args.declared.now.version in
     let d = view c.args.step.now in
     let start = c.args.state.now.counts in
     let e = c.in_err-head.field-0.0 in
-    raised c.from_residual.result start (if_placed places scope d) e c.from_residual.ensures.1
-    (λ other. if_head_failed places scope d start e (c.in_err-head.ensures.first other))
+    raised c.from_residual.result start (if_placed version places scope d) e c.from_residual.ensures.1
+    (λ other. if_head_failed version places scope d start e (c.in_err-head.ensures.first other))
 
 pub read_sub-returns-in_err-head-clause-unmet : goal.read_sub-returns-in_err-head-clause-unmet
 read_sub-returns-in_err-head-clause-unmet t c =
@@ -484,18 +489,20 @@ pub read_if-returns-in_err-step-clause-unmet : goal.read_if-returns-in_err-step-
 read_if-returns-in_err-step-clause-unmet t c =
     let places = block_placed (setting_of c.args.declared.now) c.args.levels in
     let scope = scope_of c.args.state.now.labels.entries in
+    let version = c.args.declared.now.version in
     let d = view c.args.step.now in
     let start = c.args.state.now.counts in
-    refused c.from_residual-in_err-step.result start (if_placed places scope d) c.in_err-step.field-0.0
+    refused c.from_residual-in_err-step.result start (if_placed version places scope d) c.in_err-step.field-0.0
     c.from_residual-in_err-step.ensures.1 c.in_err-step.ensures.err
 
 pub read_if-returns-clause-met : goal.read_if-returns-clause-met
 read_if-returns-clause-met t c =
     let places = block_placed (setting_of c.args.declared.now) c.args.levels in
     let scope = scope_of c.args.state.now.labels.entries in
+    let version = c.args.declared.now.version in
     let head = c.in_ok-head.ensures in
     let done = c.in_ok-then.ensures in
-    if_parts_met places scope (view c.args.step.now) c.args.state.now.counts c.if_head.new.state.counts
+    if_parts_met version places scope (view c.args.step.now) c.args.state.now.counts c.if_head.new.state.counts
     c.read_part.new.state.counts c.read_part_if.new.state.counts head.met (rw (head.then, head.labels) at done.met)
     (rw (done.labels, head.labels, c.get.ensures) at c.in_ok-otherwise.ensures.met)
 
