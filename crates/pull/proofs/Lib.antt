@@ -9,3 +9,6 @@ pub mod PassLemmas
 pub mod NoteLemmas
 pub mod LongerLemmas
 pub mod RangeLemmas
+pub mod HeldLemmas
+pub mod EntryLemmas
+pub mod ObjectLemmas

@@ -21,10 +21,12 @@ use Rattle.serde_json.specs.Read.{converted, number_of, of_json}
 use Rattle.serde_json.proofs.Views.{get_member-put, get_member-put_other}
 use Rattle.pull.specs.declared.notes.Notes.{Notes}
 use Rattle.pull.specs.declared.pass.Seen.{Seen}
-use Rattle.spelling.specs.Asked.{document_shape_asked, or_no_items}
+use Rattle.spelling.specs.Asked.{document_shape_asked, or_no_items, version_in}
+use Rattle.spelling.specs.Limits.{limits_of}
 use Rattle.spelling.specs.Look.{is_among, members_among, whole, within}
-use Rattle.pull.specs.Passed.{IsNoted, is_version, member_names, noted_asked, noted_count, seen_as, whole_or_other}
+use Rattle.pull.specs.Passed.{IsNoted, member_names, noted_asked, noted_count, noted_version, seen_as, whole_or_other}
 use Rattle.spelling.specs.Scope.{fit}
+use Rattle.spelling.specs.declared.limits.TheConstants.{LAST_VERSION}
 use Rattle.pull.proofs.PassLemmas.{array_opened}
 
 -- ---- names among others
@@ -160,11 +162,12 @@ no_object depth token rest new d some other e =
 
 -- ---- the shape by its notes
 
-version_by : (o : Option ℤ) → is_version (Some (whole_or_other o)) ≡ is_some (option_and_then (within 1 4) o)
+version_by : (o : Option ℤ) → noted_version (Some (whole_or_other o)) ≡ option_and_then (within 1 LAST_VERSION) o
 version_by None = refl
 version_by (Some n) = refl
 
-version_same : (o : Option Data) → is_version (option_map seen_as o) ≡ is_some (option_and_then (within 1 4) (option_and_then whole o))
+version_same : (o : Option Data) → noted_version (option_map seen_as o)
+    ≡ option_and_then (within 1 LAST_VERSION) (option_and_then whole o)
 version_same None = refl
 version_same (Some null) = refl
 version_same (Some (boolean b)) = refl
@@ -209,6 +212,7 @@ few_items (Some ds) most few = fit_within (items_len ds) most _ refl few
 pub noted_shape : (notes : Notes) (ms : Members) → IsNoted notes ms → noted_asked notes ≡ document_shape_asked (object ms)
 unfolding document_shape_asked
 noted_shape notes ms noted =
+    let limits = limits_of (version_in (object ms)) in
     rw (
       noted.only,
       noted.version,
@@ -219,6 +223,6 @@ noted_shape notes ms noted =
       count_same (get_member (codes "transactions") ms),
       is_list (option_and_then as_array (get_member (codes "objects") ms)),
       is_list (option_and_then as_array (get_member (codes "transactions") ms)),
-      few_items (option_and_then as_array (get_member (codes "objects") ms)) 1000 (omega arith),
-      few_items (option_and_then as_array (get_member (codes "transactions") ms)) 10000 (omega arith),
+      few_items (option_and_then as_array (get_member (codes "objects") ms)) limits.objects (omega arith),
+      few_items (option_and_then as_array (get_member (codes "transactions") ms)) limits.transactions (omega arith),
     ) refl

@@ -265,7 +265,7 @@ module _ (version : ℕ) (places : Places) (block : Spelling) (scope : Scope) (b
 
   -- what is asked of the parts is what is asked of the whole
   pub sub_met : (earlier : Scope) (start counted inside_counts mid next : Counts) → are_allowed version reasons ≡ true
-      → IsMet start (one_more_node ∷ []) counted → AreMet counted (places scope body) inside_counts
+      → IsMet start (one_more_node version ∷ []) counted → AreMet counted (places scope body) inside_counts
       → AreMet inside_counts (handlers_placed places scope reasons) mid → AreMet mid (block_placed_if places scope every) next
       → IsMet counted (label_asked scope earlier (label_in whole)) counted
       → AreMet start (sub_placed version places scope earlier whole) next
@@ -276,9 +276,9 @@ module _ (version : ℕ) (places : Places) (block : Spelling) (scope : Scope) (b
       let steps = inside (member_named (codes "sub")) (places scope body) taken in
       let named = label_asked scope earlier (label_in whole) in
       rw (sub_body body reasons every label, sub_reasons body reasons every label, sub_every body reasons every label)
-      (own_first start start (sub_shape_asked version whole) (itself (one_more_node ∷ []) (itself named steps))
+      (own_first start start (sub_shape_asked version whole) (itself (one_more_node version ∷ []) (itself named steps))
       (sub_shape body reasons every label version start may)
-      ∙ own_first start counted (one_more_node ∷ []) (itself named steps) one
+      ∙ own_first start counted (one_more_node version ∷ []) (itself named steps) one
       ∙ own_first counted counted named steps labels
       ∙ part_met counted inside_counts (member_named (codes "sub")) (places scope body) taken first
       ∙ part_met inside_counts mid (member_named (codes "handlers")) (handlers_placed places scope reasons) last second
@@ -343,15 +343,15 @@ parallel_step ds = object (member (codes "parallel") (array ds) no_members)
 
 module _ (setting : Setting) (scope : Scope) (ds : Items) where
   -- what is asked of the children, and one more node
-  pub parallel_met : (places : Places) (start counted next : Counts) → IsMet start (one_more_node ∷ []) counted
+  pub parallel_met : (places : Places) (start counted next : Counts) → IsMet start (one_more_node setting.version ∷ []) counted
       → AreMet counted (children_placed setting.version places scope [] 0 ds) next
       → AreMet start (step_placed places setting scope (parallel_step ds)) next
   unfolding step_placed parallel_placed parallel_shape_asked sort_of
   parallel_met places start counted next one met =
       let children = children_placed setting.version places scope [] 0 ds in
       let list = inside (member_named (codes "parallel")) children nothing in
-      own_first start start (parallel_shape_asked (parallel_step ds)) (itself (one_more_node ∷ []) list) refl
-      ∙ own_first start counted (one_more_node ∷ []) list one
+      own_first start start (parallel_shape_asked (parallel_step ds)) (itself (one_more_node setting.version ∷ []) list) refl
+      ∙ own_first start counted (one_more_node setting.version ∷ []) list one
       ∙ part_met counted next (member_named (codes "parallel")) children nothing met
 
   -- what the children spell

@@ -128,7 +128,7 @@ module _ (setting : Setting) (scope : Scope) (label : List ℕ) (key : TestKey) 
   whole = if_step label key v first second
 
   -- what is asked of the parts is what is asked of the whole
-  pub if_met : (places : Places) (start counted inside_counts next : Counts) → IsMet start (one_more_node ∷ []) counted
+  pub if_met : (places : Places) (start counted inside_counts next : Counts) → IsMet start (one_more_node setting.version ∷ []) counted
       → IsMet counted (seen_asked scope label) counted → IsMet counted (test_asked (subject_of label scope) whole) counted
       → AreMet counted (places scope first) inside_counts → AreMet inside_counts (block_placed_if places scope second) next
       → AreMet start (step_placed places setting scope whole) next
@@ -144,9 +144,9 @@ module _ (setting : Setting) (scope : Scope) (label : List ℕ) (key : TestKey) 
         if_first label v first key second,
         if_second label v first key second,
       )
-      (own_first start start (if_shape_asked whole) (itself (one_more_node ∷ []) (itself named (itself tested branches)))
+      (own_first start start (if_shape_asked whole) (itself (one_more_node setting.version ∷ []) (itself named (itself tested branches)))
       (if_shape label v first key second start)
-      ∙ own_first start counted (one_more_node ∷ []) (itself named (itself tested branches)) one
+      ∙ own_first start counted (one_more_node setting.version ∷ []) (itself named (itself tested branches)) one
       ∙ own_first counted counted named (itself tested branches) seen
       ∙ own_first counted counted tested branches test
       ∙ part_met counted inside_counts (member_named (codes "then")) (places scope first) last met
@@ -190,15 +190,16 @@ abort_reason (Some r) = refl
 -- its shape is as asked, where the version has reasons
 abort_shape : (reason : Option (List ℕ)) (version : ℕ) (start counted : Counts)
     → is_abort version (part (codes "abort") (abort_step reason)) ≡ true
-    → IsMet start (one_more_node ∷ []) counted → IsMet start (abort_shape_asked version (abort_step reason)) counted
+    → IsMet start (one_more_node version ∷ []) counted → IsMet start (abort_shape_asked version (abort_step reason)) counted
 unfolding abort_shape_asked
 abort_shape None version start counted may one = one
 abort_shape (Some r) version start counted may one = rw may one
 
 module _ (setting : Setting) (scope : Scope) (reason : Option (List ℕ)) where
   -- what is asked of an abort
-  pub abort_met : (places : Places) (start counted next : Counts) → is_abort setting.version (part (codes "abort") (abort_step reason)) ≡ true
-      → IsMet start (one_more_node ∷ []) counted → IsMet counted (reason_asked reason) next
+  pub abort_met : (places : Places) (start counted next : Counts)
+      → is_abort setting.version (part (codes "abort") (abort_step reason)) ≡ true
+      → IsMet start (one_more_node setting.version ∷ []) counted → IsMet counted (reason_asked reason) next
       → AreMet start (step_placed places setting scope (abort_step reason)) next
   unfolding step_placed abort_asked
   abort_met places start counted next may one met =

@@ -10,6 +10,7 @@ use Rattle.meaning.specs.Trees as tree
 use Rattle.meaning.specs.declared.limits.TheConstants.{MAX_DEPTH}
 use Rattle.spelling.specs.Answer.{AreMet}
 use Rattle.spelling.specs.Asked.{names_of, objects_in}
+use Rattle.spelling.specs.Limits.{limits_of}
 use Rattle.spelling.specs.Places.{item_at, placed, seek, transaction_placed, transactions_placed}
 use Rattle.spelling.specs.Scope.{Numbers, Setting, setting_of}
 use Rattle.spelling.specs.Spelled.{block_of, blocks_of, parts_in, spelled}
@@ -137,8 +138,8 @@ module _ (declared : Declared) (start : Counts) (numbers : Numbers) where
   pub head_whole : (old inside : List Token) (mid : Counts) (between : Numbers) (q : Reached)
       → IsHead old (begin_array ∷ inside) declared start numbers mid between
       → AreRead (setting_of declared) inside (end_array ∷ end_object ∷ []) (record { counts = mid; numbers = between; blocks = [] }) q
-      → length q.blocks ≤ 10000 → (d : Data) × ReadsValue 127 old d [] × AreMet start (placed d) q.counts
-      × (texts_of declared.names.keys ≡ names_of (objects_in d))
+      → length q.blocks ≤ (limits_of declared.version).transactions
+      → (d : Data) × ReadsValue 127 old d [] × AreMet start (placed d) q.counts × (texts_of declared.names.keys ≡ names_of (objects_in d))
       × (spelled declared.objects q.blocks q.numbers ≡ parts_in numbers d)
   head_whole old inside mid between q head read few =
       let setting = setting_of declared in
@@ -149,7 +150,9 @@ module _ (declared : Declared) (start : Counts) (numbers : Numbers) where
       let items = read.reads [] no_items (end_object ∷ []) (reads_no_items 120 end (end_object ∷ []) refl) in
       let reads = subst (λ us. ReadsValue 127 us (in_order version os ts) []) (append-nil old)
       (head.begins [] (inside ++ []) ts [] refl (items_deeper 120 125 _ ts (end_object ∷ []) (omega arith) items)) in
-      let fewer : items_len ts ≤ 10000 = omega (arith, read.counted no_items, few) in
+      let same : declared.version ≡ version = ap (λ s. s.version) head.set in
+      let fewer : items_len ts ≤ (limits_of version).transactions = subst (λ v. items_len ts ≤ (limits_of v).transactions) same
+      (omega (arith, read.counted no_items, few)) in
       let spells : (q.blocks, q.numbers) ≡ blocks_of setting between ts =
       sym (read.spelled no_items ∙ in_front_none q.blocks q.numbers) in (
         in_order version os ts,
@@ -163,8 +166,8 @@ module _ (declared : Declared) (start : Counts) (numbers : Numbers) where
 
   -- a document that was read to its end
   pub begun_whole : (old : List Token) (q : Reached) → IsBegun old (end_array ∷ end_object ∷ []) declared start numbers q
-      → length q.blocks ≤ 10000 → (d : Data) × ReadsValue 127 old d [] × AreMet start (placed d) q.counts
-      × (texts_of declared.names.keys ≡ names_of (objects_in d))
+      → length q.blocks ≤ (limits_of declared.version).transactions
+      → (d : Data) × ReadsValue 127 old d [] × AreMet start (placed d) q.counts × (texts_of declared.names.keys ≡ names_of (objects_in d))
       × (spelled declared.objects q.blocks q.numbers ≡ parts_in numbers d)
   begun_whole old q begun few = head_whole old begun.inside begun.mid begun.between q begun.head begun.transactions few
 

@@ -1,3 +1,4 @@
 pub mod Pulled
+pub mod PulledObjects
 pub mod Passed
 pub mod Ranges

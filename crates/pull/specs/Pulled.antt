@@ -1,5 +1,5 @@
 -- What is taken from the tokens of a text, as the data that `serde_json` reads from them.
-use Rattle.std.specs.Prelude.{⊤, ◌≡◌, ◌≤◌, ℕ, Bool, List, length, Option, Some, None, codes, nat_le, true}
+use Rattle.std.specs.Prelude.{⊤, ◌≡◌, ◌≤◌, ◌++◌, ℕ, Bool, List, length, Option, Some, None, codes, nat_le, true}
 use Rattle.std.proofs.Common.{Less}
 use Rattle.std.specs.Ordering.{nat_cmp}
 use Rattle.std.specs.Cmp.Lexicographic.{slice_cmp}
@@ -110,7 +110,15 @@ abort_step (Some reason) = object (member (codes "abort") (string reason) no_mem
 
 -- ---- the document
 
+-- a document's members before its transactions
+abbrev pub before_transactions : ℕ → Items → Members
+before_transactions version os = put (codes "objects") (array os) (put (codes "ordtx") (number (unsigned version)) no_members)
+
 -- a document by its version, its objects and its transactions, where its members come in this order
 abbrev pub in_order : ℕ → Items → Items → Data
-in_order version os ts = object
-    (put (codes "transactions") (array ts) (put (codes "objects") (array os) (put (codes "ordtx") (number (unsigned version)) no_members)))
+in_order version os ts = object (put (codes "transactions") (array ts) (before_transactions version os))
+
+-- The tokens `old` begin a document of a version, up to the bracket that begins its objects; `new` are left.
+abbrev pub Begins : ℕ → List Token → List Token → Type 0
+Begins version old new = (os : Items) (ms : Members) (later mid rest : List Token) → ReadsItems 125 (new ++ later) os mid
+    → ReadsMembers 126 (before_transactions version os) mid ms rest → ReadsValue 127 (old ++ later) (object ms) rest

@@ -5,14 +5,15 @@ use Rattle.serde_json.specs.Data.{Items, no_items, item}
 use Rattle.serde_json.specs.Events.{items_len}
 use Rattle.batch.specs.Names.{texts_of}
 use Rattle.meaning.specs.Trees.{Block}
-use Rattle.meaning.specs.declared.limits.TheConstants.{MAX_OBJECTS}
 use Rattle.spelling.specs.Answer.{AreMet}
 use Rattle.spelling.specs.Asked.{declared_by, names_of}
+use Rattle.spelling.specs.Limits.{limits_of}
 use Rattle.spelling.specs.Places.{objects_placed, seek, transactions_placed}
 use Rattle.spelling.specs.Scope.{Numbers, Setting, numbers_of, setting_of}
 use Rattle.spelling.specs.Spelled.{blocks_of, starts_of}
 use Rattle.spelling.specs.declared.counts.Counts.{Counts}
 use Rattle.spelling.specs.declared.declared.Declared.{Declared}
+use Rattle.spelling.specs.declared.limits.TheConstants.{LAST_VERSION}
 use Rattle.spelling.specs.declared.state.State.{State}
 use Rattle.cuts.specs.Whole.{is_whole}
 use Rattle.pull.specs.Pulled.{ReadsItems, ReadsValue, in_order}
@@ -59,9 +60,9 @@ pub record AreRead (setting : Setting) (old new : List Token) (p q : Reached) : 
 pub record IsHead (old new : List Token) (declared : Declared) (start : Counts) (numbers : Numbers) (mid : Counts) (between : Numbers)
     : Type 0 where
   pub version : ℕ
-  pub known : (1 ≤ version) × (version ≤ 4)
+  pub known : (1 ≤ version) × (version ≤ LAST_VERSION)
   pub os : Items
-  pub few : items_len os ≤ MAX_OBJECTS
+  pub few : items_len os ≤ (limits_of version).objects
   pub objects : AreMet start (objects_placed version [] 0 os) mid
   pub named : texts_of declared.names.keys ≡ names_of os
   pub set : setting_of declared ≡ declared_by version os

@@ -7,5 +7,6 @@ pub mod pass;
 pub mod pull;
 pub mod pull_blocks;
 pub mod pull_heads;
+mod pull_objects;
 pub mod ranges;
 pub mod stop;

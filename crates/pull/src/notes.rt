@@ -5,16 +5,16 @@ ghost use Rattle.serde_json.specs.Data.{Data, Members, no_members, put};
 ghost use Rattle.serde_json.specs.Read.{converted, of_json, of_members};
 ghost use Rattle.spelling.specs.Demand.{check, no_counts};
 ghost use Rattle.faults.specs.Faults.{is_of_reading};
-ghost use Rattle.pull.specs.Passed.{AreNoted, IsNoted, is_version, noted_asked, noted_count, seen_as};
+ghost use Rattle.pull.specs.Passed.{AreNoted, IsNoted, noted_asked, noted_count, noted_version, seen_as};
 ghost use Rattle.pull.specs.Pulled.{ReadsMembers, ReadsValue};
 
 use crate::pass::{Seen, pass_from, pass_value};
 use faults::{Fault, Wrong};
 use json::{Invalid, Reader, Token};
-use meaning::limits::{MAX_OBJECTS, MAX_TRANSACTIONS};
+use spelling::limits::{LAST_VERSION, Limits};
 
-/// How deep arrays and objects may nest.
-const MAX_NESTING: usize = 127;
+/// How deep the arrays and objects of a document may nest.
+pub const MAX_NESTING: usize = 127;
 
 /// What is seen of the members that a document may have, the last of each name.
 #[derive(Clone, Copy, Drop)]
@@ -99,12 +99,15 @@ pub fn note_value(reader: &mut Reader<'_>) -> Result<Option<Notes>, Invalid>
     Ok(None)
 }
 
-fn is_version(seen: Option<Seen>) -> bool
-    ensures { result ≡ is_version seen }
+/// The version that is noted, if it is one that there is.
+fn version_of(seen: Option<Seen>) -> Option<u8>
+    ensures { result ≡ noted_version seen }
 {
     match seen {
-        Some(Seen::Whole(version)) => 1 <= version && version <= 4,
-        _ => false,
+        Some(Seen::Whole(version)) if 1 <= version && version <= LAST_VERSION as i64 => {
+            Some(version as u8)
+        }
+        _ => None,
     }
 }
 
@@ -124,16 +127,20 @@ pub fn check_notes(notes: &Notes) -> Result<(), Fault>
     ensures fault { IfErr result (λ fault. check no_counts (noted_asked notes.now) ≡ Err fault) }
     ensures code { IfErr result (λ fault. is_of_reading fault.code ≡ true) }
 {
-    if !notes.only || !is_version(notes.version) {
+    if !notes.only {
         return Err(Wrong::Shape.outside());
     }
+    let Some(version) = version_of(notes.version) else {
+        return Err(Wrong::Shape.outside());
+    };
     let Some(objects) = count_of(notes.objects) else {
         return Err(Wrong::Shape.outside());
     };
     let Some(transactions) = count_of(notes.transactions) else {
         return Err(Wrong::Shape.outside());
     };
-    if objects as usize > MAX_OBJECTS || transactions as usize > MAX_TRANSACTIONS {
+    let limits = Limits::of(version);
+    if objects as usize > limits.objects || transactions as usize > limits.transactions {
         return Err(Wrong::TooMany.outside());
     }
     Ok(())

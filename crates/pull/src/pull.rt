@@ -4,13 +4,13 @@
 //! memory was refused, or the tokens are out of the common form. The document is then read otherwise
 //! (`document` of `lang`), which finds faults.
 //!
-//! The common form: the members `ordtx`, `objects` and `transactions` in this order; a step's members
-//! as `pull_blocks` says; in steps, numbers without a point or an exponent. Of the objects a small tree is made
-//! and read as in any other document.
+//! The common form: the members `ordtx`, `objects` and `transactions` in this order; an object's
+//! members as `pull_objects` says, and a step's as `pull_blocks` says; in steps, numbers without a
+//! point or an exponent.
 ghost use Rattle.std.specs.Prelude.{◌≡◌, ℕ, Bool, List, ◌∷◌, ◌++◌, [], codes, length, option_map, false, true, Some, None, IfOk, IfSome, OnOk, ◌<◌, ◌+◌, ◌≤◌};
 ghost use Rattle.json.specs.Token as token;
 ghost use Rattle.fast_float.specs.Text.{with_sign};
-ghost use Rattle.serde_json.specs.Data.{Data, Items, Members, Num, member, negative, number, unsigned};
+ghost use Rattle.serde_json.specs.Data.{Data, Items, Members, Num, member, negative, number, object, unsigned};
 ghost use Rattle.serde_json.specs.Find.{as_i64, of_integer};
 ghost use Rattle.serde_json.specs.Read.{number_of};
 ghost use Rattle.serde_json.specs.View.{items_view, members_view, view};
@@ -18,23 +18,24 @@ ghost use Rattle.batch.specs.Views.{step_view};
 ghost use Rattle.spelling.specs.Asked.{arguments_asked, scope_after};
 ghost use Rattle.spelling.specs.Places.{Places, step_placed};
 ghost use Rattle.spelling.specs.Answer.{AreMet, IsMet};
-ghost use Rattle.pull.specs.Pulled.{ReadsItems, ReadsMembers, ReadsValue, in_order, labelled, op_array};
+ghost use Rattle.pull.specs.Pulled.{Begins, ReadsItems, ReadsMembers, ReadsValue, in_order, labelled, op_array};
 ghost use Rattle.spelling.specs.Scope.{numbers_of, scope_of, setting_of};
 ghost use Rattle.spelling.specs.Spelled.{Spelling, call_of, step_of};
 ghost use Rattle.batch.specs.Names.{is_name};
-ghost use Rattle.meaning.specs.declared.limits.TheConstants.{MAX_OBJECTS};
+ghost use Rattle.spelling.specs.Limits.{limits_of};
+ghost use Rattle.spelling.specs.declared.limits.TheConstants.{LAST_VERSION};
 ghost use Rattle.cuts.specs.Whole.{is_left};
 
 use crate::stop::Stop;
 use batch::{Call, Step, is_name};
 use fast_float::Numeral;
 use json::{Reader, Token};
-use meaning::limits::MAX_OBJECTS;
 use objects::Amount;
 use serde_json::{Map, Value};
 use spelling::counts::Counts;
 use spelling::declared::Declared;
 use spelling::labels::add_new_label;
+use spelling::limits::{LAST_VERSION, Limits};
 use spelling::numbers::number_of;
 use spelling::operations::{item_of, target_of};
 use spelling::state::{Numbering, State};
@@ -158,7 +159,7 @@ pub(crate) fn pull_begin_array(reader: &mut Reader<'_>) -> Result<(), Stop>
     }
 }
 
-fn pull_end_array(reader: &mut Reader<'_>) -> Result<(), Stop>
+pub(crate) fn pull_end_array(reader: &mut Reader<'_>) -> Result<(), Stop>
     ensures { IfOk result (λ _. reader.old ≡ token.end_array ∷ reader.new) }
 {
     match reader.next() {
@@ -192,6 +193,16 @@ pub(crate) fn pull_key(reader: &mut Reader<'_>, name: &str) -> Result<(), Stop>
 {
     match reader.next() {
         Some(Token::Key(key)) if key == name => Ok(()),
+        _ => Err(Stop::OtherForm),
+    }
+}
+
+/// The next key, whatever it is.
+pub(crate) fn pull_some_key<'a>(reader: &mut Reader<'a>) -> Result<&'a str, Stop>
+    ensures { IfOk result (λ name. reader.old ≡ token.key name.now ∷ reader.new) }
+{
+    match reader.next() {
+        Some(Token::Key(name)) => Ok(name),
         _ => Err(Stop::OtherForm),
     }
 }
@@ -291,7 +302,7 @@ pub(crate) fn pull_operation(
 // ---- values
 
 /// The value of a number's text.
-fn number_value(text: &str) -> Result<Value, Stop>
+pub(crate) fn number_value(text: &str) -> Result<Value, Stop>
     ensures { IfOk result (λ v. (x : Num) × (number_of text.now ≡ Some x) × (view v ≡ number x)) }
 {
     let number = number_of(text).ok_or(Stop::OtherForm)?;
@@ -356,6 +367,25 @@ pub(crate) fn pull_members(
     Ok(found)
 }
 
+/// The value of an object of which these members have been read, and then a key.
+pub(crate) fn pull_more_members(
+    alloc: Global,
+    name: &str,
+    reader: &mut Reader<'_>,
+    depth: usize,
+    before: Map<String, Value>,
+) -> Result<Value, Stop>
+    ensures { IfOk result (λ v. (ms : Members) × (view v ≡ object ms)
+        × ReadsMembers depth (members_view before.entries) (token.key name.now ∷ reader.old) ms
+        reader.new) }
+{
+    let key = String::from_str(alloc, name)?;
+    let member = pull_value(alloc, reader, depth)?;
+    let mut found = before;
+    drop(found.insert(key, member)?);
+    Ok(Value::Object(pull_members(alloc, reader, depth, found)?))
+}
+
 /// The value of an object whose first key has been read.
 pub(crate) fn pull_object(
     alloc: Global,
@@ -365,11 +395,7 @@ pub(crate) fn pull_object(
 ) -> Result<Value, Stop>
     ensures { IfOk result (λ v. ReadsValue (depth + 1) (token.begin_object ∷ token.key name.now ∷ reader.old) (view v) reader.new) }
 {
-    let key = String::from_str(alloc, name)?;
-    let member = pull_value(alloc, reader, depth)?;
-    let mut found = Map::new(alloc);
-    drop(found.insert(key, member)?);
-    Ok(Value::Object(pull_members(alloc, reader, depth, found)?))
+    pull_more_members(alloc, name, reader, depth, Map::new(alloc))
 }
 
 // ---- the document
@@ -377,12 +403,12 @@ pub(crate) fn pull_object(
 fn pull_version(reader: &mut Reader<'_>) -> Result<u8, Stop>
     ensures { IfOk result (λ version. (s : List ℕ) × (reader.old ≡ token.number s ∷ reader.new)
         × (number_of s ≡ Some (unsigned version))
-        × (1 ≤ version) × (version ≤ 4)) }
+        × (1 ≤ version) × (version ≤ LAST_VERSION)) }
 {
     match reader.next() {
         Some(Token::Number(text)) => {
             let number = unsigned_of(text).ok_or(Stop::OtherForm)?;
-            if 1 <= number && number <= 4 {
+            if 1 <= number && number <= LAST_VERSION as u64 {
                 Ok(number as u8)
             } else {
                 Err(Stop::OtherForm)
@@ -392,30 +418,10 @@ fn pull_version(reader: &mut Reader<'_>) -> Result<u8, Stop>
     }
 }
 
-/// The objects up to the end of their array, if they are no more than a document may have.
-fn pull_objects(alloc: Global, reader: &mut Reader<'_>) -> Result<Vec<Value>, Stop>
-    ensures reads { IfOk result (λ list. ReadsItems 125 reader.old (items_view list.items) reader.new) }
-    ensures few { IfOk result (λ list. length list.items ≤ MAX_OBJECTS) }
-{
-    let mut found = Vec::new(alloc);
-    while !reader.take_end_array() {
-        if found.len() >= MAX_OBJECTS {
-            return Err(Stop::OtherForm);
-        }
-        found.push(pull_value(alloc, reader, PART_DEPTH)?)?;
-    }
-    Ok(found)
-}
-
-/// A document up to the key of its transactions: its version, and of its objects a tree.
-pub(crate) fn pull_opening(alloc: Global, reader: &mut Reader<'_>) -> Result<(u8, Vec<Value>), Stop>
-    ensures version { IfOk result (λ head. (1 ≤ head.0) × (head.0 ≤ 4)) }
-    ensures objects { IfOk result (λ head. length head.1.items ≤ MAX_OBJECTS) }
-    ensures reads { IfOk result (λ head. (later inside : List token.Token) (ts : Items)
-        (rest : List token.Token) → reader.new ++ later ≡ token.begin_array ∷ inside
-        → ReadsItems 125 inside ts (token.end_object ∷ rest)
-        → ReadsValue 127 (reader.old ++ later)
-        (in_order head.0 (items_view head.1.items) ts) rest) }
+/// A document up to the bracket that begins its objects: its version.
+pub(crate) fn pull_beginning(reader: &mut Reader<'_>) -> Result<u8, Stop>
+    ensures version { IfOk result (λ version. (1 ≤ version) × (version ≤ LAST_VERSION)) }
+    ensures reads { IfOk result (λ version. Begins version reader.old reader.new) }
     ensures left { OnOk result ((v : Bool) → is_left v false reader.new ≡ true
         → is_left v false reader.old ≡ true) }
 {
@@ -424,22 +430,38 @@ pub(crate) fn pull_opening(alloc: Global, reader: &mut Reader<'_>) -> Result<(u8
     let version = pull_version(reader)?;
     pull_key(reader, "objects")?;
     pull_begin_array(reader)?;
-    let objects = pull_objects(alloc, reader)?;
-    pull_key(reader, "transactions")?;
-    Ok((version, objects))
+    Ok(version)
+}
+
+/// The trees of the objects up to the end of their array, if they are no more than a document may
+/// have.
+fn pull_trees(alloc: Global, reader: &mut Reader<'_>, version: u8) -> Result<Vec<Value>, Stop>
+    ensures reads { IfOk result (λ list. ReadsItems 125 reader.old (items_view list.items) reader.new) }
+    ensures few { IfOk result (λ list. length list.items ≤ (limits_of version).objects) }
+{
+    let mut found = Vec::new(alloc);
+    while !reader.take_end_array() {
+        if found.len() >= Limits::of(version).objects {
+            return Err(Stop::OtherForm);
+        }
+        found.push(pull_value(alloc, reader, PART_DEPTH)?)?;
+    }
+    Ok(found)
 }
 
 /// A document up to where its transactions begin: its version, and of its objects a tree.
 pub fn pull_head(alloc: Global, reader: &mut Reader<'_>) -> Result<(u8, Vec<Value>), Stop>
-    ensures version { IfOk result (λ head. (1 ≤ head.0) × (head.0 ≤ 4)) }
-    ensures objects { IfOk result (λ head. length head.1.items ≤ MAX_OBJECTS) }
+    ensures version { IfOk result (λ head. (1 ≤ head.0) × (head.0 ≤ LAST_VERSION)) }
+    ensures objects { IfOk result (λ head. length head.1.items ≤ (limits_of head.0).objects) }
     ensures reads { IfOk result (λ head. (later : List token.Token) (ts : Items)
         (rest : List token.Token)
         → ReadsItems 125 (reader.new ++ later) ts (token.end_object ∷ rest)
         → ReadsValue 127 (reader.old ++ later)
         (in_order head.0 (items_view head.1.items) ts) rest) }
 {
-    let head = pull_opening(alloc, reader)?;
+    let version = pull_beginning(reader)?;
+    let objects = pull_trees(alloc, reader, version)?;
+    pull_key(reader, "transactions")?;
     pull_begin_array(reader)?;
-    Ok(head)
+    Ok((version, objects))
 }

@@ -24,7 +24,7 @@ ghost use Rattle.meaning.specs.declared.limits.TheConstants.{MAX_DEPTH};
 
 use crate::pull::{
     pull_begin_array, pull_begin_object, pull_end_object, pull_key, pull_members, pull_name,
-    pull_object, pull_operation, pull_text, pull_whole,
+    pull_object, pull_operation, pull_some_key, pull_text, pull_whole,
 };
 use crate::pull_heads::{begin_parallel, end_parallel, new_sub_step, pull_if_head};
 use crate::stop::Stop;
@@ -237,7 +237,7 @@ fn pull_sub<'a>(
         × (sort_of d ≡ Some Sort.Sub)
         × (scope_of state.new.labels.entries ≡ scope_of state.old.labels.entries)) }
 {
-    state.counts.one_more_node()?;
+    state.counts.one_more_node(declared.version)?;
     let body = pull_block(alloc, reader, levels, declared, state)?;
     let rest = pull_sub_rest(alloc, reader, levels, declared, state)?;
     let label = rest.label;
@@ -325,7 +325,7 @@ fn pull_parallel(
         (scope_of state.old.labels.entries) (numbers_of state.old.numbering) d)
         × (scope_of state.new.labels.entries ≡ scope_after (setting_of declared.now) (scope_of state.old.labels.entries) d)) }
 {
-    begin_parallel(reader, &mut state.counts)?;
+    begin_parallel(reader, declared.version, &mut state.counts)?;
     let mut earlier = no_labels(alloc, &state.labels);
     let children = pull_children(alloc, reader, levels, declared, &mut earlier, state)?;
     let step = end_parallel(alloc, reader, children, earlier, &mut state.labels)?;
@@ -429,7 +429,7 @@ fn pull_if(
         (scope_of state.old.labels.entries) (numbers_of state.old.numbering) d)
         × (scope_of state.new.labels.entries ≡ scope_after (setting_of declared.now) (scope_of state.old.labels.entries) d)) }
 {
-    let head = pull_if_head(alloc, reader, state)?;
+    let head = pull_if_head(alloc, reader, declared.version, state)?;
     let then = pull_block(alloc, reader, levels, declared, state)?;
     let otherwise = pull_else(alloc, reader, levels, declared, state)?;
     let step = if_step(alloc, head.label, head.test, then, Some(otherwise))?;
@@ -475,7 +475,7 @@ fn pull_abort(
         × (scope_of state.new.labels.entries ≡ scope_after (setting_of declared.now) (scope_of state.old.labels.entries) d)) }
 {
     let reason = pull_reason(reader, declared.version)?;
-    state.counts.one_more_node()?;
+    state.counts.one_more_node(declared.version)?;
     let number = read_reason(alloc, reason, state)?;
     Ok(Step::Abort(number))
 }
@@ -487,10 +487,7 @@ fn pull_first_key<'a>(reader: &mut Reader<'a>) -> Result<&'a str, Stop>
     ensures { IfOk result (λ name. reader.old ≡ token.begin_object ∷ token.key name.now ∷ reader.new) }
 {
     pull_begin_object(reader)?;
-    match reader.next() {
-        Some(Token::Key(name)) => Ok(name),
-        _ => Err(Stop::OtherForm),
-    }
+    pull_some_key(reader)
 }
 
 /// A step of any other first key, which has been read, by a small tree.

@@ -35,13 +35,14 @@ pub(crate) struct PulledIf {
 pub(crate) fn pull_if_head(
     alloc: Global,
     reader: &mut Reader<'_>,
+    version: u8,
     state: &mut State,
 ) -> Result<PulledIf, Stop>
     ensures { IfOk result (λ head. (name : List ℕ) × (key : TestKey) × (v : Data)
         × ((k : ℕ) (ms : Members) (new : List token.Token)
         → ReadsMembers k (put (test_key key) v (member (codes "if") (string name) no_members)) (token.key (codes "then") ∷ reader.new) ms new
         → ReadsMembers k no_members (token.key (codes "if") ∷ reader.old) ms new)
-        × IsMet state.old.counts (one_more_node ∷ []) state.new.counts
+        × IsMet state.old.counts (one_more_node version ∷ []) state.new.counts
         × IsMet state.new.counts (seen_asked (scope_of state.old.labels.entries) name) state.new.counts
         × ((first : Data) (second : Option Data) → IsMet state.new.counts
         (test_asked (subject_of name (scope_of state.old.labels.entries)) (if_step name key v first second)) state.new.counts)
@@ -51,7 +52,7 @@ pub(crate) fn pull_if_head(
         × (scope_of state.new.labels.entries ≡ scope_of state.old.labels.entries)) }
 {
     let name = pull_text(reader)?;
-    state.counts.one_more_node()?;
+    state.counts.one_more_node(version)?;
     let (label, subject) = seen_label(name, &state.labels, &state.counts)?;
     let test = pull_test(alloc, subject, reader, &mut state.numbering)?;
     pull_key(reader, "then")?;
@@ -77,11 +78,15 @@ pub(crate) fn new_sub_step(
 }
 
 /// Reads a parallel step whose key has been read, up to its first child.
-pub(crate) fn begin_parallel(reader: &mut Reader<'_>, counts: &mut Counts) -> Result<(), Stop>
-    ensures met { IfOk result (λ _. IsMet counts.old (one_more_node ∷ []) counts.new) }
+pub(crate) fn begin_parallel(
+    reader: &mut Reader<'_>,
+    version: u8,
+    counts: &mut Counts,
+) -> Result<(), Stop>
+    ensures met { IfOk result (λ _. IsMet counts.old (one_more_node version ∷ []) counts.new) }
     ensures tokens { IfOk result (λ _. reader.old ≡ token.begin_array ∷ reader.new) }
 {
-    counts.one_more_node()?;
+    counts.one_more_node(version)?;
     pull_begin_array(reader)?;
     Ok(())
 }

@@ -8,8 +8,9 @@ ghost use Rattle.std.specs.Prelude.{◌≡◌, ◌≤◌, Bool, List, [], ◌∷
 ghost use Rattle.json.specs.Token as token;
 ghost use Rattle.batch.specs.Views.{block_view};
 ghost use Rattle.serde_json.specs.Data.{Data};
-ghost use Rattle.meaning.specs.declared.limits.TheConstants.{MAX_DEPTH, MAX_TRANSACTIONS};
+ghost use Rattle.meaning.specs.declared.limits.TheConstants.{MAX_DEPTH};
 ghost use Rattle.spelling.specs.Answer.{AreMet};
+ghost use Rattle.spelling.specs.Limits.{limits_of};
 ghost use Rattle.spelling.specs.Places.{transaction_placed};
 ghost use Rattle.spelling.specs.Spelled.{block_of};
 ghost use Rattle.pull.specs.Pulled.{ReadsValue};
@@ -17,14 +18,15 @@ ghost use Rattle.cuts.specs.Whole.{is_left, is_open};
 ghost use Rattle.pull.specs.Ranges.{AreRead, IsBegun, IsHead, left_by, reached};
 ghost use Rattle.spelling.specs.Scope.{numbers_of, scope_of, setting_of};
 
-use crate::pull::{pull_begin_array, pull_end, pull_end_object, pull_opening};
+use crate::pull::{pull_begin_array, pull_beginning, pull_end, pull_end_object, pull_key};
 use crate::pull_blocks::pull_block_begun;
+use crate::pull_objects::pull_objects;
 use crate::stop::Stop;
 use batch::Block;
 use json::{Reader, Token};
-use meaning::limits::{MAX_DEPTH, MAX_TRANSACTIONS};
+use meaning::limits::MAX_DEPTH;
 use spelling::declared::{Declared, Parts};
-use spelling::starts::read_objects;
+use spelling::limits::Limits;
 use spelling::state::State;
 use std::alloc::Global;
 
@@ -71,11 +73,12 @@ fn push_transaction(
         (token.begin_array ∷ reader.old) reader.new
         (reached state.old (map block_view transactions.old.items))
         (reached state.new (map block_view transactions.new.items))) }
-    ensures few { IfOk result (λ _. length transactions.new.items ≤ MAX_TRANSACTIONS) }
+    ensures few { IfOk result (λ _. length transactions.new.items
+        ≤ (limits_of declared.now.version).transactions) }
     ensures labels { IfOk result (λ _. scope_of state.new.labels.entries ≡ []) }
     ensures less { IfOk result (λ _. length reader.new ≤ length reader.old) }
 {
-    if transactions.len() >= MAX_TRANSACTIONS {
+    if transactions.len() >= Limits::of(declared.version).transactions {
         return Err(Stop::OtherForm);
     }
     let number = transactions.len() as u32 + 1;
@@ -110,7 +113,8 @@ pub fn pull_range(
     ensures read { IfOk result (λ end. AreRead (setting_of declared.now) reader.old (left_by end)
         (reached state.old (map block_view transactions.old.items))
         (reached state.new (map block_view transactions.new.items))) }
-    ensures few { IfOk result (λ _. length transactions.new.items ≤ MAX_TRANSACTIONS) }
+    ensures few { IfOk result (λ _. length transactions.new.items
+        ≤ (limits_of declared.now.version).transactions) }
     ensures scope { IfOk result (λ _. scope_of state.new.labels.entries ≡ []) }
 {
     pull_begin_array(reader)?;
@@ -141,14 +145,15 @@ fn pull_declared(
         → is_left v false reader.old ≡ true) }
     ensures scope { OnOk result (scope_of state.new.labels.entries ≡ []) }
 {
-    let (version, objects) = pull_opening(alloc, reader)?;
-    let declared = read_objects(
+    let version = pull_beginning(reader)?;
+    let declared = pull_objects(
         alloc,
-        &objects,
+        reader,
         version,
         &mut state.counts,
         &mut state.numbering,
     )?;
+    pull_key(reader, "transactions")?;
     Ok(declared)
 }
 
@@ -184,7 +189,8 @@ pub fn pull_first_range(
     ensures begun { IfOk result (λ first. IsBegun reader.old (left_by first.1) first.0.declared
         state.old.counts (numbers_of state.old.numbering)
         (reached state.new (map block_view first.0.transactions.items))) }
-    ensures few { IfOk result (λ first. length first.0.transactions.items ≤ MAX_TRANSACTIONS) }
+    ensures few { IfOk result (λ first. length first.0.transactions.items
+        ≤ (limits_of first.0.declared.version).transactions) }
     ensures scope { IfOk result (λ _. scope_of state.new.labels.entries ≡ []) }
 {
     let declared = pull_declared(alloc, reader, state)?;

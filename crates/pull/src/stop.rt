@@ -2,6 +2,7 @@
 
 use faults::{Code, Fault};
 use json::Invalid;
+use objects::NoMemory;
 use spelling::unmet::Unmet;
 use std::alloc::{AllocError, AllocFailed};
 
@@ -34,6 +35,12 @@ impl From<Unmet> for Stop {
 impl From<Invalid> for Stop {
     fn from(_invalid: Invalid) -> Stop {
         Stop::OtherForm
+    }
+}
+
+impl From<NoMemory> for Stop {
+    fn from(_refused: NoMemory) -> Stop {
+        Stop::NoMemory
     }
 }
 

@@ -8,7 +8,8 @@ use Rattle.serde_json.specs.View.{items_view, members_view, view}
 use Rattle.serde_json.specs.declared.value.Value.{String, Bool, Null, the_lemmas}
 use Rattle.serde_json.proofs.Views.{view-Array, view-Object, members_view-insert_entry}
 use Rattle.pull.specs.Pulled.{ReadsItems, ReadsMembers, ReadsValue}
-use Rattle.pull.proofs.PulledLemmas.{IfOk_then, items_before, items_before-no_items, items_push, reads_array, reads_boolean, reads_deeper, reads_item}
+use Rattle.pull.proofs.PulledLemmas.{IfOk_then, items_before, items_before-no_items, items_push, reads_array, reads_boolean, reads_deeper}
+use Rattle.pull.proofs.PulledLemmas.{reads_item}
 use Rattle.pull.proofs.PulledLemmas.{reads_member, reads_no_items, reads_no_members, reads_null, reads_number, reads_object, reads_shorter}
 use Rattle.pull.proofs.PulledLemmas.{reads_string}
 use Rattle.pull.proofs.pull.+values.Goals as goal

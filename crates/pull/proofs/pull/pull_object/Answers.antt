@@ -1,30 +1,18 @@
-use Rattle.std.proofs.Common.{◌≡◌, ◌∷◌, refl, sym, subst, ap, ◌∙◌, ◌+◌, suc, string_bytes, string_cmp, arith, rules}
-use Rattle.std.specs.BTreeMap.{insert_entry}
+use Rattle.std.proofs.Common.{◌≡◌, ◌∷◌, sym, subst, ap, ◌+◌, suc, arith}
 use Rattle.json.specs.Token.{Token}
-use Rattle.serde_json.specs.Data.{no_members, object, put}
-use Rattle.serde_json.specs.View.{members_view, view}
-use Rattle.serde_json.proofs.Views.{view-Object, members_view-insert_entry}
+use Rattle.serde_json.specs.Data.{no_members, object}
+use Rattle.serde_json.specs.View.{members_view}
 use Rattle.pull.specs.Pulled.{ReadsMembers, ReadsValue}
-use Rattle.pull.proofs.PulledLemmas.{reads_deeper, reads_member, reads_object}
+use Rattle.pull.proofs.PulledLemmas.{IfOk_then, reads_deeper, reads_object}
 use Rattle.pull.proofs.pull.pull_object.Goals as goal
 
 pub returns : goal.returns
 returns c =
     let k = c.args.depth in
-    let name = c.args.name.now in
-    let v = c.in_ok-member.member in
-    let mid = c.pull_value.new.reader in
-    let new = c.pull_members.new.reader in
-    let found = c.in_ok-pull_members.field-0 in
-    let ms = members_view found.entries in
-    let copied : string_bytes c.in_ok-key.key ≡ name = grind (arith, rules) in
-    let none : members_view c.new-found.result.entries ≡ no_members = ap members_view c.new-found.ensures.empty in
-    let entries : c.insert.new.self.entries ≡ insert_entry string_cmp c.new-found.result.entries c.in_ok-key.key v = grind (arith, rules) in
-    let inserted : members_view c.insert.new.self.entries ≡ put name (view v) no_members =
-    ap members_view entries ∙ members_view-insert_entry c.new-found.result.entries c.in_ok-key.key v
-    ∙ ap (λ n. put n (view v) (members_view c.new-found.result.entries)) copied ∙ ap (put name (view v)) none in
-    let rest = subst (λ before. ReadsMembers k before mid ms new) inserted c.in_ok-pull_members.ensures in
-    let all = reads_member k no_members name (Token.key name ∷ c.args.reader.now) c.args.reader.now mid new (view v) ms refl
-    (omega arith) c.in_ok-member.ensures rest in
-    subst (λ d. ReadsValue (k + 1) (Token.begin_object ∷ Token.key name ∷ c.args.reader.now) d new) (sym (view-Object found))
-    (reads_deeper (suc k) (k + 1) _ (object ms) new (omega arith) (reads_object k (Token.key name ∷ c.args.reader.now) ms new all))
+    let old = Token.key c.args.name.now ∷ c.args.reader.now in
+    let new = c.pull_more_members.new.reader in
+    let none : members_view c.new.result.entries ≡ no_members = ap members_view c.new.ensures.empty in
+    IfOk_then c.pull_more_members.result c.pull_more_members.ensures
+    (λ value done. subst (λ d. ReadsValue (k + 1) (Token.begin_object ∷ old) d new) (sym done.1)
+    (reads_deeper (suc k) (k + 1) _ (object done.0) new (omega arith)
+    (reads_object k old done.0 new (subst (λ found. ReadsMembers k found old done.0 new) none done.2))))

@@ -15,8 +15,8 @@ use Rattle.spelling.specs.Spelled.{block_of_if, or_no_step}
 use Rattle.pull.specs.Pulled.{IsAfter, ReadsValue, SubTail, sub_members, ReadsMembers, if_step, test_key, with_else}
 use Rattle.spelling.proofs.ListLemmas.{in_front, in_front_none, in_front_push}
 use Rattle.spelling.proofs.LabelLemmas.{child_label_met, extends_twice, scope_after_extends}
-use Rattle.pull.proofs.PulledLemmas.{IfOk_then, reads_item, reads_no_items, reads_shorter, reads_array, reads_deeper, reads_member, reads_no_members}
-use Rattle.pull.proofs.PulledLemmas.{reads_object}
+use Rattle.pull.proofs.PulledLemmas.{IfOk_then, reads_item, reads_no_items, reads_shorter, reads_array, reads_deeper}
+use Rattle.pull.proofs.PulledLemmas.{reads_member, reads_no_members, reads_object}
 use Rattle.json.specs.Token.{Token}
 use Rattle.batch.specs.declared.tree.Block.{roll-Block}
 use Rattle.batch.proofs.ViewLemmas.{block_view-is}
@@ -384,7 +384,7 @@ pull_sub-returns t c =
     behind.0 next last = subst (λ s. SubTail k version places block s mid inside (numbers_of c.pull_block.new.state.numbering) handlers
     handler label behind.0 next last) done.4 behind.1 in
     let ms = sub_members b tail.reasons tail.every label in
-    let one : IsMet start (one_more_node ∷ []) counted = grind (arith, rules) in
+    let one : IsMet start (one_more_node version ∷ []) counted = grind (arith, rules) in
     let members = reads_member k no_members (codes "sub") (Token.key (codes "sub") ∷ old) old mid new b ms refl (omega arith)
     (reads_deeper (5 * c.args.levels) k old b mid (omega arith) done.1)
     (tail.reads b ms new (reads_no_members k ms behind.0 new behind.2)) in
@@ -547,7 +547,7 @@ pull_parallel-returns t c =
     let ds = done.0 in
     let begun : old ≡ Token.begin_array ∷ inside = grind (arith, rules) in
     let ended = c.in_ok-step.ensures.tokens in
-    let one : IsMet start (one_more_node ∷ []) counted = grind (arith, rules) in
+    let one : IsMet start (one_more_node version ∷ []) counted = grind (arith, rules) in
     let empty = c.no_labels-earlier.ensures in
     let found = scope_of c.pull_children.new.earlier.entries in
     let unseen : AreUnseen found scope = subst (λ (s : Scope). AreUnseen found s) done.5 c.in_ok-step.ensures.unseen in

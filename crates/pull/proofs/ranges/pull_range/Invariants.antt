@@ -1,6 +1,7 @@
 use Rattle.std.proofs.Common.{◌≡◌, ◌≤◌, [], length, map}
 use Rattle.batch.specs.Views.{block_view}
 use Rattle.pull.specs.Ranges.{AreRead, reached}
+use Rattle.spelling.specs.Limits.{limits_of}
 use Rattle.spelling.specs.Scope.{scope_of, setting_of}
 use Rattle.pull.proofs.ranges.pull_range.Given as goal
 
@@ -10,7 +11,7 @@ invariant-loop-alloc l =
     AreRead (setting_of l.declared) l.initial.reader l.reader (reached l.initial.state (map block_view l.initial.transactions.items))
     (reached l.state (map block_view l.transactions.items))
     × (scope_of l.state.labels.entries ≡ [])
-    × (length l.transactions.items ≤ 10000)
+    × (length l.transactions.items ≤ (limits_of l.declared.version).transactions)
 
 abbrev pub decreases-loop-alloc : goal.decreases-loop-alloc
 decreases-loop-alloc l = length l.reader

@@ -5,7 +5,7 @@ use Rattle.serde_json.specs.Data.{item, no_items}
 use Rattle.serde_json.specs.View.{view}
 use Rattle.pull.specs.Pulled.{ReadsItems, ReadsValue}
 use Rattle.pull.proofs.PulledLemmas.{items_before, items_before-no_items, items_push, reads_item, reads_no_items, reads_shorter}
-use Rattle.pull.proofs.pull.pull_objects.Goals as goal
+use Rattle.pull.proofs.pull.pull_trees.Goals as goal
 
 pub loop-alloc-init : goal.loop-alloc-init
 loop-alloc-init c =
@@ -30,7 +30,14 @@ loop-alloc-preserved c =
       λ ds new reads. subst (λ all. ReadsItems 125 c.args.reader.now all new)
           (items_push l.found.items v ds ∙ ap (λ vs. items_before vs ds) (sym pushed))
           (l.invariant.0 (item (view v) ds) new (reads_item 125 l.reader mid new (view v) ds going.0 first reads)),
-      omega (arith, ap length pushed, length-append l.found.items (v ∷ []), c.if-len-ge-MAX_OBJECTS.false, c.len.ensures),
+      omega (
+        arith,
+        ap length pushed,
+        length-append l.found.items (v ∷ []),
+        c.if-len-of.false,
+        c.len.ensures,
+        ap (λ limits. limits.objects) c.of.ensures,
+      ),
     )
 
 pub returns-clause-reads : goal.returns-clause-reads
