@@ -14,13 +14,15 @@ use Rattle.batch.specs.Limits.{entries_in}
 use Rattle.carry.specs.declared.document.Misfit.{Misfit}
 use Rattle.carry.specs.declared.document.Unfit.{Unfit}
 use Rattle.carry.specs.declared.document.Unfit.TheVariants.{Start, TooMany}
-use Rattle.meaning.specs.declared.limits.TheConstants.{MAX_ENTRIES, MAX_START}
+use Rattle.meaning.specs.declared.limits.TheConstants.{MAX_START}
+use Rattle.spelling.specs.Limits.{limits_of}
+use Rattle.spelling.specs.declared.limits.TheConstants.{LAST_VERSION}
 
--- Why an object can't start as it is, where so many entries start before it.
+-- Why an object can't start as it is, where so many entries start before it. A carried document is of the last version.
 abbrev pub unfit_after : ℕ → Value → Option Unfit
 unfit_after entries v =
     if nat_lt MAX_START (size_of v) then Some Start
-    else if nat_lt MAX_ENTRIES (entries + entries_in v) then Some TooMany
+    else if nat_lt (limits_of LAST_VERSION).entries (entries + entries_in v) then Some TooMany
     else None
 
 -- an object at a place that is unfit, or what is found after it
@@ -65,8 +67,12 @@ abbrev pub object_texts : Names → ℕ → State → List (List ℕ)
 object_texts names n [] = []
 object_texts names n (v ∷ values) = object_text names n v ∷ object_texts names (n + 1) values
 
+-- what a carried document begins with
+abbrev pub document_head : List ℕ
+document_head = codes "{\"ordtx\": " ++ decimal LAST_VERSION ++ codes ",\n\"objects\": [\n"
+
 -- the document of these objects without a transaction, an object a line
 abbrev pub carried_text : Names → State → List ℕ
 carried_text names values =
-    codes "{\"ordtx\": 4,\n\"objects\": [\n" ++ joined (codes ",\n") (object_texts names 0 values)
+    document_head ++ joined (codes ",\n") (object_texts names 0 values)
     ++ codes "\n],\n\"transactions\": [\n]}\n"

@@ -6,6 +6,7 @@ use Rattle.json.specs.Json.{Json, Items, no_items, item, document}
 use Rattle.json.specs.Print.{print}
 use Rattle.json.specs.Tree.{json_tokens}
 use Rattle.meaning.specs.Words.{joined}
+use Rattle.carry.specs.Carried.{document_head}
 use Rattle.carry.specs.Joined.{StartOf, object_text_of}
 
 -- the value that the bytes are, with numbers as they are written and members in their order
@@ -27,5 +28,5 @@ transaction_texts bytes = item_texts (transactions_of (tree_of bytes))
 -- the document of these starts with the transactions of that one, a start or a transaction a line
 abbrev pub joined_text : List StartOf → List ℕ → List ℕ
 joined_text starts bytes =
-    codes "{\"ordtx\": 4,\n\"objects\": [\n" ++ joined (codes ",\n") (map object_text_of starts)
+    document_head ++ joined (codes ",\n") (map object_text_of starts)
     ++ codes "\n],\n\"transactions\": [\n" ++ joined (codes ",\n") (transaction_texts bytes) ++ codes "\n]}\n"

@@ -5,13 +5,15 @@ ghost use Rattle.meaning.specs.WellFormed.{size_of};
 ghost use Rattle.meaning.specs.Words.{joined, members};
 ghost use Rattle.batch.specs.Limits.{entries_in};
 ghost use Rattle.batch.specs.Names.{names_of};
-ghost use Rattle.carry.specs.Carried.{carried_text, first_unfit, item_text, object_text, object_texts, pair_text, start_text, unfit_after};
-ghost use Rattle.meaning.specs.declared.limits.TheConstants.{MAX_ENTRIES};
+ghost use Rattle.spelling.specs.Limits.{limits_of};
+ghost use Rattle.carry.specs.Carried.{carried_text, document_head, first_unfit, item_text, object_text, object_texts, pair_text, start_text, unfit_after};
+ghost use Rattle.spelling.specs.declared.limits.TheConstants.{LAST_VERSION};
 
 use batch::Names;
-use meaning::limits::{MAX_ENTRIES, MAX_START};
+use meaning::limits::MAX_START;
 use objects::{Directory, ItemSet, NoMemory, Objects, Queue, Value};
 use report::{item_name, object_name};
+use spelling::limits::{LAST_VERSION, Limits};
 use std::alloc::Global;
 use words::kind_text;
 
@@ -53,14 +55,14 @@ pub fn first_unfit(objects: &Objects) -> Option<Misfit>
 
 /// Why an object can't start as it is, where so many entries start before it.
 pub(crate) fn unfit_after(entries: usize, value: &Value) -> Option<Unfit>
-    requires { entries ≤ MAX_ENTRIES }
+    requires { entries ≤ (limits_of LAST_VERSION).entries }
     ensures unfit { result ≡ unfit_after entries value.now }
-    ensures few { result ≡ None → entries + entries_in value.now ≤ MAX_ENTRIES }
+    ensures few { result ≡ None → entries + entries_in value.now ≤ (limits_of LAST_VERSION).entries }
 {
     if magnitude(value) > MAX_START {
         return Some(Unfit::Start);
     }
-    if entries_in(value) > MAX_ENTRIES - entries {
+    if entries_in(value) > Limits::of(LAST_VERSION).entries - entries {
         return Some(Unfit::TooMany);
     }
     None
@@ -98,10 +100,18 @@ pub fn carried(alloc: Global, names: &Names, objects: &Objects) -> Result<String
     ensures { IfOk result (λ t. string_bytes t ≡ carried_text (names_of names.now) objects.now) }
 {
     let mut out = String::new(alloc);
-    write!(&mut out, "{{\"ordtx\": 4,\n\"objects\": [\n")?;
+    write_head(&mut out)?;
     write_objects(&mut out, names, objects)?;
     write!(&mut out, "\n],\n\"transactions\": [\n]}}\n")?;
     Ok(out)
+}
+
+// Writes what a carried document begins with.
+pub(crate) fn write_head(out: &mut String) -> Result<(), NoMemory>
+    ensures { OnOk result (string_bytes out.new ≡ string_bytes out.old ++ document_head) }
+{
+    write!(out, "{{\"ordtx\": {LAST_VERSION},\n\"objects\": [\n")?;
+    Ok(())
 }
 
 fn write_objects(out: &mut String, names: &Names, objects: &Objects) -> Result<(), NoMemory>

@@ -7,6 +7,7 @@ ghost use Rattle.meaning.specs.Words.{joined};
 ghost use Rattle.carry.specs.Joined.{start_view};
 ghost use Rattle.carry.specs.Transactions.{item_texts, joined_text, transaction_texts, transactions_of};
 
+use crate::document::write_head;
 use crate::starts::{Start, write_starts};
 use json::{Error, Scratch, Value, to_vec};
 use objects::NoMemory;
@@ -25,7 +26,7 @@ pub fn carried_into(
     ensures { IfOk result (λ t. string_bytes t ≡ joined_text (map start_view starts.now) document.now) }
 {
     let mut out = String::new(alloc);
-    write!(&mut out, "{{\"ordtx\": 4,\n\"objects\": [\n")?;
+    write_head(&mut out)?;
     write_starts(&mut out, starts)?;
     write!(&mut out, "\n],\n\"transactions\": [\n")?;
     write_transactions(alloc, &mut out, document)?;

@@ -13,6 +13,9 @@ use Rattle.meaning.specs.Words.{Names, members}
 use Rattle.batch.specs.Limits.{entries_in}
 use Rattle.batch.specs.Names.{AreNames, is_name}
 use Rattle.meaning.specs.WellFormed.{size_of}
+use Rattle.meaning.specs.declared.limits.TheConstants.{MAX_START}
+use Rattle.spelling.specs.Limits.{limits_of}
+use Rattle.spelling.specs.declared.limits.TheConstants.{LAST_VERSION}
 use Rattle.carry.specs.Carried.{first_unfit, unfit_or}
 use Rattle.carry.specs.declared.document.Unfit.TheVariants.{Start, TooMany}
 use Rattle.carry_laws.specs.Carrying.{HasItem, SomeHasItem, object_names}
@@ -22,16 +25,17 @@ use Rattle.carry_laws.proofs.Listed.{AreNamedBoth, AreWritable, IsNamed, IsWrita
 
 -- the first object can start, and so can the others after it
 pub record Fits (place entries : ℕ) (v : Value) (values : State) : Type 0 where
-  pub small : size_of v ≤ 1_000_000_000_000_000
-  pub few : entries + entries_in v ≤ 100_000
+  pub small : size_of v ≤ MAX_START
+  pub few : entries + entries_in v ≤ (limits_of LAST_VERSION).entries
   pub rest : first_unfit (place + 1) (entries + entries_in v) values ≡ None
 
 pub first_fits : (place entries : ℕ) (v : Value) (values : State) → first_unfit place entries (v ∷ values) ≡ None
     → Fits place entries v values
 first_fits place entries v values e =
-    by (nat_lt 1_000_000_000_000_000 (size_of v)) (nat_lt 100_000 (entries + entries_in v)) refl refl e
+    by (nat_lt MAX_START (size_of v)) (nat_lt (limits_of LAST_VERSION).entries (entries + entries_in v)) refl refl e
   where
-    by : (large many : Bool) → nat_lt 1_000_000_000_000_000 (size_of v) ≡ large → nat_lt 100_000 (entries + entries_in v) ≡ many
+    by : (large many : Bool) → nat_lt MAX_START (size_of v) ≡ large
+        → nat_lt (limits_of LAST_VERSION).entries (entries + entries_in v) ≡ many
         → unfit_or place (first_unfit (place + 1) (entries + entries_in v) values)
         (cond large (Some Start) (cond many (Some TooMany) None)) ≡ None → Fits place entries v values
     by true many l m none = cc
@@ -45,7 +49,7 @@ IsApart names (value.Directory d) = Apart (map names.item (finite_map.keys d))
 IsApart names v = ⊤
 
 module _ (names : Names) where
-  pub writable : (v : Value) → size_of v ≤ 1_000_000_000_000_000 → ((x : Item) → HasItem v x → IsNamed names x) → IsWritable names v
+  pub writable : (v : Value) → size_of v ≤ MAX_START → ((x : Item) → HasItem v x → IsNamed names x) → IsWritable names v
   writable (value.Account n) small named = small
   writable (value.Counter n) small named = small
   writable (value.Set s) small named = each_of (IsNamed names) (members s) (λ x at. named x (among_contained s x at))

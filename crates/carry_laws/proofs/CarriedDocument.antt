@@ -9,6 +9,7 @@ use Rattle.spelling.specs.Asked as asked
 use Rattle.spelling.specs.Asked.{kind_in}
 use Rattle.spelling.specs.Scope.{Numbers, no_numbers}
 use Rattle.spelling.specs.Spelled.{document_in, parts_in, start_of, starts_of}
+use Rattle.spelling.specs.declared.limits.TheConstants.{LAST_VERSION}
 use Rattle.carry.specs.Carried.{first_unfit}
 use Rattle.carry_laws.specs.CarriedData.{carried_data, object_data, objects_data, start_data}
 use Rattle.carry_laws.specs.Carrying.{object_names}
@@ -29,15 +30,16 @@ record SpellsState (names : Names) (values : State) (before : Numbers) (spelled 
 
 module _ (names : Names) where
   state_spelled : (n entries : ℕ) (values : State) (numbers : Numbers) → first_unfit n entries values ≡ None
-      → AllByRecursion (IsApart names) values → SpellsState names values numbers (starts_of 4 numbers (objects_data names n values))
+      → AllByRecursion (IsApart names) values
+      → SpellsState names values numbers (starts_of LAST_VERSION numbers (objects_data names n values))
   state_spelled n entries [] numbers fit apart = record { grows = grows_none numbers.items; few = omega arith; same = λ texts more few. tt }
   state_spelled n entries (v ∷ values) numbers fit apart =
       let fits = first_fits n entries v values fit in
-      let spelled = start_of (kind_in 4 (object_data names n v)) numbers (start_data names v) in
+      let spelled = start_of (kind_in LAST_VERSION (object_data names n v)) numbers (start_data names v) in
       let here : SpellsValue names v numbers spelled =
       subst (λ k. SpellsValue names v numbers (start_of k numbers (start_data names v))) (sym (kind_is names n v))
       (value_spelled names v numbers fits.small apart.0) in
-      let last = (starts_of 4 spelled.1 (objects_data names (n + 1) values)).1 in
+      let last = (starts_of LAST_VERSION spelled.1 (objects_data names (n + 1) values)).1 in
       let rest = state_spelled (n + 1) (entries + entries_in v) values spelled.1 fits.rest apart.1 in
       let first_few = here.few in
       let rest_few = rest.few in

@@ -10,10 +10,10 @@ use Rattle.meaning.specs.Trees.{Block}
 use Rattle.meaning.proofs.Keeping.{batch_keeps}
 use Rattle.batch.specs.Names.{names_of}
 use Rattle.faults.specs.Faults.{wrong_outside}
-use Rattle.lang.specs.Reading.{Document, reading, spelled_by, unless_fault, value_of}
+use Rattle.lang.specs.Reading.{Document, reading, spelled_by, value_of}
+use Rattle.lang.specs.declared.document.TheConstants.{MAX_BYTES}
 use Rattle.spelling.specs.Spelled.{document_in}
 use Rattle.faults.specs.declared.fault.Wrong.TheVariants.{TooMany}
-use Rattle.faults.specs.declared.fault.Fault.{Fault}
 use Rattle.spelling.proofs.DistinctTexts.{items_differ, objects_differ}
 use Rattle.lang.proofs.FaultlessBatch.{faultless_is_batch}
 use Rattle.carry.specs.Carried.{first_unfit}
@@ -23,6 +23,7 @@ use Rattle.carry_laws.proofs.CarriedLaws.{carried_is_read}
 use Rattle.carry_laws.proofs.NamedEnd.{end_named}
 use Rattle.carry_laws.proofs.NamedTexts.{named_objects_fit}
 use Rattle.spelling.specs.Places.{first_fault, placed}
+use Rattle.lang.proofs.SpelledLemmas.{spelled_faultless}
 
 -- a document that was read is that of the value, which has no fault
 pub record IsOf (read : Option Data) (document : Document) : Type 0 where
@@ -31,20 +32,20 @@ pub record IsOf (read : Option Data) (document : Document) : Type 0 where
   pub faultless : first_fault (placed value) ≡ None
   pub is : document_in value ≡ document
 
-of_value : (document : Document) (d : Data) (fault : Option Fault) → first_fault (placed d) ≡ fault → unless_fault d fault ≡ Ok document
-    → IsOf (Some d) document
-of_value document d None none e = record { value = d; reads = refl; faultless = none; is = cc }
-of_value document d (Some fault) none e = cc
+of_value : (document : Document) (d : Data) → spelled_by (Some d) ≡ Ok document → IsOf (Some d) document
+of_value document d e =
+    let spelled = spelled_faultless d document e in
+    record { value = d; reads = refl; faultless = spelled.0; is = spelled.1 }
 
 of_bytes : (document : Document) (large : Bool) (o : Option Data) → cond large (Err (wrong_outside TooMany)) (spelled_by o) ≡ Ok document
     → IsOf o document
 of_bytes document true o e = cc
 of_bytes document false None e = cc
-of_bytes document false (Some d) e = of_value document d (first_fault (placed d)) refl e
+of_bytes document false (Some d) e = of_value document d e
 
 pub of_reading : (bytes : List ℕ) (document : Document) → reading bytes ≡ Ok document → IsOf (value_of bytes) document
 unfolding reading
-of_reading bytes document e = of_bytes document (nat_lt 67108864 (length bytes)) (value_of bytes) e
+of_reading bytes document e = of_bytes document (nat_lt MAX_BYTES (length bytes)) (value_of bytes) e
 
 -- as many objects at the end as at the start
 pub same_length : (start : State) (batch : List Block) → length (final_state start batch) ≡ length start

@@ -28,6 +28,9 @@ use Rattle.spelling.specs.Demand.{check, no_counts}
 use Rattle.spelling.specs.Scope.{Table, is_listed}
 use Rattle.words.specs.Words.{kind_of_text}
 use Rattle.spelling.proofs.Checks.{check_met}
+use Rattle.meaning.specs.declared.limits.TheConstants.{MAX_START}
+use Rattle.spelling.specs.Limits.{limits_of}
+use Rattle.spelling.specs.declared.limits.TheConstants.{LAST_VERSION}
 use Rattle.meaning.specs.WellFormed.{size_of}
 use Rattle.carry.specs.Carried.{first_unfit}
 use Rattle.carry_laws.specs.CarriedData.{carried_data, items_data, object_data, objects_data, pairs_data, start_data}
@@ -43,7 +46,7 @@ use Rattle.spelling.specs.Places.{first_fault, placed}
 
 -- ---- kinds
 
-pub kind_back : (k : Kind) → kind_of_text 4 (kind_text k) ≡ Some k
+pub kind_back : (k : Kind) → kind_of_text LAST_VERSION (kind_text k) ≡ Some k
 unfolding kind_of_text
 kind_back kind.Account = refl
 kind_back kind.Counter = refl
@@ -54,29 +57,29 @@ kind_back kind.Max = refl
 
 -- ---- starts
 
-pub number_back : (n : ℕ) → n ≤ 1_000_000_000_000_000 → number_start (number (unsigned n)) ≡ Some n
-number_back n small = rw (lt-ltb n (2 ^ 63) (omega arith)) (rw (le-leb 0 n (omega arith), le-leb n 1_000_000_000_000_000 small))
+pub number_back : (n : ℕ) → n ≤ MAX_START → number_start (number (unsigned n)) ≡ Some n
+number_back n small = rw (lt-ltb n (2 ^ 63) (omega arith)) (rw (le-leb 0 n (omega arith), le-leb n MAX_START small))
 
-pub signed_back : (z : ℤ) → size_of (value.Counter z) ≤ 1_000_000_000_000_000 → signed_start (number (of_integer z)) ≡ Some z
-signed_back (pos n) small = rw (lt-ltb n (2 ^ 63) (omega arith)) (rw (le-leb n 1_000_000_000_000_000 small))
-signed_back (negsuc n) small = rw (le-leb (suc n) 1_000_000_000_000_000 small)
+pub signed_back : (z : ℤ) → size_of (value.Counter z) ≤ MAX_START → signed_start (number (of_integer z)) ≡ Some z
+signed_back (pos n) small = rw (lt-ltb n (2 ^ 63) (omega arith)) (rw (le-leb n MAX_START small))
+signed_back (negsuc n) small = rw (le-leb (suc n) MAX_START small)
 
 module _ (names : Names) where
-  entries_meet : (xs : List Item) → AllByRecursion (IsNamed names) xs → Meet (length xs) (entries_asked (items_data names xs))
+  entries_meet : (xs : List Item) → AllByRecursion (IsNamed names) xs → Meet (length xs) (entries_asked LAST_VERSION (items_data names xs))
   unfolding entry_asked
   entries_meet [] named = meet_none
   entries_meet (x ∷ xs) named =
-      let rest = entries_asked (items_data names xs) in
+      let rest = entries_asked LAST_VERSION (items_data names xs) in
       meet_test _ true Start _ refl (meet_test _ (is_name (names.item x)) Name _ named.0
       (meet_start (length xs) rest (entries_meet xs named.1)))
 
   elements_meet : (earlier : Table) (xs : List Item) → AllByRecursion (IsNamed names) xs → Apart (map names.item xs)
-      → AreNew earlier (map names.item xs) → Meet (length xs) (elements_asked earlier (items_data names xs))
+      → AreNew earlier (map names.item xs) → Meet (length xs) (elements_asked LAST_VERSION earlier (items_data names xs))
   unfolding element_asked
   elements_meet earlier [] named apart new = meet_none
   elements_meet earlier (x ∷ xs) named apart new =
       let text = names.item x in
-      let rest = λ (table : Table). elements_asked table (items_data names xs) in
+      let rest = λ (table : Table). elements_asked LAST_VERSION table (items_data names xs) in
       let later = subst (λ table. Meet (length xs) (rest table)) (sym (with_new text earlier new.0))
       (elements_meet (earlier ++ text ∷ []) xs named.1 apart.1 (new_after text earlier (map names.item xs) apart.0 new.1)) in
       meet_test _ true Start _ refl (meet_test _ (is_name text) Name _ named.0
@@ -84,12 +87,12 @@ module _ (names : Names) where
 
   pairs_meet : (earlier : Table) (pairs : List (Item × Item)) → AllByRecursion (AreNamedBoth names) pairs
       → Apart (map names.item (map (λ e. e.0) pairs)) → AreNew earlier (map names.item (map (λ e. e.0) pairs))
-      → Meet (length pairs) (pairs_asked earlier (pairs_data names pairs))
+      → Meet (length pairs) (pairs_asked LAST_VERSION earlier (pairs_data names pairs))
   unfolding pair_asked
   pairs_meet earlier [] named apart new = meet_none
   pairs_meet earlier (pair ∷ pairs) named apart new =
       let text = names.item pair.0 in
-      let rest = λ (table : Table). pairs_asked table (pairs_data names pairs) in
+      let rest = λ (table : Table). pairs_asked LAST_VERSION table (pairs_data names pairs) in
       let keys = map names.item (map (λ (e : Item × Item). e.0) pairs) in
       let later = subst (λ table. Meet (length pairs) (rest table)) (sym (with_new text earlier new.0))
       (pairs_meet (earlier ++ text ∷ []) pairs named.1 apart.1 (new_after text earlier keys apart.0 new.1)) in
@@ -97,8 +100,8 @@ module _ (names : Names) where
       (meet_test _ (is_name text) Name _ named.0.0 (meet_test _ (is_name (names.item pair.1)) Name _ named.0.1
       (meet_test _ (not (is_listed text earlier)) Start _ (ap not new.0) (meet_start (length pairs) _ later))))))
 
-  start_meet : (v : Value) → size_of v ≤ 1_000_000_000_000_000 → IsWritable names v → IsApart names v
-      → Meet (entries_in v) (start_asked (kind_of_value v) (start_data names v))
+  start_meet : (v : Value) → size_of v ≤ MAX_START → IsWritable names v → IsApart names v
+      → Meet (entries_in v) (start_asked LAST_VERSION (kind_of_value v) (start_data names v))
   unfolding start_asked array_start_asked
   start_meet (value.Account n) small ok apart = meet_test 0 (is_some (number_start (start_data names (value.Account n)))) Start []
       (ap is_some (number_back n small)) meet_none
@@ -116,29 +119,30 @@ module _ (names : Names) where
 
   -- ---- objects
 
-  pub kind_read : (n : ℕ) (v : Value) → object_kind 4 (object_data names n v) ≡ Some (kind_of_value v)
+  pub kind_read : (n : ℕ) (v : Value) → object_kind LAST_VERSION (object_data names n v) ≡ Some (kind_of_value v)
   kind_read n v = kind_back (kind_of_value v)
 
-  pub kind_is : (n : ℕ) (v : Value) → kind_in 4 (object_data names n v) ≡ kind_of_value v
+  pub kind_is : (n : ℕ) (v : Value) → kind_in LAST_VERSION (object_data names n v) ≡ kind_of_value v
   kind_is n v = ap (λ k. unwrap_or k kind.Account) (kind_read n v)
 
   pub object_meets : (n : ℕ) (v : Value) (earlier : Table) → is_name (names.object n) ≡ true → is_listed (names.object n) earlier ≡ false
-      → size_of v ≤ 1_000_000_000_000_000 → IsWritable names v → IsApart names v
-      → Meet (entries_in v) (object_asked 4 earlier (object_data names n v))
+      → size_of v ≤ MAX_START → IsWritable names v → IsApart names v
+      → Meet (entries_in v) (object_asked LAST_VERSION earlier (object_data names n v))
   unfolding object_asked object_shape_asked object_name_asked
   object_meets n v earlier named new small ok apart =
-      let start = start_asked (kind_in 4 (object_data names n v)) (start_data names v) in
+      let start = start_asked LAST_VERSION (kind_in LAST_VERSION (object_data names n v)) (start_data names v) in
       let started : Meet (entries_in v) start =
-      subst (λ k. Meet (entries_in v) (start_asked k (start_data names v))) (sym (kind_is n v)) (start_meet v small ok apart) in
+      subst (λ k. Meet (entries_in v) (start_asked LAST_VERSION k (start_data names v))) (sym (kind_is n v))
+      (start_meet v small ok apart) in
       meet_test _ true Shape _ refl (meet_test _ true Shape _ refl
-      (meet_test _ (is_some (object_kind 4 (object_data names n v))) Shape _ (ap is_some (kind_read n v))
+      (meet_test _ (is_some (object_kind LAST_VERSION (object_data names n v))) Shape _ (ap is_some (kind_read n v))
       (meet_test _ true Shape _ refl (meet_test _ (is_name (names.object n)) Name _ named
       (meet_test _ (not (is_listed (names.object n) earlier)) DuplicateObject start (ap not new) started)))))
 
   objects_met : (n entries : ℕ) (values : State) (earlier : Table) (c : Counts) → c.starts ≤ entries → first_unfit n entries values ≡ None
       → AreWritable names n values → AllByRecursion (IsApart names) values → Apart (object_names names n values)
       → AreNew earlier (object_names names n values)
-      → (next : Counts) × (check c (objects_asked 4 earlier (objects_data names n values)) ≡ Ok next)
+      → (next : Counts) × (check c (objects_asked LAST_VERSION earlier (objects_data names n values)) ≡ Ok next)
   objects_met n entries [] earlier c few fit ok apart differ new = (c, refl)
   objects_met n entries (v ∷ values) earlier c few fit ok apart differ new =
       let fits = first_fits n entries v values fit in
@@ -149,8 +153,8 @@ module _ (names : Names) where
       ok.2 apart.1
       differ.1 (new_after (names.object n) earlier (object_names names (n + 1) values) differ.0 new.1) in (
         rest.0,
-        check_met c here.0 (object_asked 4 earlier (object_data names n v))
-            (objects_asked 4 (earlier ++ names.object n ∷ []) (objects_data names (n + 1) values)) here.1 ∙ rest.1,
+        check_met c here.0 (object_asked LAST_VERSION earlier (object_data names n v))
+            (objects_asked LAST_VERSION (earlier ++ names.object n ∷ []) (objects_data names (n + 1) values)) here.1 ∙ rest.1,
       )
 
   -- ---- the document
@@ -159,17 +163,20 @@ module _ (names : Names) where
   objects_len n [] = refl
   objects_len n (v ∷ values) = ap suc (objects_len (n + 1) values)
 
-  shape_met : (values : State) → length values ≤ 1000 → check no_counts (document_shape_asked (carried_data names values)) ≡ Ok no_counts
+  shape_met : (values : State) → length values ≤ (limits_of LAST_VERSION).objects
+      → check no_counts (document_shape_asked (carried_data names values)) ≡ Ok no_counts
   unfolding document_shape_asked
-  shape_met values few = rw (le-leb (items_len (objects_data names 0 values)) 1000 (omega (arith, objects_len 0 values)))
+  shape_met values few =
+      rw (le-leb (items_len (objects_data names 0 values)) (limits_of LAST_VERSION).objects (omega (arith, objects_len 0 values)))
 
-  pub carried_faultless : (values : State) → length values ≤ 1000 → first_unfit 0 0 values ≡ None → AreWritable names 0 values
+  pub carried_faultless : (values : State) → length values ≤ (limits_of LAST_VERSION).objects → first_unfit 0 0 values ≡ None
+      → AreWritable names 0 values
       → AllByRecursion (IsApart names) values → Apart (object_names names 0 values)
       → first_fault (placed (carried_data names values)) ≡ None
   unfolding asked
   carried_faultless values few fit ok apart differ =
       let d = carried_data names values in
-      let objects = objects_asked 4 [] (objects_data names 0 values) in
+      let objects = objects_asked LAST_VERSION [] (objects_data names 0 values) in
       let met = objects_met 0 0 values [] no_counts (omega arith) fit ok apart differ (all_new (object_names names 0 values)) in
       met_faultless d met.0 (check_met no_counts met.0 (document_shape_asked d ++ objects) []
       (check_met no_counts no_counts (document_shape_asked d) objects (shape_met values few) ∙ met.1))

@@ -7,7 +7,6 @@ use Rattle.std.specs.List.{AllByRecursion}
 use Rattle.json.specs.Json as json
 use Rattle.json.specs.Print.{escape, escape_byte, IsNumber}
 use Rattle.json.specs.Text.{content}
-use Rattle.json.specs.Word.{after_number}
 use Rattle.json.proofs.Printed.Numbers.{lex-number}
 use Rattle.json.specs.Lex.{lex, between, token, comma, colon}
 use Rattle.json.specs.Token.{Token}
@@ -22,7 +21,8 @@ use Rattle.objects.specs.declared.value.Value.TheVariants as value
 use Rattle.meaning.specs.Words.{Names, members, joined}
 use Rattle.words.specs.Words.{kind_text}
 use Rattle.batch.specs.Names.{is_name}
-use Rattle.carry.specs.Carried.{carried_text, item_text, object_text, object_texts, pair_text, quoted, start_text}
+use Rattle.carry.specs.Carried.{carried_text, document_head, item_text, object_text, object_texts, pair_text, quoted, start_text}
+use Rattle.spelling.specs.declared.limits.TheConstants.{LAST_VERSION}
 use Rattle.carry_laws.proofs.Lexemes.{json_lexemes}
 use Rattle.carry_laws.proofs.Listed.{AreWritable, IsWritable, IsNamed, AreNamedBoth}
 use Rattle.carry_laws.proofs.NamesPlain.{name_plain}
@@ -57,7 +57,7 @@ objects_json names n [] = json.no_items
 objects_json names n (v ∷ values) = json.item (object_json names n v) (objects_json names (n + 1) values)
 
 abbrev pub carried_json : Names → State → json.Json
-carried_json names values = json.object (json.member (codes "ordtx") (json.number (codes "4"))
+carried_json names values = json.object (json.member (codes "ordtx") (json.number (decimal LAST_VERSION))
     (json.member (codes "objects") (json.array (objects_json names 0 values))
     (json.member (codes "transactions") (json.array json.no_items) json.no_members)))
 
@@ -96,20 +96,24 @@ closed : (rest : List ℕ) → lex between (codes "}" ++ rest) ≡ token Token.e
 unfolding lex
 closed rest = refl
 
-pub version_key : (rest : List ℕ) → lex between (codes "{\"ordtx\": 4,\n\"objects\": [\n" ++ rest)
+pub version_key : (rest : List ℕ) → lex between (document_head ++ rest)
     ≡ token Token.begin_object ∷ token (Token.string (codes "ordtx")) ∷ colon
-    ∷ lex between (codes "4" ++ (codes ",\n\"objects\": [\n" ++ rest))
+    ∷ lex between (decimal LAST_VERSION ++ (codes ",\n\"objects\": [\n" ++ rest))
 unfolding lex content
-version_key rest = refl
+version_key rest =
+    let first = codes "{\"ordtx\": " in
+    let version = decimal LAST_VERSION in
+    let last = codes ",\n\"objects\": [\n" in
+    ap (lex between) (append_assoc (first ++ version) last rest ∙ append_assoc first version (last ++ rest))
 
 pub objects_key : (rest : List ℕ) → lex between (codes ",\n\"objects\": [\n" ++ rest)
     ≡ comma ∷ token (Token.string (codes "objects")) ∷ colon ∷ token Token.begin_array ∷ lex between rest
 unfolding lex content
 objects_key rest = refl
 
-pub four : IsNumber (codes "4")
-unfolding after_number
-four = refl
+-- the version is written as a number
+pub version_written : IsNumber (decimal LAST_VERSION)
+version_written = IsNumber-decimal LAST_VERSION (omega arith)
 
 module _ (names : Names) where
   items_written : (xs : List Item) → AllByRecursion (IsNamed names) xs → AllWrite (map (item_text names) xs) (items_json names xs)
@@ -166,9 +170,10 @@ module _ (names : Names) where
   carried_lexed values ok =
       let texts = joined (codes ",\n") (object_texts names 0 values) in
       let last = codes ",\n\"transactions\": [\n]}\n" in
-      version_key (texts ++ (codes "\n]" ++ last))
+      ap (lex between) (append_assoc document_head texts (codes "\n]" ++ last)) ∙ version_key (texts ++ (codes "\n]" ++ last))
       ∙ ap (λ ls. token Token.begin_object ∷ token (Token.string (codes "ordtx")) ∷ colon ∷ ls) (
-      lex-number (codes "4") _ four refl ∙ ap (λ ls. token (Token.number (codes "4")) ∷ ls) (
+      lex-number (decimal LAST_VERSION) _ version_written refl
+      ∙ ap (λ ls. token (Token.number (decimal LAST_VERSION)) ∷ ls) (
       objects_key (texts ++ (codes "\n]" ++ last))
       ∙ ap (λ ls. comma ∷ token (Token.string (codes "objects")) ∷ colon ∷ token Token.begin_array ∷ ls)
       (joined_lexed (codes ",\n") (codes "\n]") (λ r. refl) (λ r. refl) (λ r. refl) (λ r. refl)

@@ -1,10 +1,6 @@
 -- The law of carrying over.
-use Rattle.std.proofs.Common.{cond, Err, ap, ◌∙◌}
-use Rattle.std.proofs.lemmas.Bool.{le-ltb}
-use Rattle.faults.specs.Faults.{wrong_outside}
-use Rattle.lang.specs.Reading.{reading, spelled_by, unless_fault, value_of}
+use Rattle.std.proofs.Common.{refl}
 use Rattle.spelling.specs.Spelled.{document_in}
-use Rattle.faults.specs.declared.fault.Wrong.TheVariants.{TooMany}
 use Rattle.carry.specs.Carried.{carried_text}
 use Rattle.carry_laws.specs.CarriedData.{carried_data}
 use Rattle.carry_laws.specs.Carrying.{object_names}
@@ -15,9 +11,9 @@ use Rattle.carry_laws.proofs.CarriedFaultless.{carried_faultless}
 use Rattle.carry_laws.proofs.CarriedReads.{carried_value}
 use Rattle.carry_laws.proofs.NamedTexts.{distinct_apart}
 use Rattle.carry_laws.proofs.TextLength.{carried_length}
+use Rattle.lang.proofs.SpelledLemmas.{reads_as}
 
 pub carried_is_read : CarriedLaw
-unfolding reading
 carried_is_read names values c =
     let text = carried_text names values in
     let d = carried_data names values in
@@ -25,7 +21,6 @@ carried_is_read names values c =
     let apart = all_apart names values c.items_apart in
     let faultless = carried_faultless names values c.few c.fit ok apart (distinct_apart (object_names names 0 values) c.objects_apart) in (
       document_in d,
-      ap (λ b. cond b (Err (wrong_outside TooMany)) (spelled_by (value_of text))) (le-ltb _ _ (carried_length names values c.few c.fit ok))
-          ∙ ap spelled_by (carried_value names values ok) ∙ ap (unless_fault d) faultless,
+      reads_as text d (document_in d) (carried_length names values c.few c.fit ok) (carried_value names values ok) faultless refl,
       document_spelled names values c.fit apart,
     )

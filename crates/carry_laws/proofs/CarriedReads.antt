@@ -1,9 +1,8 @@
 -- The document of objects as they are is JSON of a known value.
-use Rattle.std.proofs.Common.{◌≡◌, ℕ, pos, negsuc, ◌+◌, ◌≤◌, List, [], ◌∷◌, Some, None, refl, sym, ap, ◌∙◌, arith, append-nil}
-use Rattle.std.specs.Prelude.{codes, cond, option_and_then, if◌then◌else◌}
+use Rattle.std.proofs.Common.{◌≡◌, ℕ, pos, negsuc, ◌+◌, ◌≤◌, List, [], ◌∷◌, decimal, Some, None, refl, sym, ap, ◌∙◌, arith, append-nil}
+use Rattle.std.specs.Prelude.{cond, option_and_then, if◌then◌else◌}
 use Rattle.std.specs.Str.{is_utf8}
 use Rattle.std.specs.FinMap as finite_map
-use Rattle.std.proofs.lemmas.Fmt.{decimal_digit}
 use Rattle.std.proofs.lemmas.Str.{is_utf8-from_IsUtf8}
 use Rattle.json.specs.Json as json
 use Rattle.json.specs.Tree.{depth, items_depth}
@@ -16,6 +15,7 @@ use Rattle.objects.specs.Entries.{State}
 use Rattle.objects.specs.declared.value.Value.{Value}
 use Rattle.objects.specs.declared.value.Value.TheVariants as value
 use Rattle.meaning.specs.Words.{Names, members}
+use Rattle.spelling.specs.declared.limits.TheConstants.{LAST_VERSION}
 use Rattle.carry.specs.Carried.{carried_text}
 use Rattle.carry_laws.specs.CarriedData.{carried_data, items_data, object_data, objects_data, pairs_data, start_data}
 use Rattle.carry_laws.proofs.CarriedJson.{carried_json, carried_lexed, items_json, object_json, objects_json, pairs_json, start_json}
@@ -23,8 +23,9 @@ use Rattle.carry_laws.proofs.CarriedUtf8.{carried_utf8}
 use Rattle.carry_laws.proofs.Lexemes.{tokens_alone}
 use Rattle.carry_laws.proofs.Listed.{AreWritable, IsWritable}
 
-pub four : number_of (codes "4") ≡ Some (unsigned 4)
-four = ap number_of (sym (decimal_digit 4 (omega arith))) ∙ number_of-decimal 4 (omega arith)
+-- the version is read
+pub version_read : number_of (decimal LAST_VERSION) ≡ Some (unsigned LAST_VERSION)
+version_read = number_of-decimal LAST_VERSION (omega arith)
 
 module _ (names : Names) where
   -- ---- the value
@@ -55,7 +56,7 @@ module _ (names : Names) where
   objects_read n (v ∷ values) ok = rw (object_read n v ok.1, objects_read (n + 1) values ok.2)
 
   document_read : (values : State) → AreWritable names 0 values → of_json (carried_json names values) ≡ Some (carried_data names values)
-  document_read values ok = rw (four, objects_read 0 values ok)
+  document_read values ok = rw (version_read, objects_read 0 values ok)
 
   -- ---- how deep it is
 

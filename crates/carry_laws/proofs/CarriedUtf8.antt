@@ -20,7 +20,9 @@ use Rattle.objects.specs.declared.value.Value.TheVariants as value
 use Rattle.meaning.specs.Words.{Names, members, joined}
 use Rattle.words.specs.Words.{kind_text}
 use Rattle.batch.specs.Names.{is_name, is_name_byte}
-use Rattle.carry.specs.Carried.{carried_text, item_text, list_text, object_text, object_texts, pair_text, quoted, start_text}
+use Rattle.meaning.specs.declared.limits.TheConstants.{MAX_START}
+use Rattle.spelling.specs.declared.limits.TheConstants.{LAST_VERSION}
+use Rattle.carry.specs.Carried.{carried_text, document_head, item_text, list_text, object_text, object_texts, pair_text, quoted, start_text}
 use Rattle.carry_laws.proofs.Listed.{AreNamedBoth, AreWritable, IsNamed, IsWritable}
 use Rattle.carry_laws.proofs.NamesPlain.{high_byte}
 
@@ -60,7 +62,7 @@ kind_utf8 kind.Queue = IsUtf8-are_ascii (codes "queue") refl
 kind_utf8 kind.Directory = IsUtf8-are_ascii (codes "directory") refl
 kind_utf8 kind.Max = IsUtf8-are_ascii (codes "max") refl
 
-number_utf8 : (n : ℕ) → n ≤ 1_000_000_000_000_000 → IsUtf8 (decimal n)
+number_utf8 : (n : ℕ) → n ≤ MAX_START → IsUtf8 (decimal n)
 number_utf8 n small = IsUtf8-from_ascii (decimal n) (IsAscii-decimal n (omega arith))
 
 module _ (names : Names) where
@@ -104,8 +106,14 @@ module _ (names : Names) where
   objects_utf8 n [] ok = tt
   objects_utf8 n (v ∷ values) ok = (object_utf8 n v ok.0 ok.1, objects_utf8 (n + 1) values ok.2)
 
+  -- what it begins with
+  head_utf8 : IsUtf8 document_head
+  head_utf8 = between_utf8 (codes "{\"ordtx\": ") (decimal LAST_VERSION) (codes ",\n\"objects\": [\n")
+      (IsUtf8-are_ascii (codes "{\"ordtx\": ") refl) (number_utf8 LAST_VERSION (omega arith))
+      (IsUtf8-are_ascii (codes ",\n\"objects\": [\n") refl)
+
   pub carried_utf8 : (values : State) → AreWritable names 0 values → IsUtf8 (carried_text names values)
-  carried_utf8 values ok = between_utf8 (codes "{\"ordtx\": 4,\n\"objects\": [\n") (joined (codes ",\n") (object_texts names 0 values))
-      (codes "\n],\n\"transactions\": [\n]}\n") (IsUtf8-are_ascii _ refl)
+  carried_utf8 values ok = between_utf8 document_head (joined (codes ",\n") (object_texts names 0 values))
+      (codes "\n],\n\"transactions\": [\n]}\n") head_utf8
       (joined_utf8 (codes ",\n") (IsUtf8-are_ascii (codes ",\n") refl) (object_texts names 0 values) (objects_utf8 0 values ok))
       (IsUtf8-are_ascii _ refl)

@@ -7,8 +7,11 @@ use Rattle.std.proofs.lemmas.Bool.{and_parts, le-leb, leb-true}
 use Rattle.serde_json.specs.Data.{Data, Items}
 use Rattle.serde_json.specs.Events.{items_len}
 use Rattle.objects.specs.declared.kind.Kind.{Kind}
+use Rattle.meaning.specs.declared.limits.TheConstants.{MAX_ENTRIES}
 use Rattle.batch.specs.Limits.{entries_in}
 use Rattle.spelling.specs.Asked.{document_shape_asked, objects_in, setting_in, transactions_in, version_in}
+use Rattle.spelling.specs.Limits.{limits_of}
+use Rattle.spelling.specs.declared.limits.TheConstants.{LAST_VERSION}
 use Rattle.spelling.specs.Demand.{check, no_counts}
 use Rattle.spelling.specs.Look.{whole_member, within}
 use Rattle.spelling.specs.Places.{first_fault, placed}
@@ -30,6 +33,7 @@ use Rattle.carry_laws.proofs.JoinedJson.{CanStart}
 use Rattle.carry_laws.proofs.JoinedSetting.{declares_more, joined_kinds, joined_names, kind_of_start, starts_kinds}
 use Rattle.carry_laws.proofs.JoinedSpelled.{starts_names}
 use Rattle.carry_laws.proofs.JoinedStarts.{IsApartStart}
+use Rattle.carry_laws.proofs.LimitsSince.{limits_since}
 use Rattle.carry_laws.proofs.Meeting.{AreNew, Counts, all_new, new_after}
 use Rattle.carry_laws.proofs.OtherSetting.{Declares, Fewer, transactions_kept}
 
@@ -38,7 +42,7 @@ use Rattle.carry_laws.proofs.OtherSetting.{Declares, Fewer, transactions_kept}
 -- met, and neither operations nor nodes are counted
 record StartsMet (c : Counts) (earlier : Table) (starts : List StartOf) : Type 0 where
   next : Counts
-  met : check c (objects_asked 4 earlier (starts_data starts)) ≡ Ok next
+  met : check c (objects_asked LAST_VERSION earlier (starts_data starts)) ≡ Ok next
   fewer : Fewer next c
 
 starts_met : (n entries : ℕ) (starts : List StartOf) (earlier : Table) (c : Counts) → c.starts ≤ entries
@@ -62,8 +66,8 @@ starts_met n entries (start ∷ starts) earlier c few fit ok apart differ new =
     let nodes = fewer.nodes in
     record {
       next = rest.next;
-      met = check_met c here.0 (object_asked 4 earlier (object_data start.names start.place v))
-          (objects_asked 4 after (starts_data starts)) here.1 ∙ rest.met;
+      met = check_met c here.0 (object_asked LAST_VERSION earlier (object_data start.names start.place v))
+          (objects_asked LAST_VERSION after (starts_data starts)) here.1 ∙ rest.met;
       fewer = record { operations = omega (arith, operations, one); nodes = omega (arith, nodes, other) };
     }
 
@@ -73,11 +77,16 @@ starts_len [] = refl
 starts_len (start ∷ starts) = ap suc (starts_len starts)
 
 -- its shape is that of a document
-shape_met : (starts : List StartOf) (ds : Items) → length starts ≤ 1000 → items_len ds ≤ 10000
+shape_met : (starts : List StartOf) (ds : Items) → length starts ≤ (limits_of LAST_VERSION).objects
+    → items_len ds ≤ (limits_of LAST_VERSION).transactions
     → check no_counts (document_shape_asked (joined_data starts ds)) ≡ Ok no_counts
 unfolding document_shape_asked
 shape_met starts ds short few =
-    rw (le-leb (items_len (starts_data starts)) 1000 (omega (arith, starts_len starts, short)), le-leb (items_len ds) 10000 few) refl
+    let limits = limits_of LAST_VERSION in
+    rw (
+      le-leb (items_len (starts_data starts)) limits.objects (omega (arith, starts_len starts, short)),
+      le-leb (items_len ds) limits.transactions few,
+    ) refl
 
 -- ---- what is known of the next document
 
@@ -98,15 +107,30 @@ parts_met d none =
     let parts = check_parts no_counts all.0 (A ++ B) C all.1 in
     record { middle = parts.0; last = all.0; before = parts.1; after = parts.2 }
 
--- the next has few transactions
-few_transactions : (d : Data) → PartsMet d → items_len (transactions_in d) ≤ 10000
+-- a version is one of those that there are
+version_known : (o : Option ℤ) → (1 ≤ unwrap_or (option_and_then (within 1 LAST_VERSION) o) 1)
+    × (unwrap_or (option_and_then (within 1 LAST_VERSION) o) 1 ≤ LAST_VERSION)
+version_known None = (omega arith, omega arith)
+version_known (Some (negsuc n)) = (omega arith, omega arith)
+version_known (Some (pos n)) = by (nat_le 1 n && nat_le n LAST_VERSION) refl
+  where
+    by : (b : Bool) → (nat_le 1 n && nat_le n LAST_VERSION) ≡ b
+        → (1 ≤ unwrap_or (cond b (Some n) None) 1) × (unwrap_or (cond b (Some n) None) 1 ≤ LAST_VERSION)
+    by true e =
+        let both = and_parts (nat_le 1 n) (nat_le n LAST_VERSION) e in (leb-true 1 n both.0, leb-true n LAST_VERSION both.1)
+    by false e = (omega arith, omega arith)
+
+-- the next has few transactions, for the last version, too
+few_transactions : (d : Data) → PartsMet d → items_len (transactions_in d) ≤ (limits_of LAST_VERSION).transactions
 few_transactions d parts =
     let A = document_shape_asked d in
     let B = objects_asked (version_in d) [] (objects_in d) in
-    (few d (first_met A B (passed (A ++ B) no_counts parts.middle parts.before).met)).1
+    let here = (few d (first_met A B (passed (A ++ B) no_counts parts.middle parts.before).met)).1 in
+    let most = (limits_since (version_in d) (version_known (whole_member (codes "ordtx") d)).1).transactions in
+    omega (arith, here, most)
 
 -- the objects of the next start few entries
-pub few_starts : (d : Data) → PartsMet d → count What.starts (objects_asked (version_in d) [] (objects_in d)) ≤ 100000
+pub few_starts : (d : Data) → PartsMet d → count What.starts (objects_asked (version_in d) [] (objects_in d)) ≤ MAX_ENTRIES
 few_starts d parts =
     let A = document_shape_asked d in
     let B = objects_asked (version_in d) [] (objects_in d) in
@@ -115,16 +139,6 @@ few_starts d parts =
     let counted = p.starts in
     let most = p.few_starts (omega arith) in
     omega (arith, both, counted, most)
-
--- a version is 1 to 4
-version_known : (o : Option ℤ) → (1 ≤ unwrap_or (option_and_then (within 1 4) o) 1) × (unwrap_or (option_and_then (within 1 4) o) 1 ≤ 4)
-version_known None = (omega arith, omega arith)
-version_known (Some (negsuc n)) = (omega arith, omega arith)
-version_known (Some (pos n)) = by (nat_le 1 n && nat_le n 4) refl
-  where
-    by : (b : Bool) → (nat_le 1 n && nat_le n 4) ≡ b → (1 ≤ unwrap_or (cond b (Some n) None) 1) × (unwrap_or (cond b (Some n) None) 1 ≤ 4)
-    by true e = let both = and_parts (nat_le 1 n) (nat_le n 4) e in (leb-true 1 n both.0, leb-true n 4 both.1)
-    by false e = (omega arith, omega arith)
 
 -- ---- the next document with the objects of a first
 
@@ -153,7 +167,7 @@ module _ (first : Named) (d : Data) (size : length (document_in d).texts.objects
       let ks = starts_kinds starts ∙ joined_kinds first next clash
       ∙ ap (λ (xs : List Kind). xs ++ kinds_more) (kinds_of_starts (version_in d) no_numbers (objects_in d)) in
       let known = version_known (whole_member (codes "ordtx") d) in
-      let same = same_setting 4 ((setting_in d).names ++ more) ((setting_in d).kinds ++ kinds_more) (starts_data starts)
+      let same = same_setting LAST_VERSION ((setting_in d).names ++ more) ((setting_in d).kinds ++ kinds_more) (starts_data starts)
       (sym names) (sym ks) in
       subst (Declares (setting_in d)) same (declares_more (setting_in d) more kinds_more known.0 known.1)
 
@@ -163,7 +177,8 @@ module _ (first : Named) (d : Data) (size : length (document_in d).texts.objects
     pub same : (numbers : Numbers) → blocks_of (setting_in (joined_of first d)) numbers (transactions_in d)
         ≡ blocks_of (setting_in d) numbers (transactions_in d)
 
-  pub joined_reads : PartsMet d → length (starts_with first d) ≤ 1000 → first_unfit 0 0 (map value_of (starts_with first d)) ≡ None
+  pub joined_reads : PartsMet d → length (starts_with first d) ≤ (limits_of LAST_VERSION).objects
+      → first_unfit 0 0 (map value_of (starts_with first d)) ≡ None
       → AllByRecursion CanStart (starts_with first d) → AllByRecursion IsApartStart (starts_with first d)
       → Apart (map name_of (starts_with first d)) → Read
   unfolding asked
@@ -172,7 +187,7 @@ module _ (first : Named) (d : Data) (size : length (document_in d).texts.objects
       let ds = transactions_in d in
       let j = joined_of first d in
       let A = document_shape_asked j in
-      let B = objects_asked 4 [] (starts_data starts) in
+      let B = objects_asked LAST_VERSION [] (starts_data starts) in
       let C = transactions_asked 1 (setting_in j) ds in
       let started = starts_met 0 0 starts [] no_counts (omega arith) fit ok apart differ (all_new (map name_of starts)) in
       let fewer = started.fewer in

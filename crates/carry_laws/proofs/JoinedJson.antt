@@ -1,5 +1,5 @@
 -- The document with carried objects, as JSON.
-use Rattle.std.proofs.Common.{◌≡◌, ℕ, false, true, List, [], ◌∷◌, ◌++◌, map, refl, ap, ◌∙◌, append_assoc}
+use Rattle.std.proofs.Common.{◌≡◌, ℕ, false, true, List, [], ◌∷◌, ◌++◌, map, decimal, refl, ap, ◌∙◌, append_assoc}
 use Rattle.std.specs.Prelude.{codes}
 use Rattle.std.specs.List.{AllByRecursion}
 use Rattle.json.specs.Json as json
@@ -10,9 +10,11 @@ use Rattle.json.specs.Tree.{ItemsHaveNumbers}
 use Rattle.json.proofs.Printed.Numbers.{lex-number}
 use Rattle.meaning.specs.Words.{joined}
 use Rattle.batch.specs.Names.{is_name}
+use Rattle.spelling.specs.declared.limits.TheConstants.{LAST_VERSION}
+use Rattle.carry.specs.Carried.{document_head}
 use Rattle.carry.specs.Joined.{StartOf, name_of, object_text_of}
 use Rattle.carry.specs.Transactions.{item_texts, transactions_of, tree_of, joined_text}
-use Rattle.carry_laws.proofs.CarriedJson.{four, object_json, object_written, objects_key, version_key}
+use Rattle.carry_laws.proofs.CarriedJson.{object_json, object_written, objects_key, version_key, version_written}
 use Rattle.carry_laws.proofs.Lexemes.{items_lexemes, json_lexemes}
 use Rattle.carry_laws.proofs.Listed.{IsWritable}
 use Rattle.carry_laws.proofs.Printed.{items_written}
@@ -23,7 +25,7 @@ starts_json [] = json.no_items
 starts_json (start ∷ starts) = json.item (object_json start.names start.place start.value) (starts_json starts)
 
 abbrev pub joined_json : List StartOf → json.Items → json.Json
-joined_json starts js = json.object (json.member (codes "ordtx") (json.number (codes "4"))
+joined_json starts js = json.object (json.member (codes "ordtx") (json.number (decimal LAST_VERSION))
     (json.member (codes "objects") (json.array (starts_json starts))
     (json.member (codes "transactions") (json.array js) json.no_members)))
 
@@ -61,11 +63,15 @@ text_lexed starts bytes ok numbers =
     let tail = transactions ++ (codes "\n]" ++ codes "}\n") in
     let last = codes ",\n\"transactions\": [\n" ++ tail in
     let middle = codes "\n],\n\"transactions\": [\n" in
-    ap (λ text. lex between (codes "{\"ordtx\": 4,\n\"objects\": [\n" ++ text))
-    (append_assoc (objects ++ middle) transactions (codes "\n]}\n") ∙ append_assoc objects middle (transactions ++ codes "\n]}\n"))
+    let closing = codes "\n]}\n" in
+    ap (lex between)
+    (append_assoc (document_head ++ objects ++ middle) transactions closing
+    ∙ append_assoc (document_head ++ objects) middle (transactions ++ closing)
+    ∙ append_assoc document_head objects (middle ++ (transactions ++ closing)))
     ∙ version_key (objects ++ (codes "\n]" ++ last))
     ∙ ap (λ ls. token Token.begin_object ∷ token (Token.string (codes "ordtx")) ∷ colon ∷ ls) (
-    lex-number (codes "4") _ four refl ∙ ap (λ ls. token (Token.number (codes "4")) ∷ ls) (
+    lex-number (decimal LAST_VERSION) _ version_written refl
+    ∙ ap (λ ls. token (Token.number (decimal LAST_VERSION)) ∷ ls) (
     objects_key (objects ++ (codes "\n]" ++ last))
     ∙ ap (λ ls. comma ∷ token (Token.string (codes "objects")) ∷ colon ∷ token Token.begin_array ∷ ls) (
     lines_lexed (map object_text_of starts) (starts_json starts) last (starts_written starts ok)

@@ -1,12 +1,9 @@
 -- What is printed of two documents is read as the next with the objects at the end of the first.
-use Rattle.std.proofs.Common.{◌≡◌, ◌<◌, ◌≤◌, ℕ, cond, List, [], length, map, Some, None, Ok, Err, sym, ap, subst, ◌∙◌, arith}
+use Rattle.std.proofs.Common.{◌≡◌, ◌<◌, ◌≤◌, ℕ, List, [], length, map, Some, None, Ok, refl, sym, ap, subst, ◌∙◌, arith}
 use Rattle.std.proofs.Common.{get_or}
 use Rattle.std.specs.Prelude.{⊤}
 use Rattle.std.specs.List.{AllByRecursion}
-use Rattle.std.proofs.lemmas.Bool.{le-ltb}
 use Rattle.serde_json.specs.Data.{Data}
-use Rattle.faults.specs.Faults.{wrong_outside}
-use Rattle.faults.specs.declared.fault.Wrong.TheVariants.{TooMany}
 use Rattle.meaning.specs.Batch.{final_state}
 use Rattle.batch.specs.Names.{names_of}
 use Rattle.spelling.specs.Asked.{objects_in, setting_in, transactions_in, version_in}
@@ -14,7 +11,7 @@ use Rattle.spelling.specs.Places.{first_fault, placed}
 use Rattle.spelling.specs.Scope.{Numbers, Table, no_numbers, number_of, with_text}
 use Rattle.spelling.specs.Spelled.{Document, blocks_of, document_in, parts_in, starts_of}
 use Rattle.spelling.proofs.DistinctTexts.{objects_differ}
-use Rattle.lang.specs.Reading.{reading, spelled_by, unless_fault, value_of}
+use Rattle.lang.specs.Reading.{reading, value_of}
 use Rattle.lang.proofs.FaultlessBatch.{faultless_is_batch}
 use Rattle.carry.specs.Carried.{first_unfit}
 use Rattle.carry.specs.Joined.{Named, added, first_clash, name_of, starts_into, value_of as start_value}
@@ -26,6 +23,7 @@ use Rattle.merging.specs.Renumbered.{number_in}
 use Rattle.carry_laws.proofs.Among.{Apart}
 use Rattle.carry_laws.proofs.CarriedEnd.{of_reading}
 use Rattle.merging.proofs.Growing.{Begins, begins_none, blocks_longer}
+use Rattle.spelling.specs.declared.limits.TheConstants.{LAST_VERSION}
 use Rattle.carry_laws.proofs.JoinedDocument.{Read, few_starts, joined_of, joined_reads, next_of, parts_met, starts_with}
 use Rattle.carry_laws.proofs.JoinedLaws.{end_is_named, starts_are_named}
 use Rattle.carry_laws.proofs.JoinedReads.{joined_value}
@@ -37,6 +35,7 @@ use Rattle.carry_laws.proofs.NextTree.{next_transactions}
 use Rattle.merging.proofs.NumberedTexts.{number_back}
 use Rattle.merging.proofs.Renumbering.{Sends, blocks_again, number_sent}
 use Rattle.carry_laws.proofs.StartTexts.{starts_longer, starts_reasons}
+use Rattle.lang.proofs.SpelledLemmas.{reads_as}
 
 -- any two tables, or the same one twice
 abbrev Any : Table → Table → Type 0
@@ -106,7 +105,7 @@ module _ (first : Named) (d : Data) (none : first_fault (placed d) ≡ None)
       let same = read.same b in
       let there : Begins (blocks_of (setting_in d) b ds).1 new = subst (λ (p : _ × Numbers). Begins p.1 new) same (begins_none new) in
       let none_before = starts_reasons (version_in d) no_numbers (objects_in d) in
-      let none_there = starts_reasons 4 no_numbers (starts_data starts) in
+      let none_there = starts_reasons LAST_VERSION no_numbers (starts_data starts) in
       let again = blocks_again (number_in new.items old.items) (λ reason. reason) Any Same old new (items_sent old.items new.items next_few)
       (reasons_sent old.reasons new.reasons) (setting_in d) a b ds (tt, none_before ∙ sym none_there) (begins_none old) there in
       let few = joined_few in
@@ -144,7 +143,6 @@ joined_next : (first next : List ℕ) (document : Document) (d : Data) → readi
     → first_fault (placed d) ≡ None → MayBeJoined next (document_in d).start (starts_with (ends_of document) d)
     → (joined : Document) × (items : ℕ → ℕ) × (reading (joined_text (starts_with (ends_of document) d) next) ≡ Ok joined)
     × IsNextWith (starts_with (ends_of document) d) (document_in d) items joined
-unfolding reading
 joined_next first next document d reads value none may =
     let ends = ends_of document in
     let starts = starts_with ends d in
@@ -160,9 +158,8 @@ joined_next first next document d reads value none may =
       document_in j,
       number_in (joined_items ends d none other.size may.fit apart may.one_kind read).items
           (next_items ends d none other.size may.fit apart may.one_kind read).items,
-      ap (λ b. cond b (Err (wrong_outside TooMany)) (spelled_by (value_of text))) (le-ltb _ _ may.short)
-          ∙ ap spelled_by (joined_value starts next (transactions_in d) ok (next_transactions next d value) may.utf8)
-          ∙ ap (unless_fault j) read.faultless,
+      reads_as text j (document_in j) may.short
+          (joined_value starts next (transactions_in d) ok (next_transactions next d value) may.utf8) read.faultless refl,
       is_next ends d none other.size may.fit apart may.one_kind read,
     )
 

@@ -12,7 +12,7 @@ use Rattle.lang.specs.Reading.{value_of}
 use Rattle.carry.specs.Joined.{StartOf}
 use Rattle.carry.specs.Transactions.{joined_text, transactions_of, tree_of}
 use Rattle.carry_laws.specs.Joined.{joined_data, starts_data}
-use Rattle.carry_laws.proofs.CarriedReads.{four, object_read, start_flat}
+use Rattle.carry_laws.proofs.CarriedReads.{object_read, start_flat, version_read}
 use Rattle.carry_laws.proofs.JoinedJson.{CanStart, joined_json, starts_json, text_lexed}
 use Rattle.carry_laws.proofs.Lexemes.{tokens_alone}
 use Rattle.carry_laws.proofs.NextTree.{AreTransactions}
@@ -27,7 +27,7 @@ starts_flat (start ∷ starts) = omega (arith, start_flat start.names start.valu
 
 module _ (starts : List StartOf) (js : json.Items) (ds : Items) (ok : AllByRecursion CanStart starts) (t : AreTransactions js ds) where
   document_read : of_json (joined_json starts js) ≡ Some (joined_data starts ds)
-  document_read = rw (four, starts_read starts ok, t.is)
+  document_read = rw (version_read, starts_read starts ok, t.is)
 
   shallow : depth (joined_json starts js) ≤ 127
   shallow = let flat = t.flat in omega (arith, starts_flat starts, flat)

@@ -1,7 +1,7 @@
 -- The objects of a next document with carried ones: their names are apart, and they have those of the next at their places.
 use Rattle.std.proofs.Common.{◌≡◌, ◌≢◌, ℕ, zero, suc, ◌+◌, ◌≤◌, ◌&&◌, ◌||◌, inl, inr, Bool, true, false, cond, List, [], ◌∷◌, ◌++◌}
 use Rattle.std.proofs.Common.{length, map, get_or, Option, None, Some, refl, sym, ap, subst, ◌∙◌, arith, length-append}
-use Rattle.std.specs.Prelude.{codes, nat_le, nat_lt, option_and_then, option_map, slice_get, unwrap_or}
+use Rattle.std.specs.Prelude.{codes, nat_lt, option_and_then, option_map, slice_get, unwrap_or}
 use Rattle.std.specs.List.{AllByRecursion, position_or_len}
 use Rattle.std.specs.Str.{bytes_eq}
 use Rattle.std.proofs.lemmas.Bool.{lt-ltb, ltb-true}
@@ -19,7 +19,7 @@ use Rattle.words.specs.declared.verb.Verb.{Verb}
 use Rattle.words.specs.declared.verb.Verb.TheVariants.{OfItem, Alone}
 use Rattle.batch.specs.Names.{names_of}
 use Rattle.spelling.specs.Asked.{kinds_of}
-use Rattle.spelling.specs.Demand.{most_operations}
+use Rattle.spelling.specs.declared.limits.TheConstants.{LAST_VERSION}
 use Rattle.spelling.specs.Scope.{Setting, Table, is_listed, place_of}
 use Rattle.spelling.proofs.TableLemmas.{listed_text}
 use Rattle.lang.proofs.Bound.{found, within}
@@ -31,6 +31,7 @@ use Rattle.carry_laws.proofs.Among.{Among, Apart, each_of, of_each}
 use Rattle.carry_laws.proofs.CarriedFaultless.{kind_back, kind_is}
 use Rattle.carry_laws.proofs.NamedTexts.{names_from}
 use Rattle.merging.proofs.NumberedTexts.{first_listed, listed_at, listed_kept}
+use Rattle.carry_laws.proofs.LimitsSince.{limits_since}
 use Rattle.carry_laws.proofs.OtherSetting.{Declares}
 
 -- ---- names
@@ -153,7 +154,7 @@ abbrev pub kind_of_start : StartOf → Kind
 kind_of_start start = kind_of_value start.value
 
 -- the kinds that the starts declare
-pub starts_kinds : (starts : List StartOf) → kinds_of 4 (starts_data starts) ≡ map kind_of_start starts
+pub starts_kinds : (starts : List StartOf) → kinds_of LAST_VERSION (starts_data starts) ≡ map kind_of_start starts
 starts_kinds [] = refl
 starts_kinds (start ∷ starts) =
     let one = kind_is start.names start.place start.value in
@@ -164,7 +165,7 @@ starts_kinds (start ∷ starts) =
 one_kind : (v w : Value) → are_of_one_kind v w ≡ true → kind_of_value w ≡ kind_of_value v
 one_kind v w same =
     let words = (bytes_eq-Decides (kind_text (kind_of_value v)) (kind_text (kind_of_value w))).0 same in
-    let back = sym (kind_back (kind_of_value w)) ∙ ap (kind_of_text 4) (sym words) ∙ kind_back (kind_of_value v) in
+    let back = sym (kind_back (kind_of_value w)) ∙ ap (kind_of_text LAST_VERSION) (sym words) ∙ kind_back (kind_of_value v) in
     cc
 
 module _ (first next : Named) where
@@ -218,8 +219,8 @@ abbrev queue_verb : Bool → Bool → Bool → Option Verb
 queue_verb a b c = cond (a && true) (Some (OfItem Enq)) (cond (b && true) (Some (Alone Deq)) (cond c (Some (Alone Length)) None))
 
 -- the verbs of a version are those of the last
-verbs_since : (version : ℕ) → 1 ≤ version → version ≤ 4 → (k : Kind) (word : List ℕ) (v : Verb) → verb_of_text version k word ≡ Some v
-    → verb_of_text 4 k word ≡ Some v
+verbs_since : (version : ℕ) → 1 ≤ version → version ≤ LAST_VERSION → (k : Kind) (word : List ℕ) (v : Verb)
+    → verb_of_text version k word ≡ Some v → verb_of_text LAST_VERSION k word ≡ Some v
 unfolding verb_of_text
 verbs_since zero above below k word v is = absurd (omega arith)
 verbs_since (suc zero) above below kind.Queue word v is =
@@ -237,7 +238,7 @@ verbs_since (suc zero) above below kind.Directory word v is = is
 verbs_since (suc zero) above below kind.Max word v is = is
 verbs_since (suc (suc zero)) above below k word v is = since_two k is
   where
-    since_two : (k : Kind) → verb_of_text 2 k word ≡ Some v → verb_of_text 4 k word ≡ Some v
+    since_two : (k : Kind) → verb_of_text 2 k word ≡ Some v → verb_of_text LAST_VERSION k word ≡ Some v
     since_two kind.Account h = h
     since_two kind.Counter h = h
     since_two kind.Set h = h
@@ -246,7 +247,7 @@ verbs_since (suc (suc zero)) above below k word v is = since_two k is
     since_two kind.Max h = h
 verbs_since (suc (suc (suc zero))) above below k word v is = since_three k is
   where
-    since_three : (k : Kind) → verb_of_text 3 k word ≡ Some v → verb_of_text 4 k word ≡ Some v
+    since_three : (k : Kind) → verb_of_text 3 k word ≡ Some v → verb_of_text LAST_VERSION k word ≡ Some v
     since_three kind.Account h = h
     since_three kind.Counter h = h
     since_three kind.Set h = h
@@ -256,13 +257,9 @@ verbs_since (suc (suc (suc zero))) above below k word v is = since_three k is
 verbs_since (suc (suc (suc (suc zero)))) above below k word v is = is
 verbs_since (suc (suc (suc (suc (suc n))))) above below k word v is = absurd (omega arith)
 
--- and its limit is no greater
-most_since : (version n : ℕ) → nat_lt n (most_operations version) ≡ true → nat_lt n (most_operations 4) ≡ true
-most_since version n below = by (nat_le 4 version) below
-  where
-    by : (b : Bool) → nat_lt n (cond b 1000000 100000) ≡ true → nat_lt n 1000000 ≡ true
-    by true h = h
-    by false h = let lt = ltb-true n 100000 h in lt-ltb n 1000000 (omega (arith, lt))
+-- what is below a limit is below one that is no less
+more_below : (n few most : ℕ) → few ≤ most → nat_lt n few ≡ true → nat_lt n most ≡ true
+more_below n few most le below = lt-ltb n most (omega (arith, le, ltb-true n few below))
 
 -- an object keeps its kind with more objects after it
 kind_kept : (name : List ℕ) (names more : Table) (ks others : List Kind) (k : Kind)
@@ -278,13 +275,16 @@ kind_kept name names more ks others k is = by (place_of name names) refl is
         ap (option_and_then (slice_get (ks ++ others))) (place_kept name names more listed ∙ here) ∙ get_first ks others n k there
 
 -- a setting with more objects at its end, and of the last version
-pub declares_more : (old : Setting) (more : Table) (others : List Kind) → 1 ≤ old.version → old.version ≤ 4
-    → Declares old (record { version = 4; names = old.names ++ more; kinds = old.kinds ++ others })
-declares_more old more others above below = record {
-  verbs = verbs_since old.version above below;
-  reasons = λ known. refl;
-  operations = most_since old.version;
-  listed = λ name listed. listed_kept name old.names more listed;
-  places = λ name listed. place_kept name old.names more listed;
-  kinds = λ name k is. kind_kept name old.names more old.kinds others k is;
-}
+pub declares_more : (old : Setting) (more : Table) (others : List Kind) → 1 ≤ old.version → old.version ≤ LAST_VERSION
+    → Declares old (record { version = LAST_VERSION; names = old.names ++ more; kinds = old.kinds ++ others })
+declares_more old more others above below =
+    let most = limits_since old.version below in
+    record {
+      verbs = verbs_since old.version above below;
+      reasons = λ known. refl;
+      operations = λ n under. more_below n _ _ most.operations under;
+      nodes = λ n under. more_below n _ _ most.nodes under;
+      listed = λ name listed. listed_kept name old.names more listed;
+      places = λ name listed. place_kept name old.names more listed;
+      kinds = λ name k is. kind_kept name old.names more old.kinds others k is;
+    }

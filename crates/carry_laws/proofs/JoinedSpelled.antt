@@ -8,6 +8,8 @@ use Rattle.spelling.specs.Asked as asked
 use Rattle.spelling.specs.Asked.{kind_in}
 use Rattle.spelling.specs.Scope.{Numbers, no_numbers}
 use Rattle.spelling.specs.Spelled.{start_of, starts_of}
+use Rattle.spelling.specs.Limits.{limits_of}
+use Rattle.spelling.specs.declared.limits.TheConstants.{LAST_VERSION}
 use Rattle.carry.specs.Carried.{first_unfit}
 use Rattle.carry.specs.Joined.{StartOf, name_of, value_of}
 use Rattle.carry_laws.specs.CarriedData.{object_data, start_data}
@@ -27,7 +29,7 @@ record SpellsStarts (starts : List StartOf) (before : Numbers) (spelled : State 
       → AreSameStarts starts (names_of texts) spelled.0
 
 starts_spelled : (n entries : ℕ) (starts : List StartOf) (numbers : Numbers) → first_unfit n entries (map value_of starts) ≡ None
-    → AllByRecursion IsApartStart starts → SpellsStarts starts numbers (starts_of 4 numbers (starts_data starts))
+    → AllByRecursion IsApartStart starts → SpellsStarts starts numbers (starts_of LAST_VERSION numbers (starts_data starts))
 starts_spelled n entries [] numbers fit apart = record {
   grows = grows_none numbers.items;
   few = omega arith;
@@ -37,11 +39,11 @@ starts_spelled n entries (start ∷ starts) numbers fit apart =
     let v = start.value in
     let fits = first_fits n entries v (map value_of starts) fit in
     let written = start_data start.names v in
-    let spelled = start_of (kind_in 4 (object_data start.names start.place v)) numbers written in
+    let spelled = start_of (kind_in LAST_VERSION (object_data start.names start.place v)) numbers written in
     let here : SpellsValue start.names v numbers spelled =
     subst (λ k. SpellsValue start.names v numbers (start_of k numbers written)) (sym (kind_is start.names start.place v))
     (value_spelled start.names v numbers fits.small apart.0) in
-    let last = (starts_of 4 spelled.1 (starts_data starts)).1 in
+    let last = (starts_of LAST_VERSION spelled.1 (starts_data starts)).1 in
     let rest = starts_spelled (n + 1) (entries + entries_in v) starts spelled.1 fits.rest apart.1 in
     let first_few = here.few in
     let rest_few = rest.few in
@@ -55,8 +57,8 @@ starts_spelled n entries (start ∷ starts) numbers fit apart =
     }
 
 -- so many entries may start
-few_entries : (n entries : ℕ) (values : State) → entries ≤ 100_000 → first_unfit n entries values ≡ None
-    → entries + all_entries_in values ≤ 100_000
+few_entries : (n entries : ℕ) (values : State) → entries ≤ (limits_of LAST_VERSION).entries → first_unfit n entries values ≡ None
+    → entries + all_entries_in values ≤ (limits_of LAST_VERSION).entries
 few_entries n entries [] few fit = omega arith
 few_entries n entries (v ∷ values) few fit =
     let fits = first_fits n entries v values fit in
@@ -64,7 +66,7 @@ few_entries n entries (v ∷ values) few fit =
 
 module _ (starts : List StartOf) (fit : first_unfit 0 0 (map value_of starts) ≡ None) (apart : AllByRecursion IsApartStart starts) where
   -- few texts are numbered
-  pub starts_few : length (spelled_starts starts).1.items ≤ 200_000
+  pub starts_few : length (spelled_starts starts).1.items ≤ 2 * (limits_of LAST_VERSION).entries
   starts_few =
       let fewer = (starts_spelled 0 0 starts no_numbers fit apart).few in
       omega (arith, fewer, few_entries 0 0 (map value_of starts) (omega arith) fit)

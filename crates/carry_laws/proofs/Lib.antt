@@ -12,6 +12,7 @@ pub mod TextLength
 pub mod Meeting
 pub mod CarriedFaultless
 pub mod OtherSetting
+pub mod LimitsSince
 pub mod PutIn
 pub mod CarriedLaws
 pub mod SpelledStarts

@@ -9,6 +9,7 @@ use Rattle.objects.specs.declared.value.Value.{Value}
 use Rattle.objects.specs.declared.value.Value.TheVariants as value
 use Rattle.meaning.specs.Words.{Names, members}
 use Rattle.batch.specs.Names.{is_name}
+use Rattle.meaning.specs.declared.limits.TheConstants.{MAX_START}
 use Rattle.meaning.specs.WellFormed.{size_of}
 
 -- an item that has a name
@@ -23,7 +24,7 @@ abbrev pub IsWritable : Names → Value → Type 0
 IsWritable names (value.Set s) = AllByRecursion (IsNamed names) (members s)
 IsWritable names (value.Queue q) = AllByRecursion (IsNamed names) q
 IsWritable names (value.Directory d) = AllByRecursion (AreNamedBoth names) (finite_map.entries d)
-IsWritable names v = size_of v ≤ 1_000_000_000_000_000
+IsWritable names v = size_of v ≤ MAX_START
 
 -- the objects from place n on
 abbrev pub AreWritable : Names → ℕ → State → Type 0

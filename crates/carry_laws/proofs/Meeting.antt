@@ -8,6 +8,8 @@ use Rattle.std.proofs.lemmas.Bool.{false_from_ne_true, lt-ltb, or_parts}
 use Rattle.std.proofs.lemmas.Slice.Eq.{bytes_eq-Decides}
 use Rattle.faults.specs.declared.fault.Wrong.{Wrong}
 use Rattle.spelling.specs.Demand.{Demand, and_then, check, fault_at, holds, limited, no_counts, one_more_start}
+use Rattle.spelling.specs.Limits.{limits_of}
+use Rattle.spelling.specs.declared.limits.TheConstants.{LAST_VERSION}
 use Rattle.spelling.specs.Scope.{Table, is_listed, with_text}
 
 abbrev type_of : {A : Type 0} → A → Type 0
@@ -19,8 +21,8 @@ Counts = type_of no_counts
 
 -- they are met, and count no more entries than this, and nothing else
 pub record Meet (k : ℕ) (ds : List Demand) : Type 0 where
-  pub met : (c : Counts) → c.starts + k ≤ 100000 → (next : Counts) × (check c ds ≡ Ok next) × (next.starts ≤ c.starts + k)
-      × (next.operations ≤ c.operations) × (next.nodes ≤ c.nodes)
+  pub met : (c : Counts) → c.starts + k ≤ (limits_of LAST_VERSION).entries
+      → (next : Counts) × (check c ds ≡ Ok next) × (next.starts ≤ c.starts + k) × (next.operations ≤ c.operations) × (next.nodes ≤ c.nodes)
 
 pub meet_none : Meet 0 []
 meet_none = record { met = λ c few. (c, refl, omega arith, omega arith, omega arith) }
@@ -32,13 +34,13 @@ meet_test k b wrong ds is rest = record {
       (later.0, here ∙ later.1, later.2, later.3, later.4);
 }
 
-pub meet_start : (k : ℕ) (ds : List Demand) → Meet k ds → Meet (suc k) (one_more_start ∷ ds)
+pub meet_start : (k : ℕ) (ds : List Demand) → Meet k ds → Meet (suc k) (one_more_start LAST_VERSION ∷ ds)
 meet_start k ds rest = record {
   met = λ c few.
       let counted : Counts = record c { starts = c.starts + 1 } in
       let later = rest.met counted (omega arith) in
       let bound = later.2 in
-      let within : c.starts < 100000 = omega arith in
+      let within : c.starts < (limits_of LAST_VERSION).entries = omega arith in
       let here = ap (λ t. and_then (limited t c counted) (λ next. check next ds)) (lt-ltb _ _ within) in
       (later.0, here ∙ later.1, omega arith, later.3, later.4);
 }

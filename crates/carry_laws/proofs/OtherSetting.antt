@@ -16,12 +16,14 @@ use Rattle.words.specs.Verbs.{verb_of_text}
 use Rattle.words.specs.declared.verb.Verb.{Verb}
 use Rattle.words.specs.declared.verb.Verb.TheVariants.{Alone}
 use Rattle.words.specs.declared.verb.LoneVerb.TheVariants.{Balance}
+use Rattle.meaning.specs.declared.limits.TheConstants.{MAX_DEPTH}
 use Rattle.spelling.specs.declared.subject.Subject.TheVariants.{Outcome, Reply}
 use Rattle.spelling.specs.declared.steps.Sort.{Sort}
 use Rattle.spelling.specs.declared.steps.Sort.TheVariants.{Operation as an_operation, If as an_if, Sub as a_sub, Abort as an_abort}
 use Rattle.spelling.specs.declared.steps.Sort.TheVariants.{Parallel as a_parallel}
-use Rattle.spelling.specs.Demand.{Demand, and_then, check, fault_at, holds, in_transaction, limited, most_operations, one_more_node}
+use Rattle.spelling.specs.Demand.{Demand, and_then, check, fault_at, holds, in_transaction, limited, one_more_node}
 use Rattle.spelling.specs.Demand.{one_more_operation, one_more_start}
+use Rattle.spelling.specs.Limits.{limits_of}
 use Rattle.spelling.specs.Look.{has}
 use Rattle.spelling.specs.Scope.{Numbers, Scope, Setting, is_listed, kind_named, label_number, number_of, place_of, with_label}
 use Rattle.spelling.specs.Scope.{with_reason}
@@ -39,7 +41,7 @@ use Rattle.spelling.proofs.Checks.{check_met, check_parts}
 use Rattle.spelling.proofs.Demands.{Asks, array_asked, block_asked, block_asked_if, children_asked, handlers_asked, if_asked}
 use Rattle.spelling.proofs.Demands.{members_asked, parallel_asked, step_asked, step_asked_by, steps_asked, sub_asked, transaction_asked}
 use Rattle.spelling.proofs.Demands.{transactions_asked}
-use Rattle.spelling.proofs.MetLemmas.{What, count, count-append}
+use Rattle.spelling.proofs.MetLemmas.{What, count}
 use Rattle.lang.proofs.Faultless.{arguments_count, if_shape_counts, label_counts, operation_shape_counts, parallel_shape_counts}
 use Rattle.lang.proofs.Faultless.{reason_counts}
 use Rattle.lang.proofs.Faultless.{seen_counts, test_counts}
@@ -49,7 +51,8 @@ use Rattle.carry_laws.proofs.Meeting.{Counts}
 pub record Declares (old new : Setting) : Type 0 where
   pub verbs : (k : Kind) (word : List ℕ) (v : Verb) → verb_of_text old.version k word ≡ Some v → verb_of_text new.version k word ≡ Some v
   pub reasons : nat_le 3 old.version ≡ true → nat_le 3 new.version ≡ true
-  pub operations : (n : ℕ) → nat_lt n (most_operations old.version) ≡ true → nat_lt n (most_operations new.version) ≡ true
+  pub operations : (n : ℕ) → nat_lt n (limits_of old.version).operations ≡ true → nat_lt n (limits_of new.version).operations ≡ true
+  pub nodes : (n : ℕ) → nat_lt n (limits_of old.version).nodes ≡ true → nat_lt n (limits_of new.version).nodes ≡ true
   pub listed : (name : List ℕ) → is_listed name old.names ≡ true → is_listed name new.names ≡ true
   pub places : (name : List ℕ) → is_listed name old.names ≡ true → place_of name new.names ≡ place_of name old.names
   pub kinds : (name : List ℕ) (k : Kind) → kind_named name old ≡ Some k → kind_named name new ≡ Some k
@@ -116,27 +119,29 @@ unfolding one_operation one_node
 same_met [] c d next fewer none met = none_met c d next fewer met
 same_met (holds true wrong ∷ ds) c d next fewer none met = same_met ds c d next fewer (omega (arith, none)) met
 same_met (holds false wrong ∷ ds) c d next fewer none met = cc
-same_met (one_more_start ∷ ds) c d next fewer none met = absurd (omega (arith, none))
+same_met (one_more_start version ∷ ds) c d next fewer none met = absurd (omega (arith, none))
 same_met (one_more_operation version ∷ ds) c d next fewer none met =
-    by (nat_lt c.operations (most_operations version)) refl
+    by (nat_lt c.operations (limits_of version).operations) refl
     (same_met ds (one_operation c) (one_operation d) next (fewer_operations c d fewer) (omega (arith, none))) met
   where
-    by : (b : Bool) → nat_lt c.operations (most_operations version) ≡ b
+    by : (b : Bool) → nat_lt c.operations (limits_of version).operations ≡ b
         → (check (one_operation c) ds ≡ Ok next → MetToo (one_operation d) ds next)
         → and_then (limited b c (one_operation c)) (λ x. check x ds) ≡ Ok next → MetToo d (one_more_operation version ∷ ds) next
     by true within later rest =
         let it = later rest in
-        let too = below_too d.operations c.operations (most_operations version) fewer.operations within in
+        let too = below_too d.operations c.operations (limits_of version).operations fewer.operations within in
         (it.0, ap (λ t. and_then (limited t d (one_operation d)) (λ x. check x ds)) too ∙ it.1, it.2)
     by false within later rest = cc
-same_met (one_more_node ∷ ds) c d next fewer none met =
-    by (nat_lt c.nodes 100000) refl (same_met ds (one_node c) (one_node d) next (fewer_nodes c d fewer) (omega (arith, none))) met
+same_met (one_more_node version ∷ ds) c d next fewer none met =
+    by (nat_lt c.nodes (limits_of version).nodes) refl
+    (same_met ds (one_node c) (one_node d) next (fewer_nodes c d fewer) (omega (arith, none))) met
   where
-    by : (b : Bool) → nat_lt c.nodes 100000 ≡ b → (check (one_node c) ds ≡ Ok next → MetToo (one_node d) ds next)
-        → and_then (limited b c (one_node c)) (λ x. check x ds) ≡ Ok next → MetToo d (one_more_node ∷ ds) next
+    by : (b : Bool) → nat_lt c.nodes (limits_of version).nodes ≡ b
+        → (check (one_node c) ds ≡ Ok next → MetToo (one_node d) ds next)
+        → and_then (limited b c (one_node c)) (λ x. check x ds) ≡ Ok next → MetToo d (one_more_node version ∷ ds) next
     by true within later rest =
         let it = later rest in
-        let too = below_too d.nodes c.nodes 100000 fewer.nodes within in
+        let too = below_too d.nodes c.nodes (limits_of version).nodes fewer.nodes within in
         (it.0, ap (λ t. and_then (limited t d (one_node d)) (λ x. check x ds)) too ∙ it.1, it.2)
     by false within later rest = cc
 same_met (in_transaction i ∷ ds) c d next fewer none met =
@@ -155,10 +160,6 @@ kept_after : (xs xs' ys : List Demand) (P : Type 0) → count What.starts ys ≡
 kept_after xs xs' ys P none first =
     kept_so (xs ++ ys) (xs' ++ ys) (P × ⊤) P (λ both. both.0) (kept_on xs xs' ys ys P ⊤ first (kept_same ys ⊤ none tt))
 
--- two lists count no entry
-none_on : (xs ys : List Demand) → count What.starts xs ≡ 0 → count What.starts ys ≡ 0 → count What.starts (xs ++ ys) ≡ 0
-none_on xs ys first rest = omega (arith, count-append What.starts xs ys, first, rest)
-
 -- a test that holds where another does
 kept_test : (a b : Bool) (wrong : Wrong) → (a ≡ true → b ≡ true) → Kept (holds a wrong ∷ []) (holds b wrong ∷ []) (a ≡ true)
 kept_test true b wrong so = record {
@@ -174,16 +175,36 @@ module _ (old new : Setting) (declares : Declares old new) where
   -- one more operation is within the limit of the other version
   one_more : Kept (one_more_operation old.version ∷ []) (one_more_operation new.version ∷ []) ⊤
   unfolding one_operation
-  one_more = record { kept = λ c d next fewer met. (by c d next fewer (nat_lt c.operations (most_operations old.version)) refl met, tt) }
+  one_more = record {
+    kept = λ c d next fewer met. (by c d next fewer (nat_lt c.operations (limits_of old.version).operations) refl met, tt);
+  }
     where
-      by : (c d next : Counts) → Fewer d c → (b : Bool) → nat_lt c.operations (most_operations old.version) ≡ b
+      by : (c d next : Counts) → Fewer d c → (b : Bool) → nat_lt c.operations (limits_of old.version).operations ≡ b
           → and_then (limited b c (one_operation c)) (λ x. check x []) ≡ Ok next
           → MetToo d (one_more_operation new.version ∷ []) next
       by c d next fewer true within met =
           let it = none_met (one_operation c) (one_operation d) next (fewer_operations c d fewer) met in
-          let too = below_too d.operations c.operations (most_operations old.version) fewer.operations within in (
+          let too = below_too d.operations c.operations (limits_of old.version).operations fewer.operations within in (
             it.0,
             ap (λ t. and_then (limited t d (one_operation d)) (λ x. check x [])) (declares.operations d.operations too) ∙ it.1,
+            it.2,
+          )
+      by c d next fewer false within met = cc
+
+  -- so is one more node
+  node_kept : Kept (one_more_node old.version ∷ []) (one_more_node new.version ∷ []) ⊤
+  unfolding one_node
+  node_kept = record {
+    kept = λ c d next fewer met. (by c d next fewer (nat_lt c.nodes (limits_of old.version).nodes) refl met, tt);
+  }
+    where
+      by : (c d next : Counts) → Fewer d c → (b : Bool) → nat_lt c.nodes (limits_of old.version).nodes ≡ b
+          → and_then (limited b c (one_node c)) (λ x. check x []) ≡ Ok next → MetToo d (one_more_node new.version ∷ []) next
+      by c d next fewer true within met =
+          let it = none_met (one_node c) (one_node d) next (fewer_nodes c d fewer) met in
+          let too = below_too d.nodes c.nodes (limits_of old.version).nodes fewer.nodes within in (
+            it.0,
+            ap (λ t. and_then (limited t d (one_node d)) (λ x. check x [])) (declares.nodes d.nodes too) ∙ it.1,
             it.2,
           )
       by c d next fewer false within met = cc
@@ -279,11 +300,13 @@ module _ (old new : Setting) (declares : Declares old new) where
       let asked = part (codes "abort") d in
       let test = holds (is_abort old.version asked) Shape ∷ [] in
       let later = holds (is_abort new.version asked) Shape ∷ [] in
-      let node = one_more_node ∷ [] in
-      kept_after (_ ∷ test ++ node) (_ ∷ later ++ node) _ ⊤ (reason_counts What.starts (as_str asked))
-      (kept_before (_ ∷ []) (test ++ node) (later ++ node) ⊤ refl
-      (kept_after test later node ⊤ refl (kept_so test later _ ⊤ (λ _. tt) (kept_test (is_abort old.version asked) _ Shape
-      (or_reasons (unwrap_or (as_bool asked) false) (is_some (as_str asked)))))))
+      let node = one_more_node old.version ∷ [] in
+      let node' = one_more_node new.version ∷ [] in
+      kept_after (_ ∷ test ++ node) (_ ∷ later ++ node') _ ⊤ (reason_counts What.starts (as_str asked))
+      (kept_before (_ ∷ []) (test ++ node) (later ++ node') ⊤ refl
+      (kept_so (test ++ node) (later ++ node') _ ⊤ (λ _. tt) (kept_on test later node node' _ ⊤
+      (kept_test (is_abort old.version asked) _ Shape (or_reasons (unwrap_or (as_bool asked) false) (is_some (as_str asked))))
+      node_kept)))
 
   -- ---- the steps that hold blocks
 
@@ -296,7 +319,7 @@ module _ (old new : Setting) (declares : Declares old new) where
     block_if_kept scope None = kept_same [] _ refl (λ numbers. refl)
     block_if_kept scope (Some d) = kept_so _ _ _ _ (λ same numbers. ap (spelled_map (λ b. Some b)) (same numbers)) (inner scope d)
 
-    if_kept : (scope : Scope) (d : Data) → Kept (if_asked old_asks scope d) (if_asked new_asks scope d)
+    if_kept : (scope : Scope) (d : Data) → Kept (if_asked old.version old_asks scope d) (if_asked new.version new_asks scope d)
         ((numbers : Numbers) → if_of new_block scope numbers d ≡ if_of old_block scope numbers d)
     unfolding if_asked if_of
     if_kept scope d =
@@ -304,21 +327,23 @@ module _ (old new : Setting) (declares : Declares old new) where
         let else = get (codes "else") d in
         let subject = subject_of (if_label d) scope in
         let A = if_shape_asked d in
-        let B = one_more_node ∷ [] in
+        let B = one_more_node old.version ∷ [] in
+        let B' = one_more_node new.version ∷ [] in
         let C = seen_asked scope (if_label d) in
         let D = test_asked subject d in
         let E = old_asks scope then in
         let E' = new_asks scope then in
         let F = block_asked_if old_asks scope else in
         let F' = block_asked_if new_asks scope else in
-        let none = none_on (A ++ B ++ C) D (none_on (A ++ B) C (none_on A B (if_shape_counts What.starts d) refl)
-        (seen_counts What.starts scope (if_label d))) (test_counts What.starts subject d) in
-        let head = kept_before (A ++ B ++ C ++ D) E E' _ none (inner scope then) in
-        kept_so (A ++ B ++ C ++ D ++ E ++ F) (A ++ B ++ C ++ D ++ E' ++ F') _ _ (λ same numbers.
+        let counted = kept_before A B B' ⊤ (if_shape_counts What.starts d) node_kept in
+        let tested = kept_after (A ++ B ++ C) (A ++ B' ++ C) D ⊤ (test_counts What.starts subject d)
+        (kept_after (A ++ B) (A ++ B') C ⊤ (seen_counts What.starts scope (if_label d)) counted) in
+        let head = kept_on (A ++ B ++ C ++ D) (A ++ B' ++ C ++ D) E E' _ _ tested (inner scope then) in
+        kept_so (A ++ B ++ C ++ D ++ E ++ F) (A ++ B' ++ C ++ D ++ E' ++ F') _ _ (λ same numbers.
         let test = test_of subject numbers d in
-        λ i. spelled_map (λ second. If (label_number (if_label d) scope) test.0 (same.0 test.1 i).0 (or_no_step second))
-        (same.1 (same.0 test.1 i).1 i))
-        (kept_on (A ++ B ++ C ++ D ++ E) (A ++ B ++ C ++ D ++ E') F F' _ _ head (block_if_kept scope else))
+        λ i. spelled_map (λ second. If (label_number (if_label d) scope) test.0 (same.0.1 test.1 i).0 (or_no_step second))
+        (same.1 (same.0.1 test.1 i).1 i))
+        (kept_on (A ++ B ++ C ++ D ++ E) (A ++ B' ++ C ++ D ++ E') F F' _ _ head (block_if_kept scope else))
 
     members_kept : (scope : Scope) (ds : Members) → Kept (members_asked old_asks scope ds) (members_asked new_asks scope ds)
         ((numbers : Numbers) → members_of new_block scope numbers ds ≡ members_of old_block scope numbers ds)
@@ -352,7 +377,8 @@ module _ (old new : Setting) (declares : Declares old new) where
         let handler = get (codes "handler") d in
         let A = sub_shape_asked old.version d in
         let A' = sub_shape_asked new.version d in
-        let B = one_more_node ∷ [] in
+        let B = one_more_node old.version ∷ [] in
+        let B' = one_more_node new.version ∷ [] in
         let C = label_asked scope earlier (label_in d) in
         let D = old_asks scope sub in
         let D' = new_asks scope sub in
@@ -360,15 +386,15 @@ module _ (old new : Setting) (declares : Declares old new) where
         let E' = handlers_asked new_asks scope members in
         let F = block_asked_if old_asks scope handler in
         let F' = block_asked_if new_asks scope handler in
-        let head = kept_after (A ++ B) (A' ++ B) C ⊤ (label_counts What.starts scope earlier (label_in d))
-        (kept_after A A' B ⊤ refl (sub_shape_kept d)) in
-        let body = kept_on (A ++ B ++ C) (A' ++ B ++ C) D D' _ _ head (inner scope sub) in
-        let handled = kept_on (A ++ B ++ C ++ D) (A' ++ B ++ C ++ D') E E' _ _ body (handlers_kept scope members) in
-        kept_so (A ++ B ++ C ++ D ++ E ++ F) (A' ++ B ++ C ++ D' ++ E' ++ F') _ _ (λ same numbers. λ i.
+        let counted = kept_so (A ++ B) (A' ++ B') _ ⊤ (λ _. tt) (kept_on A A' B B' ⊤ ⊤ (sub_shape_kept d) node_kept) in
+        let head = kept_after (A ++ B) (A' ++ B') C ⊤ (label_counts What.starts scope earlier (label_in d)) counted in
+        let body = kept_on (A ++ B ++ C) (A' ++ B' ++ C) D D' _ _ head (inner scope sub) in
+        let handled = kept_on (A ++ B ++ C ++ D) (A' ++ B' ++ C ++ D') E E' _ _ body (handlers_kept scope members) in
+        kept_so (A ++ B ++ C ++ D ++ E ++ F) (A' ++ B' ++ C ++ D' ++ E' ++ F') _ _ (λ same numbers. λ i.
         let one = same.0.0.1 numbers i in
         let by_reasons = same.0.1 one.1 i in
         spelled_map (λ otherwise. tried one.0 by_reasons.0 otherwise (is_some (label_in d))) (same.1 by_reasons.1 i))
-        (kept_on (A ++ B ++ C ++ D ++ E) (A' ++ B ++ C ++ D' ++ E') F F' _ _ handled (block_if_kept scope handler))
+        (kept_on (A ++ B ++ C ++ D ++ E) (A' ++ B' ++ C ++ D' ++ E') F F' _ _ handled (block_if_kept scope handler))
 
     children_kept : (scope earlier : Scope) (ds : Items)
         → Kept (children_asked old.version old_asks scope earlier ds) (children_asked new.version new_asks scope earlier ds)
@@ -390,11 +416,12 @@ module _ (old new : Setting) (declares : Declares old new) where
     unfolding parallel_asked parallel_of
     parallel_kept scope d =
         let A = parallel_shape_asked d in
-        let B = one_more_node ∷ [] in
-        kept_so _ _ _ _ (λ same numbers. ap (spelled_map (λ children. Parallel (children_of children))) (same numbers))
-        (kept_before (A ++ B) (children_asked old.version old_asks scope [] (children_in d))
-        (children_asked new.version new_asks scope [] (children_in d)) _ (none_on A B (parallel_shape_counts What.starts d) refl)
-        (children_kept scope [] (children_in d)))
+        let B = one_more_node old.version ∷ [] in
+        let B' = one_more_node new.version ∷ [] in
+        kept_so _ _ _ _ (λ same numbers. ap (spelled_map (λ children. Parallel (children_of children))) (same.1 numbers))
+        (kept_on (A ++ B) (A ++ B') (children_asked old.version old_asks scope [] (children_in d))
+        (children_asked new.version new_asks scope [] (children_in d)) ⊤ _
+        (kept_before A B B' ⊤ (parallel_shape_counts What.starts d) node_kept) (children_kept scope [] (children_in d)))
 
     -- ---- any step
 
@@ -466,5 +493,6 @@ module _ (old new : Setting) (declares : Declares old new) where
       (one.0 ∷ rest.0, rest.1))
       (kept_on (transaction_asked number old d) (transaction_asked number new d) (transactions_asked (number + 1) old ds)
       (transactions_asked (number + 1) new ds) _ _
-      (kept_before (in_transaction number ∷ []) (block_asked old 24 [] d) (block_asked new 24 [] d) _ refl (block_kept 24 [] d))
+      (kept_before (in_transaction number ∷ []) (block_asked old MAX_DEPTH [] d) (block_asked new MAX_DEPTH [] d) _ refl
+      (block_kept MAX_DEPTH [] d))
       (transactions_kept (number + 1) ds))

@@ -15,6 +15,7 @@ use Rattle.batch.specs.Names.{Texts, names_of}
 use Rattle.spelling.specs.Scope.{Numbers, with_item}
 use Rattle.spelling.specs.Spelled.{bind_all, entries_of, or_zero, pairs_of, put_all, start_of}
 use Rattle.meaning.specs.WellFormed.{size_of}
+use Rattle.meaning.specs.declared.limits.TheConstants.{MAX_START}
 use Rattle.carry_laws.specs.CarriedData.{items_data, pairs_data, start_data}
 use Rattle.carry_laws.specs.Same.{IsSame}
 use Rattle.carry_laws.proofs.Among.{Among, Apart, among_from_map, among_map, apart_from_map}
@@ -147,7 +148,7 @@ pub record SpellsValue (names : Names) (v : Value) (before : Numbers) (spelled :
   pub same : (texts : Texts) → Grows spelled.1.items texts.items → length texts.items ≤ 4294967295
       → IsSame names v (names_of texts) spelled.0
 
-pub value_spelled : (names : Names) (v : Value) (numbers : Numbers) → size_of v ≤ 1_000_000_000_000_000 → IsApart names v
+pub value_spelled : (names : Names) (v : Value) (numbers : Numbers) → size_of v ≤ MAX_START → IsApart names v
     → SpellsValue names v numbers (start_of (kind_of_value v) numbers (start_data names v))
 unfolding start_of
 value_spelled names (value.Account n) numbers small apart = record {

@@ -18,66 +18,67 @@ abbrev twice : ℕ → ℕ
 twice n = 2 * n
 
 -- the items of a queue, of a set, and the pairs of a directory
-entries_longer : (numbers : Numbers) (ds : Items) → Longer (twice (count What.starts (entries_asked ds))) numbers (entries_of numbers ds).1
+entries_longer : (version : ℕ) (numbers : Numbers) (ds : Items)
+    → Longer (twice (count What.starts (entries_asked version ds))) numbers (entries_of numbers ds).1
 unfolding entry_asked
-entries_longer numbers no_items = longer_none 0 numbers
-entries_longer numbers (item d ds) =
+entries_longer version numbers no_items = longer_none 0 numbers
+entries_longer version numbers (item d ds) =
     let next = with_item (text_of d) numbers in
-    let few = count-append What.starts (entry_asked d) (entries_asked ds) in
-    longer_on 1 (twice (count What.starts (entries_asked ds))) _ numbers next _ (omega (arith, few)) (longer_item (text_of d) numbers)
-    (entries_longer next ds)
+    let few = count-append What.starts (entry_asked version d) (entries_asked version ds) in
+    longer_on 1 (twice (count What.starts (entries_asked version ds))) _ numbers next _ (omega (arith, few))
+    (longer_item (text_of d) numbers) (entries_longer version next ds)
 
-elements_longer : (earlier : Table) (numbers : Numbers) (ds : Items)
-    → Longer (twice (count What.starts (elements_asked earlier ds))) numbers (entries_of numbers ds).1
+elements_longer : (version : ℕ) (earlier : Table) (numbers : Numbers) (ds : Items)
+    → Longer (twice (count What.starts (elements_asked version earlier ds))) numbers (entries_of numbers ds).1
 unfolding element_asked
-elements_longer earlier numbers no_items = longer_none 0 numbers
-elements_longer earlier numbers (item d ds) =
+elements_longer version earlier numbers no_items = longer_none 0 numbers
+elements_longer version earlier numbers (item d ds) =
     let next = with_item (text_of d) numbers in
     let after = with_text (text_of d) earlier in
-    let few = count-append What.starts (element_asked earlier d) (elements_asked after ds) in
-    longer_on 1 (twice (count What.starts (elements_asked after ds))) _ numbers next _ (omega (arith, few))
-    (longer_item (text_of d) numbers) (elements_longer after next ds)
+    let few = count-append What.starts (element_asked version earlier d) (elements_asked version after ds) in
+    longer_on 1 (twice (count What.starts (elements_asked version after ds))) _ numbers next _ (omega (arith, few))
+    (longer_item (text_of d) numbers) (elements_longer version after next ds)
 
-pairs_longer : (earlier : Table) (numbers : Numbers) (ds : Items)
-    → Longer (twice (count What.starts (pairs_asked earlier ds))) numbers (pairs_of numbers ds).1
+pairs_longer : (version : ℕ) (earlier : Table) (numbers : Numbers) (ds : Items)
+    → Longer (twice (count What.starts (pairs_asked version earlier ds))) numbers (pairs_of numbers ds).1
 unfolding pair_asked
-pairs_longer earlier numbers no_items = longer_none 0 numbers
-pairs_longer earlier numbers (item d ds) =
+pairs_longer version earlier numbers no_items = longer_none 0 numbers
+pairs_longer version earlier numbers (item d ds) =
     let between = with_item (key_of d) numbers in
     let next = with_item (value_of d) between in
     let after = with_text (key_of d) earlier in
-    let few = count-append What.starts (pair_asked earlier d) (pairs_asked after ds) in
-    longer_on 2 (twice (count What.starts (pairs_asked after ds))) _ numbers next _ (omega (arith, few))
+    let few = count-append What.starts (pair_asked version earlier d) (pairs_asked version after ds) in
+    longer_on 2 (twice (count What.starts (pairs_asked version after ds))) _ numbers next _ (omega (arith, few))
     (longer_on 1 1 2 numbers between next (omega arith) (longer_item (key_of d) numbers) (longer_item (value_of d) between))
-    (pairs_longer after next ds)
+    (pairs_longer version after next ds)
 
-set_longer : (numbers : Numbers) (o : Option Items)
-    → Longer (twice (count What.starts (array_start_asked (elements_asked []) o))) numbers (entries_of numbers (or_no_items o)).1
+set_longer : (version : ℕ) (numbers : Numbers) (o : Option Items)
+    → Longer (twice (count What.starts (array_start_asked (elements_asked version []) o))) numbers (entries_of numbers (or_no_items o)).1
 unfolding array_start_asked
-set_longer numbers None = longer_none 0 numbers
-set_longer numbers (Some ds) = elements_longer [] numbers ds
+set_longer version numbers None = longer_none 0 numbers
+set_longer version numbers (Some ds) = elements_longer version [] numbers ds
 
-queue_longer : (numbers : Numbers) (o : Option Items)
-    → Longer (twice (count What.starts (array_start_asked entries_asked o))) numbers (entries_of numbers (or_no_items o)).1
+queue_longer : (version : ℕ) (numbers : Numbers) (o : Option Items)
+    → Longer (twice (count What.starts (array_start_asked (entries_asked version) o))) numbers (entries_of numbers (or_no_items o)).1
 unfolding array_start_asked
-queue_longer numbers None = longer_none 0 numbers
-queue_longer numbers (Some ds) = entries_longer numbers ds
+queue_longer version numbers None = longer_none 0 numbers
+queue_longer version numbers (Some ds) = entries_longer version numbers ds
 
-directory_longer : (numbers : Numbers) (o : Option Items)
-    → Longer (twice (count What.starts (array_start_asked (pairs_asked []) o))) numbers (pairs_of numbers (or_no_items o)).1
+directory_longer : (version : ℕ) (numbers : Numbers) (o : Option Items)
+    → Longer (twice (count What.starts (array_start_asked (pairs_asked version []) o))) numbers (pairs_of numbers (or_no_items o)).1
 unfolding array_start_asked
-directory_longer numbers None = longer_none 0 numbers
-directory_longer numbers (Some ds) = pairs_longer [] numbers ds
+directory_longer version numbers None = longer_none 0 numbers
+directory_longer version numbers (Some ds) = pairs_longer version [] numbers ds
 
-start_longer : (k : Kind) (numbers : Numbers) (d : Data)
-    → Longer (twice (count What.starts (start_asked k d))) numbers (start_of k numbers d).1
+start_longer : (version : ℕ) (k : Kind) (numbers : Numbers) (d : Data)
+    → Longer (twice (count What.starts (start_asked version k d))) numbers (start_of k numbers d).1
 unfolding start_of start_asked
-start_longer kind.Account numbers d = longer_none 0 numbers
-start_longer kind.Counter numbers d = longer_none 0 numbers
-start_longer kind.Set numbers d = set_longer numbers (as_array d)
-start_longer kind.Queue numbers d = queue_longer numbers (as_array d)
-start_longer kind.Directory numbers d = directory_longer numbers (as_array d)
-start_longer kind.Max numbers d = longer_none 0 numbers
+start_longer version kind.Account numbers d = longer_none 0 numbers
+start_longer version kind.Counter numbers d = longer_none 0 numbers
+start_longer version kind.Set numbers d = set_longer version numbers (as_array d)
+start_longer version kind.Queue numbers d = queue_longer version numbers (as_array d)
+start_longer version kind.Directory numbers d = directory_longer version numbers (as_array d)
+start_longer version kind.Max numbers d = longer_none 0 numbers
 
 pub starts_longer : (version : ℕ) (names : Table) (numbers : Numbers) (ds : Items)
     → Longer (twice (count What.starts (objects_asked version names ds))) numbers (starts_of version numbers ds).1
@@ -90,11 +91,11 @@ starts_longer version names numbers (item d ds) =
     let after = names ++ object_name d ∷ [] in
     let A = object_shape_asked version d in
     let B = object_name_asked names (object_name d) in
-    let C = start_asked k start in
+    let C = start_asked version k start in
     let few = count-append What.starts (object_asked version names d) (objects_asked version after ds) in
     let all = count-append What.starts (A ++ B) C in
     longer_on (twice (count What.starts C)) (twice (count What.starts (objects_asked version after ds))) _ numbers here.1 _
-    (omega (arith, few, all)) (start_longer k numbers start) (starts_longer version after here.1 ds)
+    (omega (arith, few, all)) (start_longer version k numbers start) (starts_longer version after here.1 ds)
 
 -- ---- reasons
 

@@ -17,8 +17,12 @@ use Rattle.meaning.specs.Words.{Names, members, joined}
 use Rattle.words.specs.Words.{kind_text}
 use Rattle.batch.specs.Limits.{all_entries_in, entries_in}
 use Rattle.batch.specs.Names.{is_name}
-use Rattle.carry.specs.Carried.{carried_text, first_unfit, item_text, list_text, object_text, object_texts, pair_text, quoted}
-use Rattle.carry.specs.Carried.{start_text}
+use Rattle.meaning.specs.declared.limits.TheConstants.{MAX_START}
+use Rattle.lang.specs.declared.document.TheConstants.{MAX_BYTES}
+use Rattle.spelling.specs.Limits.{limits_of}
+use Rattle.spelling.specs.declared.limits.TheConstants.{LAST_VERSION}
+use Rattle.carry.specs.Carried.{carried_text, document_head, first_unfit, item_text, list_text, object_text, object_texts, pair_text}
+use Rattle.carry.specs.Carried.{quoted, start_text}
 use Rattle.carry_laws.proofs.Carriable.{first_fits}
 use Rattle.carry_laws.proofs.ItemsOf.{members_few}
 use Rattle.carry_laws.proofs.Listed.{AreNamedBoth, AreWritable, IsNamed, IsWritable}
@@ -60,7 +64,7 @@ kind_length kind.Queue = omega arith
 kind_length kind.Directory = omega arith
 kind_length kind.Max = omega arith
 
-number_length : (n : ℕ) → n ≤ 1_000_000_000_000_000 → length (decimal n) ≤ 16
+number_length : (n : ℕ) → n ≤ MAX_START → length (decimal n) ≤ 16
 number_length n small = length-decimal-le 16 n (omega arith) (omega arith) (omega arith)
 
 module _ (names : Names) where
@@ -120,17 +124,19 @@ module _ (names : Names) where
   objects_length n [] ok = omega arith
   objects_length n (v ∷ values) ok = omega (arith, objects_length (n + 1) values ok.2, object_length n v ok.0 ok.1)
 
-  pub all_few : (n entries : ℕ) (values : State) → entries ≤ 100_000 → first_unfit n entries values ≡ None
-      → entries + all_entries_in values ≤ 100_000
+  pub all_few : (n entries : ℕ) (values : State) → entries ≤ (limits_of LAST_VERSION).entries → first_unfit n entries values ≡ None
+      → entries + all_entries_in values ≤ (limits_of LAST_VERSION).entries
   all_few n entries [] few fit = omega arith
   all_few n entries (v ∷ values) few fit =
       let fits = first_fits n entries v values fit in
       omega (arith, all_few (n + 1) (entries + entries_in v) values fits.few fits.rest)
 
-  pub carried_length : (values : State) → length values ≤ 1000 → first_unfit 0 0 values ≡ None → AreWritable names 0 values
-      → length (carried_text names values) ≤ 67_108_864
+  pub carried_length : (values : State) → length values ≤ (limits_of LAST_VERSION).objects → first_unfit 0 0 values ≡ None
+      → AreWritable names 0 values
+      → length (carried_text names values) ≤ MAX_BYTES
   carried_length values few fit ok =
-      let head = codes "{\"ordtx\": 4,\n\"objects\": [\n" in
+      let first = codes "{\"ordtx\": " in
+      let version = decimal LAST_VERSION in
       let objects = joined (codes ",\n") (object_texts names 0 values) in
       let tail = codes "\n],\n\"transactions\": [\n]}\n" in
       let two : length (codes ",\n") ≤ 2 = omega arith in
@@ -139,6 +145,9 @@ module _ (names : Names) where
         joined_length (codes ",\n") (object_texts names 0 values) two,
         objects_length 0 values ok,
         all_few 0 0 values (omega arith) fit,
-        length-append (head ++ objects) tail,
-        length-append head objects,
+        length-append (document_head ++ objects) tail,
+        length-append document_head objects,
+        length-append (first ++ version) (codes ",\n\"objects\": [\n"),
+        length-append first version,
+        number_length LAST_VERSION (omega arith),
       )

@@ -10,6 +10,7 @@ use Rattle.objects.specs.declared.value.Value.{Value}
 use Rattle.objects.specs.declared.value.Value.TheVariants as value
 use Rattle.meaning.specs.Words.{Names, members}
 use Rattle.words.specs.Words.{kind_text}
+use Rattle.spelling.specs.declared.limits.TheConstants.{LAST_VERSION}
 
 abbrev pub items_data : Names → List Item → Items
 items_data names [] = no_items
@@ -40,4 +41,4 @@ objects_data names n (v ∷ values) = item (object_data names n v) (objects_data
 
 abbrev pub carried_data : Names → State → Data
 carried_data names values = object (member (codes "objects") (array (objects_data names 0 values))
-    (member (codes "ordtx") (number (unsigned 4)) (member (codes "transactions") (array no_items) no_members)))
+    (member (codes "ordtx") (number (unsigned LAST_VERSION)) (member (codes "transactions") (array no_items) no_members)))

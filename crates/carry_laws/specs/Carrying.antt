@@ -11,7 +11,8 @@ use Rattle.objects.specs.declared.value.Value.TheVariants as value
 use Rattle.meaning.specs.Words.{Names}
 use Rattle.batch.specs.Names.{AreNames, is_name}
 use Rattle.carry.specs.Carried.{first_unfit}
-use Rattle.meaning.specs.declared.limits.TheConstants.{MAX_OBJECTS}
+use Rattle.spelling.specs.Limits.{limits_of}
+use Rattle.spelling.specs.declared.limits.TheConstants.{LAST_VERSION}
 
 -- a member, an item of the queue, or a key or what it is bound to
 abbrev pub HasItem : Value → Item → Type 0
@@ -31,7 +32,7 @@ object_names names n (v ∷ values) = names.object n ∷ object_names names (n +
 
 -- Objects that may start a document: few, none of them unfit, and what they name has a name of its own.
 pub record CanBeCarried (names : Names) (values : State) : Type 0 where
-  pub few : length values ≤ MAX_OBJECTS
+  pub few : length values ≤ (limits_of LAST_VERSION).objects
   pub fit : first_unfit 0 0 values ≡ None
   pub objects_named : AreNames (object_names names 0 values)
   pub objects_apart : IsDistinct bytes_eq (object_names names 0 values)

@@ -6,6 +6,7 @@ use Rattle.meaning.specs.Words.{Names}
 use Rattle.batch.specs.Names.{names_of}
 use Rattle.spelling.specs.Scope.{Numbers, no_numbers}
 use Rattle.spelling.specs.Spelled.{starts_of}
+use Rattle.spelling.specs.declared.limits.TheConstants.{LAST_VERSION}
 use Rattle.carry.specs.Joined.{StartOf}
 use Rattle.carry_laws.specs.CarriedData.{object_data}
 
@@ -15,12 +16,12 @@ starts_data (start ∷ starts) = item (object_data start.names start.place start
 
 -- what these starts spell, with the texts that they number
 abbrev pub spelled_starts : List StartOf → State × Numbers
-spelled_starts starts = starts_of 4 no_numbers (starts_data starts)
+spelled_starts starts = starts_of LAST_VERSION no_numbers (starts_data starts)
 
 abbrev pub names_after : Numbers → Names
 names_after numbers = names_of (record { objects = []; items = numbers.items; reasons = numbers.reasons })
 
--- version 4, these starts and these transactions
+-- the last version, these starts and these transactions
 abbrev pub joined_data : List StartOf → Items → Data
 joined_data starts transactions = object (member (codes "objects") (array (starts_data starts))
-    (member (codes "ordtx") (number (unsigned 4)) (member (codes "transactions") (array transactions) no_members)))
+    (member (codes "ordtx") (number (unsigned LAST_VERSION)) (member (codes "transactions") (array transactions) no_members)))

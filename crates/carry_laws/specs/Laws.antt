@@ -20,7 +20,8 @@ use Rattle.carry_laws.specs.Carrying.{CanBeCarried, object_names}
 use Rattle.merging.specs.Renumbered.{renumbered}
 use Rattle.carry_laws.specs.Same.{AreSame, AreSameStarts}
 use Rattle.lang.specs.declared.document.TheConstants.{MAX_BYTES}
-use Rattle.meaning.specs.declared.limits.TheConstants.{MAX_OBJECTS}
+use Rattle.spelling.specs.Limits.{limits_of}
+use Rattle.spelling.specs.declared.limits.TheConstants.{LAST_VERSION}
 
 -- The document starts with the same objects under the same names, and has no transaction.
 pub record StartsWith (names : Names) (values : State) (document : Document) : Type 0 where
@@ -39,7 +40,8 @@ AreDistinctNames texts = AreNames texts × IsDistinct bytes_eq texts
 -- Objects can be carried over under the texts of a batch, where each object and each item has a text of its own.
 abbrev pub NamedLaw : Type 0
 NamedLaw = (texts : Texts) (values : State) → AreDistinctNames texts.objects → AreDistinctNames texts.items
-    → length texts.objects ≡ length values → AllNamedValues texts values → length values ≤ MAX_OBJECTS → first_unfit 0 0 values ≡ None
+    → length texts.objects ≡ length values → AllNamedValues texts values → length values ≤ (limits_of LAST_VERSION).objects
+    → first_unfit 0 0 values ≡ None
     → CanBeCarried (names_of texts) values
 
 -- Where the objects with which a document ends may all start, what is printed of them is read as a document that starts with them.
@@ -69,7 +71,7 @@ JoinedStartsLaw = (first next : List ℕ) (document next_document : Document) �
 -- The starts may start the next document, whose objects are these: an object of both is of one kind, and the text isn't too long.
 pub record MayBeJoined (next : List ℕ) (objects : State) (starts : List StartOf) : Type 0 where
   pub one_kind : first_clash 0 objects starts ≡ None
-  pub few : length starts ≤ MAX_OBJECTS
+  pub few : length starts ≤ (limits_of LAST_VERSION).objects
   pub fit : first_unfit 0 0 (map start_value starts) ≡ None
   pub short : length (joined_text starts next) ≤ MAX_BYTES
   pub utf8 : IsUtf8 (joined_text starts next)

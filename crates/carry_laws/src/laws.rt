@@ -19,7 +19,7 @@ pub fn carried_ends_are_read()
 {}
 
 /// What is printed of a next document, into which the objects at the end of a first are carried, is the
-/// value of version 4 with these starts and the next document's own transactions.
+/// value of the last version with these starts and the next document's own transactions.
 pub fn joined_documents_are_read()
     ensures { JoinedLaw }
 {}

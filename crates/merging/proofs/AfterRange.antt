@@ -5,8 +5,7 @@ use Rattle.json.specs.Token.{Token}
 use Rattle.serde_json.specs.Data.{no_items}
 use Rattle.serde_json.specs.Events.{items_len}
 use Rattle.meaning.specs.Trees.{Block}
-use Rattle.meaning.specs.declared.limits.TheConstants.{MAX_NODES}
-use Rattle.spelling.specs.Demand.{most_operations}
+use Rattle.spelling.specs.Limits.{limits_of}
 use Rattle.spelling.specs.Places.{seek, transactions_placed}
 use Rattle.spelling.specs.Scope.{Numbers, Setting, no_numbers}
 use Rattle.spelling.specs.Spelled.{blocks_of}
@@ -37,8 +36,8 @@ after_is base numbers blocks alone after is read =
 
 module _ (setting : Setting) (old new : List Token) (base alone : Reached) (read : AreRead setting old new nothing_read alone) where
   -- The range counts no more than the limits leave, and no more texts than there are numbers.
-  pub range_after : base.counts.operations + alone.counts.operations ≤ most_operations setting.version
-      → base.counts.nodes + alone.counts.nodes ≤ MAX_NODES
+  pub range_after : base.counts.operations + alone.counts.operations ≤ (limits_of setting.version).operations
+      → base.counts.nodes + alone.counts.nodes ≤ (limits_of setting.version).nodes
       → length alone.numbers.items ≤ MOST_TEXTS → length alone.numbers.reasons ≤ MOST_TEXTS
       → AreRead setting old new base (after_range base alone)
   unfolding moved

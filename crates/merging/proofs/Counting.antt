@@ -4,9 +4,10 @@ use Rattle.std.proofs.Common.{◌≡◌, ℕ, zero, suc, ◌+◌, ◌≤◌, Boo
 use Rattle.std.proofs.Common.{Err, refl, sym, ap, ◌∙◌, arith}
 use Rattle.std.proofs.lemmas.Bool.{lt-ltb}
 use Rattle.serde_json.specs.Data.{Items, no_items, item}
-use Rattle.meaning.specs.declared.limits.TheConstants.{MAX_DEPTH, MAX_NODES}
-use Rattle.spelling.specs.Demand.{Demand, and_then, check, holds, in_transaction, limited, most_operations, no_counts}
+use Rattle.meaning.specs.declared.limits.TheConstants.{MAX_DEPTH}
+use Rattle.spelling.specs.Demand.{Demand, and_then, check, holds, in_transaction, limited, no_counts}
 use Rattle.spelling.specs.Demand.{one_more_node, one_more_operation, one_more_start}
+use Rattle.spelling.specs.Limits.{limits_of}
 use Rattle.spelling.specs.Places.{Found, seek, transactions_placed}
 use Rattle.spelling.specs.Scope.{Setting}
 use Rattle.spelling.specs.declared.counts.Counts.{Counts}
@@ -25,7 +26,8 @@ number_is n last (suc number) some = refl
 module _ (n : ℕ) (base : Counts) (version : ℕ) where
   -- what is reached is within the limits with what was counted before
   abbrev Within : Counts → Type 0
-  Within next = (base.operations + next.operations ≤ most_operations version) × (base.nodes + next.nodes ≤ MAX_NODES)
+  Within next = (base.operations + next.operations ≤ (limits_of version).operations)
+      × (base.nodes + next.nodes ≤ (limits_of version).nodes)
 
   -- the list is met after what was counted before
   abbrev MetAfter : List Demand → Counts → Counts → Type 0
@@ -34,7 +36,7 @@ module _ (n : ℕ) (base : Counts) (version : ℕ) where
   operation_after : (c next : Counts) (ds : List Demand) (other : ℕ) → other ≡ version → Within next
       → ((c' : Counts) → check c' ds ≡ Ok next → MetAfter ds c' next)
       → check c (one_more_operation other ∷ ds) ≡ Ok next → MetAfter (one_more_operation other ∷ ds) c next
-  operation_after c next ds other is within later met = by (nat_lt c.operations (most_operations other)) met
+  operation_after c next ds other is within later met = by (nat_lt c.operations (limits_of other).operations) met
     where
       by : (b : Bool) → and_then (limited b c (record c { operations = c.operations + 1 })) (λ x. check x ds) ≡ Ok next
           → MetAfter (one_more_operation other ∷ ds) c next
@@ -42,28 +44,31 @@ module _ (n : ℕ) (base : Counts) (version : ℕ) where
           let counted : Counts = record c { operations = c.operations + 1 } in
           let after = counts_after n base c in
           let more : Counts = record after { operations = after.operations + 1 } in
-          let most = ap most_operations is in
+          let most = ap (λ v. (limits_of v).operations) is in
           let reached = (passed ds counted next rest).operations in
-          let few : suc (base.operations + c.operations) ≤ most_operations other = omega (arith, within.0, most, reached) in
+          let few : suc (base.operations + c.operations) ≤ (limits_of other).operations = omega (arith, within.0, most, reached) in
           let sum : base.operations + c.operations + 1 ≡ base.operations + (c.operations + 1) = omega arith in
-          ap (λ t. and_then (limited t after more) (λ x. check x ds)) (lt-ltb (base.operations + c.operations) (most_operations other) few)
+          ap (λ t. and_then (limited t after more) (λ x. check x ds))
+          (lt-ltb (base.operations + c.operations) (limits_of other).operations few)
           ∙ ap (λ k. check (record after { operations = k }) ds) sum ∙ later counted rest
       by false rest = cc
 
-  node_after : (c next : Counts) (ds : List Demand) → Within next → ((c' : Counts) → check c' ds ≡ Ok next → MetAfter ds c' next)
-      → check c (one_more_node ∷ ds) ≡ Ok next → MetAfter (one_more_node ∷ ds) c next
-  node_after c next ds within later met = by (nat_lt c.nodes MAX_NODES) met
+  node_after : (c next : Counts) (ds : List Demand) (other : ℕ) → other ≡ version → Within next
+      → ((c' : Counts) → check c' ds ≡ Ok next → MetAfter ds c' next)
+      → check c (one_more_node other ∷ ds) ≡ Ok next → MetAfter (one_more_node other ∷ ds) c next
+  node_after c next ds other is within later met = by (nat_lt c.nodes (limits_of other).nodes) met
     where
       by : (b : Bool) → and_then (limited b c (record c { nodes = c.nodes + 1 })) (λ x. check x ds) ≡ Ok next
-          → MetAfter (one_more_node ∷ ds) c next
+          → MetAfter (one_more_node other ∷ ds) c next
       by true rest =
           let counted : Counts = record c { nodes = c.nodes + 1 } in
           let after = counts_after n base c in
           let more : Counts = record after { nodes = after.nodes + 1 } in
+          let most = ap (λ v. (limits_of v).nodes) is in
           let reached = (passed ds counted next rest).nodes in
-          let few : suc (base.nodes + c.nodes) ≤ MAX_NODES = omega (arith, within.1, reached) in
+          let few : suc (base.nodes + c.nodes) ≤ (limits_of other).nodes = omega (arith, within.1, most, reached) in
           let sum : base.nodes + c.nodes + 1 ≡ base.nodes + (c.nodes + 1) = omega arith in
-          ap (λ t. and_then (limited t after more) (λ x. check x ds)) (lt-ltb (base.nodes + c.nodes) MAX_NODES few)
+          ap (λ t. and_then (limited t after more) (λ x. check x ds)) (lt-ltb (base.nodes + c.nodes) (limits_of other).nodes few)
           ∙ ap (λ k. check (record after { nodes = k }) ds) sum ∙ later counted rest
       by false rest = cc
 
@@ -72,11 +77,11 @@ module _ (n : ℕ) (base : Counts) (version : ℕ) where
   block_after [] c next asked within met = let same : c ≡ next = cc in ap (λ x. Ok (counts_after n base x)) same
   block_after (holds true wrong ∷ ds) c next asked within met = block_after ds c next asked within met
   block_after (holds false wrong ∷ ds) c next asked within met = cc
-  block_after (one_more_start ∷ ds) c next asked within met = absurd asked
+  block_after (one_more_start other ∷ ds) c next asked within met = absurd asked
   block_after (one_more_operation other ∷ ds) c next asked within met =
       operation_after c next ds other asked.0 within (λ c'. block_after ds c' next asked.1 within) met
-  block_after (one_more_node ∷ ds) c next asked within met =
-      node_after c next ds within (λ c'. block_after ds c' next asked within) met
+  block_after (one_more_node other ∷ ds) c next asked within met =
+      node_after c next ds other asked.0 within (λ c'. block_after ds c' next asked.1 within) met
   block_after (in_transaction i ∷ ds) c next asked within met = absurd asked
 
 -- what was found of the demands with their places

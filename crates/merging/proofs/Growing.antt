@@ -11,6 +11,7 @@ use Rattle.batch.specs.Limits.{all_nodes, nodes, nodes_of_children, nodes_of_han
 use Rattle.batch.specs.Views.{Tried, children_of, steps_of}
 use Rattle.words.specs.declared.verb.Verb.{Verb}
 use Rattle.words.specs.declared.verb.Verb.TheVariants.{OfAmount, OfItem, OfPair, Alone}
+use Rattle.meaning.specs.declared.limits.TheConstants.{MAX_DEPTH}
 use Rattle.spelling.specs.declared.subject.Subject.{Subject}
 use Rattle.spelling.specs.declared.steps.Sort.{Sort}
 use Rattle.spelling.specs.declared.steps.Sort.TheVariants.{Operation as an_operation, If as an_if, Sub as a_sub, Abort as an_abort}
@@ -267,7 +268,7 @@ pub blocks_longer : (setting : Setting) (numbers : Numbers) (ds : Items)
     (blocks_of setting numbers ds).1
 blocks_longer setting numbers no_items = longer_none 0 numbers
 blocks_longer setting numbers (item d ds) =
-    let here = block_of setting 24 [] numbers d in
+    let here = block_of setting MAX_DEPTH [] numbers d in
     let rest = blocks_of setting here.1 ds in
     longer_on (weight here.0) (2 * all_operations rest.0 + all_nodes rest.0) _ numbers here.1 rest.1 (omega arith)
-    (block_longer setting 24 [] numbers d) (blocks_longer setting here.1 ds)
+    (block_longer setting MAX_DEPTH [] numbers d) (blocks_longer setting here.1 ds)

@@ -25,9 +25,9 @@ use Rattle.spelling.proofs.Demands.{members_asked, parallel_asked, step_asked, s
 abbrev pub InBlock : ℕ → List Demand → Type 0
 InBlock version [] = ⊤
 InBlock version (holds b wrong ∷ ds) = InBlock version ds
-InBlock version (one_more_start ∷ ds) = ⊥
+InBlock version (one_more_start other ∷ ds) = ⊥
 InBlock version (one_more_operation other ∷ ds) = (other ≡ version) × InBlock version ds
-InBlock version (one_more_node ∷ ds) = InBlock version ds
+InBlock version (one_more_node other ∷ ds) = (other ≡ version) × InBlock version ds
 InBlock version (in_transaction n ∷ ds) = ⊥
 
 -- ---- lists in parts
@@ -36,9 +36,9 @@ module _ (version : ℕ) where
   both_in : (xs ys : List Demand) → InBlock version xs → InBlock version ys → InBlock version (xs ++ ys)
   both_in [] ys first rest = rest
   both_in (holds b wrong ∷ xs) ys first rest = both_in xs ys first rest
-  both_in (one_more_start ∷ xs) ys first rest = absurd first
+  both_in (one_more_start other ∷ xs) ys first rest = absurd first
   both_in (one_more_operation other ∷ xs) ys first rest = (first.0, both_in xs ys first.1 rest)
-  both_in (one_more_node ∷ xs) ys first rest = both_in xs ys first rest
+  both_in (one_more_node other ∷ xs) ys first rest = (first.0, both_in xs ys first.1 rest)
   both_in (in_transaction n ∷ xs) ys first rest = absurd first
 
   -- ---- what is asked of a step itself
@@ -95,9 +95,9 @@ module _ (version : ℕ) where
   reason_in None = tt
   reason_in (Some reason) = tt
 
-  abort_in : (known : ℕ) (d : Data) → InBlock version (abort_asked known d)
+  abort_in : (d : Data) → InBlock version (abort_asked version d)
   unfolding abort_asked abort_shape_asked
-  abort_in known d = both_in (abort_shape_asked known d) (reason_asked (as_str (part (codes "abort") d))) tt
+  abort_in d = both_in (abort_shape_asked version d) (reason_asked (as_str (part (codes "abort") d))) (refl, tt)
       (reason_in (as_str (part (codes "abort") d)))
 
 -- an operation counts one in a document of its version
@@ -132,13 +132,13 @@ module _ (setting : Setting) (asks : Asks) (inner : (scope : Scope) (d : Data) �
   block_if_in scope None = tt
   block_if_in scope (Some d) = inner scope d
 
-  if_in : (scope : Scope) (d : Data) → In (if_asked asks scope d)
+  if_in : (scope : Scope) (d : Data) → In (if_asked setting.version asks scope d)
   unfolding if_asked
   if_in scope d =
       let version = setting.version in
       let subject = subject_of (if_label d) scope in
       let A = if_shape_asked d in
-      let B = one_more_node ∷ [] in
+      let B = one_more_node version ∷ [] in
       let C = seen_asked scope (if_label d) in
       let D = test_asked subject d in
       let E = asks scope (part (codes "then") d) in
@@ -146,7 +146,7 @@ module _ (setting : Setting) (asks : Asks) (inner : (scope : Scope) (d : Data) �
       joined (A ++ B ++ C ++ D ++ E) F
       (joined (A ++ B ++ C ++ D) E
       (joined (A ++ B ++ C) D
-      (joined (A ++ B) C (joined A B (if_shape_in version d) tt) (seen_in version scope (if_label d)))
+      (joined (A ++ B) C (joined A B (if_shape_in version d) (refl, tt)) (seen_in version scope (if_label d)))
       (test_in version subject d))
       (inner scope (part (codes "then") d)))
       (block_if_in scope (get (codes "else") d))
@@ -166,7 +166,7 @@ module _ (setting : Setting) (asks : Asks) (inner : (scope : Scope) (d : Data) �
   sub_in scope earlier d =
       let version = setting.version in
       let A = sub_shape_asked version d in
-      let B = one_more_node ∷ [] in
+      let B = one_more_node version ∷ [] in
       let C = label_asked scope earlier (label_in d) in
       let D = asks scope (part (codes "sub") d) in
       let E = handlers_asked asks scope (handlers_in d) in
@@ -174,7 +174,7 @@ module _ (setting : Setting) (asks : Asks) (inner : (scope : Scope) (d : Data) �
       joined (A ++ B ++ C ++ D ++ E) F
       (joined (A ++ B ++ C ++ D) E
       (joined (A ++ B ++ C) D
-      (joined (A ++ B) C (joined A B (sub_shape_in version version d) tt) (label_is_in version scope earlier (label_in d)))
+      (joined (A ++ B) C (joined A B (sub_shape_in version version d) (refl, tt)) (label_is_in version scope earlier (label_in d)))
       (inner scope (part (codes "sub") d)))
       (handlers_are_in scope (handlers_in d)))
       (block_if_in scope (get (codes "handler") d))
@@ -189,17 +189,18 @@ module _ (setting : Setting) (asks : Asks) (inner : (scope : Scope) (d : Data) �
   parallel_in : (scope : Scope) (d : Data) → In (parallel_asked setting.version asks scope d)
   unfolding parallel_asked
   parallel_in scope d =
+      let version = setting.version in
       let A = parallel_shape_asked d in
-      let B = one_more_node ∷ [] in
-      joined (A ++ B) (children_asked setting.version asks scope [] (children_in d))
-      (joined A B (parallel_shape_in setting.version d) tt) (children_are_in scope [] (children_in d))
+      let B = one_more_node version ∷ [] in
+      joined (A ++ B) (children_asked version asks scope [] (children_in d))
+      (joined A B (parallel_shape_in version d) (refl, tt)) (children_are_in scope [] (children_in d))
 
   step_in : (sort : Option Sort) (scope : Scope) (d : Data) → In (step_asked_by sort asks setting scope d)
   step_in None scope d = tt
   step_in (Some an_operation) scope d = operation_in setting scope d
   step_in (Some an_if) scope d = if_in scope d
   step_in (Some a_sub) scope d = sub_in scope [] d
-  step_in (Some an_abort) scope d = abort_in setting.version setting.version d
+  step_in (Some an_abort) scope d = abort_in setting.version d
   step_in (Some a_parallel) scope d = parallel_in scope d
 
   steps_in : (scope : Scope) (ds : Items) → In (steps_asked asks setting scope ds)

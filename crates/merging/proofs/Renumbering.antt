@@ -14,6 +14,7 @@ use Rattle.words.specs.Verbs.{item_call, pair_call}
 use Rattle.words.proofs.Verbs.{amount_phrase, item_phrase, lone_phrase, pair_phrase}
 use Rattle.words.specs.declared.verb.Verb.{Verb}
 use Rattle.words.specs.declared.verb.Verb.TheVariants.{OfAmount, OfItem, OfPair, Alone}
+use Rattle.meaning.specs.declared.limits.TheConstants.{MAX_DEPTH}
 use Rattle.spelling.specs.declared.subject.Subject.{Subject}
 use Rattle.spelling.specs.declared.steps.Sort.{Sort}
 use Rattle.spelling.specs.declared.steps.Sort.TheVariants.{Operation as an_operation, If as an_if, Sub as a_sub, Abort as an_abort}
@@ -303,11 +304,11 @@ module _ (items reasons : ℕ → ℕ) (BesideItems BesideReasons : Table → Ta
       → Again (map block_renumbered) a b (blocks_of setting a ds) (blocks_of setting b ds)
   blocks_again setting a b no_items beside here there = (refl, beside)
   blocks_again setting a b (item d ds) beside here there =
-      let fa = block_of setting 24 [] a d in
-      let fb = block_of setting 24 [] b d in
+      let fa = block_of setting MAX_DEPTH [] a d in
+      let fb = block_of setting MAX_DEPTH [] b d in
       let ra = blocks_of setting fa.1 ds in
       let rb = blocks_of setting fb.1 ds in
-      let first = block_again setting 24 [] a b d beside (begins_both fa.1 ra.1 old (blocks_longer setting fa.1 ds).begins here)
+      let first = block_again setting MAX_DEPTH [] a b d beside (begins_both fa.1 ra.1 old (blocks_longer setting fa.1 ds).begins here)
       (begins_both fb.1 rb.1 new (blocks_longer setting fb.1 ds).begins there) in
       let rest = blocks_again setting fa.1 fb.1 ds first.1 here there in
       ((λ i. first.0 i ∷ rest.0 i), rest.1)

@@ -1,12 +1,11 @@
 //! Reads a range of a document alone, and puts what was read of ranges after one another.
 ghost use Rattle.std.specs.Prelude.{◌≡◌, ◌≤◌, ◌+◌, [], length, map, IfOk, OnOk};
 ghost use Rattle.batch.specs.Views.{block_view};
-ghost use Rattle.meaning.specs.declared.limits.TheConstants.{MAX_NODES, MAX_TRANSACTIONS};
 ghost use Rattle.merging.specs.AfterRange.{counts_after};
 ghost use Rattle.merging.specs.Parts.{IsPlaced, renumbered_parts};
 ghost use Rattle.merging.specs.RangeReads.{AreMerged, IsReadAlone};
 ghost use Rattle.pull.specs.Ranges.{reached};
-ghost use Rattle.spelling.specs.Demand.{most_operations};
+ghost use Rattle.spelling.specs.Limits.{limits_of};
 ghost use Rattle.spelling.specs.Scope.{scope_of, setting_of};
 
 use crate::blocks::NewNumbers;
@@ -14,12 +13,12 @@ use crate::parts::{Part, append_parts, renumber_parts};
 use crate::tables::{MOST_TEXTS, merge_texts};
 use batch::Block;
 use json::{Reader, Scratch};
-use meaning::limits::{MAX_NODES, MAX_TRANSACTIONS};
 use pull::ranges::{RangeEnd, pull_range};
 use pull::stop::Stop;
-use spelling::counts::{Counts, most_operations};
+use spelling::counts::Counts;
 use spelling::declared::Declared;
 use spelling::hashing::NameHashing;
+use spelling::limits::Limits;
 use spelling::state::{Numbering, State};
 use std::alloc::Global;
 use std::thread::Threads;
@@ -73,12 +72,13 @@ pub fn read_range(
 fn add_counts(counts: &mut Counts, more: &Counts, version: u8, before: u32) -> Result<(), Stop>
     ensures counts { OnOk result (counts.new ≡ counts_after before counts.old more.now) }
     ensures operations { OnOk result (counts.old.operations + more.now.operations
-        ≤ most_operations version) }
-    ensures nodes { OnOk result (counts.old.nodes + more.now.nodes ≤ MAX_NODES) }
+        ≤ (limits_of version).operations) }
+    ensures nodes { OnOk result (counts.old.nodes + more.now.nodes ≤ (limits_of version).nodes) }
 {
     let operations = counts.operations as usize + more.operations as usize;
     let nodes = counts.nodes as usize + more.nodes as usize;
-    if operations > most_operations(version) || nodes > MAX_NODES {
+    let limits = Limits::of(version);
+    if operations > limits.operations || nodes > limits.nodes {
         return Err(Stop::OtherForm);
     }
     if more.transaction > 0 {
@@ -99,10 +99,11 @@ fn place_range(
     declared: &Declared,
     state: &mut State,
 ) -> Result<Part, Stop>
-    requires { before ≤ MAX_TRANSACTIONS }
+    requires { before ≤ (limits_of declared.now.version).transactions }
     ensures read { IfOk result (λ part. IsPlaced (setting_of declared.now) read before state.old
         part state.new) }
-    ensures few { IfOk result (λ part. before + length part.blocks.items ≤ MAX_TRANSACTIONS) }
+    ensures few { IfOk result (λ part. before + length part.blocks.items
+        ≤ (limits_of declared.now.version).transactions) }
     ensures labels { OnOk result (state.new.labels ≡ state.old.labels) }
 {
     let RangeRead {
@@ -112,7 +113,8 @@ fn place_range(
         ..
     } = read;
     let Numbering { items, reasons, .. } = numbering;
-    if before + blocks.len() > MAX_TRANSACTIONS
+    let limits = Limits::of(declared.version);
+    if before + blocks.len() > limits.transactions
         || items.len() > MOST_TEXTS
         || reasons.len() > MOST_TEXTS
     {
@@ -137,7 +139,8 @@ fn place_ranges(
 ) -> Result<Vec<Part>, Stop>
     ensures read { IfOk result (λ parts. AreMerged (setting_of declared.now) reads.items
         (reached state.old []) (reached state.new (renumbered_parts parts.items))) }
-    ensures few { IfOk result (λ parts. length (renumbered_parts parts.items) ≤ MAX_TRANSACTIONS) }
+    ensures few { IfOk result (λ parts. length (renumbered_parts parts.items)
+        ≤ (limits_of declared.now.version).transactions) }
     ensures labels { OnOk result (state.new.labels ≡ state.old.labels) }
 {
     let mut parts = Vec::with_capacity(alloc, reads.len())?;
@@ -164,7 +167,8 @@ pub fn merge_ranges<T: Threads + Sync>(
     requires { scope_of state.old.labels.entries ≡ [] }
     ensures read { IfOk result (λ blocks. AreMerged (setting_of declared.now) reads.items
         (reached state.old []) (reached state.new (map block_view blocks.items))) }
-    ensures few { IfOk result (λ blocks. length blocks.items ≤ MAX_TRANSACTIONS) }
+    ensures few { IfOk result (λ blocks. length blocks.items
+        ≤ (limits_of declared.now.version).transactions) }
     ensures scope { IfOk result (λ _. scope_of state.new.labels.entries ≡ []) }
 {
     let mut parts = place_ranges(alloc, reads, declared, state)?;

@@ -25,7 +25,7 @@ returns-clause-read c blocks size old read =
     let few_items : length items ≤ MOST_TEXTS = omega (
       arith,
       length-texts_of c.args.read.numbering.items.keys,
-      c.len-else-before-len-gt-MAX_TRANSACTIONS.ensures.len,
+      c.len-else-before-len.ensures.len,
       c.if-len-gt-MOST_TEXTS.false,
     ) in
     let few_reasons : length reasons ≤ MOST_TEXTS = omega (

@@ -1,6 +1,6 @@
 use Rattle.std.proofs.Common.{◌≡◌, ◌≤◌, [], length}
-use Rattle.meaning.specs.declared.limits.TheConstants.{MAX_TRANSACTIONS}
 use Rattle.pull.specs.Ranges.{Reached, reached}
+use Rattle.spelling.specs.Limits.{limits_of}
 use Rattle.spelling.specs.Scope.{setting_of}
 use Rattle.merging.specs.Parts.{renumbered_parts}
 use Rattle.merging.specs.RangeReads.{AreMerged}
@@ -12,5 +12,5 @@ invariant-loop-read l =
     ((q : Reached) → AreMerged (setting_of l.declared) l.read-iterator.rest.items (reached l.state (renumbered_parts l.parts.items)) q
     → AreMerged (setting_of l.declared) l.fn.reads.items (reached l.fn.state []) q)
     × (l.before ≡ length (renumbered_parts l.parts.items))
-    × (l.before ≤ MAX_TRANSACTIONS)
+    × (l.before ≤ (limits_of l.declared.version).transactions)
     × (l.state.labels ≡ l.fn.state.labels)
