@@ -2,14 +2,13 @@
 use Rattle.std.proofs.Common.{◌≡◌, ◌≢◌, Bool, true, false, List, [], ◌∷◌, Some, Result, Ok, Err, cond, refl, subst}
 use Rattle.std.specs.Prelude.{IfErr, nat_lt}
 use Rattle.serde_json.specs.Data.{Data}
-use Rattle.meaning.specs.declared.limits.TheConstants.{MAX_ENTRIES, MAX_NODES}
 use Rattle.faults.specs.declared.fault.Code.{Code}
 use Rattle.faults.specs.declared.fault.Code.TheVariants as code
 use Rattle.faults.specs.declared.fault.Fault.{Fault}
 use Rattle.spelling.specs.declared.counts.Counts.{Counts}
 use Rattle.spelling.specs.Demand.{Demand, holds, one_more_start, one_more_operation, one_more_node, in_transaction, and_then}
-use Rattle.spelling.specs.Demand.{check, check_one}
-use Rattle.spelling.specs.Demand.{most_operations, no_counts}
+use Rattle.spelling.specs.Demand.{check, check_one, no_counts}
+use Rattle.spelling.specs.Limits.{limits_of}
 use Rattle.spelling.specs.Places.{Found, Placed, Token, below, fault_of, first_fault, go_on, here, inside, itself, nothing, placed, seek}
 use Rattle.faults.specs.Faults.{is_of_reading, memory_fault}
 
@@ -24,9 +23,9 @@ tested false c fault own = own
 one : (c : Counts) (d : Demand) → IfErr (check_one c d) IsOfReading
 unfolding IsOfReading
 one c (holds b wrong) = tested b c _ refl
-one c one_more_start = tested (nat_lt c.starts MAX_ENTRIES) _ _ refl
-one c (one_more_operation version) = tested (nat_lt c.operations (most_operations version)) _ _ refl
-one c one_more_node = tested (nat_lt c.nodes MAX_NODES) _ _ refl
+one c (one_more_start version) = tested (nat_lt c.starts (limits_of version).entries) _ _ refl
+one c (one_more_operation version) = tested (nat_lt c.operations (limits_of version).operations) _ _ refl
+one c (one_more_node version) = tested (nat_lt c.nodes (limits_of version).nodes) _ _ refl
 one c (in_transaction n) = tt
 
 then : (r : Result Counts Fault) (ds : List Demand) → IfErr r IsOfReading → ((c : Counts) → IfErr (check c ds) IsOfReading)

@@ -285,9 +285,9 @@ module _ (setting : Setting) (paired : length setting.names ≡ length setting.k
         (λ (m : AllMet (holds_number subject d)). m.0) (λ (m : AllMet (holds_item subject d)). m.0) met
 
     if_good : (scope : Scope) (numbers : Numbers) (d : Data) (labels : List Label) → AreSeen scope labels
-        → length scope + counted (if_asked asks scope d) < most_labels → AllMet (if_asked asks scope d)
-        → GoodStep setting.kinds (if_of block scope numbers d).0 labels n (count What.operations (if_asked asks scope d))
-        (count What.nodes (if_asked asks scope d))
+        → length scope + counted (if_asked setting.version asks scope d) < most_labels → AllMet (if_asked setting.version asks scope d)
+        → GoodStep setting.kinds (if_of block scope numbers d).0 labels n (count What.operations (if_asked setting.version asks scope d))
+        (count What.nodes (if_asked setting.version asks scope d))
     unfolding if_asked if_of seen_asked
     if_good scope numbers d labels seen few met =
         let subject = subject_of (if_label d) scope in
@@ -295,7 +295,7 @@ module _ (setting : Setting) (paired : length setting.names ≡ length setting.k
         let first = part (codes "then") d in
         let second = get (codes "else") d in
         let A = if_shape_asked d in
-        let B = one_more_node ∷ [] in
+        let B = one_more_node setting.version ∷ [] in
         let C = seen_asked scope (if_label d) in
         let D = test_asked subject d in
         let E = asks scope first in
@@ -431,7 +431,7 @@ module _ (setting : Setting) (paired : length setting.names ≡ length setting.k
         let by_reasons = handlers_in d in
         let last = get (codes "handler") d in
         let A = sub_shape_asked setting.version d in
-        let B = one_more_node ∷ [] in
+        let B = one_more_node setting.version ∷ [] in
         let C = label_asked scope earlier (label_in d) in
         let D = asks scope body in
         let E = handlers_asked asks scope by_reasons in
@@ -464,7 +464,7 @@ module _ (setting : Setting) (paired : length setting.names ≡ length setting.k
     unfolding sub_asked
     sub_label scope earlier d met =
         let A = sub_shape_asked setting.version d in
-        let B = one_more_node ∷ [] in
+        let B = one_more_node setting.version ∷ [] in
         let C = label_asked scope earlier (label_in d) in
         let D = asks scope (part (codes "sub") d) in
         let E = handlers_asked asks scope (handlers_in d) in
@@ -476,8 +476,8 @@ module _ (setting : Setting) (paired : length setting.names ≡ length setting.k
     sub_is_node scope earlier d =
         omega (
           arith,
-          count_six What.nodes (sub_shape_asked setting.version d) (one_more_node ∷ []) (label_asked scope earlier (label_in d))
-              (asks scope (part (codes "sub") d)) (handlers_asked asks scope (handlers_in d))
+          count_six What.nodes (sub_shape_asked setting.version d) (one_more_node setting.version ∷ [])
+              (label_asked scope earlier (label_in d)) (asks scope (part (codes "sub") d)) (handlers_asked asks scope (handlers_in d))
               (block_asked_if asks scope (get (codes "handler") d)),
         )
 
@@ -602,7 +602,7 @@ module _ (setting : Setting) (paired : length setting.names ≡ length setting.k
     unfolding parallel_asked parallel_of
     parallel_good scope numbers d labels seen few met =
         let A = parallel_shape_asked d in
-        let B = one_more_node ∷ [] in
+        let B = one_more_node setting.version ∷ [] in
         let C = children_asked setting.version asks scope [] (children_in d) in
         let ops = count_three What.operations A B C in
         let nds = count_three What.nodes A B C in
@@ -622,7 +622,7 @@ module _ (setting : Setting) (paired : length setting.names ≡ length setting.k
     unfolding parallel_asked parallel_of
     parallel_labels scope numbers d labels seen met =
         let A = parallel_shape_asked d in
-        let B = one_more_node ∷ [] in
+        let B = one_more_node setting.version ∷ [] in
         let C = children_asked setting.version asks scope [] (children_in d) in
         let earlier = labels_of [] (children_in d) in
         let added = added_by_children (children_of (children_spelled block scope numbers (children_in d)).0) in

@@ -21,6 +21,8 @@ use Rattle.batch.specs.Limits.{AllWellFormed, AllShallow, IsBatch, all_nodes, al
 use Rattle.spelling.specs.Demand.{no_counts}
 use Rattle.spelling.specs.Look
 use Rattle.spelling.specs.Look.{whole}
+use Rattle.meaning.specs.declared.limits.TheConstants.{MAX_DEPTH, MAX_ENTRIES, MAX_NODES, MAX_OPERATIONS, MAX_START}
+use Rattle.spelling.specs.Limits.{limits_of}
 use Rattle.spelling.specs.Scope.{Numbers, Setting, Table, no_numbers}
 use Rattle.spelling.specs.Asked.{document_shape_asked, element_asked}
 use Rattle.spelling.specs.Asked.{entry_asked, kind_in, kinds_of, names_of, object_name, object_name_asked, object_shape_asked}
@@ -32,6 +34,7 @@ use Rattle.spelling.specs.Spelled.{bind_all, block_of, blocks_of, document_in, e
 use Rattle.spelling.specs.Spelled.{start_of, starts_of}
 use Rattle.lang.proofs.Faultless.{block_good, counted, most_labels}
 use Rattle.lang.proofs.Later.{blocks_later, values_later}
+use Rattle.spelling.proofs.LimitLemmas.{limits_within}
 use Rattle.spelling.proofs.ListLemmas.{kinds_of_starts}
 use Rattle.spelling.proofs.MetLemmas.{AllMet, What, count, count-append, first_met, passed, rest_met}
 use Rattle.lang.proofs.Numbered.{blocks_numbered}
@@ -56,12 +59,12 @@ blocks_good : (setting : Setting) → length setting.names ≡ length setting.ki
     (count What.nodes (transactions_asked number setting ds))
 blocks_good setting paired number numbers no_items few met = record { fit = tt; shallow = tt; operations_are = refl; nodes_are = refl }
 blocks_good setting paired number numbers (item d ds) few met =
-    let A = block_asked setting 24 [] d in
+    let A = block_asked setting MAX_DEPTH [] d in
     let B = transactions_asked (number + 1) setting ds in
     let ops = count-append What.operations A B in
     let nds = count-append What.nodes A B in
-    let here = block_good setting paired 24 [] numbers d [] refl (omega (arith, few, ops, nds)) (first_met A B met) in
-    let rest = blocks_good setting paired (number + 1) (block_of setting 24 [] numbers d).1 ds (omega (arith, few, ops, nds))
+    let here = block_good setting paired MAX_DEPTH [] numbers d [] refl (omega (arith, few, ops, nds)) (first_met A B met) in
+    let rest = blocks_good setting paired (number + 1) (block_of setting MAX_DEPTH [] numbers d).1 ds (omega (arith, few, ops, nds))
     (rest_met A B met) in
     record {
       fit = (here.fits, rest.fit);
@@ -72,7 +75,8 @@ blocks_good setting paired number numbers (item d ds) few met =
 
 blocks_are_many : (setting : Setting) (numbers : Numbers) (ds : Items) → length (blocks_of setting numbers ds).0 ≡ items_len ds
 blocks_are_many setting numbers no_items = refl
-blocks_are_many setting numbers (item d ds) = let rest = blocks_are_many setting (block_of setting 24 [] numbers d).1 ds in omega arith
+blocks_are_many setting numbers (item d ds) =
+    let rest = blocks_are_many setting (block_of setting MAX_DEPTH [] numbers d).1 ds in omega arith
 
 -- ---- objects
 
@@ -91,38 +95,49 @@ starts_are_many version numbers (item d ds) = let rest = starts_are_many version
 
 -- ---- starting entries
 
-entry_counts : (d : Data) → count What.starts (entry_asked d) ≡ 1
+entry_counts : (version : ℕ) (d : Data) → count What.starts (entry_asked version d) ≡ 1
 unfolding entry_asked
-entry_counts d = refl
+entry_counts version d = refl
 
-element_counts : (earlier : Table) (d : Data) → count What.starts (element_asked earlier d) ≡ 1
+element_counts : (version : ℕ) (earlier : Table) (d : Data) → count What.starts (element_asked version earlier d) ≡ 1
 unfolding element_asked
-element_counts earlier d = refl
+element_counts version earlier d = refl
 
-pair_counts : (earlier : Table) (d : Data) → count What.starts (pair_asked earlier d) ≡ 1
+pair_counts : (version : ℕ) (earlier : Table) (d : Data) → count What.starts (pair_asked version earlier d) ≡ 1
 unfolding pair_asked
-pair_counts earlier d = refl
+pair_counts version earlier d = refl
 
-entries_count : (numbers : Numbers) (ds : Items) → length (entries_of numbers ds).0 ≡ count What.starts (entries_asked ds)
-entries_count numbers no_items = refl
-entries_count numbers (item d ds) = let rest = entries_count (with_item (text_of d) numbers) ds in
-    omega (arith, rest, entry_counts d, count-append What.starts (entry_asked d) (entries_asked ds))
+entries_count : (version : ℕ) (numbers : Numbers) (ds : Items) → length (entries_of numbers ds).0 ≡ count What.starts
+    (entries_asked version ds)
+entries_count version numbers no_items = refl
+entries_count version numbers (item d ds) = let rest = entries_count version (with_item (text_of d) numbers) ds in
+    omega (arith, rest, entry_counts version d, count-append What.starts (entry_asked version d) (entries_asked version ds))
 
-elements_count : (numbers : Numbers) (earlier : Table) (ds : Items) → length (entries_of numbers ds).0 ≡ count What.starts
-    (elements_asked earlier ds)
-elements_count numbers earlier no_items = refl
-elements_count numbers earlier (item d ds) =
+elements_count : (version : ℕ) (numbers : Numbers) (earlier : Table) (ds : Items) → length (entries_of numbers ds).0 ≡ count What.starts
+    (elements_asked version earlier ds)
+elements_count version numbers earlier no_items = refl
+elements_count version numbers earlier (item d ds) =
     let next = with_text (text_of d) earlier in
-    let rest = elements_count (with_item (text_of d) numbers) next ds in
-    omega (arith, rest, element_counts earlier d, count-append What.starts (element_asked earlier d) (elements_asked next ds))
+    let rest = elements_count version (with_item (text_of d) numbers) next ds in
+    omega (
+      arith,
+      rest,
+      element_counts version earlier d,
+      count-append What.starts (element_asked version earlier d) (elements_asked version next ds),
+    )
 
-pairs_count : (numbers : Numbers) (earlier : Table) (ds : Items) → length (pairs_of numbers ds).0 ≡ count What.starts
-    (pairs_asked earlier ds)
-pairs_count numbers earlier no_items = refl
-pairs_count numbers earlier (item d ds) =
+pairs_count : (version : ℕ) (numbers : Numbers) (earlier : Table) (ds : Items) → length (pairs_of numbers ds).0 ≡ count What.starts
+    (pairs_asked version earlier ds)
+pairs_count version numbers earlier no_items = refl
+pairs_count version numbers earlier (item d ds) =
     let next = with_text (key_of d) earlier in
-    let rest = pairs_count (pair_of numbers d).1 next ds in
-    omega (arith, rest, pair_counts earlier d, count-append What.starts (pair_asked earlier d) (pairs_asked next ds))
+    let rest = pairs_count version (pair_of numbers d).1 next ds in
+    omega (
+      arith,
+      rest,
+      pair_counts version earlier d,
+      count-append What.starts (pair_asked version earlier d) (pairs_asked version next ds),
+    )
 
 -- a set and a map have no more entries than were put in
 insert_len : (s : finite_set.FinSet item_cmp) (x : Item) → finite_set.len (finite_set.insert s x) ≤ finite_set.len s + 1
@@ -150,43 +165,46 @@ bind_all_len : (m : finite_map.FinMap item_cmp Item) (es : List (Item × Item))
 bind_all_len m [] = omega arith
 bind_all_len m (e ∷ es) = omega (arith, bind_all_len (finite_map.insert m e.0 e.1) es, bind_len m e.0 e.1)
 
-set_start : (numbers : Numbers) (o : Option Items) → finite_set.len (put_all finite_set.empty (entries_of numbers (or_no_items o)).0)
-    ≤ count What.starts (array_start_asked (elements_asked []) o)
+set_start : (version : ℕ) (numbers : Numbers) (o : Option Items)
+    → finite_set.len (put_all finite_set.empty (entries_of numbers (or_no_items o)).0)
+    ≤ count What.starts (array_start_asked (elements_asked version []) o)
 unfolding array_start_asked
-set_start numbers None = omega (arith, finite_set.len-empty item_cmp)
-set_start numbers (Some ds) = omega (
+set_start version numbers None = omega (arith, finite_set.len-empty item_cmp)
+set_start version numbers (Some ds) = omega (
   arith,
   finite_set.len-empty item_cmp,
   put_all_len finite_set.empty (entries_of numbers ds).0,
-  elements_count numbers [] ds,
+  elements_count version numbers [] ds,
 )
 
-queue_start : (numbers : Numbers) (o : Option Items) → length (entries_of numbers (or_no_items o)).0 ≤ count What.starts
-    (array_start_asked entries_asked o)
+queue_start : (version : ℕ) (numbers : Numbers) (o : Option Items) → length (entries_of numbers (or_no_items o)).0 ≤ count What.starts
+    (array_start_asked (entries_asked version) o)
 unfolding array_start_asked
-queue_start numbers None = omega arith
-queue_start numbers (Some ds) = omega (arith, entries_count numbers ds)
+queue_start version numbers None = omega arith
+queue_start version numbers (Some ds) = omega (arith, entries_count version numbers ds)
 
-directory_start : (numbers : Numbers) (o : Option Items) → finite_map.len (bind_all finite_map.empty (pairs_of numbers (or_no_items o)).0)
-    ≤ count What.starts (array_start_asked (pairs_asked []) o)
+directory_start : (version : ℕ) (numbers : Numbers) (o : Option Items)
+    → finite_map.len (bind_all finite_map.empty (pairs_of numbers (or_no_items o)).0)
+    ≤ count What.starts (array_start_asked (pairs_asked version []) o)
 unfolding array_start_asked
-directory_start numbers None = omega (arith, finite_map.len-empty item_cmp Item)
-directory_start numbers (Some ds) = omega (
+directory_start version numbers None = omega (arith, finite_map.len-empty item_cmp Item)
+directory_start version numbers (Some ds) = omega (
   arith,
   finite_map.len-empty item_cmp Item,
   bind_all_len finite_map.empty
       (pairs_of numbers ds).0,
-  pairs_count numbers [] ds,
+  pairs_count version numbers [] ds,
 )
 
-start_counts : (k : Kind) (numbers : Numbers) (d : Data) → entries_in (start_of k numbers d).0 ≤ count What.starts (start_asked k d)
+start_counts : (version : ℕ) (k : Kind) (numbers : Numbers) (d : Data)
+    → entries_in (start_of k numbers d).0 ≤ count What.starts (start_asked version k d)
 unfolding start_of start_asked
-start_counts kind.Account numbers d = omega arith
-start_counts kind.Counter numbers d = omega arith
-start_counts kind.Set numbers d = set_start numbers (as_array d)
-start_counts kind.Queue numbers d = queue_start numbers (as_array d)
-start_counts kind.Directory numbers d = directory_start numbers (as_array d)
-start_counts kind.Max numbers d = omega arith
+start_counts version kind.Account numbers d = omega arith
+start_counts version kind.Counter numbers d = omega arith
+start_counts version kind.Set numbers d = set_start version numbers (as_array d)
+start_counts version kind.Queue numbers d = queue_start version numbers (as_array d)
+start_counts version kind.Directory numbers d = directory_start version numbers (as_array d)
+start_counts version kind.Max numbers d = omega arith
 
 object_counts : (version : ℕ) (names : Table) (numbers : Numbers) (d : Data)
     → entries_in (start_of (kind_in version d) numbers (part (codes "start") d)).0 ≤ count What.starts (object_asked version names d)
@@ -194,8 +212,8 @@ unfolding object_asked
 object_counts version names numbers d =
     let A = object_shape_asked version d in
     let B = object_name_asked names (object_name d) in
-    let C = start_asked (kind_in version d) (part (codes "start") d) in
-    omega (arith, start_counts (kind_in version d) numbers (part (codes "start") d), count-append What.starts (A ++ B) C)
+    let C = start_asked version (kind_in version d) (part (codes "start") d) in
+    omega (arith, start_counts version (kind_in version d) numbers (part (codes "start") d), count-append What.starts (A ++ B) C)
 
 starts_count : (version : ℕ) (names : Table) (numbers : Numbers) (ds : Items)
     → all_entries_in (starts_of version numbers ds).0 ≤ count What.starts (objects_asked version names ds)
@@ -231,16 +249,16 @@ signed_at_most most (Some z) = by (nat_le (nat_abs z) most) refl
     by true e = leb-true (nat_abs z) most e
     by false e = omega arith
 
-start_is_small : (k : Kind) (numbers : Numbers) (d : Data) → size_of (start_of k numbers d).0 ≤ 1_000_000_000_000_000
+start_is_small : (k : Kind) (numbers : Numbers) (d : Data) → size_of (start_of k numbers d).0 ≤ MAX_START
 unfolding start_of
-start_is_small kind.Account numbers d = at_most 1_000_000_000_000_000 (whole d)
-start_is_small kind.Counter numbers d = signed_at_most 1_000_000_000_000_000 (whole d)
+start_is_small kind.Account numbers d = at_most MAX_START (whole d)
+start_is_small kind.Counter numbers d = signed_at_most MAX_START (whole d)
 start_is_small kind.Set numbers d = omega arith
 start_is_small kind.Queue numbers d = omega arith
 start_is_small kind.Directory numbers d = omega arith
-start_is_small kind.Max numbers d = at_most 1_000_000_000_000_000 (whole d)
+start_is_small kind.Max numbers d = at_most MAX_START (whole d)
 
-starts_are_small : (version : ℕ) (numbers : Numbers) (ds : Items) → largest (starts_of version numbers ds).0 ≤ 1_000_000_000_000_000
+starts_are_small : (version : ℕ) (numbers : Numbers) (ds : Items) → largest (starts_of version numbers ds).0 ≤ MAX_START
 starts_are_small version numbers no_items = omega arith
 starts_are_small version numbers (item d ds) =
     max-le (start_is_small (kind_in version d) numbers (part (codes "start") d))
@@ -248,12 +266,18 @@ starts_are_small version numbers (item d ds) =
 
 -- ---- the document
 
-pub few : (d : Data) → AllMet (document_shape_asked d) → (items_len (objects_in d) ≤ 1000) × (items_len (transactions_in d) ≤ 10000)
+-- its objects and transactions are within its version's limits
+pub few : (d : Data) → AllMet (document_shape_asked d) → (items_len (objects_in d) ≤ (limits_of (version_in d)).objects)
+    × (items_len (transactions_in d) ≤ (limits_of (version_in d)).transactions)
 unfolding document_shape_asked
-few d met = (leb-true (items_len (objects_in d)) 1000 met.1.1.1.1.0, leb-true (items_len (transactions_in d)) 10000 met.1.1.1.1.1.0)
+few d met =
+    let limits = limits_of (version_in d) in (
+      leb-true (items_len (objects_in d)) limits.objects met.1.1.1.1.0,
+      leb-true (items_len (transactions_in d)) limits.transactions met.1.1.1.1.1.0,
+    )
 
-met_is_batch : (d : Data) → AllMet (asked d) → count What.starts (asked d) ≤ 100000 → count What.operations (asked d) ≤ 1000000
-    → count What.nodes (asked d) ≤ 100000
+met_is_batch : (d : Data) → AllMet (asked d) → count What.starts (asked d) ≤ MAX_ENTRIES
+    → count What.operations (asked d) ≤ MAX_OPERATIONS → count What.nodes (asked d) ≤ MAX_NODES
     → IsBatch (document_in d).start (document_in d).texts (document_in d).transactions
 unfolding asked document_in parts_in
 met_is_batch d met few_starts few_operations few_nodes =
@@ -265,7 +289,8 @@ met_is_batch d met few_starts few_operations few_nodes =
     let names = names_are_many (objects_in d) in
     let many = starts_are_many version no_numbers (objects_in d) in
     let paired : length setting.names ≡ length setting.kinds = names ∙ sym (kinds_are_many version (objects_in d)) in
-    let limits = few d (first_met A B (first_met (A ++ B) C met)) in
+    let here = few d (first_met A B (first_met (A ++ B) C met)) in
+    let limits = limits_within version in
     let ops = count-append What.operations (A ++ B) C in
     let nds = count-append What.nodes (A ++ B) C in
     let after = (starts_of version no_numbers (objects_in d)).1 in
@@ -287,8 +312,8 @@ met_is_batch d met few_starts few_operations few_nodes =
       object_names = objects_named version [] (objects_in d) (rest_met A B (first_met (A ++ B) C met));
       item_names = all.item_names met refl;
       reason_names = all.reason_names met refl;
-      few_objects = omega (arith, many, limits.0);
-      few_transactions = omega (arith, blocks_are_many setting after (transactions_in d), limits.1);
+      few_objects = omega (arith, many, here.0, limits.objects);
+      few_transactions = omega (arith, blocks_are_many setting after (transactions_in d), here.1, limits.transactions);
       few_operations = omega (arith, few_operations, ops, good.operations_are);
       few_nodes = omega (arith, few_nodes, nds, good.nodes_are);
       shallow = good.shallow;

@@ -8,7 +8,7 @@ use Rattle.serde_json.specs.Find.{get, as_array, as_str}
 use Rattle.atoms.specs.declared.item.Item.{Item}
 use Rattle.meaning.specs.declared.test.Test.{Test}
 use Rattle.meaning.specs.Trees as tree
-use Rattle.meaning.specs.Trees.{Step, Handlers, for_reasons, handlers_of}
+use Rattle.meaning.specs.Trees.{Handlers, for_reasons, handlers_of}
 use Rattle.batch.specs.Names.{Texts, is_name}
 use Rattle.batch.specs.Named.{AllNamed, AreNamed, AreNamedHandlers, HasReason, HasText, IsNamed, IsNamedCall}
 use Rattle.batch.specs.Named.{IsNamedStep, IsNamedTest}
@@ -26,6 +26,7 @@ use Rattle.words.specs.declared.verb.Verb.{Verb}
 use Rattle.words.specs.declared.verb.Verb.TheVariants.{OfAmount, OfItem, OfPair, Alone}
 use Rattle.faults.specs.declared.fault.Wrong.TheVariants.{Argument, Name}
 use Rattle.spelling.specs.Amounts.{amount_of}
+use Rattle.meaning.specs.declared.limits.TheConstants.{MAX_DEPTH}
 use Rattle.spelling.specs.Demand.{Demand, holds, in_transaction, one_more_node, one_more_operation}
 use Rattle.spelling.specs.Look.{has, or_empty, text_member}
 use Rattle.spelling.specs.Scope.{Numbers, Scope, Setting, number_of, with_item, with_label, with_reason}
@@ -199,7 +200,7 @@ module _ (setting : Setting) (asks : Scope → Data → List Demand) (block : Sc
   block_if_numbered scope numbers (Some d) = let it = inner scope numbers d in record { named = it.named; grows = it.grows }
 
   if_numbered : (scope : Scope) (numbers : Numbers) (d : Data) → Numbered IsNamedStep numbers (if_of block scope numbers d)
-      (if_asked asks scope d)
+      (if_asked setting.version asks scope d)
   unfolding if_of if_asked
   if_numbered scope numbers d =
       let subject = subject_of (if_label d) scope in
@@ -210,7 +211,7 @@ module _ (setting : Setting) (asks : Scope → Data → List Demand) (block : Sc
       let first = inner scope tested.1 (part (codes "then") d) in
       let second = block_if_numbered scope one.1 (get (codes "else") d) in
       let A = if_shape_asked d in
-      let B = one_more_node ∷ [] in
+      let B = one_more_node setting.version ∷ [] in
       let C = seen_asked scope (if_label d) in
       let D = test_asked subject d in
       let E = asks scope (part (codes "then") d) in
@@ -269,7 +270,7 @@ module _ (setting : Setting) (asks : Scope → Data → List Demand) (block : Sc
       let second = handlers_numbered scope body.1 (handlers_in d) in
       let third = block_if_numbered scope by_reasons.1 (get (codes "handler") d) in
       let A = sub_shape_asked setting.version d in
-      let B = one_more_node ∷ [] in
+      let B = one_more_node setting.version ∷ [] in
       let C = label_asked scope earlier (label_in d) in
       let D = asks scope (part (codes "sub") d) in
       let E = handlers_asked asks scope (handlers_in d) in
@@ -312,7 +313,10 @@ module _ (setting : Setting) (asks : Scope → Data → List Demand) (block : Sc
   unfolding parallel_of parallel_asked
   parallel_numbered scope numbers d =
       let children = children_numbered scope [] numbers (children_in d) in
-      record { named = children.named; grows = grows_behind _ _ (parallel_shape_asked d ++ one_more_node ∷ []) _ children.grows }
+      record {
+        named = children.named;
+        grows = grows_behind _ _ (parallel_shape_asked d ++ one_more_node setting.version ∷ []) _ children.grows;
+      }
 
   -- ---- any step
 
@@ -361,12 +365,12 @@ pub blocks_numbered : (setting : Setting) (number : ℕ) (numbers : Numbers) (ds
     → Numbered AllNamed numbers (blocks_of setting numbers ds) (transactions_asked number setting ds)
 blocks_numbered setting number numbers no_items = record { named = tt; grows = grows_none numbers _ }
 blocks_numbered setting number numbers (item d ds) =
-    let here = block_of setting 24 [] numbers d in
+    let here = block_of setting MAX_DEPTH [] numbers d in
     let last = (blocks_of setting here.1 ds).1 in
-    let first = block_numbered setting 24 [] numbers d in
+    let first = block_numbered setting MAX_DEPTH [] numbers d in
     let rest = blocks_numbered setting (number + 1) here.1 ds in
     record {
       named = (block_later (texts_in here.1) (texts_in last) rest.grows.items rest.grows.reasons here.0 first.named, rest.named);
       grows = grows_on numbers here.1 last (transaction_asked number setting d) (transactions_asked (number + 1) setting ds)
-          (grows_behind numbers here.1 (in_transaction number ∷ []) (block_asked setting 24 [] d) first.grows) rest.grows;
+          (grows_behind numbers here.1 (in_transaction number ∷ []) (block_asked setting MAX_DEPTH [] d) first.grows) rest.grows;
     }

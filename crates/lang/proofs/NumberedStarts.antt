@@ -70,75 +70,77 @@ bind_all_has texts (e ∷ es) m had have =
 
 -- ---- entries
 
-entries_numbered : (numbers : Numbers) (ds : Items) → Numbered AllHave numbers (entries_of numbers ds) (entries_asked ds)
+entries_numbered : (version : ℕ) (numbers : Numbers) (ds : Items) → Numbered AllHave numbers (entries_of numbers ds)
+    (entries_asked version ds)
 unfolding AllHave entry_asked
-entries_numbered numbers no_items = record { named = tt; grows = grows_none numbers _ }
-entries_numbered numbers (item d ds) =
+entries_numbered version numbers no_items = record { named = tt; grows = grows_none numbers _ }
+entries_numbered version numbers (item d ds) =
     let next = with_item (text_of d) numbers in
     let last = (entries_of next ds).1 in
-    let rest = entries_numbered next ds in
+    let rest = entries_numbered version next ds in
     let here : HasText (texts_in next) (item_of (text_of d) numbers) = number_below (text_of d) numbers.items in
     record {
       named = (omega (arith, here, rest.grows.items), rest.named);
-      grows = grows_on numbers next last (entry_asked d) (entries_asked ds)
-          (grows_item (text_of d) numbers (entry_asked d) (λ met. met.1.0)) rest.grows;
+      grows = grows_on numbers next last (entry_asked version d) (entries_asked version ds)
+          (grows_item (text_of d) numbers (entry_asked version d) (λ met. met.1.0)) rest.grows;
     }
 
-elements_numbered : (numbers : Numbers) (earlier : Table) (ds : Items) → Numbered AllHave numbers (entries_of numbers ds)
-    (elements_asked earlier ds)
+elements_numbered : (version : ℕ) (numbers : Numbers) (earlier : Table) (ds : Items) → Numbered AllHave numbers (entries_of numbers ds)
+    (elements_asked version earlier ds)
 unfolding AllHave element_asked
-elements_numbered numbers earlier no_items = record { named = tt; grows = grows_none numbers _ }
-elements_numbered numbers earlier (item d ds) =
+elements_numbered version numbers earlier no_items = record { named = tt; grows = grows_none numbers _ }
+elements_numbered version numbers earlier (item d ds) =
     let next = with_item (text_of d) numbers in
     let last = (entries_of next ds).1 in
     let after = with_text (text_of d) earlier in
-    let rest = elements_numbered next after ds in
+    let rest = elements_numbered version next after ds in
     let here : HasText (texts_in next) (item_of (text_of d) numbers) = number_below (text_of d) numbers.items in
     record {
       named = (omega (arith, here, rest.grows.items), rest.named);
-      grows = grows_on numbers next last (element_asked earlier d) (elements_asked after ds)
-          (grows_item (text_of d) numbers (element_asked earlier d) (λ met. met.1.0)) rest.grows;
+      grows = grows_on numbers next last (element_asked version earlier d) (elements_asked version after ds)
+          (grows_item (text_of d) numbers (element_asked version earlier d) (λ met. met.1.0)) rest.grows;
     }
 
-pairs_numbered : (numbers : Numbers) (earlier : Table) (ds : Items) → Numbered AllPairsHave numbers (pairs_of numbers ds)
-    (pairs_asked earlier ds)
+pairs_numbered : (version : ℕ) (numbers : Numbers) (earlier : Table) (ds : Items) → Numbered AllPairsHave numbers (pairs_of numbers ds)
+    (pairs_asked version earlier ds)
 unfolding AllPairsHave pair_asked
-pairs_numbered numbers earlier no_items = record { named = tt; grows = grows_none numbers _ }
-pairs_numbered numbers earlier (item d ds) =
+pairs_numbered version numbers earlier no_items = record { named = tt; grows = grows_none numbers _ }
+pairs_numbered version numbers earlier (item d ds) =
     let between = with_item (key_of d) numbers in
     let next = with_item (value_of d) between in
     let last = (pairs_of next ds).1 in
     let after = with_text (key_of d) earlier in
-    let rest = pairs_numbered next after ds in
-    let asked = pair_asked earlier d in
+    let rest = pairs_numbered version next after ds in
+    let asked = pair_asked version earlier d in
     let first = grows_item (key_of d) numbers asked (λ met. met.1.1.1.0) in
     let second = grows_item (value_of d) between asked (λ met. met.1.1.1.1.0) in
     let key : HasText (texts_in between) (item_of (key_of d) numbers) = number_below (key_of d) numbers.items in
     let bound : HasText (texts_in next) (item_of (value_of d) between) = number_below (value_of d) between.items in
     record {
       named = (omega (arith, key, second.items, rest.grows.items), omega (arith, bound, rest.grows.items), rest.named);
-      grows = grows_on numbers next last asked (pairs_asked after ds) (grows_both numbers between next asked first second) rest.grows;
+      grows = grows_on numbers next last asked (pairs_asked version after ds)
+          (grows_both numbers between next asked first second) rest.grows;
     }
 
 -- ---- values
 
-set_numbered : (numbers : Numbers) (o : Option Items) → Numbered AllHave numbers (entries_of numbers (or_no_items o))
-    (array_start_asked (elements_asked []) o)
+set_numbered : (version : ℕ) (numbers : Numbers) (o : Option Items) → Numbered AllHave numbers (entries_of numbers (or_no_items o))
+    (array_start_asked (elements_asked version []) o)
 unfolding array_start_asked AllHave
-set_numbered numbers None = record { named = tt; grows = grows_none numbers _ }
-set_numbered numbers (Some ds) = elements_numbered numbers [] ds
+set_numbered version numbers None = record { named = tt; grows = grows_none numbers _ }
+set_numbered version numbers (Some ds) = elements_numbered version numbers [] ds
 
-queue_numbered : (numbers : Numbers) (o : Option Items) → Numbered AllHave numbers (entries_of numbers (or_no_items o))
-    (array_start_asked entries_asked o)
+queue_numbered : (version : ℕ) (numbers : Numbers) (o : Option Items) → Numbered AllHave numbers (entries_of numbers (or_no_items o))
+    (array_start_asked (entries_asked version) o)
 unfolding array_start_asked AllHave
-queue_numbered numbers None = record { named = tt; grows = grows_none numbers _ }
-queue_numbered numbers (Some ds) = entries_numbered numbers ds
+queue_numbered version numbers None = record { named = tt; grows = grows_none numbers _ }
+queue_numbered version numbers (Some ds) = entries_numbered version numbers ds
 
-directory_numbered : (numbers : Numbers) (o : Option Items) → Numbered AllPairsHave numbers (pairs_of numbers (or_no_items o))
-    (array_start_asked (pairs_asked []) o)
+directory_numbered : (version : ℕ) (numbers : Numbers) (o : Option Items) → Numbered AllPairsHave numbers (pairs_of numbers (or_no_items o))
+    (array_start_asked (pairs_asked version []) o)
 unfolding array_start_asked AllPairsHave
-directory_numbered numbers None = record { named = tt; grows = grows_none numbers _ }
-directory_numbered numbers (Some ds) = pairs_numbered numbers [] ds
+directory_numbered version numbers None = record { named = tt; grows = grows_none numbers _ }
+directory_numbered version numbers (Some ds) = pairs_numbered version numbers [] ds
 
 none_inside : (texts : Texts) (x : Item) → finite_set.contains (finite_set.empty {R = item_cmp}) x ≡ true → HasText texts x
 none_inside texts x is = let none = finite_set.contains-empty item_cmp x in absurd cc
@@ -147,27 +149,28 @@ none_bound : (texts : Texts) (k x : Item) → finite_map.get (finite_map.empty {
     × HasText texts x
 none_bound texts k x is = let none = finite_map.get-empty {X = Item} item_cmp k in absurd cc
 
-start_numbered : (k : Kind) (numbers : Numbers) (d : Data) → Numbered IsNamedValue numbers (start_of k numbers d) (start_asked k d)
+start_numbered : (version : ℕ) (k : Kind) (numbers : Numbers) (d : Data)
+    → Numbered IsNamedValue numbers (start_of k numbers d) (start_asked version k d)
 unfolding start_of start_asked
-start_numbered kind.Account numbers d = record { named = tt; grows = grows_none numbers _ }
-start_numbered kind.Counter numbers d = record { named = tt; grows = grows_none numbers _ }
-start_numbered kind.Set numbers d =
-    let it = set_numbered numbers (as_array d) in
+start_numbered version kind.Account numbers d = record { named = tt; grows = grows_none numbers _ }
+start_numbered version kind.Counter numbers d = record { named = tt; grows = grows_none numbers _ }
+start_numbered version kind.Set numbers d =
+    let it = set_numbered version numbers (as_array d) in
     let entries = entries_of numbers (or_no_items (as_array d)) in
     record {
       named = put_all_has (texts_in entries.1) entries.0 finite_set.empty (none_inside (texts_in entries.1)) it.named;
       grows =
           it.grows;
     }
-start_numbered kind.Queue numbers d =
-    let it = queue_numbered numbers (as_array d) in
+start_numbered version kind.Queue numbers d =
+    let it = queue_numbered version numbers (as_array d) in
     let entries = entries_of numbers (or_no_items (as_array d)) in
     record { named = each_has (texts_in entries.1) entries.0 it.named; grows = it.grows }
-start_numbered kind.Directory numbers d =
-    let it = directory_numbered numbers (as_array d) in
+start_numbered version kind.Directory numbers d =
+    let it = directory_numbered version numbers (as_array d) in
     let pairs = pairs_of numbers (or_no_items (as_array d)) in
     record { named = bind_all_has (texts_in pairs.1) pairs.0 finite_map.empty (none_bound (texts_in pairs.1)) it.named; grows = it.grows }
-start_numbered kind.Max numbers d = record { named = tt; grows = grows_none numbers _ }
+start_numbered version kind.Max numbers d = record { named = tt; grows = grows_none numbers _ }
 
 pub starts_numbered : (version : ℕ) (names : Table) (numbers : Numbers) (ds : Items) → Numbered AllNamedValues numbers
     (starts_of version numbers ds) (objects_asked version names ds)
@@ -179,11 +182,11 @@ starts_numbered version names numbers (item d ds) =
     let here = start_of k numbers start in
     let next = names ++ object_name d ∷ [] in
     let last = (starts_of version here.1 ds).1 in
-    let first = start_numbered k numbers start in
+    let first = start_numbered version k numbers start in
     let rest = starts_numbered version next here.1 ds in
     let A = object_shape_asked version d in
     let B = object_name_asked names (object_name d) in
-    let C = start_asked k start in
+    let C = start_asked version k start in
     record {
       named = (value_later (texts_in here.1) (texts_in last) rest.grows.items rest.grows.reasons here.0 first.named, rest.named);
       grows = grows_on numbers here.1 last (object_asked version names d) (objects_asked version next ds)
@@ -197,7 +200,7 @@ unfolding object_asked object_name_asked
 object_named version names d met =
     let A = object_shape_asked version d in
     let B = object_name_asked names (object_name d) in
-    let C = start_asked (kind_in version d) (part (codes "start") d) in
+    let C = start_asked version (kind_in version d) (part (codes "start") d) in
     (rest_met A B (first_met (A ++ B) C met)).0
 
 pub objects_named : (version : ℕ) (names : Table) (ds : Items) → AllMet (objects_asked version names ds) → AreNames (names_of ds)

@@ -12,10 +12,11 @@ use Rattle.spelling.specs.Asked.{document_shape_asked}
 use Rattle.spelling.specs.Demand.{check, no_counts}
 use Rattle.spelling.specs.Places.{fault_of, first_fault, placed}
 use Rattle.faults.specs.Faults.{wrong_outside}
-use Rattle.lang.specs.Reading.{spelled_by, unless_fault, value_of}
+use Rattle.lang.specs.Reading.{spelled_by, value_of}
 use Rattle.lang.proofs.AskedLemmas.{shape_failed}
 use Rattle.pull.specs.Pulled.{ReadsValue}
 use Rattle.pull.proofs.PulledLemmas.{reads_text}
+use Rattle.lang.proofs.SpelledLemmas.{refuses}
 
 no_text : (bytes : List ℕ) (b : Bool) (value : Option Data) → is_utf8 bytes ≡ b → (IsUtf8 bytes → ⊥) → cond b value None ≡ None
 no_text bytes true value is never = absurd (never (IsUtf8-from_is_utf8 bytes is))
@@ -34,7 +35,7 @@ value_known bytes text k d few valid same reads =
 -- a document's first fault is what its bytes are refused for
 pub refused_for : (bytes : List ℕ) (d : Data) (fault : Fault) → value_of bytes ≡ Some d → first_fault (placed d) ≡ Some fault
     → spelled_by (value_of bytes) ≡ Err fault
-refused_for bytes d fault known first = ap spelled_by known ∙ ap (unless_fault d) first
+refused_for bytes d fault known first = ap spelled_by known ∙ refuses d fault first
 
 -- a fault of the shape is the first
 pub shape_first : (d : Data) (fault : Fault) → check no_counts (document_shape_asked d) ≡ Err fault → first_fault (placed d) ≡ Some fault

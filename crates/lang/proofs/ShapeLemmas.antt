@@ -5,10 +5,11 @@ use Rattle.serde_json.specs.Data.{Data}
 use Rattle.serde_json.specs.Events.{items_len}
 use Rattle.spelling.specs.declared.counts.Counts.{Counts}
 use Rattle.faults.specs.declared.fault.Wrong.TheVariants.{Shape, TooMany}
-use Rattle.spelling.specs.Asked.{document_shape_asked, objects_in, transactions_in, version_of}
+use Rattle.spelling.specs.Asked.{document_shape_asked, objects_in, transactions_in, version_in, version_of}
 use Rattle.spelling.specs.Demand.{check, fault_at}
+use Rattle.spelling.specs.declared.limits.Limits.{Limits}
 use Rattle.spelling.specs.Look.{has_only, list_member}
-use Rattle.meaning.specs.declared.limits.TheConstants.{MAX_OBJECTS, MAX_TRANSACTIONS}
+use Rattle.spelling.specs.Limits.{limits_of}
 
 -- ---- a document
 
@@ -18,6 +19,10 @@ module _ (c : Counts) (d : Data) where
 
   abbrev pub versioned : Type 0
   versioned = is_some (version_of d) ≡ true
+
+  -- the limits of its version
+  abbrev pub limits : Limits
+  limits = limits_of (version_in d)
 
   -- it has another member
   pub other_part : has_only (codes "ordtx" ∷ codes "objects" ∷ codes "transactions" ∷ []) d ≡ false
@@ -44,21 +49,21 @@ module _ (c : Counts) (d : Data) where
 
   -- it has too many objects
   pub many_objects : only_parts → versioned → is_some (list_member (codes "objects") d) ≡ true
-      → is_some (list_member (codes "transactions") d) ≡ true → nat_le (items_len (objects_in d)) MAX_OBJECTS ≡ false
+      → is_some (list_member (codes "transactions") d) ≡ true → nat_le (items_len (objects_in d)) limits.objects ≡ false
       → check c (document_shape_asked d) ≡ Err (fault_at TooMany c)
   unfolding document_shape_asked
   many_objects only version objects transactions few = rw (only, version, objects, transactions, few) refl
 
   -- it has too many transactions
   pub many_transactions : only_parts → versioned → is_some (list_member (codes "objects") d) ≡ true
-      → is_some (list_member (codes "transactions") d) ≡ true → nat_le (items_len (objects_in d)) MAX_OBJECTS ≡ true
-      → nat_le (items_len (transactions_in d)) MAX_TRANSACTIONS ≡ false → check c (document_shape_asked d) ≡ Err (fault_at TooMany c)
+      → is_some (list_member (codes "transactions") d) ≡ true → nat_le (items_len (objects_in d)) limits.objects ≡ true
+      → nat_le (items_len (transactions_in d)) limits.transactions ≡ false → check c (document_shape_asked d) ≡ Err (fault_at TooMany c)
   unfolding document_shape_asked
   many_transactions only version objects transactions few lesser = rw (only, version, objects, transactions, few, lesser) refl
 
   -- it has the right shape
   pub shape_met : only_parts → versioned → is_some (list_member (codes "objects") d) ≡ true
-      → is_some (list_member (codes "transactions") d) ≡ true → nat_le (items_len (objects_in d)) MAX_OBJECTS ≡ true
-      → nat_le (items_len (transactions_in d)) MAX_TRANSACTIONS ≡ true → check c (document_shape_asked d) ≡ Ok c
+      → is_some (list_member (codes "transactions") d) ≡ true → nat_le (items_len (objects_in d)) limits.objects ≡ true
+      → nat_le (items_len (transactions_in d)) limits.transactions ≡ true → check c (document_shape_asked d) ≡ Ok c
   unfolding document_shape_asked
   shape_met only version objects transactions few lesser = rw (only, version, objects, transactions, few, lesser) refl

@@ -3,6 +3,7 @@ use Rattle.std.proofs.Common.{◌≡◌, ◌≤◌, ℕ, [], Some, Result, Ok, E
 use Rattle.std.specs.Prelude.{MatchResult, codes}
 use Rattle.serde_json.specs.Data.{Items}
 use Rattle.spelling.specs.declared.counts.Counts.{Counts}
+use Rattle.spelling.specs.declared.limits.TheConstants.{LAST_VERSION}
 use Rattle.faults.specs.declared.fault.Fault.{Fault}
 use Rattle.spelling.specs.Answer.{AreMet, IsMet}
 use Rattle.spelling.specs.Asked.{declared_by, document_shape_asked}
@@ -28,7 +29,7 @@ fault_inside c token part rest fault failed = by (seek c part) failed
     by (Ok n) is = cc
     by (Err found) is = is
 
-module _ (version : ℕ) (os ts : Items) (some : 1 ≤ version) (known : version ≤ 4) (start : Counts)
+module _ (version : ℕ) (os ts : Items) (some : 1 ≤ version) (known : version ≤ LAST_VERSION) (start : Counts)
     (shape : IsMet start (document_shape_asked (in_order version os ts)) start) where
   -- a fault of the objects
   pub objects_failed : (fault : Fault) → fault_of (seek start (objects_placed version [] 0 os)) ≡ Some fault

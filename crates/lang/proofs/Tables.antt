@@ -1,14 +1,10 @@
 -- Tables of texts: each number has its text, tables only grow, and they keep to names.
-use Rattle.std.proofs.Common.{◌≡◌, ◌<◌, ◌≤◌, ◌+◌, ◌||◌, ℕ, Bool, true, false, not, cond, List, [], ◌∷◌, ◌++◌, length, refl, ◌∙◌, arith}
-use Rattle.std.specs.Prelude.{nat_lt}
-use Rattle.std.specs.List.{position_or_len}
-use Rattle.std.specs.Str.{bytes_eq}
-use Rattle.std.proofs.lemmas.Bool.{ltb-false}
+use Rattle.std.proofs.Common.{◌≡◌, ◌≤◌, ℕ, Bool, true, false, cond, List, [], ◌∷◌, ◌++◌, length, refl, ◌∙◌, arith}
 use Rattle.std.proofs.lemmas.List.{length-append}
 use Rattle.std.proofs.lemmas.List.Folds.{list_all-append}
 use Rattle.batch.specs.Names.{AreNames, Texts, is_name}
 use Rattle.spelling.specs.Demand.{Demand}
-use Rattle.spelling.specs.Scope.{Numbers, Table, fit, is_listed, number_of, with_item, with_reason, with_text}
+use Rattle.spelling.specs.Scope.{Numbers, Table, is_listed, with_item, with_reason, with_text}
 use Rattle.spelling.proofs.MetLemmas.{AllMet, first_met, rest_met}
 
 with_more : (text : List ℕ) (table : Table) → length table ≤ length (with_text text table)

@@ -11,22 +11,22 @@ use Rattle.spelling.specs.declared.state.Numbering.{Numbering}
 use Rattle.faults.specs.declared.fault.Wrong.TheVariants.{NotJson, TooMany}
 use Rattle.faults.specs.declared.fault.Fault.{Fault}
 use Rattle.faults.specs.Faults.{wrong_outside}
-use Rattle.spelling.specs.Places.{first_fault, placed}
+use Rattle.spelling.specs.Places.{Found}
 pub use Rattle.spelling.specs.Spelled.{Document}
-use Rattle.spelling.specs.Spelled.{document_in}
+use Rattle.language.specs.Document.{read_document}
 use Rattle.lang.specs.declared.document.TheConstants.{MAX_BYTES}
 
 -- the value that the bytes write, or none
 abbrev pub value_of : List ℕ → Option Data
 value_of bytes = if is_utf8 bytes then read_text bytes else None
 
-abbrev pub unless_fault : Data → Option Fault → Result Document Fault
-unless_fault d None = Ok (document_in d)
-unless_fault d (Some fault) = Err fault
+abbrev pub without_place : Result Document Found → Result Document Fault
+without_place (Ok document) = Ok document
+without_place (Err found) = Err found.fault
 
 abbrev pub spelled_by : Option Data → Result Document Fault
 spelled_by None = Err (wrong_outside NotJson)
-spelled_by (Some d) = unless_fault d (first_fault (placed d))
+spelled_by (Some d) = without_place (read_document d)
 
 -- the document that the bytes spell, or their first fault
 unfoldable pub reading : List ℕ → Result Document Fault

@@ -5,7 +5,8 @@ ghost use Rattle.lang.specs.Found.{IsPlaceOf, Shows};
 ghost use Rattle.lang.specs.Reading.{reading};
 ghost use Rattle.spelling.specs.Answer.{found_of};
 
-use crate::document::{MAX_BYTES, read_parts};
+use crate::document::{MAX_BYTES, read_parts, utf8_of};
+use crate::positions::{Position, position_of};
 use faults::{Code, Fault};
 use serde_json::Value;
 use spelling::hashing::NameHashing;
@@ -18,10 +19,10 @@ use std::alloc::Global;
 pub enum Place {
     /// It is of the whole document.
     Whole,
-    /// It is of the part to which this JSON Pointer (RFC 6901) leads.
-    Pointer(String),
-    /// At this line and column the bytes are no JSON.
-    LineColumn { line: usize, column: usize },
+    /// It is of the part to which this JSON Pointer (RFC 6901) leads, and which begins here.
+    Pointer(String, Position),
+    /// The bytes are no JSON here.
+    LineColumn(Position),
 }
 
 /// The place of the fault that [`read`](crate::read) returns for these bytes.
@@ -41,20 +42,21 @@ pub fn locate(alloc: Global, bytes: &[u8], fault: Fault) -> Result<Place, Fault>
             if error.is_memory() {
                 return Err(Code::Memory.outside());
             }
-            return Ok(Place::LineColumn {
+            return Ok(Place::LineColumn(Position {
                 line: error.line(),
                 column: error.column(),
-            });
+            }));
         }
     };
     let mut state = State::new(alloc, NameHashing::of(bytes));
     match read_parts(alloc, &value, &mut state) {
         Ok(_) => Ok(Place::Whole),
-        Err(unmet) => place_of(unmet),
+        Err(unmet) => place_of(alloc, bytes, unmet),
     }
 }
 
-fn place_of(unmet: Unmet) -> Result<Place, Fault>
+// The place of a demand that these bytes don't meet.
+fn place_of(alloc: Global, bytes: &[u8], unmet: Unmet) -> Result<Place, Fault>
     ensures place { IfOk result (λ place. (unmet.fault ≢ memory_fault) × Shows (found_of unmet).pointer place) }
     ensures err { IfErr result (λ refused. refused ≡ memory_fault) }
 {
@@ -63,7 +65,11 @@ fn place_of(unmet: Unmet) -> Result<Place, Fault>
     }
     // The empty pointer leads to the whole.
     match unmet.pointer {
-        Some(pointer) if !pointer.is_empty() => Ok(Place::Pointer(pointer)),
+        Some(pointer) if !pointer.is_empty() => {
+            let text = utf8_of(bytes).unwrap_or("");
+            let position = position_of(alloc, text, pointer.as_str())?;
+            Ok(Place::Pointer(pointer, position))
+        }
         _ => Ok(Place::Whole),
     }
 }

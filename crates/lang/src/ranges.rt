@@ -9,11 +9,11 @@ ghost use Rattle.json.specs.Token.{Token, begin_array};
 ghost use Rattle.serde_json.specs.Data.{Data};
 ghost use Rattle.batch.specs.Names.{texts_of};
 ghost use Rattle.batch.specs.Views.{block_view};
-ghost use Rattle.meaning.specs.declared.limits.TheConstants.{MAX_TRANSACTIONS};
 ghost use Rattle.pull.specs.Pulled.{ReadsValue};
 ghost use Rattle.pull.specs.Ranges.{AreRead, IsBegun, left_by, reached};
 ghost use Rattle.spelling.specs.Answer.{AreMet};
 ghost use Rattle.spelling.specs.Asked.{names_of, objects_in};
+ghost use Rattle.spelling.specs.Limits.{limits_of};
 ghost use Rattle.spelling.specs.Places.{placed};
 ghost use Rattle.spelling.specs.Scope.{numbers_of, scope_of, setting_of};
 ghost use Rattle.spelling.specs.Spelled.{parts_in, spelled};
@@ -53,7 +53,8 @@ fn first_range(
     ensures begun { IfOk result (λ first. IsBegun (tokens range.now) (left_by first.1)
         first.0.declared state.old.counts (numbers_of state.old.numbering)
         (reached state.new (map block_view first.0.transactions.items))) }
-    ensures few { IfOk result (λ first. length first.0.transactions.items ≤ MAX_TRANSACTIONS) }
+    ensures few { IfOk result (λ first. length first.0.transactions.items
+        ≤ (limits_of first.0.declared.version).transactions) }
     ensures scope { IfOk result (λ _. scope_of state.new.labels.entries ≡ []) }
 {
     let mut reader = Reader::new(range, scratch)?;
@@ -76,7 +77,8 @@ fn next_range(
         (left_by end)
         (reached state.old (map block_view transactions.old.items))
         (reached state.new (map block_view transactions.new.items))) }
-    ensures few { IfOk result (λ _. length transactions.new.items ≤ MAX_TRANSACTIONS) }
+    ensures few { IfOk result (λ _. length transactions.new.items
+        ≤ (limits_of declared.now.version).transactions) }
     ensures scope { IfOk result (λ _. scope_of state.new.labels.entries ≡ []) }
 {
     let mut reader = Reader::new(range, scratch)?;

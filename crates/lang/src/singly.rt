@@ -13,16 +13,17 @@ ghost use Rattle.pull.specs.Pulled.{ReadsItems, ReadsValue};
 ghost use Rattle.spelling.specs.Places.{placed, transaction_placed, transactions_placed};
 ghost use Rattle.spelling.specs.Scope.{numbers_of, scope_of, setting_of};
 ghost use Rattle.spelling.specs.Spelled.{block_of, blocks_of, parts_in, spelled};
-ghost use Rattle.meaning.specs.declared.limits.TheConstants.{MAX_DEPTH, MAX_TRANSACTIONS};
+ghost use Rattle.spelling.specs.Limits.{limits_of};
+ghost use Rattle.meaning.specs.declared.limits.TheConstants.{MAX_DEPTH};
 
 use batch::Block;
 use faults::Fault;
 use json::Reader;
-use meaning::limits::MAX_TRANSACTIONS;
 use pull::pass::pass_items;
 use pull::pull::{PART_DEPTH, pull_end_object, pull_head, pull_value};
 use pull::stop::Stop;
 use spelling::declared::{Declared, Parts};
+use spelling::limits::Limits;
 use spelling::starts::read_objects;
 use spelling::state::State;
 use spelling::steps::read_transaction;
@@ -67,13 +68,14 @@ fn each_transaction(
         state.new.counts
         × ((map block_view blocks.items, numbers_of state.new.numbering)
         ≡ blocks_of (setting_of declared.now) (numbers_of state.old.numbering) ds)
-        × (items_len ds ≤ MAX_TRANSACTIONS))
+        × (items_len ds ≤ (limits_of declared.now.version).transactions))
         (IsFirstOf state.old.counts (transactions_placed (setting_of declared.now) 0 ds))) }
 {
     let mut blocks = Vec::new(alloc);
     let mut number = 0;
+    let limits = Limits::of(declared.version);
     while !reader.take_end_array() {
-        if number as usize >= MAX_TRANSACTIONS {
+        if number as usize >= limits.transactions {
             return Err(Stop::OtherForm);
         }
         number += 1;

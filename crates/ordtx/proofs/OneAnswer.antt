@@ -21,6 +21,7 @@ use Rattle.why.proofs.Determined.{determined}
 use Rattle.faults.specs.Faults.{wrong_outside}
 use Rattle.lang.specs.Reading.{Document, reading}
 use Rattle.faults.specs.declared.fault.Fault.{Fault}
+use Rattle.lang.specs.declared.document.TheConstants.{MAX_BYTES}
 use Rattle.ordtx.specs.Answers.{IsReportOf, IsAuditOf, IsPlainReportOf, IsCheckOf, IsFaultOf, IsCarriedOf, IsUnfitOf, IsCarryFaultOf}
 use Rattle.ordtx.specs.Answers.{end_of, unfit_wrong, IsShownOf, IsWhyOf, IsExplainedOf, Refusal, of_first, of_next, of_object, AreRead}
 use Rattle.ordtx.specs.Answers.{IsCarriedIntoOf, IsCarryIntoFaultOf, IsNextFaultOf, IsTooLongInto, IsUnfitInto, name_at}
@@ -229,13 +230,13 @@ module _ (first next : List ℕ) where
   one_into_fault (of_object f name) (of_next g) a b = absurd (next_and_unfit g f name b a)
   one_into_fault (of_object f name) (of_object g second) a b = one_unfit_into f g name second a b
 
-  long_or_not : (n : ℕ) → 67_108_864 < n → n ≤ 67_108_864 → ⊥
+  long_or_not : (n : ℕ) → MAX_BYTES < n → n ≤ MAX_BYTES → ⊥
   long_or_not n long short = omega arith
 
   pub into_faultless : (text : List ℕ) (refusal : Refusal) → IsCarriedIntoOf first next text → ¬ IsCarryIntoFaultOf first next refusal
   into_faultless text (of_first f) a b = first_is_read f a.both.document b a.both.reads
   into_faultless text (of_next f) a (inl b) = next_is_read f a.both.next_document b.refuses a.both.next_reads
   into_faultless text (of_next f) a (inr b) =
-      long_or_not _ b.long (subst (λ t. length t ≤ 67_108_864)
+      long_or_not _ b.long (subst (λ t. length t ≤ MAX_BYTES)
       (a.is ∙ ap (λ p. joined_text (starts_at p) next) (both_alike a.both b.both)) a.short)
   into_faultless text (of_object f name) a b = unfit_and_fits f name b a.both a.fits

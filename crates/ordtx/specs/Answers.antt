@@ -24,8 +24,10 @@ use Rattle.faults.specs.declared.fault.Wrong.TheVariants as wrong
 use Rattle.faults.specs.declared.fault.Fault.{Fault}
 use Rattle.lang.specs.declared.document.TheConstants.{MAX_BYTES}
 use Rattle.lang.specs.declared.places.Place.{Place}
+use Rattle.lang.specs.declared.positions.Position.{Position}
 use Rattle.lang.specs.declared.places.Place.TheVariants.{Whole, Pointer, LineColumn}
-use Rattle.meaning.specs.declared.limits.TheConstants.{MAX_OBJECTS}
+use Rattle.spelling.specs.Limits.{limits_of}
+use Rattle.spelling.specs.declared.limits.TheConstants.{LAST_VERSION}
 use Rattle.ordtx.specs.declared.carrying.Uncarried.{Uncarried}
 use Rattle.ordtx.specs.declared.location.Located.{Located}
 use Rattle.ordtx.specs.declared.location.Located.TheVariants.{Faultless, Faulty}
@@ -144,7 +146,7 @@ clash_or others (Some place) = Some (wrong.DuplicateObject, place)
 -- or else the first that can't start so.
 abbrev pub wrong_start : State → List StartOf → Option (Wrong × ℕ)
 wrong_start objects starts =
-    clash_or (if nat_lt MAX_OBJECTS (length starts) then Some (wrong.TooMany, MAX_OBJECTS)
+    clash_or (if nat_lt (limits_of LAST_VERSION).objects (length starts) then Some (wrong.TooMany, (limits_of LAST_VERSION).objects)
     else option_map (λ misfit. (unfit_wrong misfit.unfit, misfit.place)) (first_unfit 0 0 (map value_of starts)))
     (first_clash 0 objects starts)
 
@@ -198,11 +200,15 @@ IsCarryIntoFaultOf first next (of_first fault) = IsFaultOf first fault
 IsCarryIntoFaultOf first next (of_next fault) = IsNextFaultOf first next fault ⊎ IsTooLongInto first next fault
 IsCarryIntoFaultOf first next (of_object fault name) = IsUnfitInto first next fault name
 
+-- a line and a column
+abbrev pub position_text : Position → List ℕ
+position_text position = codes " line " ++ decimal position.line ++ codes " column " ++ decimal position.column
+
 -- where a fault is, as it is written after `at`
 abbrev pub place_text : Place → List ℕ
 place_text Whole = []
-place_text (Pointer text) = codes " " ++ string_bytes text
-place_text (LineColumn line column) = codes " line " ++ decimal line ++ codes " column " ++ decimal column
+place_text (Pointer text position) = codes " " ++ string_bytes text ++ position_text position
+place_text (LineColumn position) = position_text position
 
 -- the line of a fault and its place
 abbrev pub place_line : Fault → Place → List ℕ

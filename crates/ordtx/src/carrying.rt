@@ -14,11 +14,11 @@ use carry::{
     join, name_table, start_name,
 };
 use lang::{Code, Fault, MAX_BYTES, Wrong, read};
-use meaning::limits::MAX_OBJECTS;
 use objects::{NoMemory, Objects};
 use report::object_name;
 use speculate::plain;
 use spelling::hashing::{NameHashing, Texts};
+use spelling::limits::{LAST_VERSION, Limits};
 use std::alloc::Global;
 
 /// Why no objects are carried.
@@ -197,8 +197,9 @@ fn wrong_start(objects: &Objects, starts: &[Start<'_>]) -> Option<(Wrong, u32)>
     if let Some(place) = first_clash(objects, starts) {
         return Some((Wrong::DuplicateObject, place));
     }
-    if starts.len() > MAX_OBJECTS {
-        return Some((Wrong::TooMany, MAX_OBJECTS as u32));
+    let most = Limits::of(LAST_VERSION).objects;
+    if starts.len() > most {
+        return Some((Wrong::TooMany, most as u32));
     }
     match first_misfit(starts) {
         Some(misfit) => Some((wrong_of(misfit.unfit), misfit.place)),

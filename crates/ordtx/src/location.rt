@@ -2,9 +2,9 @@
 ghost use Rattle.std.specs.Prelude.{◌≡◌, IfErr, IfOk, string_bytes};
 ghost use Rattle.lang.specs.Reading.{reading};
 ghost use Rattle.faults.specs.Faults.{memory_fault};
-ghost use Rattle.ordtx.specs.Answers.{IsFaultOf, IsLocationOf, IsPlacedFaultOf, located_by, place_line, place_text};
+ghost use Rattle.ordtx.specs.Answers.{IsFaultOf, IsLocationOf, IsPlacedFaultOf, located_by, place_line, place_text, position_text};
 
-use lang::{Code, Fault, Place, locate, read};
+use lang::{Code, Fault, Place, Position, locate, read};
 use report::render_check;
 use std::alloc::{AllocError, Global};
 
@@ -55,12 +55,24 @@ fn place_line(alloc: Global, fault: Fault, place: &Place) -> Result<String, Allo
     format!(in alloc; "fault {number} transaction {transaction} at{place}\n")
 }
 
+// A line and a column.
+fn position_text(alloc: Global, position: &Position) -> Result<String, AllocError>
+    ensures { IfOk result (λ text. string_bytes text ≡ position_text position.now) }
+{
+    let Position { line, column } = *position;
+    format!(in alloc; " line {line} column {column}")
+}
+
+// The place of a fault, as it is written after `at`.
 fn place_text(alloc: Global, place: &Place) -> Result<String, AllocError>
     ensures { IfOk result (λ text. string_bytes text ≡ place_text place.now) }
 {
     match place {
         Place::Whole => Ok(String::new(alloc)),
-        Place::Pointer(pointer) => format!(in alloc; " {pointer}"),
-        Place::LineColumn { line, column } => format!(in alloc; " line {line} column {column}"),
+        Place::Pointer(pointer, position) => {
+            let position = position_text(alloc, position)?;
+            format!(in alloc; " {pointer}{position}")
+        }
+        Place::LineColumn(position) => position_text(alloc, position),
     }
 }

@@ -1,5 +1,6 @@
 //! Tests of the documents that carry objects over.
 use carry::{Misfit, Names, Objects, Unfit, carried, first_unfit};
+use meaning::limits::MAX_OBJECTS;
 use objects::{Directory, Item, ItemSet, Queue, Value};
 use std::alloc::AllocGlobal;
 use std::process::Abort;
@@ -85,13 +86,13 @@ fn objects_of(rt: &(impl Abort + AllocGlobal)) -> Objects {
 
 /// Stops the test where another is the first unfit. The objects are so few that each has a number.
 fn unfit_is(rt: &impl Abort, objects: &Objects, misfit: Option<Misfit>) {
-    assert!(rt; objects.len() <= 1000);
+    assert!(rt; objects.len() <= MAX_OBJECTS);
     assert_eq!(rt; first_unfit(objects), misfit);
 }
 
 /// Stops the test where the document that carries these few objects over is another.
 fn carries(rt: &(impl Abort + AllocGlobal), objects: &Objects, document: &str) {
-    assert!(rt; objects.len() <= 1000);
+    assert!(rt; objects.len() <= MAX_OBJECTS);
     let named = texts(rt, &["a", "c", "s", "q", "d", "m", "none"]);
     let names = Names::new(named, texts(rt, &["x", "y"]), Vec::new(rt.alloc()));
     let Ok(text) = carried(rt.alloc(), &names, objects) else {

@@ -6,7 +6,7 @@ use Rattle.spelling.specs.Answer.{IsMet}
 use Rattle.spelling.specs.Asked.{document_shape_asked}
 use Rattle.spelling.specs.Places.{first_fault, placed}
 use Rattle.faults.specs.Faults.{memory_fault}
-use Rattle.lang.specs.Reading.{document_of, document_with, spelled_by, unless_fault}
+use Rattle.lang.specs.Reading.{document_of, document_with, spelled_by}
 use Rattle.spelling.specs.Scope.{numbers_of}
 use Rattle.spelling.specs.Spelled.{Document}
 use Rattle.lang.proofs.CodeLemmas.{first_fault_code, memory_or}
@@ -15,6 +15,7 @@ use Rattle.lang.proofs.FaultlessBatch.{faultless_is_batch}
 use Rattle.lang.proofs.RefusedLemmas.{refused_for}
 use Rattle.lang.proofs.SinglyLemmas.{matched_err, matched_ok}
 use Rattle.lang.proofs.document.read_singly.Goals as goal
+use Rattle.lang.proofs.SpelledLemmas.{spells}
 
 pub batch_of-requires : goal.batch_of-requires
 batch_of-requires c =
@@ -41,7 +42,7 @@ returns-in_ok-batch-in-Ok c =
     grind (arith, rules) in
     let read = same_document d parts.declared.objects (map block_view parts.transactions.items) last
     (texts_of parts.declared.names.keys) _ c.new-state.ensures.numbers done.1 done.2 in
-    ap spelled_by known ∙ ap (unless_fault d) faultless ∙ ap Ok (sym (shown ∙ read))
+    ap spelled_by known ∙ spells d faultless ∙ ap Ok (sym (shown ∙ read))
 
 pub returns-in-Err : goal.returns-in-Err
 returns-in-Err c =

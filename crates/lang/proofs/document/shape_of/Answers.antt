@@ -1,4 +1,4 @@
-use Rattle.std.proofs.Common.{◌≡◌, ◌∙◌, ℕ, List, Some, Err, length, sym, ap}
+use Rattle.std.proofs.Common.{◌≡◌, ◌∙◌, ℕ, List, Some, Err, length, sym, ap, ap₂}
 use Rattle.std.specs.Prelude.{codes, is_some, nat_le, unwrap_or}
 use Rattle.serde_json.specs.Data.{Data}
 use Rattle.serde_json.specs.Events.{items_len}
@@ -6,9 +6,10 @@ use Rattle.serde_json.specs.View.{items_view, view}
 use Rattle.serde_json.specs.declared.value.Value.{Value}
 use Rattle.serde_json.proofs.Views.{items_len-items_view}
 use Rattle.spelling.specs.Answer.{IsFirst}
-use Rattle.spelling.specs.Asked.{document_shape_asked, objects_in, or_no_items, transactions_in}
+use Rattle.spelling.specs.Asked.{document_shape_asked, objects_in, or_no_items, transactions_in, version_in, version_of}
+use Rattle.spelling.specs.Limits.{limits_of}
+use Rattle.spelling.specs.declared.limits.Limits.{Limits}
 use Rattle.spelling.specs.Look.{list_member}
-use Rattle.meaning.specs.declared.limits.TheConstants.{MAX_OBJECTS, MAX_TRANSACTIONS}
 use Rattle.spelling.proofs.Checks.{passed_on}
 use Rattle.lang.proofs.ShapeLemmas.{many_objects, many_transactions, no_objects, no_transactions, no_version, other_part, shape_met}
 use Rattle.lang.proofs.document.shape_of.Goals as goal
@@ -38,52 +39,63 @@ returns-in_default-list_member-2-clause-first c other =
     (ap is_some (sym c.in-Some.ensures)) (ap is_some (sym c.in-Some-list_member.ensures))
     (ap is_some (sym c.in_default-list_member-2.ensures)) ∙ ap Err (sym c.fault-in_default-list_member-2.ensures)
 
+-- the limits of a version are those of the document that has it
+abbrev limits_known : (version : ℕ) (limits : Limits) (d : Data) → Some version ≡ version_of d → limits ≡ limits_of version
+    → limits ≡ limits_of (version_in d)
+limits_known version limits d has is = is ∙ ap (λ o. limits_of (unwrap_or o 1)) has
+
 -- how many objects there are
-abbrev objects_counted : (n : ℕ) (d : Data) (list : List Value) → Some (items_view list) ≡ list_member (codes "objects") d
-    → n ≡ length list → nat_le (items_len (objects_in d)) MAX_OBJECTS ≡ nat_le n MAX_OBJECTS
-objects_counted n d list is count =
-    ap (λ m. nat_le m MAX_OBJECTS) (ap (λ o. items_len (or_no_items o)) (sym is) ∙ items_len-items_view list ∙ sym count)
+abbrev objects_counted : (n : ℕ) (limits : Limits) (d : Data) (list : List Value) → limits ≡ limits_of (version_in d)
+    → Some (items_view list) ≡ list_member (codes "objects") d → n ≡ length list
+    → nat_le (items_len (objects_in d)) (limits_of (version_in d)).objects ≡ nat_le n limits.objects
+objects_counted n limits d list known is count =
+    ap₂ nat_le (ap (λ o. items_len (or_no_items o)) (sym is) ∙ items_len-items_view list ∙ sym count) (ap (λ l. l.objects) (sym known))
 
 -- how many transactions there are
-abbrev transactions_counted : (n : ℕ) (d : Data) (list : List Value) → Some (items_view list) ≡ list_member (codes "transactions") d
-    → n ≡ length list → nat_le (items_len (transactions_in d)) MAX_TRANSACTIONS ≡ nat_le n MAX_TRANSACTIONS
-transactions_counted n d list is count =
-    ap (λ m. nat_le m MAX_TRANSACTIONS) (ap (λ o. items_len (or_no_items o)) (sym is) ∙ items_len-items_view list ∙ sym count)
+abbrev transactions_counted : (n : ℕ) (limits : Limits) (d : Data) (list : List Value) → limits ≡ limits_of (version_in d)
+    → Some (items_view list) ≡ list_member (codes "transactions") d → n ≡ length list
+    → nat_le (items_len (transactions_in d)) (limits_of (version_in d)).transactions ≡ nat_le n limits.transactions
+transactions_counted n limits d list known is count =
+    ap₂ nat_le (ap (λ o. items_len (or_no_items o)) (sym is) ∙ items_len-items_view list ∙ sym count)
+    (ap (λ l. l.transactions) (sym known))
 
 pub returns-in_err-demand-2-clause-first : goal.returns-in_err-demand-2-clause-first
 returns-in_err-demand-2-clause-first c =
     let start = c.args.counts.now in
     let d = view c.args.value.now in
+    let known = limits_known _ _ d c.in-Some.ensures c.of-limits.ensures in
     let failed = c.in_err-demand-2.ensures in
     passed_on c.from_residual-in_err-demand-2.result (IsFirst start (document_shape_asked d)) c.in_err-demand-2.field-0.0
     c.from_residual-in_err-demand-2.ensures.1
     (λ other. many_objects start d (sym c.has_only.ensures ∙ c.in_ok-demand.ensures) (ap is_some (sym c.in-Some.ensures))
     (ap is_some (sym c.in-Some-list_member.ensures)) (ap is_some (sym c.in-Some-list_member-2.ensures))
-    (objects_counted _ d _ c.in-Some-list_member.ensures (c.len.ensures ∙ c.in-Some-list_member.objects.now.ok.0)
+    (objects_counted _ _ d _ known c.in-Some-list_member.ensures (c.len.ensures ∙ c.in-Some-list_member.objects.now.ok.0)
     ∙ failed.0) ∙ ap Err (sym failed.1))
 
 pub returns-in_err-demand-3-clause-first : goal.returns-in_err-demand-3-clause-first
 returns-in_err-demand-3-clause-first c =
     let start = c.args.counts.now in
     let d = view c.args.value.now in
+    let known = limits_known _ _ d c.in-Some.ensures c.of-limits.ensures in
     let failed = c.in_err-demand-3.ensures in
     passed_on c.from_residual-in_err-demand-3.result (IsFirst start (document_shape_asked d)) c.in_err-demand-3.field-0.0
     c.from_residual-in_err-demand-3.ensures.1
     (λ other. many_transactions start d (sym c.has_only.ensures ∙ c.in_ok-demand.ensures) (ap is_some (sym c.in-Some.ensures))
     (ap is_some (sym c.in-Some-list_member.ensures)) (ap is_some (sym c.in-Some-list_member-2.ensures))
-    (objects_counted _ d _ c.in-Some-list_member.ensures (c.len.ensures ∙ c.in-Some-list_member.objects.now.ok.0)
+    (objects_counted _ _ d _ known c.in-Some-list_member.ensures (c.len.ensures ∙ c.in-Some-list_member.objects.now.ok.0)
     ∙ c.in_ok-demand-2.ensures)
-    (transactions_counted _ d _ c.in-Some-list_member-2.ensures (c.len-2.ensures ∙ c.in-Some-list_member-2.transactions.now.ok.0)
+    (transactions_counted _ _ d _ known c.in-Some-list_member-2.ensures (c.len-2.ensures ∙ c.in-Some-list_member-2.transactions.now.ok.0)
     ∙ failed.0) ∙ ap Err (sym failed.1))
 
 pub returns-clause-met : goal.returns-clause-met
 returns-clause-met c =
     let d = view c.args.value.now in
+    let known = limits_known _ _ d c.in-Some.ensures c.of-limits.ensures in
     shape_met c.args.counts.now d (sym c.has_only.ensures ∙ c.in_ok-demand.ensures) (ap is_some (sym c.in-Some.ensures))
     (ap is_some (sym c.in-Some-list_member.ensures)) (ap is_some (sym c.in-Some-list_member-2.ensures))
-    (objects_counted _ d _ c.in-Some-list_member.ensures (c.len.ensures ∙ c.in-Some-list_member.objects.now.ok.0)
+    (objects_counted _ _ d _ known c.in-Some-list_member.ensures (c.len.ensures ∙ c.in-Some-list_member.objects.now.ok.0)
     ∙ c.in_ok-demand-2.ensures)
-    (transactions_counted _ d _ c.in-Some-list_member-2.ensures (c.len-2.ensures ∙ c.in-Some-list_member-2.transactions.now.ok.0)
+    (transactions_counted _ _ d _ known c.in-Some-list_member-2.ensures (c.len-2.ensures ∙ c.in-Some-list_member-2.transactions.now.ok.0)
     ∙ c.in_ok-demand-3.ensures)
 
 pub returns-clause-version : goal.returns-clause-version

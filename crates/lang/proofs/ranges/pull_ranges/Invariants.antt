@@ -3,6 +3,7 @@ use Rattle.std.specs.Prelude.{slice_index}
 use Rattle.json.specs.Lex.{tokens}
 use Rattle.batch.specs.Views.{block_view}
 use Rattle.pull.specs.Ranges.{IsBegun, left_by, reached}
+use Rattle.spelling.specs.Limits.{limits_of}
 use Rattle.spelling.specs.Scope.{numbers_of, scope_of}
 use Rattle.lang.proofs.ranges.pull_ranges.Given as goal
 
@@ -15,7 +16,7 @@ invariant-loop-end l =
     × (l.end ≤ length l.text)
     × (l.end < length l.text → slice_index l.text l.end ≡ 44)
     × (scope_of l.state.labels.entries ≡ [])
-    × (length l.transactions.items ≤ 10000)
+    × (length l.transactions.items ≤ (limits_of l.declared.version).transactions)
 
 abbrev pub decreases-loop-end : goal.decreases-loop-end
 decreases-loop-end l = length l.bytes - l.end

@@ -7,6 +7,7 @@ use Rattle.batch.specs.Names.{texts_of}
 use Rattle.batch.specs.Views.{block_view}
 use Rattle.spelling.specs.Answer.{AreMet, IsFirstOf, IsFound}
 use Rattle.spelling.specs.Asked.{declared_by, names_of}
+use Rattle.spelling.specs.Limits.{limits_of}
 use Rattle.spelling.specs.Places.{fault_of, objects_placed, transactions_placed}
 use Rattle.spelling.specs.Scope.{numbers_of, setting_of}
 use Rattle.spelling.specs.Spelled.{starts_of}
@@ -58,13 +59,15 @@ returns-in-Ok-answer c =
     let named : texts_of declared.names.keys ≡ names_of os = c.in-Ok.ensures.names in
     let set : setting ≡ declared_by version os = c.in-Ok.ensures.setting in
     let started : (declared.objects, between) ≡ starts_of version numbers os = c.in-Ok.ensures.objects in
-    let few : items_len os ≤ 1000 = omega
-    (arith, items_len-items_view c.in_ok-version.objects.items, c.in_ok-version.ensures.objects) in (
+    let few : items_len os ≤ (limits_of version).objects = omega
+    (arith, items_len-items_view c.in_ok-version.objects.items, c.in_ok-version.ensures.objects) in
+    let known_version = ap (λ s. s.version) set in
+    let many = subst (λ v. items_len ts ≤ (limits_of v).transactions) known_version done.2 in (
       in_order version os ts,
       nothing_later version os c.args.reader.now c.pull_head.new.reader (c.in_ok-version.ensures.reads) ts new
           reads,
       (
-        in_order_met version os ts known.0 known.1 start mid next few done.2 met
+        in_order_met version os ts known.0 known.1 start mid next few many met
             (subst (λ x. AreMet mid (transactions_placed x 0 ts) next) set done.0),
         named,
         same_parts (in_order version os ts) numbers between last version os ts setting declared.objects

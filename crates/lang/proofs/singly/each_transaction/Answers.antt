@@ -61,7 +61,7 @@ loop-alloc-preserved c =
           (sym (map-append block_view l.blocks.items (x ∷ [])) ∙ ap (map block_view) (sym pushed)),
       done.2,
       λ ds. l.invariant.5 (item d ds) ∙ omega arith,
-      omega arith,
+      omega (arith, ap (λ limits. limits.transactions) c.of-limits.ensures),
     )
 
 pub returns-in-Err : goal.returns-in-Err

@@ -3,6 +3,7 @@ use Rattle.json.specs.Token.{Token}
 use Rattle.serde_json.specs.Data.{Items}
 use Rattle.serde_json.specs.Events.{items_len}
 use Rattle.batch.specs.Views.{block_view}
+use Rattle.spelling.specs.Limits.{limits_of}
 use Rattle.spelling.specs.Places.{seek, transactions_placed}
 use Rattle.pull.specs.Pulled.{ReadsItems}
 use Rattle.spelling.specs.Scope.{numbers_of, scope_of, setting_of}
@@ -21,7 +22,7 @@ invariant-loop-alloc l =
     ≡ in_front (map block_view l.blocks.items) (blocks_of (setting_of l.declared) (numbers_of l.state.numbering) ds))
     × (scope_of l.state.labels.entries ≡ [])
     × ((ds : Items) → items_len (before ds) ≡ l.number + items_len ds)
-    × (l.number ≤ 10000)
+    × (l.number ≤ (limits_of l.declared.version).transactions)
 
 abbrev pub decreases-loop-alloc : goal.decreases-loop-alloc
 decreases-loop-alloc l = length l.reader

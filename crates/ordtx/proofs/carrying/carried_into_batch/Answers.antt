@@ -2,6 +2,7 @@ use Rattle.std.proofs.Common.{◌≡◌, ◌<◌, ◌≤◌, ◌∙◌, Some, ap
 use Rattle.std.proofs.lemmas.List.{length-map}
 use Rattle.std.proofs.lemmas.Str.{IsUtf8-string_bytes}
 use Rattle.lang.specs.Reading.{document_of}
+use Rattle.lang.specs.declared.document.TheConstants.{MAX_BYTES}
 use Rattle.carry.specs.Joined.{Named, joined, start_view, starts_into}
 use Rattle.carry.specs.Transactions.{joined_text}
 use Rattle.ordtx.specs.Answers.{IsCarryIntoFaultOf, name_at, wrong_start}
@@ -49,11 +50,11 @@ returns-then-len-gt-MAX_BYTES-clause-fault c = λ refused before reads next_read
     let again = ap (map start_view) c.as_slice-2.ensures.value ∙ joined_is in
     let text_is : string_bytes c.in_ok-text.text ≡ joined_text (starts_into first next) c.args.bytes.now =
     c.in_ok-text.ensures ∙ ap (λ s. joined_text s c.args.bytes.now) again in
-    let long : 67_108_864 < length (string_bytes c.in_ok-text.text) = omega (arith, c.if-len-gt-MAX_BYTES.true, c.len.ensures) in
+    let long : MAX_BYTES < length (string_bytes c.in_ok-text.text) = omega (arith, c.if-len-gt-MAX_BYTES.true, c.len.ensures) in
     inr (record {
       both = record { document = first; reads = reads; next_document = next; next_reads = next_reads };
       fits = ap (wrong_start next.start) (sym starts) ∙ sym c.wrong_start.ensures ∙ c.in_default.is;
-      long = subst (λ t. 67_108_864 < length t) text_is long;
+      long = subst (λ t. MAX_BYTES < length t) text_is long;
       is = c.outside.ensures;
     })
 
@@ -66,7 +67,7 @@ returns-clause-text c = λ before reads next_reads.
     c.in_ok-end.ensures.objects in
     let starts = ap (map start_view) c.as_slice.ensures.value ∙ joined_is in
     let again = ap (map start_view) c.as_slice-2.ensures.value ∙ joined_is in
-    let short : length (string_bytes c.in_ok-text.text) ≤ 67_108_864 = omega (arith, c.if-len-gt-MAX_BYTES.false, c.len.ensures) in
+    let short : length (string_bytes c.in_ok-text.text) ≤ MAX_BYTES = omega (arith, c.if-len-gt-MAX_BYTES.false, c.len.ensures) in
     record {
       both = record { document = first; reads = reads; next_document = next; next_reads = next_reads };
       fits = ap (wrong_start next.start) (sym starts) ∙ sym c.wrong_start.ensures ∙ c.in_default.is;
