@@ -1,5 +1,8 @@
 """How many more requests for memory, and threads, a document of twice the size takes. Counts, not seconds."""
 
+import os
+import tempfile
+
 import preloaded
 from documents import ACCOUNT, document
 
@@ -165,6 +168,41 @@ def try_reading(program, library):
                         (got[1], made <= 1_000 * most + 200, None), (0, True, None))
 
 
+# A kind of start with entries, an entry, and how many requests for memory it may take. By a tree it takes three times as many.
+STARTS = (
+    ("set", '"i%d"', 1.5),
+    ("queue", '"i%d"', 1.5),
+    ("directory", '["i%d","v"]', 1.5),
+)
+
+
+def try_starts(program, library):
+    """Objects are read straight from the text: an entry takes the text of its name and a place in its object."""
+    for kind, entry, most in STARTS:
+        words, entries = ["check"], ",".join(entry % number for number in range(10_000))
+        got, made, _ = preloaded.run(
+            library, 0, words, program.path, document(['{"name":"s","kind":"%s","start":[%s]}' % (kind, entries)], []))
+        program.compare("reading of a %s of 10,000: %d requests" % (kind, made), words,
+                        (got[1], made <= 10_000 * most + 200, None), (0, True, None))
+
+
+def try_input(program, library):
+    """The buffer of a file is made once; that of another input grows with it."""
+    counts = []
+    with tempfile.TemporaryDirectory() as folder:
+        path = os.path.join(folder, "document.json")
+        for spaces in (0, 1 << 22):
+            given = document([ACCOUNT], []) + b" " * spaces
+            with open(path, "wb") as file:
+                file.write(given)
+            for words, piped in ((["check", path], b""), (["check"], given)):
+                got, made, _ = preloaded.run(library, 0, words, program.path, piped)
+                program.compare("a document and %d spaces" % spaces, words[:1], (got[1], got[2]), (0, b""))
+                counts.append(made)
+    program.compare("requests for a file, and piped, by length: %s" % counts, ["check"],
+                    (counts[2] == counts[0], counts[3] > counts[1] + 4), (True, True))
+
+
 def try_refusing(program, library):
     """What is no document is refused without a tree, or with one of the first 1,000 objects."""
     many = ",".join(['{"a":0}'] * 10_000)
@@ -193,6 +231,8 @@ def try_all(program, library):
     """All but the shapes, whose plans `try_plan` tries one by one, since they take long."""
     try_refusing(program, library)
     try_reading(program, library)
+    try_starts(program, library)
+    try_input(program, library)
     try_reading_at_once(program, library)
     try_threads_of_nested(program, library)
     try_workers(program, library)

@@ -4,6 +4,7 @@ import json
 
 import documents
 import preloaded
+from places import placed
 
 FAULT = (b"", 1, b"fault 20 transaction 0\n")
 
@@ -73,11 +74,11 @@ def try_places(program, library, case):
     starts = [{"name": "a", "kind": "account", "start": 0}, {"name": "s", "kind": "set", "start": ["x", "x"]}]
     for name, objects, transactions, line in (
             ("a fault deep in a transaction", starts[:1], [[], deep],
-             b"fault 5 transaction 2 at /transactions/1/0/handlers/r/0/parallel/1/handler/1/else/0\n"),
-            ("a fault of a start", starts, [], b"fault 13 transaction 0 at /objects/1/start/1\n")):
+             "fault 5 transaction 2 at /transactions/1/0/handlers/r/0/parallel/1/handler/1/else/0"),
+            ("a fault of a start", starts, [], "fault 13 transaction 0 at /objects/1/start/1")):
         document = json.dumps({"ordtx": 4, "objects": objects, "transactions": transactions}).encode()
-        try_document(program, library, ["locate"], name, document, line, 1)
-        try_document(program, library, ["locate"], name + ", turned round", turned_round(document), line, 1)
+        for way, given in (("", document), (", turned round", turned_round(document))):
+            try_document(program, library, ["locate"], name + way, given, placed(given, line), 1)
     try_document(program, library, ["locate"], "no JSON", b'{"ordtx":4,\n"objects"?',
                  b"fault 1 transaction 0 at line 2 column 10\n", 1)
     try_document(program, library, ["locate"], case.name, case.with_suffix(".json").read_bytes(),

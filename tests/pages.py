@@ -10,7 +10,7 @@ import subprocess
 from places import part_at
 
 ROOT = pathlib.Path(__file__).resolve().parent.parent
-FAULT = re.compile(r"^`(fault (\d+) transaction (\d+) at(?: (.+?))?)`")
+FAULT = re.compile(r"^`(fault (\d+) transaction (\d+) at(?: (/\S*))?(?: line \d+ column \d+)?)`")
 JQ = re.compile(r"^    (jq -c --arg at .*) FILE$", re.M)
 
 

@@ -1,8 +1,9 @@
-"""Where a document's first fault is, by `locate`: a JSON Pointer that is known from how the document was built, or a line
-and a column."""
+"""Where a document's first fault is, by `locate`: a JSON Pointer that is known from how the document was built, with the line
+and the column at which the part begins, or a line and a column alone."""
 
 import json
 import pathlib
+import re
 
 CASES = pathlib.Path(__file__).with_name("cases")
 
@@ -182,16 +183,57 @@ def pointer(way):
     return "".join("/%s" % part for part in way)
 
 
-def located(number, transaction, way):
+SPACES = re.compile(r"[ \t\r\n]*")
+
+
+def after_spaces(text, place):
+    return SPACES.match(text, place).end()
+
+
+def parts_of(text, place):
+    """The name or the index of each part of the value that begins at this place, and where the part begins."""
+    scan, members, index = json.JSONDecoder().scan_once, text[place] == "{", 0
+    place = after_spaces(text, place + 1)
+    while text[place] not in "]}":
+        name = str(index)
+        if members:
+            name, place = scan(text, place)
+            place = after_spaces(text, after_spaces(text, place) + 1)
+        yield name, place
+        _, place = scan(text, place)
+        place = after_spaces(text, place)
+        if text[place] == ",":
+            place = after_spaces(text, place + 1)
+        index += 1
+
+
+def position(document, path):
+    """The line and the column, in bytes, at which the part begins to which a JSON Pointer leads."""
+    text = document.decode()
+    begin = after_spaces(text, 0)
+    for token in path.split("/")[1:]:
+        # Of members of one name the last counts.
+        begin = dict(parts_of(text, begin))[token]
+    before = text[:begin].encode()
+    return " line %d column %d" % (1 + before.count(b"\n"), len(before) - before.rfind(b"\n"))
+
+
+def placed(document, line):
+    """A line of a fault, with the position of the part to which its pointer leads, if it has one."""
+    path = line.partition(" at ")[2]
+    return (line + (position(document, path) if path else "") + "\n").encode()
+
+
+def located(document, number, transaction, way):
     place = " " + pointer(way) if way else ""
-    return ("fault %d transaction %d at%s\n" % (number, transaction, place)).encode()
+    return placed(document, "fault %d transaction %d at%s" % (number, transaction, place))
 
 
 def expect_place(program, name, value, number, transaction, way):
     """In the usual order of the members, which is read without a tree, and in the opposite order."""
     for given in (value, dict(reversed(value.items())) if isinstance(value, dict) else value):
         program.expect("%s at %s" % (name, pointer(way)), ["locate"],
-                       bytes_of(given), located(number, transaction, way), 1)
+                       bytes_of(given), located(bytes_of(given), number, transaction, way), 1)
 
 
 def inside(ways, block, way):
@@ -259,7 +301,7 @@ def try_wholes(program):
             (2, {**batch([], []), "more": 1}), (2, batch([], [], 5)), (2, batch({}, [])), (2, batch([], "")),
             (12, batch([ACCOUNT] * 1_001, [])), (12, batch([], [[]] * 10_001))):
         expect_place(program, "fault %d of a whole document" % number, value, number, 0, [])
-    program.expect("a byte too many", ["locate"], b" " * 67_108_865, located(12, 0, []), 1)
+    program.expect("a byte too many", ["locate"], b" " * 67_108_865, located(b"", 12, 0, []), 1)
 
 
 def no_json(before):
@@ -290,12 +332,14 @@ def part_at(value, path):
     return value
 
 
-def leads_somewhere(document, place):
+def leads_there(document, place):
+    """Whether a pointer leads to a part, which begins at the line and the column that follow it."""
+    path = place.partition(" line ")[0]
     try:
-        part_at(json.loads(document), place)
+        part_at(json.loads(document), path)
+        return place == path + (position(document, path) if path else "")
     except (KeyError, IndexError, ValueError, TypeError):
         return False
-    return True
 
 
 def try_fault_of_a_case(program, name, document, fault):
@@ -306,7 +350,7 @@ def try_fault_of_a_case(program, name, document, fault):
     if fault.startswith(b"fault 1 "):
         program.compare(name + " has a line", ["locate"], (place.startswith(" line "),), (True,))
     else:
-        program.compare(name + " leads somewhere", ["locate"], (leads_somewhere(document, place.strip()),), (True,))
+        program.compare(name + " leads there", ["locate"], (leads_there(document, place.strip()),), (True,))
 
 
 def try_cases(program):
@@ -318,16 +362,34 @@ def try_cases(program):
             program.expect(file.stem, ["locate"], document, file.with_suffix(".check").read_bytes())
 
 
+# Each with the pointer and the position of its fault, which is counted by hand: bytes in columns, and the last of two members.
+POSITIONS = (
+    (b'{"ordtx":4,"objects":[],\n  "transactions": [ [ ], [\t{"abort":true} , {"ab":1}]]}', "/transactions/1/1 line 2 column 45"),
+    (b'{"ordtx":4,\r\n"objects":[],\r\n"transactions":[[\r\n7]]}', "/transactions/0/0 line 4 column 1"),
+    ('{"ordtx":4,"objects":[{"name":"ä","kind":"account","start":0}],"transactions":[]}'.encode(), "/objects/0 line 1 column 23"),
+    ('{"ordtx":4,"objects":[{"start":["ä",1],"name":"q","kind":"queue"}],"transactions":[]}'.encode(),
+     "/objects/0/start/0 line 1 column 33"),
+    (b'{"ordtx":4,"objects":[],"transactions":[],"transactions":[[],[],7]}', "/transactions/2 line 1 column 65"),
+)
+
+
+def try_positions(program):
+    for given, place in POSITIONS:
+        out, status, err = program.run(["locate"], given)
+        program.compare("at " + place, ["locate"], (out.decode().partition(" at ")[2], status, err), (place + "\n", 1, b""))
+
+
 def try_lines(program):
     for objects, transactions, line in LINES:
         given = '{"ordtx":4,"objects":[%s],"transactions":[%s]}' % (objects, transactions)
-        program.expect(line, ["locate"], given.encode(), line.encode() + b"\n", 1)
+        program.expect(line, ["locate"], given.encode(), placed(given.encode(), line), 1)
     for given, line, column in NO_JSON:
         program.expect("no JSON", ["locate"], given,
                        b"fault 1 transaction 0 at line %d column %d\n" % (line, column), 1)
 
 
 def try_all(program):
+    try_positions(program)
     try_lines(program)
     try_blocks(program)
     try_depth(program)

@@ -1,5 +1,7 @@
 """Documents that are read in several ranges, beside the same ones in one range."""
 
+import re
+
 RANGE = 1_048_576  # as in crates/lang/src/document.rt
 LEDGER = '{"name":"a","kind":"account","start":0},{"name":"s","kind":"set","start":[]}'
 
@@ -32,15 +34,22 @@ def mixed(count):
 
 MIXED = LEDGER + ',{"name":"d","kind":"directory","start":[]},{"name":"q","kind":"queue","start":["v2"]}'
 COMMAS = (",", ",\n  ", ",\t \r\n")
+POSITION = re.compile(rb" line \d+ column \d+")
+
+
+def answer(program, command, given):
+    """What a command returns. Where a part begins isn't the same for all commas."""
+    out, status, err = program.run([command], given)
+    return POSITION.sub(b"", out), status, err
 
 
 def try_same(program, name, objects, listed, commands=("check", "serial", "locate"), commas=COMMAS):
     """A comma that doesn't follow its bracket at once is no cut: so the last document is one range."""
     whole = document(objects, listed, " ,")
     for command in commands:
-        wanted = program.run([command], whole)
+        wanted = answer(program, command, whole)
         for comma in commas:
-            got = program.run([command], document(objects, listed, comma))
+            got = answer(program, command, document(objects, listed, comma))
             program.compare(name, [command], got, wanted)
 
 
