@@ -286,7 +286,6 @@ fn a_view_is_used_again(rt: HostRuntime) {
     follow(&rt, &mut view, &first);
     let mut lists = Lists::empty(rt.alloc());
     take_run(&rt, &mut view, &mut lists, (1, 1));
-    view.reserve(second.len()).ok().expect(&rt, "memory");
     follow(&rt, &mut view, &second);
     take_run(&rt, &mut view, &mut lists, (3, 3));
     follow(&rt, &mut view, &[Step::HasLengths(0, 0, 0)]);
