@@ -1,0 +1,4 @@
+pub mod Printed
+pub mod Keys
+pub mod Joins
+pub mod Replaced

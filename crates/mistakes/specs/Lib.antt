@@ -1,0 +1,5 @@
+pub mod Shown
+pub mod Parts
+pub mod Phrases
+pub mod Words
+pub mod Within

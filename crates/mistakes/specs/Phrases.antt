@@ -1,0 +1,56 @@
+-- The phrases of several rules.
+use Rattle.std.specs.Prelude.{ℕ, List, ◌++◌, codes, Option, Some, None, decimal}
+use Rattle.serde_json.specs.Data.{Data}
+use Rattle.serde_json.specs.Find.{get}
+use Rattle.objects.specs.declared.kind.Kind.{Kind}
+use Rattle.objects.specs.declared.kind.Kind.TheVariants as kind
+use Rattle.meaning.specs.declared.limits.TheConstants.{MAX_NAME}
+use Rattle.rules.specs.declared.form.Form.{Form}
+use Rattle.rules.specs.declared.form.Form.TheVariants as form
+use Rattle.rules.specs.declared.subject.Subject.{Subject}
+use Rattle.rules.specs.declared.subject.Subject.TheVariants.{Reply, Outcome}
+use Rattle.words.specs.Verbs.{verb_text}
+use Rattle.mistakes.specs.Shown.{grouped, shown}
+
+abbrev pub missing : List ℕ → List ℕ
+missing name = codes "\"" ++ name ++ codes "\" is missing"
+
+-- a member that isn't there, or isn't what it has to be
+unfoldable pub wanting_at : List ℕ → List ℕ → Option Data → List ℕ
+wanting_at name wanted None = missing name
+wanting_at name wanted (Some d) = codes "\"" ++ name ++ codes "\" is " ++ shown d ++ codes ", and has to be " ++ wanted
+
+abbrev pub wanting : List ℕ → List ℕ → Data → List ℕ
+wanting name wanted d = wanting_at name wanted (get name d)
+
+-- what is shown is no name
+abbrev pub no_name : List ℕ → List ℕ
+no_name text = text ++ codes " is no name: a name has 1 to " ++ decimal MAX_NAME ++ codes " ASCII letters, digits, \"_\" and \"-\""
+
+abbrev pub more_than : ℕ → List ℕ → List ℕ
+more_than most things = codes "more than " ++ grouped most ++ codes " " ++ things
+
+-- what is shown is of a later version than the document
+abbrev pub too_new : List ℕ → ℕ → List ℕ
+too_new text version = text ++ codes " is of a later version than " ++ decimal version
+
+abbrev pub form_text : Form → List ℕ
+form_text form.Document = codes "a document"
+form_text form.Object = codes "an object"
+form_text form.Operation = codes "an operation"
+form_text form.If = codes "an if"
+form_text form.Subaction = codes "a subaction"
+form_text form.Abort = codes "an abort"
+form_text form.Parallel = codes "a parallel step"
+
+abbrev pub a_kind : Kind → List ℕ
+a_kind kind.Account = codes "an account"
+a_kind kind.Counter = codes "a counter"
+a_kind kind.Set = codes "a set"
+a_kind kind.Queue = codes "a queue"
+a_kind kind.Directory = codes "a directory"
+a_kind kind.Max = codes "a maximum register"
+
+abbrev pub subject_text : Subject → List ℕ
+subject_text (Reply v) = codes "the reply of \"" ++ verb_text v ++ codes "\""
+subject_text Outcome = codes "the outcome of a subaction"

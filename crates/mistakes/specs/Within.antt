@@ -1,0 +1,37 @@
+-- Where in a part the value is that is wrong.
+use Rattle.std.specs.Prelude.{ℕ, ◌==◌, List, [], ◌∷◌, ◌++◌, codes, Option, Some, None, if◌then◌else◌, flat_map}
+use Rattle.json.specs.Print.{escape}
+use Rattle.serde_json.specs.Data.{Data}
+use Rattle.rules.specs.declared.rule.Rule.{Rule}
+use Rattle.rules.specs.declared.rule.CountRule.TheVariants as counted
+use Rattle.rules.specs.declared.rule.NameRule.TheVariants as named
+use Rattle.rules.specs.declared.rule.Rule.TheVariants as rule
+use Rattle.rules.specs.declared.rule.ShapeRule.TheVariants as shape
+use Rattle.mistakes.specs.Parts.{has, unknown_member, unnamed_reason}
+
+-- the text with another in place of a byte
+abbrev pub replaced : ℕ → List ℕ → List ℕ → List ℕ
+replaced old new text = flat_map (λ x. if x == old then new else x ∷ []) text
+
+-- A name in a JSON Pointer (RFC 6901): `~0` stands for `~`, and `~1` for `/`. What JSON escapes in a text is escaped so here.
+abbrev pub token_of : List ℕ → List ℕ
+token_of name = escape (replaced 47 (codes "~1") (replaced 126 (codes "~0") name))
+
+abbrev pub pointer_to : Option (List ℕ) → List ℕ
+pointer_to None = []
+pointer_to (Some name) = codes "/" ++ token_of name
+
+-- the member, where it is there
+abbrev pub pointer_if : List ℕ → Data → List ℕ
+pointer_if name d = if has name d then codes "/" ++ name else []
+
+abbrev pub place_within : Rule → Data → List ℕ
+place_within (rule.Shape (shape.Members form)) d = pointer_to (unknown_member form d)
+place_within (rule.Shape shape.Version) d = pointer_if (codes "ordtx") d
+place_within (rule.Shape shape.Objects) d = pointer_if (codes "objects") d
+place_within (rule.Shape shape.Transactions) d = pointer_if (codes "transactions") d
+place_within (rule.Few (counted.Objects version)) d = pointer_if (codes "objects") d
+place_within (rule.Few (counted.Transactions version)) d = pointer_if (codes "transactions") d
+place_within rule.SeenLabel d = pointer_if (codes "if") d
+place_within (rule.Name named.Handlers) d = pointer_to (unnamed_reason d)
+place_within r d = []

@@ -1,0 +1,86 @@
+//! Where in a part the value is that is wrong.
+ghost use Rattle.std.specs.Prelude.{◌≡◌, ◌++◌, IfOk, OnOk, option_map, string_bytes};
+ghost use Rattle.json.specs.Print.{escape};
+ghost use Rattle.serde_json.specs.View.{view};
+ghost use Rattle.mistakes.specs.Within.{place_within, pointer_if, pointer_to, token_of};
+
+use crate::parts::{unknown_member, unnamed_reason};
+use crate::shown::quoted;
+use rules::{CountRule, NameRule, Rule, ShapeRule};
+use serde_json::Value;
+use std::alloc::{AllocError, Global};
+
+/// Where in the part the value is that is wrong: the rest of a JSON Pointer (RFC 6901). It is empty
+/// where it is the part itself.
+///
+/// What JSON escapes in a text is escaped in a member's name, too, so that it is one line. Err where
+/// memory was refused.
+pub fn place_within(alloc: Global, rule: Rule, part: &Value) -> Result<String, AllocError>
+    ensures { IfOk result (λ text. string_bytes text ≡ place_within rule (view part.now)) }
+{
+    match rule {
+        Rule::Shape(ShapeRule::Members(form)) => pointer_to(alloc, unknown_member(form, part)),
+        Rule::Name(NameRule::Handlers) => pointer_to(alloc, unnamed_reason(part)),
+        Rule::Shape(ShapeRule::Version) => pointer_if(alloc, "ordtx", part),
+        Rule::Shape(ShapeRule::Objects) | Rule::Few(CountRule::Objects(_)) => pointer_if(
+            alloc, "objects", part,
+        ),
+        Rule::Shape(ShapeRule::Transactions) | Rule::Few(CountRule::Transactions(_)) => pointer_if(
+            alloc,
+            "transactions",
+            part,
+        ),
+        Rule::SeenLabel => pointer_if(alloc, "if", part),
+        _ => Ok(String::new(alloc)),
+    }
+}
+
+// The pointer to the member of that name, where it is there.
+fn pointer_if(alloc: Global, name: &str, part: &Value) -> Result<String, AllocError>
+    ensures { IfOk result (λ text. string_bytes text ≡ pointer_if name.now (view part.now)) }
+{
+    let mut out = String::new(alloc);
+    if part.get(name).is_some() {
+        write!(&mut out, "/{name}")?;
+    }
+    Ok(out)
+}
+
+// The pointer to the member of any name.
+fn pointer_to(alloc: Global, member: Option<&str>) -> Result<String, AllocError>
+    ensures { IfOk result (λ text. string_bytes text
+        ≡ pointer_to (option_map (λ name. name.now) member.entry)) }
+{
+    let mut out = String::new(alloc);
+    if let Some(name) = member {
+        let token = pointer_token(alloc, name)?;
+        write!(&mut out, "/{token}")?;
+    }
+    Ok(out)
+}
+
+/// The token of a JSON Pointer that stands for a member's name. What JSON escapes in a text is
+/// escaped in it, too.
+///
+/// Err where memory was refused.
+pub fn pointer_token(alloc: Global, name: &str) -> Result<String, AllocError>
+    ensures { IfOk result (λ token. string_bytes token ≡ token_of name.now) }
+{
+    let tildes = name.replace(alloc, '~', "~0")?;
+    let slashes = tildes.as_str().replace(alloc, '/', "~1")?;
+    escaped(alloc, slashes.as_str())
+}
+
+// As in a text of JSON, without the quotes.
+fn escaped(alloc: Global, text: &str) -> Result<String, AllocError>
+    ensures { IfOk result (λ made. string_bytes made ≡ escape text.now) }
+{
+    let quoted = quoted(alloc, text)?;
+    let Some(begun) = quoted.as_str().strip_prefix('"') else {
+        unreachable!();
+    };
+    match begun.strip_suffix('"') {
+        Some(inside) => String::from_str(alloc, inside),
+        None => unreachable!(),
+    }
+}

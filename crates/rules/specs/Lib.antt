@@ -1,0 +1,5 @@
+pub mod Forms
+pub mod Subjects
+pub mod Limits
+pub mod Rules
+pub mod Failures

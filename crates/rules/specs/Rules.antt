@@ -1,0 +1,20 @@
+-- What is wrong with a document where a rule isn't kept.
+use Rattle.faults.specs.declared.fault.Wrong.{Wrong}
+use Rattle.faults.specs.declared.fault.Wrong.TheVariants as wrong
+use Rattle.rules.specs.declared.rule.Rule.{Rule}
+use Rattle.rules.specs.declared.rule.Rule.TheVariants as rule
+
+abbrev pub wrong_of : Rule → Wrong
+wrong_of rule.Json = wrong.NotJson
+wrong_of (rule.Shape shape) = wrong.Shape
+wrong_of (rule.Name named) = wrong.Name
+wrong_of rule.NewObject = wrong.DuplicateObject
+wrong_of rule.KnownObject = wrong.UnknownObject
+wrong_of (rule.KnownOperation version kind) = wrong.UnknownOperation
+wrong_of (rule.Argument argument) = wrong.Argument
+wrong_of rule.SeenLabel = wrong.UnknownLabel
+wrong_of rule.NewLabel = wrong.DuplicateLabel
+wrong_of (rule.Condition condition) = wrong.Condition
+wrong_of rule.Depth = wrong.Depth
+wrong_of (rule.Few counted) = wrong.TooMany
+wrong_of (rule.Start start) = wrong.Start
