@@ -15,8 +15,8 @@ use Rattle.carry.specs.declared.document.Misfit.{Misfit}
 use Rattle.carry.specs.declared.document.Unfit.{Unfit}
 use Rattle.carry.specs.declared.document.Unfit.TheVariants.{Start, TooMany}
 use Rattle.meaning.specs.declared.limits.TheConstants.{MAX_START}
-use Rattle.spelling.specs.Limits.{limits_of}
-use Rattle.spelling.specs.declared.limits.TheConstants.{LAST_VERSION}
+use Rattle.rules.specs.Limits.{limits_of}
+use Rattle.rules.specs.declared.limits.TheConstants.{LAST_VERSION}
 
 -- Why an object can't start as it is, where so many entries start before it. A carried document is of the last version.
 abbrev pub unfit_after : ℕ → Value → Option Unfit

@@ -5,15 +5,15 @@ ghost use Rattle.meaning.specs.WellFormed.{size_of};
 ghost use Rattle.meaning.specs.Words.{joined, members};
 ghost use Rattle.batch.specs.Limits.{entries_in};
 ghost use Rattle.batch.specs.Names.{names_of};
-ghost use Rattle.spelling.specs.Limits.{limits_of};
+ghost use Rattle.rules.specs.Limits.{limits_of};
 ghost use Rattle.carry.specs.Carried.{carried_text, document_head, first_unfit, item_text, object_text, object_texts, pair_text, start_text, unfit_after};
-ghost use Rattle.spelling.specs.declared.limits.TheConstants.{LAST_VERSION};
+ghost use Rattle.rules.specs.declared.limits.TheConstants.{LAST_VERSION};
 
 use batch::Names;
 use meaning::limits::MAX_START;
 use objects::{Directory, ItemSet, NoMemory, Objects, Queue, Value};
 use report::{item_name, object_name};
-use spelling::limits::{LAST_VERSION, Limits};
+use rules::{LAST_VERSION, Limits};
 use std::alloc::Global;
 use words::kind_text;
 

@@ -9,7 +9,7 @@ use Rattle.spelling.specs.Asked as asked
 use Rattle.spelling.specs.Asked.{kind_in}
 use Rattle.spelling.specs.Scope.{Numbers, no_numbers}
 use Rattle.spelling.specs.Spelled.{document_in, parts_in, start_of, starts_of}
-use Rattle.spelling.specs.declared.limits.TheConstants.{LAST_VERSION}
+use Rattle.rules.specs.declared.limits.TheConstants.{LAST_VERSION}
 use Rattle.carry.specs.Carried.{first_unfit}
 use Rattle.carry_laws.specs.CarriedData.{carried_data, object_data, objects_data, start_data}
 use Rattle.carry_laws.specs.Carrying.{object_names}

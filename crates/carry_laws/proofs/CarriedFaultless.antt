@@ -20,7 +20,6 @@ use Rattle.meaning.specs.Words.{Names, members}
 use Rattle.words.specs.Words.{kind_text}
 use Rattle.batch.specs.Limits.{entries_in}
 use Rattle.batch.specs.Names.{is_name}
-use Rattle.faults.specs.declared.fault.Wrong.TheVariants.{DuplicateObject, Name, Shape, Start}
 use Rattle.spelling.specs.Asked.{document_shape_asked, element_asked, entry_asked}
 use Rattle.spelling.specs.Asked.{kind_in, object_kind, object_name_asked, object_shape_asked, pair_asked}
 use Rattle.spelling.specs.Asked.{number_start, signed_start}
@@ -29,8 +28,8 @@ use Rattle.spelling.specs.Scope.{Table, is_listed}
 use Rattle.words.specs.Words.{kind_of_text}
 use Rattle.spelling.proofs.Checks.{check_met}
 use Rattle.meaning.specs.declared.limits.TheConstants.{MAX_START}
-use Rattle.spelling.specs.Limits.{limits_of}
-use Rattle.spelling.specs.declared.limits.TheConstants.{LAST_VERSION}
+use Rattle.rules.specs.Limits.{limits_of}
+use Rattle.rules.specs.declared.limits.TheConstants.{LAST_VERSION}
 use Rattle.meaning.specs.WellFormed.{size_of}
 use Rattle.carry.specs.Carried.{first_unfit}
 use Rattle.carry_laws.specs.CarriedData.{carried_data, items_data, object_data, objects_data, pairs_data, start_data}
@@ -70,7 +69,7 @@ module _ (names : Names) where
   entries_meet [] named = meet_none
   entries_meet (x ∷ xs) named =
       let rest = entries_asked LAST_VERSION (items_data names xs) in
-      meet_test _ true Start _ refl (meet_test _ (is_name (names.item x)) Name _ named.0
+      meet_test _ true _ _ refl (meet_test _ (is_name (names.item x)) _ _ named.0
       (meet_start (length xs) rest (entries_meet xs named.1)))
 
   elements_meet : (earlier : Table) (xs : List Item) → AllByRecursion (IsNamed names) xs → Apart (map names.item xs)
@@ -82,8 +81,8 @@ module _ (names : Names) where
       let rest = λ (table : Table). elements_asked LAST_VERSION table (items_data names xs) in
       let later = subst (λ table. Meet (length xs) (rest table)) (sym (with_new text earlier new.0))
       (elements_meet (earlier ++ text ∷ []) xs named.1 apart.1 (new_after text earlier (map names.item xs) apart.0 new.1)) in
-      meet_test _ true Start _ refl (meet_test _ (is_name text) Name _ named.0
-      (meet_test _ (not (is_listed text earlier)) Start _ (ap not new.0) (meet_start (length xs) _ later)))
+      meet_test _ true _ _ refl (meet_test _ (is_name text) _ _ named.0
+      (meet_test _ (not (is_listed text earlier)) _ _ (ap not new.0) (meet_start (length xs) _ later)))
 
   pairs_meet : (earlier : Table) (pairs : List (Item × Item)) → AllByRecursion (AreNamedBoth names) pairs
       → Apart (map names.item (map (λ e. e.0) pairs)) → AreNew earlier (map names.item (map (λ e. e.0) pairs))
@@ -96,16 +95,16 @@ module _ (names : Names) where
       let keys = map names.item (map (λ (e : Item × Item). e.0) pairs) in
       let later = subst (λ table. Meet (length pairs) (rest table)) (sym (with_new text earlier new.0))
       (pairs_meet (earlier ++ text ∷ []) pairs named.1 apart.1 (new_after text earlier keys apart.0 new.1)) in
-      meet_test _ true Start _ refl (meet_test _ true Start _ refl (meet_test _ true Start _ refl
-      (meet_test _ (is_name text) Name _ named.0.0 (meet_test _ (is_name (names.item pair.1)) Name _ named.0.1
-      (meet_test _ (not (is_listed text earlier)) Start _ (ap not new.0) (meet_start (length pairs) _ later))))))
+      meet_test _ true _ _ refl (meet_test _ true _ _ refl (meet_test _ true _ _ refl
+      (meet_test _ (is_name text) _ _ named.0.0 (meet_test _ (is_name (names.item pair.1)) _ _ named.0.1
+      (meet_test _ (not (is_listed text earlier)) _ _ (ap not new.0) (meet_start (length pairs) _ later))))))
 
   start_meet : (v : Value) → size_of v ≤ MAX_START → IsWritable names v → IsApart names v
       → Meet (entries_in v) (start_asked LAST_VERSION (kind_of_value v) (start_data names v))
   unfolding start_asked array_start_asked
-  start_meet (value.Account n) small ok apart = meet_test 0 (is_some (number_start (start_data names (value.Account n)))) Start []
+  start_meet (value.Account n) small ok apart = meet_test 0 (is_some (number_start (start_data names (value.Account n)))) _ []
       (ap is_some (number_back n small)) meet_none
-  start_meet (value.Counter n) small ok apart = meet_test 0 (is_some (signed_start (start_data names (value.Counter n)))) Start []
+  start_meet (value.Counter n) small ok apart = meet_test 0 (is_some (signed_start (start_data names (value.Counter n)))) _ []
       (ap is_some (signed_back n small)) meet_none
   start_meet (value.Set s) small ok apart = meet_fewer (length (members s)) (finite_set.len s) _ (members_few s)
       (elements_meet [] (members s) ok apart (all_new (map names.item (members s))))
@@ -114,7 +113,7 @@ module _ (names : Names) where
       let few = finite_map.len-entries d in
       meet_fewer (length (finite_map.entries d)) (finite_map.len d) _ (omega arith)
       (pairs_meet [] (finite_map.entries d) ok apart (all_new (map names.item (finite_map.keys d))))
-  start_meet (value.Max n) small ok apart = meet_test 0 (is_some (number_start (start_data names (value.Max n)))) Start []
+  start_meet (value.Max n) small ok apart = meet_test 0 (is_some (number_start (start_data names (value.Max n)))) _ []
       (ap is_some (number_back n small)) meet_none
 
   -- ---- objects
@@ -134,10 +133,10 @@ module _ (names : Names) where
       let started : Meet (entries_in v) start =
       subst (λ k. Meet (entries_in v) (start_asked LAST_VERSION k (start_data names v))) (sym (kind_is n v))
       (start_meet v small ok apart) in
-      meet_test _ true Shape _ refl (meet_test _ true Shape _ refl
-      (meet_test _ (is_some (object_kind LAST_VERSION (object_data names n v))) Shape _ (ap is_some (kind_read n v))
-      (meet_test _ true Shape _ refl (meet_test _ (is_name (names.object n)) Name _ named
-      (meet_test _ (not (is_listed (names.object n) earlier)) DuplicateObject start (ap not new) started)))))
+      meet_test _ true _ _ refl (meet_test _ true _ _ refl
+      (meet_test _ (is_some (object_kind LAST_VERSION (object_data names n v))) _ _ (ap is_some (kind_read n v))
+      (meet_test _ true _ _ refl (meet_test _ (is_name (names.object n)) _ _ named
+      (meet_test _ (not (is_listed (names.object n) earlier)) _ start (ap not new) started)))))
 
   objects_met : (n entries : ℕ) (values : State) (earlier : Table) (c : Counts) → c.starts ≤ entries → first_unfit n entries values ≡ None
       → AreWritable names n values → AllByRecursion (IsApart names) values → Apart (object_names names n values)

@@ -22,7 +22,7 @@ use Rattle.meaning.specs.Words.{Names, members, joined}
 use Rattle.words.specs.Words.{kind_text}
 use Rattle.batch.specs.Names.{is_name}
 use Rattle.carry.specs.Carried.{carried_text, document_head, item_text, object_text, object_texts, pair_text, quoted, start_text}
-use Rattle.spelling.specs.declared.limits.TheConstants.{LAST_VERSION}
+use Rattle.rules.specs.declared.limits.TheConstants.{LAST_VERSION}
 use Rattle.carry_laws.proofs.Lexemes.{json_lexemes}
 use Rattle.carry_laws.proofs.Listed.{AreWritable, IsWritable, IsNamed, AreNamedBoth}
 use Rattle.carry_laws.proofs.NamesPlain.{name_plain}

@@ -21,7 +21,7 @@ use Rattle.meaning.specs.Words.{Names, members, joined}
 use Rattle.words.specs.Words.{kind_text}
 use Rattle.batch.specs.Names.{is_name, is_name_byte}
 use Rattle.meaning.specs.declared.limits.TheConstants.{MAX_START}
-use Rattle.spelling.specs.declared.limits.TheConstants.{LAST_VERSION}
+use Rattle.rules.specs.declared.limits.TheConstants.{LAST_VERSION}
 use Rattle.carry.specs.Carried.{carried_text, document_head, item_text, list_text, object_text, object_texts, pair_text, quoted, start_text}
 use Rattle.carry_laws.proofs.Listed.{AreNamedBoth, AreWritable, IsNamed, IsWritable}
 use Rattle.carry_laws.proofs.NamesPlain.{high_byte}

@@ -10,8 +10,8 @@ use Rattle.objects.specs.declared.kind.Kind.{Kind}
 use Rattle.meaning.specs.declared.limits.TheConstants.{MAX_ENTRIES}
 use Rattle.batch.specs.Limits.{entries_in}
 use Rattle.spelling.specs.Asked.{document_shape_asked, objects_in, setting_in, transactions_in, version_in}
-use Rattle.spelling.specs.Limits.{limits_of}
-use Rattle.spelling.specs.declared.limits.TheConstants.{LAST_VERSION}
+use Rattle.rules.specs.Limits.{limits_of}
+use Rattle.rules.specs.declared.limits.TheConstants.{LAST_VERSION}
 use Rattle.spelling.specs.Demand.{check, no_counts}
 use Rattle.spelling.specs.Look.{whole_member, within}
 use Rattle.spelling.specs.Places.{first_fault, placed}

@@ -23,7 +23,7 @@ use Rattle.merging.specs.Renumbered.{number_in}
 use Rattle.carry_laws.proofs.Among.{Apart}
 use Rattle.carry_laws.proofs.CarriedEnd.{of_reading}
 use Rattle.merging.proofs.Growing.{Begins, begins_none, blocks_longer}
-use Rattle.spelling.specs.declared.limits.TheConstants.{LAST_VERSION}
+use Rattle.rules.specs.declared.limits.TheConstants.{LAST_VERSION}
 use Rattle.carry_laws.proofs.JoinedDocument.{Read, few_starts, joined_of, joined_reads, next_of, parts_met, starts_with}
 use Rattle.carry_laws.proofs.JoinedLaws.{end_is_named, starts_are_named}
 use Rattle.carry_laws.proofs.JoinedReads.{joined_value}

@@ -19,7 +19,7 @@ use Rattle.words.specs.declared.verb.Verb.{Verb}
 use Rattle.words.specs.declared.verb.Verb.TheVariants.{OfItem, Alone}
 use Rattle.batch.specs.Names.{names_of}
 use Rattle.spelling.specs.Asked.{kinds_of}
-use Rattle.spelling.specs.declared.limits.TheConstants.{LAST_VERSION}
+use Rattle.rules.specs.declared.limits.TheConstants.{LAST_VERSION}
 use Rattle.spelling.specs.Scope.{Setting, Table, is_listed, place_of}
 use Rattle.spelling.proofs.TableLemmas.{listed_text}
 use Rattle.lang.proofs.Bound.{found, within}

@@ -8,8 +8,8 @@ use Rattle.spelling.specs.Asked as asked
 use Rattle.spelling.specs.Asked.{kind_in}
 use Rattle.spelling.specs.Scope.{Numbers, no_numbers}
 use Rattle.spelling.specs.Spelled.{start_of, starts_of}
-use Rattle.spelling.specs.Limits.{limits_of}
-use Rattle.spelling.specs.declared.limits.TheConstants.{LAST_VERSION}
+use Rattle.rules.specs.Limits.{limits_of}
+use Rattle.rules.specs.declared.limits.TheConstants.{LAST_VERSION}
 use Rattle.carry.specs.Carried.{first_unfit}
 use Rattle.carry.specs.Joined.{StartOf, name_of, value_of}
 use Rattle.carry_laws.specs.CarriedData.{object_data, start_data}

@@ -1,9 +1,9 @@
 -- The limits of each version are within those of the last.
 use Rattle.std.proofs.Common.{ℕ, ◌≤◌}
-use Rattle.spelling.specs.Limits.{limits_of}
-use Rattle.spelling.specs.declared.limits.Limits.{Limits}
-use Rattle.spelling.specs.declared.limits.TheConstants.{LAST_VERSION}
-use Rattle.spelling.proofs.LimitLemmas.{limits_within}
+use Rattle.rules.specs.Limits.{limits_of}
+use Rattle.rules.specs.declared.limits.Limits.{Limits}
+use Rattle.rules.specs.declared.limits.TheConstants.{LAST_VERSION}
+use Rattle.rules.proofs.LimitLemmas.{limits_within}
 
 -- each limit is at most that of the last version
 pub record WithinLast (limits : Limits) : Type 0 where

@@ -6,10 +6,11 @@ use Rattle.std.specs.List.{AllByRecursion}
 use Rattle.std.specs.Str.{bytes_eq}
 use Rattle.std.proofs.lemmas.Bool.{false_from_ne_true, lt-ltb, or_parts}
 use Rattle.std.proofs.lemmas.Slice.Eq.{bytes_eq-Decides}
-use Rattle.faults.specs.declared.fault.Wrong.{Wrong}
-use Rattle.spelling.specs.Demand.{Demand, and_then, check, fault_at, holds, limited, no_counts, one_more_start}
-use Rattle.spelling.specs.Limits.{limits_of}
-use Rattle.spelling.specs.declared.limits.TheConstants.{LAST_VERSION}
+use Rattle.rules.specs.declared.rule.CountRule.TheVariants.{Entries}
+use Rattle.rules.specs.declared.rule.Rule.{Rule}
+use Rattle.spelling.specs.Demand.{Demand, and_then, broken_at, check, holds, limited, no_counts, one_more_start}
+use Rattle.rules.specs.Limits.{limits_of}
+use Rattle.rules.specs.declared.limits.TheConstants.{LAST_VERSION}
 use Rattle.spelling.specs.Scope.{Table, is_listed, with_text}
 
 abbrev type_of : {A : Type 0} → A → Type 0
@@ -27,10 +28,10 @@ pub record Meet (k : ℕ) (ds : List Demand) : Type 0 where
 pub meet_none : Meet 0 []
 meet_none = record { met = λ c few. (c, refl, omega arith, omega arith, omega arith) }
 
-pub meet_test : (k : ℕ) (b : Bool) (wrong : Wrong) (ds : List Demand) → b ≡ true → Meet k ds → Meet k (holds b wrong ∷ ds)
-meet_test k b wrong ds is rest = record {
+pub meet_test : (k : ℕ) (b : Bool) (rule : Rule) (ds : List Demand) → b ≡ true → Meet k ds → Meet k (holds b rule ∷ ds)
+meet_test k b rule ds is rest = record {
   met = λ c few. let later = rest.met c few in
-      let here = ap (λ t. and_then (cond t (Ok c) (Err (fault_at wrong c))) (λ next. check next ds)) is in
+      let here = ap (λ t. and_then (cond t (Ok c) (Err (broken_at rule c))) (λ next. check next ds)) is in
       (later.0, here ∙ later.1, later.2, later.3, later.4);
 }
 
@@ -41,7 +42,7 @@ meet_start k ds rest = record {
       let later = rest.met counted (omega arith) in
       let bound = later.2 in
       let within : c.starts < (limits_of LAST_VERSION).entries = omega arith in
-      let here = ap (λ t. and_then (limited t c counted) (λ next. check next ds)) (lt-ltb _ _ within) in
+      let here = ap (λ t. and_then (limited t (Entries LAST_VERSION) c counted) (λ next. check next ds)) (lt-ltb _ _ within) in
       (later.0, here ∙ later.1, omega arith, later.3, later.4);
 }
 

@@ -10,20 +10,23 @@ use Rattle.objects.specs.declared.kind.Kind.{Kind}
 use Rattle.batch.specs.Names.{is_name}
 use Rattle.batch.specs.Views.{children_of, steps_of}
 use Rattle.meaning.specs.Trees.{If, Operation, Parallel}
-use Rattle.faults.specs.declared.fault.Wrong.{Wrong}
-use Rattle.faults.specs.declared.fault.Wrong.TheVariants.{Depth, Name, Shape, UnknownObject, UnknownOperation}
+use Rattle.rules.specs.declared.rule.CountRule.TheVariants.{Nodes, Operations}
+use Rattle.rules.specs.declared.rule.NameRule.TheVariants.{Handlers}
+use Rattle.rules.specs.declared.rule.Rule.{Rule}
+use Rattle.rules.specs.declared.rule.Rule.TheVariants.{Depth, KnownObject, KnownOperation, Name, Shape}
+use Rattle.rules.specs.declared.rule.ShapeRule.TheVariants as shape
 use Rattle.words.specs.Verbs.{verb_of_text}
 use Rattle.words.specs.declared.verb.Verb.{Verb}
 use Rattle.words.specs.declared.verb.Verb.TheVariants.{Alone}
 use Rattle.words.specs.declared.verb.LoneVerb.TheVariants.{Balance}
 use Rattle.meaning.specs.declared.limits.TheConstants.{MAX_DEPTH}
-use Rattle.spelling.specs.declared.subject.Subject.TheVariants.{Outcome, Reply}
+use Rattle.rules.specs.declared.subject.Subject.TheVariants.{Outcome, Reply}
 use Rattle.spelling.specs.declared.steps.Sort.{Sort}
 use Rattle.spelling.specs.declared.steps.Sort.TheVariants.{Operation as an_operation, If as an_if, Sub as a_sub, Abort as an_abort}
 use Rattle.spelling.specs.declared.steps.Sort.TheVariants.{Parallel as a_parallel}
-use Rattle.spelling.specs.Demand.{Demand, and_then, check, fault_at, holds, in_transaction, limited, one_more_node}
+use Rattle.spelling.specs.Demand.{Demand, and_then, broken_at, check, holds, in_transaction, limited, one_more_node}
 use Rattle.spelling.specs.Demand.{one_more_operation, one_more_start}
-use Rattle.spelling.specs.Limits.{limits_of}
+use Rattle.rules.specs.Limits.{limits_of}
 use Rattle.spelling.specs.Look.{has}
 use Rattle.spelling.specs.Scope.{Numbers, Scope, Setting, is_listed, kind_named, label_number, number_of, place_of, with_label}
 use Rattle.spelling.specs.Scope.{with_reason}
@@ -117,8 +120,8 @@ fewer_nodes c d fewer =
 same_met : (ds : List Demand) (c d next : Counts) → Fewer d c → count What.starts ds ≡ 0 → check c ds ≡ Ok next → MetToo d ds next
 unfolding one_operation one_node
 same_met [] c d next fewer none met = none_met c d next fewer met
-same_met (holds true wrong ∷ ds) c d next fewer none met = same_met ds c d next fewer (omega (arith, none)) met
-same_met (holds false wrong ∷ ds) c d next fewer none met = cc
+same_met (holds true rule ∷ ds) c d next fewer none met = same_met ds c d next fewer (omega (arith, none)) met
+same_met (holds false rule ∷ ds) c d next fewer none met = cc
 same_met (one_more_start version ∷ ds) c d next fewer none met = absurd (omega (arith, none))
 same_met (one_more_operation version ∷ ds) c d next fewer none met =
     by (nat_lt c.operations (limits_of version).operations) refl
@@ -126,11 +129,12 @@ same_met (one_more_operation version ∷ ds) c d next fewer none met =
   where
     by : (b : Bool) → nat_lt c.operations (limits_of version).operations ≡ b
         → (check (one_operation c) ds ≡ Ok next → MetToo (one_operation d) ds next)
-        → and_then (limited b c (one_operation c)) (λ x. check x ds) ≡ Ok next → MetToo d (one_more_operation version ∷ ds) next
+        → and_then (limited b (Operations version) c (one_operation c)) (λ x. check x ds) ≡ Ok next
+        → MetToo d (one_more_operation version ∷ ds) next
     by true within later rest =
         let it = later rest in
         let too = below_too d.operations c.operations (limits_of version).operations fewer.operations within in
-        (it.0, ap (λ t. and_then (limited t d (one_operation d)) (λ x. check x ds)) too ∙ it.1, it.2)
+        (it.0, ap (λ t. and_then (limited t (Operations version) d (one_operation d)) (λ x. check x ds)) too ∙ it.1, it.2)
     by false within later rest = cc
 same_met (one_more_node version ∷ ds) c d next fewer none met =
     by (nat_lt c.nodes (limits_of version).nodes) refl
@@ -138,11 +142,12 @@ same_met (one_more_node version ∷ ds) c d next fewer none met =
   where
     by : (b : Bool) → nat_lt c.nodes (limits_of version).nodes ≡ b
         → (check (one_node c) ds ≡ Ok next → MetToo (one_node d) ds next)
-        → and_then (limited b c (one_node c)) (λ x. check x ds) ≡ Ok next → MetToo d (one_more_node version ∷ ds) next
+        → and_then (limited b (Nodes version) c (one_node c)) (λ x. check x ds) ≡ Ok next
+        → MetToo d (one_more_node version ∷ ds) next
     by true within later rest =
         let it = later rest in
         let too = below_too d.nodes c.nodes (limits_of version).nodes fewer.nodes within in
-        (it.0, ap (λ t. and_then (limited t d (one_node d)) (λ x. check x ds)) too ∙ it.1, it.2)
+        (it.0, ap (λ t. and_then (limited t (Nodes version) d (one_node d)) (λ x. check x ds)) too ∙ it.1, it.2)
     by false within later rest = cc
 same_met (in_transaction i ∷ ds) c d next fewer none met =
     same_met ds (record c { transaction = i }) (record d { transaction = i }) next
@@ -160,14 +165,14 @@ kept_after : (xs xs' ys : List Demand) (P : Type 0) → count What.starts ys ≡
 kept_after xs xs' ys P none first =
     kept_so (xs ++ ys) (xs' ++ ys) (P × ⊤) P (λ both. both.0) (kept_on xs xs' ys ys P ⊤ first (kept_same ys ⊤ none tt))
 
--- a test that holds where another does
-kept_test : (a b : Bool) (wrong : Wrong) → (a ≡ true → b ≡ true) → Kept (holds a wrong ∷ []) (holds b wrong ∷ []) (a ≡ true)
-kept_test true b wrong so = record {
+-- a test that holds where another does, by whatever rules
+kept_test : (a b : Bool) (rule later : Rule) → (a ≡ true → b ≡ true) → Kept (holds a rule ∷ []) (holds b later ∷ []) (a ≡ true)
+kept_test true b rule later so = record {
   kept = λ c d next fewer met.
       let it = none_met c d next fewer met in
-      ((it.0, ap (λ t. and_then (cond t (Ok d) (Err (fault_at wrong d))) (λ x. check x [])) (so refl) ∙ it.1, it.2), refl);
+      ((it.0, ap (λ t. and_then (cond t (Ok d) (Err (broken_at later d))) (λ x. check x [])) (so refl) ∙ it.1, it.2), refl);
 }
-kept_test false b wrong so = record { kept = λ c d next fewer met. cc }
+kept_test false b rule later so = record { kept = λ c d next fewer met. cc }
 
 -- ---- the rows that differ
 
@@ -180,13 +185,14 @@ module _ (old new : Setting) (declares : Declares old new) where
   }
     where
       by : (c d next : Counts) → Fewer d c → (b : Bool) → nat_lt c.operations (limits_of old.version).operations ≡ b
-          → and_then (limited b c (one_operation c)) (λ x. check x []) ≡ Ok next
+          → and_then (limited b (Operations old.version) c (one_operation c)) (λ x. check x []) ≡ Ok next
           → MetToo d (one_more_operation new.version ∷ []) next
       by c d next fewer true within met =
           let it = none_met (one_operation c) (one_operation d) next (fewer_operations c d fewer) met in
           let too = below_too d.operations c.operations (limits_of old.version).operations fewer.operations within in (
             it.0,
-            ap (λ t. and_then (limited t d (one_operation d)) (λ x. check x [])) (declares.operations d.operations too) ∙ it.1,
+            ap (λ t. and_then (limited t (Operations new.version) d (one_operation d)) (λ x. check x []))
+                (declares.operations d.operations too) ∙ it.1,
             it.2,
           )
       by c d next fewer false within met = cc
@@ -199,12 +205,13 @@ module _ (old new : Setting) (declares : Declares old new) where
   }
     where
       by : (c d next : Counts) → Fewer d c → (b : Bool) → nat_lt c.nodes (limits_of old.version).nodes ≡ b
-          → and_then (limited b c (one_node c)) (λ x. check x []) ≡ Ok next → MetToo d (one_more_node new.version ∷ []) next
+          → and_then (limited b (Nodes old.version) c (one_node c)) (λ x. check x []) ≡ Ok next
+          → MetToo d (one_more_node new.version ∷ []) next
       by c d next fewer true within met =
           let it = none_met (one_node c) (one_node d) next (fewer_nodes c d fewer) met in
           let too = below_too d.nodes c.nodes (limits_of old.version).nodes fewer.nodes within in (
             it.0,
-            ap (λ t. and_then (limited t d (one_node d)) (λ x. check x [])) (declares.nodes d.nodes too) ∙ it.1,
+            ap (λ t. and_then (limited t (Nodes new.version) d (one_node d)) (λ x. check x [])) (declares.nodes d.nodes too) ∙ it.1,
             it.2,
           )
       by c d next fewer false within met = cc
@@ -237,14 +244,16 @@ module _ (old new : Setting) (declares : Declares old new) where
       let call = call_named op in
       let A = is_listed object old.names in
       let B = is_some (verb_at old object call) in
+      let by_old = KnownOperation old.version (kind_named object old) in
+      let by_new = KnownOperation new.version (kind_named object new) in
       kept_so _ _ ((A ≡ true) × (B ≡ true)) (SameTarget op) (λ known. (
         ap (λ o. unwrap_or o (Alone Balance)) (verb_kept object call known.1),
         ap or_zero (declares.places object known.0),
       ))
-      (kept_on (holds A UnknownObject ∷ []) (holds (is_listed object new.names) UnknownObject ∷ []) (holds B UnknownOperation ∷ [])
-      (holds (is_some (verb_at new object call)) UnknownOperation ∷ []) (A ≡ true) (B ≡ true)
-      (kept_test A _ UnknownObject (declares.listed object))
-      (kept_test B _ UnknownOperation (λ known. ap is_some (verb_kept object call known) ∙ known)))
+      (kept_on (holds A KnownObject ∷ []) (holds (is_listed object new.names) KnownObject ∷ []) (holds B by_old ∷ [])
+      (holds (is_some (verb_at new object call)) by_new ∷ []) (A ≡ true) (B ≡ true)
+      (kept_test A _ KnownObject KnownObject (declares.listed object))
+      (kept_test B _ by_old by_new (λ known. ap is_some (verb_kept object call known) ∙ known)))
 
   operation_kept : (scope : Scope) (d : Data)
       → Kept (operation_asked old scope d) (operation_asked new scope d) (SameTarget (part (codes "op") d))
@@ -290,22 +299,28 @@ module _ (old new : Setting) (declares : Declares old new) where
 
   sub_shape_kept : (d : Data) → Kept (sub_shape_asked old.version d) (sub_shape_asked new.version d) ⊤
   unfolding sub_shape_asked
-  sub_shape_kept d = kept_so _ _ _ ⊤ (λ _. tt) (kept_before (_ ∷ _ ∷ _ ∷ []) (holds (handlers_are_members old.version d) Shape ∷ [])
-      (holds (handlers_are_members new.version d) Shape ∷ []) _ refl (kept_test (handlers_are_members old.version d) _ Shape
+  sub_shape_kept d =
+      let by_old = Shape (shape.Handlers old.version) in
+      let by_new = Shape (shape.Handlers new.version) in
+      kept_so _ _ _ ⊤ (λ _. tt) (kept_before (_ ∷ _ ∷ _ ∷ []) (holds (handlers_are_members old.version d) by_old ∷ [])
+      (holds (handlers_are_members new.version d) by_new ∷ []) _ refl (kept_test (handlers_are_members old.version d) _ by_old by_new
       (or_reasons (not (has (codes "handlers") d)) (is_some (option_and_then as_object (get (codes "handlers") d))))))
 
   abort_kept : (d : Data) → Kept (abort_asked old.version d) (abort_asked new.version d) ⊤
   unfolding abort_asked abort_shape_asked
   abort_kept d =
       let asked = part (codes "abort") d in
-      let test = holds (is_abort old.version asked) Shape ∷ [] in
-      let later = holds (is_abort new.version asked) Shape ∷ [] in
+      let by_old = Shape (shape.Abort old.version) in
+      let by_new = Shape (shape.Abort new.version) in
+      let test = holds (is_abort old.version asked) by_old ∷ [] in
+      let later = holds (is_abort new.version asked) by_new ∷ [] in
       let node = one_more_node old.version ∷ [] in
       let node' = one_more_node new.version ∷ [] in
       kept_after (_ ∷ test ++ node) (_ ∷ later ++ node') _ ⊤ (reason_counts What.starts (as_str asked))
       (kept_before (_ ∷ []) (test ++ node) (later ++ node') ⊤ refl
       (kept_so (test ++ node) (later ++ node') _ ⊤ (λ _. tt) (kept_on test later node node' _ ⊤
-      (kept_test (is_abort old.version asked) _ Shape (or_reasons (unwrap_or (as_bool asked) false) (is_some (as_str asked))))
+      (kept_test (is_abort old.version asked) _ by_old by_new
+      (or_reasons (unwrap_or (as_bool asked) false) (is_some (as_str asked))))
       node_kept)))
 
   -- ---- the steps that hold blocks
@@ -349,7 +364,7 @@ module _ (old new : Setting) (declares : Declares old new) where
         ((numbers : Numbers) → members_of new_block scope numbers ds ≡ members_of old_block scope numbers ds)
     members_kept scope no_members = kept_same [] _ refl (λ numbers. refl)
     members_kept scope (member reason d ds) =
-        let A = holds (is_name reason) Name ∷ [] in
+        let A = holds (is_name reason) (Name Handlers) ∷ [] in
         let E = old_asks scope d in
         let E' = new_asks scope d in
         let F = members_asked old_asks scope ds in
@@ -433,7 +448,7 @@ module _ (old new : Setting) (declares : Declares old new) where
 
     step_kept : (sort : Option Sort) (scope : Scope) (d : Data)
         → Kept (step_asked_by sort old_asks old scope d) (step_asked_by sort new_asks new scope d) (SameStep sort scope d)
-    step_kept None scope d = kept_same (holds false Shape ∷ []) _ refl (λ numbers. refl, refl)
+    step_kept None scope d = kept_same (holds false (Shape shape.Sort) ∷ []) _ refl (λ numbers. refl, refl)
     step_kept (Some an_operation) scope d = kept_so _ _ (SameTarget (part (codes "op") d)) _
         (λ same. (λ numbers. operation_same numbers d same, ap (λ v. with_label (label_in d) (Reply v) scope) same.0))
         (operation_kept scope d)
@@ -465,7 +480,7 @@ module _ (old new : Setting) (declares : Declares old new) where
         → Kept (array_asked (steps_asked old_asks old scope) o) (array_asked (steps_asked new_asks new scope) o)
         ((numbers : Numbers) → steps_spelled new_block new scope numbers (or_no_items o)
         ≡ steps_spelled old_block old scope numbers (or_no_items o))
-    array_kept scope None = kept_same (holds false Shape ∷ []) _ refl (λ numbers. refl)
+    array_kept scope None = kept_same (holds false (Shape shape.Block) ∷ []) _ refl (λ numbers. refl)
     array_kept scope (Some ds) = steps_kept scope ds
 
   -- ---- blocks

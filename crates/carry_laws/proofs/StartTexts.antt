@@ -53,19 +53,22 @@ pairs_longer version earlier numbers (item d ds) =
     (pairs_longer version after next ds)
 
 set_longer : (version : ℕ) (numbers : Numbers) (o : Option Items)
-    → Longer (twice (count What.starts (array_start_asked (elements_asked version []) o))) numbers (entries_of numbers (or_no_items o)).1
+    → Longer (twice (count What.starts (array_start_asked kind.Set (elements_asked version []) o))) numbers
+    (entries_of numbers (or_no_items o)).1
 unfolding array_start_asked
 set_longer version numbers None = longer_none 0 numbers
 set_longer version numbers (Some ds) = elements_longer version [] numbers ds
 
 queue_longer : (version : ℕ) (numbers : Numbers) (o : Option Items)
-    → Longer (twice (count What.starts (array_start_asked (entries_asked version) o))) numbers (entries_of numbers (or_no_items o)).1
+    → Longer (twice (count What.starts (array_start_asked kind.Queue (entries_asked version) o))) numbers
+    (entries_of numbers (or_no_items o)).1
 unfolding array_start_asked
 queue_longer version numbers None = longer_none 0 numbers
 queue_longer version numbers (Some ds) = entries_longer version numbers ds
 
 directory_longer : (version : ℕ) (numbers : Numbers) (o : Option Items)
-    → Longer (twice (count What.starts (array_start_asked (pairs_asked version []) o))) numbers (pairs_of numbers (or_no_items o)).1
+    → Longer (twice (count What.starts (array_start_asked kind.Directory (pairs_asked version []) o))) numbers
+    (pairs_of numbers (or_no_items o)).1
 unfolding array_start_asked
 directory_longer version numbers None = longer_none 0 numbers
 directory_longer version numbers (Some ds) = pairs_longer version [] numbers ds

@@ -19,8 +19,8 @@ use Rattle.batch.specs.Limits.{all_entries_in, entries_in}
 use Rattle.batch.specs.Names.{is_name}
 use Rattle.meaning.specs.declared.limits.TheConstants.{MAX_START}
 use Rattle.lang.specs.declared.document.TheConstants.{MAX_BYTES}
-use Rattle.spelling.specs.Limits.{limits_of}
-use Rattle.spelling.specs.declared.limits.TheConstants.{LAST_VERSION}
+use Rattle.rules.specs.Limits.{limits_of}
+use Rattle.rules.specs.declared.limits.TheConstants.{LAST_VERSION}
 use Rattle.carry.specs.Carried.{carried_text, document_head, first_unfit, item_text, list_text, object_text, object_texts, pair_text}
 use Rattle.carry.specs.Carried.{quoted, start_text}
 use Rattle.carry_laws.proofs.Carriable.{first_fits}

@@ -10,7 +10,7 @@ use Rattle.objects.specs.declared.value.Value.{Value}
 use Rattle.objects.specs.declared.value.Value.TheVariants as value
 use Rattle.meaning.specs.Words.{Names, members}
 use Rattle.words.specs.Words.{kind_text}
-use Rattle.spelling.specs.declared.limits.TheConstants.{LAST_VERSION}
+use Rattle.rules.specs.declared.limits.TheConstants.{LAST_VERSION}
 
 abbrev pub items_data : Names → List Item → Items
 items_data names [] = no_items

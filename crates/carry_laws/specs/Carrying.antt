@@ -11,8 +11,8 @@ use Rattle.objects.specs.declared.value.Value.TheVariants as value
 use Rattle.meaning.specs.Words.{Names}
 use Rattle.batch.specs.Names.{AreNames, is_name}
 use Rattle.carry.specs.Carried.{first_unfit}
-use Rattle.spelling.specs.Limits.{limits_of}
-use Rattle.spelling.specs.declared.limits.TheConstants.{LAST_VERSION}
+use Rattle.rules.specs.Limits.{limits_of}
+use Rattle.rules.specs.declared.limits.TheConstants.{LAST_VERSION}
 
 -- a member, an item of the queue, or a key or what it is bound to
 abbrev pub HasItem : Value → Item → Type 0

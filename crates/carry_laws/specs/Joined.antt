@@ -6,7 +6,7 @@ use Rattle.meaning.specs.Words.{Names}
 use Rattle.batch.specs.Names.{names_of}
 use Rattle.spelling.specs.Scope.{Numbers, no_numbers}
 use Rattle.spelling.specs.Spelled.{starts_of}
-use Rattle.spelling.specs.declared.limits.TheConstants.{LAST_VERSION}
+use Rattle.rules.specs.declared.limits.TheConstants.{LAST_VERSION}
 use Rattle.carry.specs.Joined.{StartOf}
 use Rattle.carry_laws.specs.CarriedData.{object_data}
 

@@ -20,8 +20,8 @@ use Rattle.carry_laws.specs.Carrying.{CanBeCarried, object_names}
 use Rattle.merging.specs.Renumbered.{renumbered}
 use Rattle.carry_laws.specs.Same.{AreSame, AreSameStarts}
 use Rattle.lang.specs.declared.document.TheConstants.{MAX_BYTES}
-use Rattle.spelling.specs.Limits.{limits_of}
-use Rattle.spelling.specs.declared.limits.TheConstants.{LAST_VERSION}
+use Rattle.rules.specs.Limits.{limits_of}
+use Rattle.rules.specs.declared.limits.TheConstants.{LAST_VERSION}
 
 -- The document starts with the same objects under the same names, and has no transaction.
 pub record StartsWith (names : Names) (values : State) (document : Document) : Type 0 where

@@ -49,7 +49,7 @@ Their report, by `ordtx run FILE`:
 
 Exit status: 0 where all was written; 1 for a fault, with the line `fault NUMBER
 transaction NUMBER` on standard error; 2 where the command line is refused.
-`ordtx locate FILE` prints where a document's fault is.";
+`ordtx locate FILE` prints where a document's fault is, and what is wrong there.";
 
 /// Reads the words of a command line, of which the first is the program's name, as `clap` reads
 /// them.

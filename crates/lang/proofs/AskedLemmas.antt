@@ -3,7 +3,7 @@ use Rattle.std.specs.Prelude.{codes}
 use Rattle.std.proofs.Common.{◌≡◌, List, [], Ok, Err, ◌∙◌}
 use Rattle.serde_json.specs.Data.{Data}
 use Rattle.spelling.specs.declared.counts.Counts.{Counts}
-use Rattle.faults.specs.declared.fault.Fault.{Fault}
+use Rattle.rules.specs.declared.failure.Failure.{Failure}
 use Rattle.spelling.specs.Asked.{document_shape_asked, objects_in, setting_in, transactions_in, version_in}
 use Rattle.spelling.specs.Demand.{Demand, check}
 use Rattle.spelling.specs.Places.{Placed, found_here, inside, member_named, nothing, objects_placed, placed, seek, transactions_placed}
@@ -23,7 +23,7 @@ module _ (d : Data) (start : Counts) where
   behind = inside (member_named (codes "transactions")) transactions nothing
 
   -- the first fault is of the shape
-  pub shape_failed : (e : Fault) → check start shape ≡ Err e → seek start (placed d) ≡ Err (found_here e)
+  pub shape_failed : (e : Failure) → check start shape ≡ Err e → seek start (placed d) ≡ Err (found_here e)
   unfolding placed
   shape_failed e failed = own_unmet start e shape (inside (member_named (codes "objects")) objects behind) failed
 

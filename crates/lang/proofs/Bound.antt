@@ -17,10 +17,10 @@ use Rattle.meaning.specs.WellFormed.{Label, OfCall, OfSubaction, CallFits, test_
 use Rattle.words.specs.declared.verb.LoneVerb.TheVariants.{Balance}
 use Rattle.words.specs.declared.verb.Verb.{Verb}
 use Rattle.words.specs.declared.verb.Verb.TheVariants.{OfAmount, OfItem, OfPair, Alone}
-use Rattle.spelling.specs.declared.subject.Subject.{Subject}
-use Rattle.spelling.specs.declared.subject.Subject.TheVariants.{Reply, Outcome}
+use Rattle.rules.specs.declared.subject.Subject.{Subject}
+use Rattle.rules.specs.declared.subject.Subject.TheVariants.{Reply, Outcome}
 use Rattle.spelling.specs.Scope.{Numbers, Scope, Setting, Table, is_listed, kind_named, label_number, named, place_of}
-use Rattle.spelling.specs.Subjects.{fits_item, fits_number, fits_word}
+use Rattle.rules.specs.Subjects.{fits_item, fits_number, fits_word}
 use Rattle.words.specs.Verbs.{phrase_verb, verb_of, verb_of_text}
 use Rattle.words.proofs.Verbs.{HasKind, amount_phrase, item_phrase, lone_phrase, named_has, pair_phrase}
 use Rattle.spelling.specs.Asked.{object_of, call_named, verb_at, verb_in, target_asked}

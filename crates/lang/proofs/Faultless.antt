@@ -18,13 +18,13 @@ use Rattle.batch.specs.Limits as limits
 use Rattle.batch.specs.Views.{Tried, steps_of, children_of}
 use Rattle.words.specs.declared.verb.Verb.{Verb}
 use Rattle.words.specs.declared.verb.Verb.TheVariants.{OfAmount, OfItem, OfPair, Alone}
-use Rattle.spelling.specs.declared.subject.Subject.{Subject}
-use Rattle.spelling.specs.declared.subject.Subject.TheVariants.{Reply, Outcome}
+use Rattle.rules.specs.declared.subject.Subject.{Subject}
+use Rattle.rules.specs.declared.subject.Subject.TheVariants.{Reply, Outcome}
 use Rattle.spelling.specs.Demand.{Demand, holds, one_more_operation, one_more_node}
-use Rattle.faults.specs.declared.fault.Wrong.TheVariants.{Depth}
+use Rattle.rules.specs.declared.rule.Rule.TheVariants.{Depth}
 use Rattle.spelling.specs.Look.{has, text_member}
 use Rattle.spelling.specs.Scope.{Numbers, Scope, Setting, is_named, named, with_label, with_labels, with_reason}
-use Rattle.spelling.specs.Subjects.{fits_word}
+use Rattle.rules.specs.Subjects.{fits_word}
 use Rattle.words.specs.Words.{word_of_text}
 use Rattle.spelling.specs.Asked
 use Rattle.spelling.specs.Asked.{part, label_in, object_of, call_named, verb_in, target_asked, operation_asked, operation_shape_asked}

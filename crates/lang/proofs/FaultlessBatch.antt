@@ -22,7 +22,7 @@ use Rattle.spelling.specs.Demand.{no_counts}
 use Rattle.spelling.specs.Look
 use Rattle.spelling.specs.Look.{whole}
 use Rattle.meaning.specs.declared.limits.TheConstants.{MAX_DEPTH, MAX_ENTRIES, MAX_NODES, MAX_OPERATIONS, MAX_START}
-use Rattle.spelling.specs.Limits.{limits_of}
+use Rattle.rules.specs.Limits.{limits_of}
 use Rattle.spelling.specs.Scope.{Numbers, Setting, Table, no_numbers}
 use Rattle.spelling.specs.Asked.{document_shape_asked, element_asked}
 use Rattle.spelling.specs.Asked.{entry_asked, kind_in, kinds_of, names_of, object_name, object_name_asked, object_shape_asked}
@@ -34,7 +34,7 @@ use Rattle.spelling.specs.Spelled.{bind_all, block_of, blocks_of, document_in, e
 use Rattle.spelling.specs.Spelled.{start_of, starts_of}
 use Rattle.lang.proofs.Faultless.{block_good, counted, most_labels}
 use Rattle.lang.proofs.Later.{blocks_later, values_later}
-use Rattle.spelling.proofs.LimitLemmas.{limits_within}
+use Rattle.rules.proofs.LimitLemmas.{limits_within}
 use Rattle.spelling.proofs.ListLemmas.{kinds_of_starts}
 use Rattle.spelling.proofs.MetLemmas.{AllMet, What, count, count-append, first_met, passed, rest_met}
 use Rattle.lang.proofs.Numbered.{blocks_numbered}
@@ -167,7 +167,7 @@ bind_all_len m (e ∷ es) = omega (arith, bind_all_len (finite_map.insert m e.0 
 
 set_start : (version : ℕ) (numbers : Numbers) (o : Option Items)
     → finite_set.len (put_all finite_set.empty (entries_of numbers (or_no_items o)).0)
-    ≤ count What.starts (array_start_asked (elements_asked version []) o)
+    ≤ count What.starts (array_start_asked kind.Set (elements_asked version []) o)
 unfolding array_start_asked
 set_start version numbers None = omega (arith, finite_set.len-empty item_cmp)
 set_start version numbers (Some ds) = omega (
@@ -178,14 +178,14 @@ set_start version numbers (Some ds) = omega (
 )
 
 queue_start : (version : ℕ) (numbers : Numbers) (o : Option Items) → length (entries_of numbers (or_no_items o)).0 ≤ count What.starts
-    (array_start_asked (entries_asked version) o)
+    (array_start_asked kind.Queue (entries_asked version) o)
 unfolding array_start_asked
 queue_start version numbers None = omega arith
 queue_start version numbers (Some ds) = omega (arith, entries_count version numbers ds)
 
 directory_start : (version : ℕ) (numbers : Numbers) (o : Option Items)
     → finite_map.len (bind_all finite_map.empty (pairs_of numbers (or_no_items o)).0)
-    ≤ count What.starts (array_start_asked (pairs_asked version []) o)
+    ≤ count What.starts (array_start_asked kind.Directory (pairs_asked version []) o)
 unfolding array_start_asked
 directory_start version numbers None = omega (arith, finite_map.len-empty item_cmp Item)
 directory_start version numbers (Some ds) = omega (

@@ -20,11 +20,14 @@ use Rattle.words.specs.declared.verb.ItemVerb.{ItemVerb}
 use Rattle.words.specs.declared.verb.AmountVerb.{AmountVerb}
 use Rattle.words.specs.declared.verb.LoneVerb.{LoneVerb}
 use Rattle.words.specs.declared.verb.PairVerb.{PairVerb}
-use Rattle.spelling.specs.declared.subject.Subject.{Subject}
-use Rattle.spelling.specs.declared.subject.Subject.TheVariants.{Outcome}
+use Rattle.rules.specs.declared.subject.Subject.{Subject}
+use Rattle.rules.specs.declared.subject.Subject.TheVariants.{Outcome}
 use Rattle.words.specs.declared.verb.Verb.{Verb}
 use Rattle.words.specs.declared.verb.Verb.TheVariants.{OfAmount, OfItem, OfPair, Alone}
-use Rattle.faults.specs.declared.fault.Wrong.TheVariants.{Argument, Name}
+use Rattle.rules.specs.declared.rule.Place.TheVariants.{Third, Fourth}
+use Rattle.rules.specs.declared.rule.ArgumentRule.TheVariants.{Count}
+use Rattle.rules.specs.declared.rule.NameRule.TheVariants as names
+use Rattle.rules.specs.declared.rule.Rule.TheVariants.{Argument, Name}
 use Rattle.spelling.specs.Amounts.{amount_of}
 use Rattle.meaning.specs.declared.limits.TheConstants.{MAX_DEPTH}
 use Rattle.spelling.specs.Demand.{Demand, holds, in_transaction, one_more_node, one_more_operation}
@@ -80,15 +83,15 @@ call_numbered (OfItem v) numbers op = record {
 call_numbered (OfPair v) numbers op =
     let after = with_item (name_item 2 op) numbers in
     let last = with_item (name_item 3 op) after in
-    let shape = holds (has_count 4 op) Argument ∷ [] in
-    let first = grows_item (name_item 2 op) numbers (item_asked 2 op) (λ met. met.1.0) in
-    let second = grows_item (name_item 3 op) after (item_asked 3 op) (λ met. met.1.0) in
+    let shape = holds (has_count 4 op) (Argument (Count (OfPair v))) ∷ [] in
+    let first = grows_item (name_item 2 op) numbers (item_asked Third op) (λ met. met.1.0) in
+    let second = grows_item (name_item 3 op) after (item_asked Fourth op) (λ met. met.1.0) in
     let key : HasText (texts_in after) (item_of (name_item 2 op) numbers) = number_below (name_item 2 op) numbers.items in
     record {
       named = pair_call_named (texts_in last) v (item_of (name_item 2 op) numbers) (item_of (name_item 3 op) after)
           (omega (arith, second.items, key)) (number_below (name_item 3 op) after.items);
-      grows = grows_behind numbers last shape (item_asked 2 op ++ item_asked 3 op)
-          (grows_on numbers after last (item_asked 2 op) (item_asked 3 op) first second);
+      grows = grows_behind numbers last shape (item_asked Third op ++ item_asked Fourth op)
+          (grows_on numbers after last (item_asked Third op) (item_asked Fourth op) first second);
     }
 call_numbered (Alone v) numbers op = record { named = lone_call_named (texts_in numbers) v; grows = grows_none numbers _ }
 
@@ -238,7 +241,7 @@ module _ (setting : Setting) (asks : Scope → Data → List Demand) (block : Sc
       let rest = members_numbered scope here.1 ds in
       let last = (members_of block scope here.1 ds).1 in
       let named : HasReason (texts_in begun) (number_of reason numbers.reasons) = number_below reason numbers.reasons in
-      let one = grows_on numbers begun here.1 (holds (is_name reason) Name ∷ []) (asks scope d)
+      let one = grows_on numbers begun here.1 (holds (is_name reason) (Name names.Handlers) ∷ []) (asks scope d)
       (grows_reason reason numbers _ (λ met. met.0)) first.grows in
       record {
         named = (

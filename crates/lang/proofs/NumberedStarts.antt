@@ -125,19 +125,19 @@ pairs_numbered version numbers earlier (item d ds) =
 -- ---- values
 
 set_numbered : (version : ℕ) (numbers : Numbers) (o : Option Items) → Numbered AllHave numbers (entries_of numbers (or_no_items o))
-    (array_start_asked (elements_asked version []) o)
+    (array_start_asked kind.Set (elements_asked version []) o)
 unfolding array_start_asked AllHave
 set_numbered version numbers None = record { named = tt; grows = grows_none numbers _ }
 set_numbered version numbers (Some ds) = elements_numbered version numbers [] ds
 
 queue_numbered : (version : ℕ) (numbers : Numbers) (o : Option Items) → Numbered AllHave numbers (entries_of numbers (or_no_items o))
-    (array_start_asked (entries_asked version) o)
+    (array_start_asked kind.Queue (entries_asked version) o)
 unfolding array_start_asked AllHave
 queue_numbered version numbers None = record { named = tt; grows = grows_none numbers _ }
 queue_numbered version numbers (Some ds) = entries_numbered version numbers ds
 
 directory_numbered : (version : ℕ) (numbers : Numbers) (o : Option Items) → Numbered AllPairsHave numbers (pairs_of numbers (or_no_items o))
-    (array_start_asked (pairs_asked version []) o)
+    (array_start_asked kind.Directory (pairs_asked version []) o)
 unfolding array_start_asked AllPairsHave
 directory_numbered version numbers None = record { named = tt; grows = grows_none numbers _ }
 directory_numbered version numbers (Some ds) = pairs_numbered version numbers [] ds

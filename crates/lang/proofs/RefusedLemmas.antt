@@ -1,17 +1,19 @@
 -- Documents that are refused.
-use Rattle.std.proofs.Common.{◌≡◌, ◌≤◌, ℕ, List, [], Bool, true, false, Option, None, Some, Err, cond, refl, sym, ap, ◌∙◌}
+use Rattle.std.proofs.Common.{◌≡◌, ◌≤◌, ℕ, List, [], Bool, true, false, Option, None, Some, Result, Ok, Err, cond, refl, sym, ap, ◌∙◌}
 use Rattle.std.specs.Str.{IsUtf8, is_utf8}
 use Rattle.std.proofs.lemmas.Str.{IsUtf8-from_is_utf8, is_utf8-from_IsUtf8}
 use Rattle.json.specs.Lex.{tokens}
 use Rattle.serde_json.specs.Data.{Data}
 use Rattle.serde_json.specs.Find.{as_object}
 use Rattle.serde_json.specs.Read.{read as read_text}
+use Rattle.rules.specs.declared.failure.Failure.{Failure}
+use Rattle.faults.specs.Faults.{wrong_outside}
 use Rattle.faults.specs.declared.fault.Wrong.TheVariants.{Shape}
+use Rattle.spelling.specs.declared.counts.Counts.{Counts}
 use Rattle.faults.specs.declared.fault.Fault.{Fault}
 use Rattle.spelling.specs.Asked.{document_shape_asked}
 use Rattle.spelling.specs.Demand.{check, no_counts}
-use Rattle.spelling.specs.Places.{fault_of, first_fault, placed}
-use Rattle.faults.specs.Faults.{wrong_outside}
+use Rattle.spelling.specs.Places.{fault_in, first_fault, here, placed}
 use Rattle.lang.specs.Reading.{spelled_by, value_of}
 use Rattle.lang.proofs.AskedLemmas.{shape_failed}
 use Rattle.pull.specs.Pulled.{ReadsValue}
@@ -38,10 +40,17 @@ pub refused_for : (bytes : List ℕ) (d : Data) (fault : Fault) → value_of byt
 refused_for bytes d fault known first = ap spelled_by known ∙ refuses d fault first
 
 -- a fault of the shape is the first
-pub shape_first : (d : Data) (fault : Fault) → check no_counts (document_shape_asked d) ≡ Err fault → first_fault (placed d) ≡ Some fault
-shape_first d fault failed = ap fault_of (shape_failed d no_counts fault failed)
+pub shape_first : (d : Data) (fault : Fault) → fault_in (here (check no_counts (document_shape_asked d))) ≡ Some fault
+    → first_fault (placed d) ≡ Some fault
+shape_first d fault failed = by (check no_counts (document_shape_asked d)) refl failed
+  where
+    by : (r : Result Counts Failure) → check no_counts (document_shape_asked d) ≡ r → fault_in (here r) ≡ Some fault
+        → first_fault (placed d) ≡ Some fault
+    by (Ok c) is some = cc
+    by (Err failure) is some = ap fault_in (shape_failed d no_counts failure is) ∙ some
 
 -- what is no object has not the shape
-pub no_object_shape : (d : Data) → as_object d ≡ None → check no_counts (document_shape_asked d) ≡ Err (wrong_outside Shape)
+pub no_object_shape : (d : Data) → as_object d ≡ None
+    → fault_in (here (check no_counts (document_shape_asked d))) ≡ Some (wrong_outside Shape)
 unfolding document_shape_asked
 no_object_shape d none = rw none refl

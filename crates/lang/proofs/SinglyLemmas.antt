@@ -3,11 +3,11 @@ use Rattle.std.proofs.Common.{◌≡◌, ◌≤◌, ℕ, [], Some, Result, Ok, E
 use Rattle.std.specs.Prelude.{MatchResult, codes}
 use Rattle.serde_json.specs.Data.{Items}
 use Rattle.spelling.specs.declared.counts.Counts.{Counts}
-use Rattle.spelling.specs.declared.limits.TheConstants.{LAST_VERSION}
+use Rattle.rules.specs.declared.limits.TheConstants.{LAST_VERSION}
 use Rattle.faults.specs.declared.fault.Fault.{Fault}
 use Rattle.spelling.specs.Answer.{AreMet, IsMet}
 use Rattle.spelling.specs.Asked.{declared_by, document_shape_asked}
-use Rattle.spelling.specs.Places.{Found, Placed, Token, below, fault_of, go_on, inside, member_named, nothing, objects_placed, placed, seek}
+use Rattle.spelling.specs.Places.{Found, Placed, Token, below, fault_in, go_on, inside, member_named, nothing, objects_placed, placed, seek}
 use Rattle.spelling.specs.Places.{transactions_placed}
 use Rattle.pull.specs.Pulled.{in_order}
 use Rattle.lang.proofs.AskedLemmas.{after_objects, after_shape, behind, objects, transactions}
@@ -21,31 +21,31 @@ pub matched_err : {T E : Type 0} (r : Result T E) (e : E) (P : T → Type 0) (Q 
 matched_err r e P Q is said = subst (λ s. MatchResult s P Q) is said
 
 -- the first fault of a part is that of the value that it is in
-pub fault_inside : (c : Counts) (token : Token) (part rest : Placed) (fault : Fault) → fault_of (seek c part) ≡ Some fault
-    → fault_of (seek c (inside token part rest)) ≡ Some fault
+pub fault_inside : (c : Counts) (token : Token) (part rest : Placed) (fault : Fault) → fault_in (seek c part) ≡ Some fault
+    → fault_in (seek c (inside token part rest)) ≡ Some fault
 fault_inside c token part rest fault failed = by (seek c part) failed
   where
-    by : (r : Result Counts Found) → fault_of r ≡ Some fault → fault_of (go_on (below token r) (λ n. seek n rest)) ≡ Some fault
+    by : (r : Result Counts Found) → fault_in r ≡ Some fault → fault_in (go_on (below token r) (λ n. seek n rest)) ≡ Some fault
     by (Ok n) is = cc
     by (Err found) is = is
 
 module _ (version : ℕ) (os ts : Items) (some : 1 ≤ version) (known : version ≤ LAST_VERSION) (start : Counts)
     (shape : IsMet start (document_shape_asked (in_order version os ts)) start) where
   -- a fault of the objects
-  pub objects_failed : (fault : Fault) → fault_of (seek start (objects_placed version [] 0 os)) ≡ Some fault
-      → fault_of (seek start (placed (in_order version os ts))) ≡ Some fault
+  pub objects_failed : (fault : Fault) → fault_in (seek start (objects_placed version [] 0 os)) ≡ Some fault
+      → fault_in (seek start (placed (in_order version os ts))) ≡ Some fault
   objects_failed fault failed =
       let d = in_order version os ts in
-      ap fault_of (after_shape d start shape)
+      ap fault_in (after_shape d start shape)
       ∙ fault_inside start (member_named (codes "objects")) (objects d start) (behind d start) fault
       (rw (version_read version os ts some known) failed)
 
   -- a fault of the transactions, once the objects have none
   pub transactions_failed : (mid : Counts) (fault : Fault) → AreMet start (objects_placed version [] 0 os) mid
-      → fault_of (seek mid (transactions_placed (declared_by version os) 0 ts)) ≡ Some fault
-      → fault_of (seek start (placed (in_order version os ts))) ≡ Some fault
+      → fault_in (seek mid (transactions_placed (declared_by version os) 0 ts)) ≡ Some fault
+      → fault_in (seek start (placed (in_order version os ts))) ≡ Some fault
   transactions_failed mid fault first failed =
       let d = in_order version os ts in
-      ap fault_of (after_objects d start mid shape (rw (version_read version os ts some known) first))
+      ap fault_in (after_objects d start mid shape (rw (version_read version os ts some known) first))
       ∙ fault_inside mid (member_named (codes "transactions")) (transactions d start) nothing fault
       (rw (version_read version os ts some known) failed)

@@ -7,7 +7,8 @@ use Rattle.faults.specs.declared.fault.Fault.{Fault}
 use Rattle.faults.specs.declared.fault.Wrong.TheVariants.{TooMany}
 use Rattle.spelling.specs.declared.counts.Counts.{Counts}
 use Rattle.spelling.specs.Demand.{no_counts}
-use Rattle.spelling.specs.Places.{Found, fault_of, first_fault, placed, seek}
+use Rattle.rules.specs.Failures.{fault_of}
+use Rattle.spelling.specs.Places.{Found, fault_in, first_fault, placed, seek}
 use Rattle.spelling.specs.Spelled.{Document, document_in}
 use Rattle.language.specs.Document.{read_document}
 use Rattle.language.specs.Laws.{spelled_or_found}
@@ -19,11 +20,11 @@ use Rattle.lang.specs.declared.document.TheConstants.{MAX_BYTES}
 same_fault : (d : Data) → spelled_by (Some d) ≡ without_place (spelled_or_found (seek no_counts (placed d)) (document_in d))
 same_fault d = ap without_place (documents_read d)
 
-met : (document : Document) (r : Result Counts Found) → fault_of r ≡ None → without_place (spelled_or_found r document) ≡ Ok document
+met : (document : Document) (r : Result Counts Found) → fault_in r ≡ None → without_place (spelled_or_found r document) ≡ Ok document
 met document (Ok c) none = refl
 met document (Err found) none = cc
 
-unmet : (document : Document) (fault : Fault) (r : Result Counts Found) → fault_of r ≡ Some fault
+unmet : (document : Document) (fault : Fault) (r : Result Counts Found) → fault_in r ≡ Some fault
     → without_place (spelled_or_found r document) ≡ Err fault
 unmet document fault (Ok c) some = cc
 unmet document fault (Err found) some = cc
@@ -37,16 +38,16 @@ pub refuses : (d : Data) (fault : Fault) → first_fault (placed d) ≡ Some fau
 refuses d fault some = same_fault d ∙ unmet (document_in d) fault (seek no_counts (placed d)) some
 
 was_unmet : (document : Document) (fault : Fault) (r : Result Counts Found) → without_place (spelled_or_found r document) ≡ Err fault
-    → fault_of r ≡ Some fault
+    → fault_in r ≡ Some fault
 was_unmet document fault (Ok c) is = cc
-was_unmet document fault (Err found) is = let same : found.fault ≡ fault = cc in ap (λ x. Some x) same
+was_unmet document fault (Err found) is = let same : fault_of found.failure ≡ fault = cc in ap (λ x. Some x) same
 
 -- what a value is refused for is its first fault
 pub refused_for_first : (d : Data) (fault : Fault) → spelled_by (Some d) ≡ Err fault → first_fault (placed d) ≡ Some fault
 refused_for_first d fault is = was_unmet (document_in d) fault (seek no_counts (placed d)) (sym (same_fault d) ∙ is)
 
 was_met : (document spelled : Document) (r : Result Counts Found) → without_place (spelled_or_found r document) ≡ Ok spelled
-    → (fault_of r ≡ None) × (document ≡ spelled)
+    → (fault_in r ≡ None) × (document ≡ spelled)
 was_met document spelled (Ok c) is = (refl, cc)
 was_met document spelled (Err found) is = cc
 

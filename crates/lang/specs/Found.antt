@@ -1,12 +1,50 @@
--- What is said of a fault's place.
-use Rattle.std.specs.Prelude.{◌≡◌, ◌<◌, ◌≤◌, ◌⊎◌, ℕ, List, [], length, None, Some, Err, string_bytes}
-use Rattle.serde_json.specs.Data.{Data}
+-- What is said of a document's first fault: where it is, and in words which rule isn't kept.
+use Rattle.std.specs.Prelude.{◌≡◌, ◌<◌, ◌≤◌, ◌⊎◌, ◌++◌, ℕ, List, [], length, None, Some, Err, string_bytes, unwrap_or}
+use Rattle.serde_json.specs.Data.{Data, null}
+use Rattle.serde_json.specs.Find.{pointer as points_to}
 use Rattle.faults.specs.declared.fault.Fault.{Fault}
-use Rattle.lang.specs.declared.places.Place.{Place}
-use Rattle.lang.specs.declared.places.Place.TheVariants.{Whole, Pointer, LineColumn}
+use Rattle.rules.specs.Failures.{fault_of}
+use Rattle.rules.specs.declared.failure.Failure.TheVariants.{Broken}
+use Rattle.rules.specs.declared.rule.Rule.{Rule}
+use Rattle.rules.specs.declared.rule.CountRule.TheVariants.{Bytes}
+use Rattle.rules.specs.declared.rule.Rule.TheVariants.{Few, Json}
+use Rattle.mistakes.specs.Words.{IsSaid}
+use Rattle.mistakes.specs.Within.{place_within}
+use Rattle.spelling.specs.Places.{Found}
 use Rattle.language.specs.Document.{read_document}
 use Rattle.lang.specs.Reading.{value_of}
 use Rattle.lang.specs.declared.document.TheConstants.{MAX_BYTES}
+use Rattle.lang.specs.declared.places.Place.{Place}
+use Rattle.lang.specs.declared.places.Place.TheVariants.{Whole, Pointer, LineColumn}
+
+-- the part of a value to which a pointer leads
+abbrev pub part_at : List ℕ → Data → Data
+part_at pointer d = unwrap_or (points_to pointer d) null
+
+-- What is said of the first rule that a value doesn't keep, as it was found: the place leads on from the part to what is wrong in it,
+-- and the words are those of the rule.
+pub record IsToldOf (value : Data) (found : Found) (place words : List ℕ) : Type 0 where
+  pub rule : Rule
+  pub transaction : ℕ
+  pub broken : found.failure ≡ Broken rule transaction
+  pub at : place ≡ found.pointer ++ place_within rule (part_at found.pointer value)
+  pub said : IsSaid rule (part_at found.pointer value) words
+
+-- The bytes write a value that doesn't spell a document, and this is its fault, the place of it and what is said of it.
+pub record IsFoundAt (bytes : List ℕ) (fault : Fault) (place words : List ℕ) : Type 0 where
+  pub value : Data
+  pub written : value_of bytes ≡ Some value
+  pub found : Found
+  pub first : read_document value ≡ Err found
+  pub is : fault ≡ fault_of found.failure
+  pub told : IsToldOf value found place words
+
+-- The place of a fault, and what is said of it. The whole is the place of a fault of its length, too.
+abbrev pub IsMistake : List ℕ → Fault → Place → List ℕ → Type 0
+IsMistake bytes fault Whole words = ((MAX_BYTES < length bytes) × IsSaid (Few Bytes) null words) ⊎ IsFoundAt bytes fault [] words
+IsMistake bytes fault (Pointer text position) words = (length bytes ≤ MAX_BYTES) × (0 < length (string_bytes text))
+    × IsFoundAt bytes fault (string_bytes text) words
+IsMistake bytes fault (LineColumn position) words = (length bytes ≤ MAX_BYTES) × (value_of bytes ≡ None) × IsSaid Json null words
 
 -- A pointer is shown so. The empty pointer is that of the whole.
 abbrev pub Shows : List ℕ → Place → Type 0
@@ -14,14 +52,11 @@ Shows pointer Whole = pointer ≡ []
 Shows pointer (Pointer text position) = (0 < length pointer) × (string_bytes text ≡ pointer)
 Shows pointer (LineColumn position) = ⊥
 
--- the bytes write a value, whose first fault is this one and is there
-abbrev pub PointsTo : List ℕ → Fault → List ℕ → Type 0
-PointsTo bytes fault pointer =
-    (d : Data) × (value_of bytes ≡ Some d) × (read_document d ≡ Err (record { fault = fault; pointer = pointer }))
+-- that is said of a rule of the part to which a pointer leads, at the place that is shown
+pub record IsToldAt (value : Data) (rule : Rule) (pointer : List ℕ) (place : Place) (words : List ℕ) : Type 0 where
+  pub shown : Shows (pointer ++ place_within rule (part_at pointer value)) place
+  pub said : IsSaid rule (part_at pointer value) words
 
--- The place of a fault. The whole is the place of a fault of its length, too, and a pointer leads to a part of it.
-abbrev pub IsPlaceOf : List ℕ → Fault → Place → Type 0
-IsPlaceOf bytes fault Whole = (MAX_BYTES < length bytes) ⊎ PointsTo bytes fault []
-IsPlaceOf bytes fault (Pointer text position) = (length bytes ≤ MAX_BYTES) × (0 < length (string_bytes text))
-    × PointsTo bytes fault (string_bytes text)
-IsPlaceOf bytes fault (LineColumn position) = (length bytes ≤ MAX_BYTES) × (value_of bytes ≡ None)
+-- that is said of what was found in a value, at the place that is shown
+abbrev pub Tells : Data → Found → Place → List ℕ → Type 0
+Tells value found place words = (pointer : List ℕ) × Shows pointer place × IsToldOf value found pointer words

@@ -11,6 +11,7 @@ use Rattle.spelling.specs.declared.state.Numbering.{Numbering}
 use Rattle.faults.specs.declared.fault.Wrong.TheVariants.{NotJson, TooMany}
 use Rattle.faults.specs.declared.fault.Fault.{Fault}
 use Rattle.faults.specs.Faults.{wrong_outside}
+use Rattle.rules.specs.Failures.{fault_of}
 use Rattle.spelling.specs.Places.{Found}
 pub use Rattle.spelling.specs.Spelled.{Document}
 use Rattle.language.specs.Document.{read_document}
@@ -22,7 +23,7 @@ value_of bytes = if is_utf8 bytes then read_text bytes else None
 
 abbrev pub without_place : Result Document Found → Result Document Fault
 without_place (Ok document) = Ok document
-without_place (Err found) = Err found.fault
+without_place (Err found) = Err (fault_of found.failure)
 
 abbrev pub spelled_by : Option Data → Result Document Fault
 spelled_by None = Err (wrong_outside NotJson)

@@ -1,18 +1,22 @@
-//! Where a document's first fault is.
-ghost use Rattle.std.specs.Prelude.{◌≡◌, ◌≢◌, Err, IfErr, IfOk};
+//! Where a document's first fault is, and what it is in words.
+ghost use Rattle.std.specs.Prelude.{◌≡◌, ◌≢◌, Err, IfErr, IfOk, string_bytes};
+ghost use Rattle.serde_json.specs.View.{view};
 ghost use Rattle.faults.specs.Faults.{memory_fault};
-ghost use Rattle.lang.specs.Found.{IsPlaceOf, Shows};
+ghost use Rattle.rules.specs.declared.failure.Failure.TheVariants as failure;
+ghost use Rattle.lang.specs.Found.{IsMistake, IsToldAt, Shows, Tells};
 ghost use Rattle.lang.specs.Reading.{reading};
-ghost use Rattle.spelling.specs.Answer.{found_of};
+ghost use Rattle.spelling.specs.Answer.{found_of, pointer_text};
 
 use crate::document::{MAX_BYTES, read_parts, utf8_of};
 use crate::positions::{Position, position_of};
 use faults::{Code, Fault};
+use mistakes::{place_within, words};
+use rules::{CountRule, Failure, Rule};
 use serde_json::Value;
 use spelling::hashing::NameHashing;
 use spelling::state::State;
 use spelling::unmet::Unmet;
-use std::alloc::Global;
+use std::alloc::{AllocError, Global};
 
 /// Where a document's first fault is.
 #[derive(Debug, Drop)]
@@ -25,16 +29,29 @@ pub enum Place {
     LineColumn(Position),
 }
 
-/// The place of the fault that [`read`](crate::read) returns for these bytes.
+/// What is wrong with a document first: where, and in words, as `no label "w" is seen here`.
+#[derive(Debug, Drop)]
+pub struct Mistake {
+    pub place: Place,
+    /// Without a line's end.
+    pub words: String,
+}
+
+/// The place and the words of the fault that [`read`](crate::read) returns for these bytes.
 ///
 /// `Memory` is returned where a request for memory was refused.
-pub fn locate(alloc: Global, bytes: &[u8], fault: Fault) -> Result<Place, Fault>
+pub fn locate(alloc: Global, bytes: &[u8], fault: Fault) -> Result<Mistake, Fault>
     requires { reading bytes.now ≡ Err fault }
-    ensures place { IfOk result (IsPlaceOf bytes.now fault) }
+    ensures mistake { IfOk result (λ mistake. IsMistake bytes.now fault mistake.place
+        (string_bytes mistake.words)) }
     ensures err { IfErr result (λ refused. refused ≡ memory_fault) }
 {
     if bytes.len() > MAX_BYTES {
-        return Ok(Place::Whole);
+        let words = words(alloc, Rule::Few(CountRule::Bytes), &Value::Null)?;
+        return Ok(Mistake {
+            place: Place::Whole,
+            words,
+        });
     }
     let value = match Value::from_slice(alloc, bytes) {
         Ok(value) => value,
@@ -42,34 +59,80 @@ pub fn locate(alloc: Global, bytes: &[u8], fault: Fault) -> Result<Place, Fault>
             if error.is_memory() {
                 return Err(Code::Memory.outside());
             }
-            return Ok(Place::LineColumn(Position {
+            let position = Position {
                 line: error.line(),
                 column: error.column(),
-            }));
+            };
+            let words = words(alloc, Rule::Json, &Value::Null)?;
+            return Ok(Mistake {
+                place: Place::LineColumn(position),
+                words,
+            });
         }
     };
     let mut state = State::new(alloc, NameHashing::of(bytes));
     match read_parts(alloc, &value, &mut state) {
-        Ok(_) => Ok(Place::Whole),
-        Err(unmet) => place_of(alloc, bytes, unmet),
+        // A document with a fault breaks a rule.
+        Ok(_) => Ok(Mistake {
+            place: Place::Whole,
+            words: String::new(alloc),
+        }),
+        Err(unmet) => mistake_in(alloc, bytes, &value, &unmet),
     }
 }
 
-// The place of a demand that these bytes don't meet.
-fn place_of(alloc: Global, bytes: &[u8], unmet: Unmet) -> Result<Place, Fault>
-    ensures place { IfOk result (λ place. (unmet.fault ≢ memory_fault) × Shows (found_of unmet).pointer place) }
+// What is said of a rule that the value of these bytes doesn't keep.
+fn mistake_in(alloc: Global, bytes: &[u8], value: &Value, unmet: &Unmet) -> Result<Mistake, Fault>
+    ensures told { IfOk result (λ mistake. (unmet.now.failure ≢ failure.NoMemory)
+        × Tells (view value.now) (found_of unmet.now) mistake.place (string_bytes mistake.words)) }
     ensures err { IfErr result (λ refused. refused ≡ memory_fault) }
 {
-    if unmet.fault.code == Code::Memory {
+    let Failure::Broken(rule, _) = unmet.failure else {
         return Err(Code::Memory.outside());
+    };
+    let pointer = pointer_of(unmet);
+    let mistake = mistake_at(alloc, bytes, value, rule, pointer)?;
+    Ok(mistake)
+}
+
+// The pointer to the part of which a rule is asked.
+fn pointer_of(unmet: &Unmet) -> &str
+    ensures { result.now ≡ pointer_text unmet.now.pointer }
+{
+    match &unmet.pointer {
+        Some(pointer) => pointer.as_str(),
+        None => "",
     }
+}
+
+// What is said of a rule that isn't kept by the part to which a pointer leads.
+fn mistake_at(
+    alloc: Global,
+    bytes: &[u8],
+    value: &Value,
+    rule: Rule,
+    pointer: &str,
+) -> Result<Mistake, AllocError>
+    ensures { IfOk result (λ mistake. IsToldAt (view value.now) rule pointer.now mistake.place
+        (string_bytes mistake.words)) }
+{
+    let part = value.pointer(pointer).unwrap_or(&Value::Null);
+    let words = words(alloc, rule, part)?;
+    let within = place_within(alloc, rule, part)?;
+    let lead = format!(in alloc; "{pointer}{within}")?;
+    let place = place_of(alloc, bytes, lead)?;
+    Ok(Mistake { place, words })
+}
+
+// The place to which a pointer leads in the value of these bytes.
+fn place_of(alloc: Global, bytes: &[u8], pointer: String) -> Result<Place, AllocError>
+    ensures { IfOk result (λ place. Shows (string_bytes pointer) place) }
+{
     // The empty pointer leads to the whole.
-    match unmet.pointer {
-        Some(pointer) if !pointer.is_empty() => {
-            let text = utf8_of(bytes).unwrap_or("");
-            let position = position_of(alloc, text, pointer.as_str())?;
-            Ok(Place::Pointer(pointer, position))
-        }
-        _ => Ok(Place::Whole),
+    if pointer.is_empty() {
+        return Ok(Place::Whole);
     }
+    let text = utf8_of(bytes).unwrap_or("");
+    let position = position_of(alloc, text, pointer.as_str())?;
+    Ok(Place::Pointer(pointer, position))
 }

@@ -4,6 +4,7 @@
 
 use json::{Reader, Scratch, Token};
 use memchr::{memchr_iter, memrchr};
+use mistakes::pointer_token;
 use pull::notes::MAX_NESTING;
 use std::alloc::{AllocError, Global};
 
@@ -39,7 +40,7 @@ pub(crate) fn position_of(
     let path: Vec<&str> = pointer.split('/').skip(1).collect(alloc)?;
     let mut scratch = Scratch::new(alloc);
     let mut reader = Reader::new(text, &mut scratch)?;
-    let begin = part_in(&mut reader, path.as_slice());
+    let begin = part_in(alloc, &mut reader, path.as_slice())?;
     Ok(Position::after(before_value(text, begin)))
 }
 
@@ -57,43 +58,65 @@ fn before_value(text: &str, begin: usize) -> &[u8] {
 // Passes the value that comes next. Returns where the reader was before the part of it to which
 // these names and indices lead.
 #[cycle(path)]
-fn part_in(reader: &mut Reader<'_>, path: &[&str]) -> usize {
+fn part_in(alloc: Global, reader: &mut Reader<'_>, path: &[&str]) -> Result<usize, AllocError> {
     let here = reader.offset();
     let Some((token, rest)) = path.split_first() else {
         // Where it can't be passed, nothing is found after it.
         let _ = reader.skip_value(MAX_NESTING);
-        return here;
+        return Ok(here);
     };
     let part = match reader.next() {
-        Some(Token::BeginObject) => member_in(reader, token, rest),
-        Some(Token::BeginArray) => item_in(reader, token, rest),
+        Some(Token::BeginObject) => member_in(alloc, reader, token, rest)?,
+        Some(Token::BeginArray) => item_in(alloc, reader, token, rest)?,
         _ => None,
     };
-    part.unwrap_or(here)
+    Ok(part.unwrap_or(here))
 }
 
-// The same in the last member of this name, of an object whose beginning has been read.
+// Whether a token of a pointer leads to the member of this name.
+fn is_of(alloc: Global, token: &str, name: &str) -> Result<bool, AllocError> {
+    if !token.contains('~') && !token.contains('\\') {
+        return Ok(token == name);
+    }
+    let own = pointer_token(alloc, name)?;
+    Ok(own.as_str() == token)
+}
+
+// The same in the last member to which this token leads, of an object whose beginning has been
+// read.
 #[cycle(path)]
-fn member_in(reader: &mut Reader<'_>, name: &str, rest: &[&str]) -> Option<usize> {
+fn member_in(
+    alloc: Global,
+    reader: &mut Reader<'_>,
+    token: &str,
+    rest: &[&str],
+) -> Result<Option<usize>, AllocError> {
     let mut part = None;
     // There are never so many members.
     for _ in 0..usize::MAX {
         let Ok(Some(key)) = reader.next_key() else {
             break;
         };
-        if key == name {
-            part = Some(part_in(reader, rest));
+        if is_of(alloc, token, key)? {
+            part = Some(part_in(alloc, reader, rest)?);
         } else if reader.skip_value(MAX_NESTING).is_err() {
             break;
         }
     }
-    part
+    Ok(part)
 }
 
 // The same in the item of this index, from 0, of an array whose beginning has been read.
 #[cycle(path)]
-fn item_in(reader: &mut Reader<'_>, index: &str, rest: &[&str]) -> Option<usize> {
-    let index = index.parse::<usize>().ok()?;
+fn item_in(
+    alloc: Global,
+    reader: &mut Reader<'_>,
+    index: &str,
+    rest: &[&str],
+) -> Result<Option<usize>, AllocError> {
+    let Ok(index) = index.parse::<usize>() else {
+        return Ok(None);
+    };
     let mut part = None;
     // There are never so many items.
     for place in 0..usize::MAX {
@@ -101,10 +124,10 @@ fn item_in(reader: &mut Reader<'_>, index: &str, rest: &[&str]) -> Option<usize>
             break;
         }
         if place == index {
-            part = Some(part_in(reader, rest));
+            part = Some(part_in(alloc, reader, rest)?);
         } else if reader.skip_value(MAX_NESTING).is_err() {
             break;
         }
     }
-    part
+    Ok(part)
 }

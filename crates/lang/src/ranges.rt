@@ -13,7 +13,7 @@ ghost use Rattle.pull.specs.Pulled.{ReadsValue};
 ghost use Rattle.pull.specs.Ranges.{AreRead, IsBegun, left_by, reached};
 ghost use Rattle.spelling.specs.Answer.{AreMet};
 ghost use Rattle.spelling.specs.Asked.{names_of, objects_in};
-ghost use Rattle.spelling.specs.Limits.{limits_of};
+ghost use Rattle.rules.specs.Limits.{limits_of};
 ghost use Rattle.spelling.specs.Places.{placed};
 ghost use Rattle.spelling.specs.Scope.{numbers_of, scope_of, setting_of};
 ghost use Rattle.spelling.specs.Spelled.{parts_in, spelled};

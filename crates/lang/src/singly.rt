@@ -13,7 +13,7 @@ ghost use Rattle.pull.specs.Pulled.{ReadsItems, ReadsValue};
 ghost use Rattle.spelling.specs.Places.{placed, transaction_placed, transactions_placed};
 ghost use Rattle.spelling.specs.Scope.{numbers_of, scope_of, setting_of};
 ghost use Rattle.spelling.specs.Spelled.{block_of, blocks_of, parts_in, spelled};
-ghost use Rattle.spelling.specs.Limits.{limits_of};
+ghost use Rattle.rules.specs.Limits.{limits_of};
 ghost use Rattle.meaning.specs.declared.limits.TheConstants.{MAX_DEPTH};
 
 use batch::Block;
@@ -22,8 +22,8 @@ use json::Reader;
 use pull::pass::pass_items;
 use pull::pull::{PART_DEPTH, pull_end_object, pull_head, pull_value};
 use pull::stop::Stop;
+use rules::Limits;
 use spelling::declared::{Declared, Parts};
-use spelling::limits::Limits;
 use spelling::starts::read_objects;
 use spelling::state::State;
 use spelling::steps::read_transaction;
@@ -50,7 +50,7 @@ fn one_transaction(
     let value = pull_value(alloc, reader, PART_DEPTH)?;
     match read_transaction(alloc, &value, number, declared, state) {
         Ok(block) => Ok(Ok(block)),
-        Err(unmet) => Ok(Err(unmet.fault)),
+        Err(unmet) => Ok(Err(unmet.failure.fault())),
     }
 }
 
@@ -119,7 +119,7 @@ pub(crate) fn each_part(
         Err(unmet) => {
             pass_items(reader, PART_DEPTH)?;
             pull_end_object(reader)?;
-            return Ok(Err(unmet.fault));
+            return Ok(Err(unmet.failure.fault()));
         }
     };
     let answer = each_transaction(alloc, reader, &declared, state)?;

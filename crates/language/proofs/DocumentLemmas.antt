@@ -4,10 +4,12 @@ use Rattle.std.proofs.Common.{◌≡◌, ℕ, ◌+◌, refl, ap, ◌∙◌, [], 
 use Rattle.serde_json.specs.Data.{Data, Items, no_items, item}
 use Rattle.serde_json.specs.Events.{items_len}
 use Rattle.meaning.specs.declared.limits.TheConstants.{MAX_DEPTH}
+use Rattle.rules.specs.Forms.{member_names}
+use Rattle.rules.specs.declared.form.Form.TheVariants as form
 use Rattle.spelling.specs.declared.counts.Counts.{Counts}
 use Rattle.spelling.specs.Asked.{declared_by, document_shape_asked, version_of}
 use Rattle.spelling.specs.Demand.{no_counts}
-use Rattle.spelling.specs.Limits.{limits_of}
+use Rattle.rules.specs.Limits.{limits_of}
 use Rattle.spelling.specs.Look.{has_only, list_member}
 use Rattle.spelling.specs.Places.{Found, block_placed, member_named, objects_placed, placed, seek, transaction_placed, transactions_placed}
 use Rattle.spelling.specs.Scope.{Numbers, Setting, no_numbers}
@@ -45,7 +47,7 @@ document_reads : (d : Data) → whole_in d nothing_seen
     ≡ answer (seek no_counts (placed d)) (spelled_document d) (parts_in no_numbers d).2
 unfolding whole_in placed document_shape_asked spelled_document parts_in
 document_reads d =
-    asks_is (has_only (codes "ordtx" ∷ codes "objects" ∷ codes "transactions" ∷ []) d) _ (λ no. rw no) (λ is. rw is (
+    asks_is (has_only (member_names form.Document) d) _ (λ no. rw no) (λ is. rw is (
     needs_is (version_of d) _ (λ no. rw no) (λ version known. simp known (
     needs_is (list_member (codes "objects") d) _ (λ no. rw no) (λ objects there. simp there (
     needs_is (list_member (codes "transactions") d) _ (λ no. rw no) (λ transactions there. simp there (

@@ -2,13 +2,13 @@
 use Rattle.std.proofs.Common.{◌≡◌, ℕ, ◌+◌, List, ◌∷◌, Bool, true, false, Option, None, Some, Result, Ok, Err, refl, ap, ◌∙◌}
 use Rattle.std.specs.Result.{result_map_both}
 use Rattle.serde_json.specs.Data.{Data, Items, no_items, item}
-use Rattle.faults.specs.declared.fault.Fault.{Fault}
-use Rattle.faults.specs.declared.fault.Wrong.{Wrong}
+use Rattle.rules.specs.declared.failure.Failure.{Failure}
+use Rattle.rules.specs.declared.rule.Rule.{Rule}
 use Rattle.spelling.specs.declared.counts.Counts.{Counts}
 use Rattle.spelling.specs.Demand.{Demand, check_one}
 use Rattle.spelling.specs.Places.{Found, Token, below, found_here, found_inside, go_on, here, item_at}
 use Rattle.spelling.specs.Scope.{Numbers}
-use Rattle.language.specs.Reading.{Reading, Seen, after, asks, counted, each, fails, inside, needs, then_read}
+use Rattle.language.specs.Reading.{Reading, Seen, after, asks, counted, each, breaks, inside, needs, then_read}
 
 -- these counts and numbers
 abbrev pub seen_of : Counts → Numbers → Seen
@@ -27,19 +27,19 @@ by_test false yes_case no_case = no_case refl
 -- A word and the rest say what is right, where they do in each case of what the word looks at.
 module _ {A : Type 0} {right : Result (A × Seen) Found} where
   -- a test
-  pub asks_is : {wrong : Wrong} {seen : Seen} (b : Bool) (rest : Reading A) → (b ≡ false → fails wrong seen ≡ right)
-      → (b ≡ true → rest seen ≡ right) → asks b wrong rest seen ≡ right
+  pub asks_is : {rule : Rule} {seen : Seen} (b : Bool) (rest : Reading A) → (b ≡ false → breaks rule seen ≡ right)
+      → (b ≡ true → rest seen ≡ right) → asks b rule rest seen ≡ right
   asks_is true rest unmet met = met refl
   asks_is false rest unmet met = unmet refl
 
   -- what has to be there
-  pub needs_is : {B : Type 0} {wrong : Wrong} {seen : Seen} (o : Option B) (rest : B → Reading A) → (o ≡ None → fails wrong seen ≡ right)
-      → ((x : B) → o ≡ Some x → rest x seen ≡ right) → needs o wrong rest seen ≡ right
+  pub needs_is : {B : Type 0} {rule : Rule} {seen : Seen} (o : Option B) (rest : B → Reading A) → (o ≡ None → breaks rule seen ≡ right)
+      → ((x : B) → o ≡ Some x → rest x seen ≡ right) → needs o rule rest seen ≡ right
   needs_is None rest absent there = absent refl
   needs_is (Some x) rest absent there = there x refl
 
   -- by what the count gives
-  count_is : (r : Result Counts Fault) (rest : Reading A) (seen : Seen) → ((e : Fault) → r ≡ Err e → Err (found_here e) ≡ right)
+  count_is : (r : Result Counts Failure) (rest : Reading A) (seen : Seen) → ((e : Failure) → r ≡ Err e → Err (found_here e) ≡ right)
       → ((c : Counts) → r ≡ Ok c → rest (seen_of c seen.numbers) ≡ right)
       → then_read (here r) (λ c. rest (seen_of c seen.numbers)) ≡ right
   count_is (Ok c) rest seen over within = within c refl
@@ -47,7 +47,7 @@ module _ {A : Type 0} {right : Result (A × Seen) Found} where
 
   -- one more of what is counted
   pub counted_is : (demand : Demand) (rest : Reading A) (seen : Seen)
-      → ((e : Fault) → check_one seen.counts demand ≡ Err e → Err (found_here e) ≡ right)
+      → ((e : Failure) → check_one seen.counts demand ≡ Err e → Err (found_here e) ≡ right)
       → ((c : Counts) → check_one seen.counts demand ≡ Ok c → rest (seen_of c seen.numbers) ≡ right) → counted demand rest seen ≡ right
   unfolding counted
   counted_is demand rest seen over within = count_is (check_one seen.counts demand) rest seen over within
@@ -67,15 +67,15 @@ module _ {A : Type 0} {right : Result (A × Seen) Found} where
       ap (λ p. then_read p (λ read. rest read.0 read.1)) gives ∙ read_is r x n rest failed met
 
   -- by what the demands on the value itself give
-  check_after : {B : Type 0} (r : Result Counts Fault) (x : B) (n : Numbers) (rest : B → Reading A)
-      → ((e : Fault) → r ≡ Err e → Err (found_here e) ≡ right) → ((c : Counts) → r ≡ Ok c → rest x (seen_of c n) ≡ right)
+  check_after : {B : Type 0} (r : Result Counts Failure) (x : B) (n : Numbers) (rest : B → Reading A)
+      → ((e : Failure) → r ≡ Err e → Err (found_here e) ≡ right) → ((c : Counts) → r ≡ Ok c → rest x (seen_of c n) ≡ right)
       → then_read (answer (here r) x n) (λ read. rest read.0 read.1) ≡ right
   check_after (Ok c) x n rest failed met = met c refl
   check_after (Err e) x n rest failed met = failed e refl
 
   -- the same of a part that asks no more than demands on the value itself
-  pub check_is : {B : Type 0} (part : Reading B) (rest : B → Reading A) {seen : Seen} (r : Result Counts Fault) {x : B} {n : Numbers}
-      → part seen ≡ answer (here r) x n → ((e : Fault) → r ≡ Err e → Err (found_here e) ≡ right)
+  pub check_is : {B : Type 0} (part : Reading B) (rest : B → Reading A) {seen : Seen} (r : Result Counts Failure) {x : B} {n : Numbers}
+      → part seen ≡ answer (here r) x n → ((e : Failure) → r ≡ Err e → Err (found_here e) ≡ right)
       → ((c : Counts) → r ≡ Ok c → rest x (seen_of c n) ≡ right) → after part rest seen ≡ right
   check_is part rest r {x} {n} gives failed met =
       ap (λ p. then_read p (λ read. rest read.0 read.1)) gives ∙ check_after r x n rest failed met

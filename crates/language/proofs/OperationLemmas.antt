@@ -9,8 +9,10 @@ use Rattle.words.specs.declared.verb.Verb.{Verb}
 use Rattle.words.specs.declared.verb.Verb.TheVariants.{OfAmount, OfItem, OfPair, Alone}
 use Rattle.words.specs.Verbs.{verb_of_text}
 use Rattle.batch.specs.Names.{is_name}
-use Rattle.faults.specs.declared.fault.Fault.{Fault}
-use Rattle.spelling.specs.declared.subject.Subject.TheVariants.{Reply}
+use Rattle.rules.specs.declared.failure.Failure.{Failure}
+use Rattle.rules.specs.declared.subject.Subject.TheVariants.{Reply}
+use Rattle.rules.specs.Forms.{member_names}
+use Rattle.rules.specs.declared.form.Form.TheVariants as form
 use Rattle.spelling.specs.Asked.{amount_asked, amount_item, arguments_asked, has_count, item_asked, label_asked, label_in, label_is_text}
 use Rattle.spelling.specs.Asked.{operation_asked, operation_shape_asked, part, target_asked, verb_in}
 use Rattle.spelling.specs.Demand.{check, one_more_operation}
@@ -42,7 +44,7 @@ call_reads (Alone v) op seen = asks_is (has_count 2 op) _ (λ no. rw no) (λ is.
 
 -- a label that may be set leaves the rest, and else there is a fault
 pub label_is : {A : Type 0} {right : Result (A × Seen) Found} {seen : Seen} (scope earlier : Scope) (label : Option (List ℕ))
-    (rest : Reading A) → ((e : Fault) → check seen.counts (label_asked scope earlier label) ≡ Err e → Err (found_here e) ≡ right)
+    (rest : Reading A) → ((e : Failure) → check seen.counts (label_asked scope earlier label) ≡ Err e → Err (found_here e) ≡ right)
     → (check seen.counts (label_asked scope earlier label) ≡ Ok seen.counts → rest seen ≡ right)
     → new_label scope earlier label rest seen ≡ right
 unfolding label_asked
@@ -76,7 +78,7 @@ pub operation_reads : (setting : Setting) (scope : Scope) (d : Data) (seen : See
 unfolding operation_in operation_asked operation_shape_asked target_asked operation_of
 operation_reads setting scope d seen =
     let op = part (codes "op") d in
-    asks_is (has_only (codes "op" ∷ codes "as" ∷ []) d) _ (λ no. rw no) (λ is. rw is (
+    asks_is (has_only (member_names form.Operation) d) _ (λ no. rw no) (λ is. rw is (
     needs_is (text_item 0 op) _ (λ no. rw no) (λ object there. rw there (
     needs_is (text_item 1 op) _ (λ no. rw no) (λ word there. rw there (
     asks_is (label_is_text d) _ (λ no. rw no) (λ is. rw is (

@@ -11,7 +11,10 @@ use Rattle.objects.specs.declared.kind.Kind.TheVariants as kind
 use Rattle.objects.specs.declared.value.Value.{Value}
 use Rattle.objects.specs.declared.value.Value.TheVariants as value
 use Rattle.batch.specs.Names.{is_name}
-use Rattle.faults.specs.declared.fault.Wrong.TheVariants.{Start}
+use Rattle.rules.specs.declared.rule.Rule.TheVariants.{Start}
+use Rattle.rules.specs.declared.rule.StartRule.TheVariants.{Of}
+use Rattle.rules.specs.Forms.{member_names}
+use Rattle.rules.specs.declared.form.Form.TheVariants as form
 use Rattle.spelling.specs.Asked.{element_asked, entry_asked, has_count, key_of, kind_in, names_of, number_start, object_kind, object_name}
 use Rattle.spelling.specs.Asked.{object_name_asked, object_shape_asked, or_no_items, pair_asked, part, signed_start, text_of}
 use Rattle.spelling.specs.Demand.{one_more_start}
@@ -91,13 +94,13 @@ pairs_read version earlier i (item d ds) seen =
     (λ c. pairs_read version after (i + 1) ds (seen_of c (pair_of seen.numbers d).1))
 
 -- the items of an array that an object starts with
-array_reads : {A : Type 0} (entry : Table → Data → Reading (A × Table)) (valued : List A → Value) (places : Items → Placed)
+array_reads : {A : Type 0} (k : Kind) (entry : Table → Data → Reading (A × Table)) (valued : List A → Value) (places : Items → Placed)
     (spelling : Numbers → Items → List A × Numbers) (last : Items → Table)
     → ((ds : Items) (seen : Seen) → each entry 0 [] ds seen
     ≡ answer (seek seen.counts (places ds)) ((spelling seen.numbers ds).0, last ds) (spelling seen.numbers ds).1)
-    → (d : Data) (seen : Seen) → array_start entry valued d seen ≡ answer (seek seen.counts (array_placed Start places (as_array d)))
+    → (d : Data) (seen : Seen) → array_start k entry valued d seen ≡ answer (seek seen.counts (array_placed (Start (Of k)) places (as_array d)))
     (valued (spelling seen.numbers (or_no_items (as_array d))).0) (spelling seen.numbers (or_no_items (as_array d))).1
-array_reads entry valued places spelling last reads d seen =
+array_reads k entry valued places spelling last reads d seen =
     needs_is (as_array d) _ (λ no. rw no) (λ ds there. rw there (
     after_is (each entry 0 [] ds) _ (seek seen.counts (places ds)) (reads ds seen) (λ found failed. rw failed) (λ c met. rw met)))
 
@@ -108,11 +111,11 @@ unfolding start_in start_placed start_of
 start_reads version kind.Account d seen = needs_is (number_start d) _ (λ no. rw no) (λ n there. rw there)
 start_reads version kind.Counter d seen = needs_is (signed_start d) _ (λ no. rw no) (λ n there. rw there)
 start_reads version kind.Max d seen = needs_is (number_start d) _ (λ no. rw no) (λ n there. rw there)
-start_reads version kind.Set d seen = array_reads (element_in version) (λ items. value.Set (put_all finite_set.empty items))
+start_reads version kind.Set d seen = array_reads kind.Set (element_in version) (λ items. value.Set (put_all finite_set.empty items))
     (elements_placed version [] 0) entries_of (left_by (λ earlier d. with_text (text_of d) earlier) []) (elements_read version [] 0) d seen
-start_reads version kind.Queue d seen = array_reads (entry_in version) value.Queue (entries_placed version 0) entries_of (λ ds. [])
+start_reads version kind.Queue d seen = array_reads kind.Queue (entry_in version) value.Queue (entries_placed version 0) entries_of (λ ds. [])
     (entries_read version [] 0) d seen
-start_reads version kind.Directory d seen = array_reads (pair_in version) (λ pairs. value.Directory (bind_all finite_map.empty pairs))
+start_reads version kind.Directory d seen = array_reads kind.Directory (pair_in version) (λ pairs. value.Directory (bind_all finite_map.empty pairs))
     (pairs_placed version [] 0) pairs_of (left_by (λ earlier d. with_text (key_of d) earlier) []) (pairs_read version [] 0) d seen
 
 -- an object, and the names up to it
@@ -122,7 +125,7 @@ object_reads : (version : ℕ) (names : Table) (d : Data) (seen : Seen) → obje
     (start_of (kind_in version d) seen.numbers (part (codes "start") d)).1
 unfolding object_in object_placed object_shape_asked object_name_asked
 object_reads version names d seen =
-    asks_is (has_only (codes "name" ∷ codes "kind" ∷ codes "start" ∷ []) d) _ (λ no. rw no) (λ is. rw is (
+    asks_is (has_only (member_names form.Object) d) _ (λ no. rw no) (λ is. rw is (
     needs_is (text_member (codes "name") d) _ (λ no. rw no) (λ name there. rw there (
     needs_is (object_kind version d) _ (λ no. rw no) (λ k there. rw there (
     needs_is (get (codes "start") d) _ (λ no. rw no) (λ start there. rw there (

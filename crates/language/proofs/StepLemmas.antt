@@ -4,12 +4,16 @@ use Rattle.std.proofs.Common.{◌≡◌, ℕ, zero, suc, ◌+◌, refl, List, []
 use Rattle.serde_json.specs.Data.{Data, Items, no_items, item, Members, no_members, member}
 use Rattle.serde_json.specs.Find.{as_array, as_str, get}
 use Rattle.batch.specs.Names.{is_name}
-use Rattle.faults.specs.declared.fault.Wrong.TheVariants.{Name}
+use Rattle.rules.specs.declared.rule.Rule.{Rule}
+use Rattle.rules.specs.declared.rule.NameRule.TheVariants.{Handlers, Reason}
+use Rattle.rules.specs.declared.rule.Rule.TheVariants.{Name}
+use Rattle.rules.specs.Forms.{member_names}
+use Rattle.rules.specs.declared.form.Form.TheVariants as form
 use Rattle.spelling.specs.declared.steps.Sort.{Sort}
 use Rattle.spelling.specs.declared.steps.Sort.TheVariants.{Operation as an_operation, If as an_if, Sub as a_sub, Abort as an_abort}
 use Rattle.spelling.specs.declared.steps.Sort.TheVariants.{Parallel as a_parallel}
-use Rattle.spelling.specs.declared.subject.Subject.{Subject}
-use Rattle.spelling.specs.declared.subject.Subject.TheVariants.{Outcome}
+use Rattle.rules.specs.declared.subject.Subject.{Subject}
+use Rattle.rules.specs.declared.subject.Subject.TheVariants.{Outcome}
 use Rattle.spelling.specs.Asked.{abort_asked, abort_shape_asked, children_in, handlers_are_members, handlers_in, has_one_test}
 use Rattle.spelling.specs.Asked.{if_shape_asked, is_abort, label_in, label_is_text, labels_of, parallel_shape_asked, part, reason_asked}
 use Rattle.spelling.specs.Asked.{scope_after, scope_after_by, seen_asked, sort_of, sub_shape_asked, test_asked, tested_word}
@@ -21,7 +25,7 @@ use Rattle.spelling.specs.Places.{sub_placed}
 use Rattle.spelling.specs.Scope.{Scope, Setting, named, number_of, with_label, with_labels, with_reason}
 use Rattle.spelling.specs.Spelled.{Spelling, abort_of, block_of, block_of_if, children_spelled, handlers_spelled, if_of, members_of}
 use Rattle.spelling.specs.Spelled.{parallel_of, reason_of, step_of, step_of_by, steps_spelled, sub_of, test_of}
-use Rattle.spelling.specs.Subjects.{fits_item, fits_number}
+use Rattle.rules.specs.Subjects.{fits_item, fits_number}
 use Rattle.language.specs.Document.{BlockReader, abort_in, block_in, handlers_by_reason, if_in, parallel_in, step_by}
 use Rattle.language.specs.Document.{step_in, sub_in, test_in}
 use Rattle.language.specs.Reading.{Seen, each, if_there, reason_in}
@@ -45,18 +49,18 @@ test_reads subject d seen =
     asks_is (is_name x) _ (λ no. rw no) (λ is. rw is)))))))))
 
 -- the number of a reason
-reason_is : (reason : List ℕ) (seen : Seen) → reason_in reason seen
-    ≡ answer (here (check seen.counts (holds (is_name reason) Name ∷ []))) (number_of reason seen.numbers.reasons)
+reason_is : (rule : Rule) (reason : List ℕ) (seen : Seen) → reason_in rule reason seen
+    ≡ answer (here (check seen.counts (holds (is_name reason) rule ∷ []))) (number_of reason seen.numbers.reasons)
     (with_reason reason seen.numbers)
-reason_is reason seen = asks_is (is_name reason) _ (λ no. rw no) (λ is. rw is)
+reason_is rule reason seen = asks_is (is_name reason) _ (λ no. rw no) (λ is. rw is)
 
 -- the reason of an abort
-reason_reads : (o : Option (List ℕ)) (seen : Seen) → if_there reason_in o seen
+reason_reads : (o : Option (List ℕ)) (seen : Seen) → if_there (reason_in (Name Reason)) o seen
     ≡ answer (here (check seen.counts (reason_asked o))) (reason_of seen.numbers o).0 (reason_of seen.numbers o).1
 unfolding reason_asked reason_of
 reason_reads None seen = refl
-reason_reads (Some reason) seen = check_is (reason_in reason) _ (check seen.counts (holds (is_name reason) Name ∷ []))
-    (reason_is reason seen) (λ e failed. rw failed) (λ c met. rw met)
+reason_reads (Some reason) seen = check_is (reason_in (Name Reason) reason) _ (check seen.counts (holds (is_name reason) (Name Reason) ∷ []))
+    (reason_is (Name Reason) reason seen) (λ e failed. rw failed) (λ c met. rw met)
 
 -- an abort, and the labels after it
 abort_reads : (version : ℕ) (scope : Scope) (d : Data) (seen : Seen) → abort_in version scope d seen
@@ -64,10 +68,10 @@ abort_reads : (version : ℕ) (scope : Scope) (d : Data) (seen : Seen) → abort
 unfolding abort_in abort_asked abort_shape_asked abort_of
 abort_reads version scope d seen =
     let reason = as_str (part (codes "abort") d) in
-    asks_is (has_only (codes "abort" ∷ []) d) _ (λ no. rw no) (λ is. rw is (
+    asks_is (has_only (member_names form.Abort) d) _ (λ no. rw no) (λ is. rw is (
     asks_is (is_abort version (part (codes "abort") d)) _ (λ no. rw no) (λ is. rw is (
     counted_is (one_more_node version) _ seen (λ e over. rw over) (λ c within. rw within (
-    check_is (if_there reason_in reason) _ (check c (reason_asked reason)) (reason_reads reason (seen_of c seen.numbers))
+    check_is (if_there (reason_in (Name Reason)) reason) _ (check c (reason_asked reason)) (reason_reads reason (seen_of c seen.numbers))
     (λ e failed. rw failed) (λ c met. rw met)))))))
 
 -- the label of a subaction, among no others and then after these
@@ -97,7 +101,7 @@ module _ (block : BlockReader) (places : Places) (spelling : Spelling) (same : A
       (if_of spelling scope seen.numbers d).1
   unfolding if_in if_placed if_shape_asked seen_asked if_of
   if_reads version scope d seen =
-      asks_is (has_only (codes "if" ∷ codes "is" ∷ codes "atleast" ∷ codes "item" ∷ codes "then" ∷ codes "else" ∷ []) d) _
+      asks_is (has_only (member_names form.If) d) _
       (λ no. rw no) (λ is. rw is (
       asks_is (has_one_test d) _ (λ no. rw no) (λ is. rw is (
       needs_is (text_member (codes "if") d) _ (λ no. rw no) (λ label there. rw there (
@@ -121,7 +125,8 @@ module _ (block : BlockReader) (places : Places) (spelling : Spelling) (same : A
   handlers_read scope no_members seen = refl
   handlers_read scope (member reason d ds) seen =
       let numbers = with_reason reason seen.numbers in
-      check_is (reason_in reason) _ (check seen.counts (holds (is_name reason) Name ∷ [])) (reason_is reason seen)
+      check_is (reason_in (Name Handlers) reason) _ (check seen.counts (holds (is_name reason) (Name Handlers) ∷ []))
+      (reason_is (Name Handlers) reason seen)
       (λ e failed. rw failed) (λ c met. rw met (
       inside_is (member_named reason) (block scope d) _ (seek c (places scope d)) (same scope d (seen_of c numbers))
       (λ found failed. rw failed) (λ c met. rw met (
@@ -143,7 +148,7 @@ module _ (block : BlockReader) (places : Places) (spelling : Spelling) (same : A
       ((sub_of spelling scope seen.numbers d).0, with_label (label_in d) Outcome earlier) (sub_of spelling scope seen.numbers d).1
   unfolding sub_in sub_placed sub_shape_asked sub_of
   sub_reads version scope earlier d seen =
-      asks_is (has_only (codes "sub" ∷ codes "handler" ∷ codes "handlers" ∷ codes "as" ∷ []) d) _ (λ no. rw no) (λ is. rw is (
+      asks_is (has_only (member_names form.Subaction) d) _ (λ no. rw no) (λ is. rw is (
       needs_is (get (codes "sub") d) _ (λ no. rw no) (λ sub there. rw there (
       asks_is (label_is_text d) _ (λ no. rw no) (λ is. rw is (
       asks_is (handlers_are_members version d) _ (λ no. rw no) (λ is. rw is (
@@ -180,7 +185,7 @@ module _ (block : BlockReader) (places : Places) (spelling : Spelling) (same : A
       (parallel_of spelling scope seen.numbers d).1
   unfolding parallel_in parallel_placed parallel_shape_asked parallel_of
   parallel_reads version scope d seen =
-      asks_is (has_only (codes "parallel" ∷ []) d) _ (λ no. rw no) (λ is. rw is (
+      asks_is (has_only (member_names form.Parallel) d) _ (λ no. rw no) (λ is. rw is (
       needs_is (list_member (codes "parallel") d) _ (λ no. rw no) (λ ds there. rw there (
       counted_is (one_more_node version) _ seen (λ e over. rw over) (λ c within. rw within (
       inside_is (member_named (codes "parallel")) (each (sub_in version block scope) 0 [] ds) _

@@ -22,59 +22,74 @@ use Rattle.meaning.specs.declared.test.Test.TheVariants.{Is, AtLeast, IsItem}
 use Rattle.meaning.specs.Trees.{Block, NoStep, Step, Operation, If, Subaction, Abort, Parallel}
 use Rattle.batch.specs.Names.{Texts, is_name}
 use Rattle.batch.specs.Views.{Tried, children_of, steps_of}
-use Rattle.faults.specs.declared.fault.Wrong.TheVariants.{Shape, Name, DuplicateObject, UnknownObject, UnknownOperation, Argument}
-use Rattle.faults.specs.declared.fault.Wrong.TheVariants.{UnknownLabel, DuplicateLabel, Condition, TooMany, Start, Depth}
+use Rattle.rules.specs.Forms.{member_names}
+use Rattle.rules.specs.declared.form.Form.TheVariants as form
+use Rattle.rules.specs.declared.rule.Place.{Place}
+use Rattle.rules.specs.declared.rule.Place.TheVariants.{Third, Fourth}
+use Rattle.rules.specs.declared.rule.Rule.TheVariants as rule
+use Rattle.rules.specs.declared.rule.ArgumentRule.TheVariants as argument
+use Rattle.rules.specs.declared.rule.ConditionRule.TheVariants as condition
+use Rattle.rules.specs.declared.rule.CountRule.TheVariants as counted
+use Rattle.rules.specs.declared.rule.NameRule.TheVariants as named
+use Rattle.rules.specs.declared.rule.ShapeRule.TheVariants as shape
+use Rattle.rules.specs.declared.rule.StartRule.TheVariants as start
 use Rattle.spelling.specs.declared.steps.Sort.{Sort}
 use Rattle.spelling.specs.declared.steps.Sort.TheVariants.{Operation as an_operation, If as an_if, Sub as a_sub, Abort as an_abort}
 use Rattle.spelling.specs.declared.steps.Sort.TheVariants.{Parallel as a_parallel}
-use Rattle.spelling.specs.declared.subject.Subject.{Subject}
-use Rattle.spelling.specs.declared.subject.Subject.TheVariants.{Reply, Outcome}
+use Rattle.rules.specs.declared.subject.Subject.{Subject}
+use Rattle.rules.specs.declared.subject.Subject.TheVariants.{Reply, Outcome}
 use Rattle.spelling.specs.Amounts.{amount_of}
-use Rattle.spelling.specs.Asked.{amount_item, handlers_are_members, handlers_in, has_count, has_one_test, is_abort, label_in}
+use Rattle.spelling.specs.Asked.{amount_item, handlers_are_members, handlers_in, has_count, has_one_test, index_of, is_abort, label_in}
 use Rattle.spelling.specs.Asked.{label_is_text, number_start, object_kind, part, signed_start, sort_of, tested_word, version_of}
 use Rattle.spelling.specs.Demand.{in_transaction, one_more_node, one_more_operation, one_more_start}
-use Rattle.spelling.specs.Limits.{limits_of}
+use Rattle.rules.specs.Limits.{limits_of}
 use Rattle.spelling.specs.Look.{has, has_only, list_member, text_item, text_member, whole_member}
 use Rattle.spelling.specs.Places.{Found, member_named}
 use Rattle.spelling.specs.Scope.{Scope, Setting, Table, is_listed, is_named, label_number, named, place_of}
 use Rattle.spelling.specs.Scope.{with_label, with_labels, with_text}
 use Rattle.spelling.specs.Spelled.{Document, bind_all, put_all, tried}
-use Rattle.spelling.specs.Subjects.{fits_item, fits_number}
-use Rattle.language.specs.Reading.{Reading, after, asks, counted, each, fails, if_there, inside, item_named}
+use Rattle.rules.specs.Subjects.{fits_item, fits_number}
+use Rattle.language.specs.Reading.{Reading, after, asks, breaks, counted, each, if_there, inside, item_named}
 use Rattle.language.specs.Reading.{needs, needs_item, nothing_seen, reason_in, spells, then_read}
 
 -- ---- operations
 
+-- the item at a place of an operation's array
+abbrev pub item_argument : {A : Type 0} → Place → Data → (Item → Reading A) → Reading A
+item_argument place op = needs_item (text_item (index_of place) op) (rule.Argument (argument.Item place)) (rule.Name (named.Argument place))
+
 -- a call of a verb, with the arguments in an operation's array
 abbrev pub call_in : Verb → Data → Reading Call
-call_in (OfAmount v) op = asks (has_count 3 op) Argument (
-    needs (amount_item 2 op) Argument (λ n. spells (amount_call v (amount_of n))))
-call_in (OfItem v) op = asks (has_count 3 op) Argument (needs_item (text_item 2 op) Argument (λ x. spells (item_call v x)))
-call_in (OfPair v) op = asks (has_count 4 op) Argument (
-    needs_item (text_item 2 op) Argument (λ x.
-    needs_item (text_item 3 op) Argument (λ y.
+call_in (OfAmount v) op = asks (has_count 3 op) (rule.Argument (argument.Count (OfAmount v))) (
+    needs (amount_item 2 op) (rule.Argument argument.Amount) (λ n. spells (amount_call v (amount_of n))))
+call_in (OfItem v) op = asks (has_count 3 op) (rule.Argument (argument.Count (OfItem v))) (
+    item_argument Third op (λ x. spells (item_call v x)))
+call_in (OfPair v) op = asks (has_count 4 op) (rule.Argument (argument.Count (OfPair v))) (
+    item_argument Third op (λ x.
+    item_argument Fourth op (λ y.
     spells (pair_call v x y))))
-call_in (Alone v) op = asks (has_count 2 op) Argument (spells (lone_call v))
+call_in (Alone v) op = asks (has_count 2 op) (rule.Argument (argument.Count (Alone v))) (spells (lone_call v))
 
 -- a label, if there is one: a name that is neither seen nor an earlier sibling's
 abbrev pub new_label : {A : Type 0} → Scope → Scope → Option (List ℕ) → Reading A → Reading A
 new_label scope earlier None rest = rest
 new_label scope earlier (Some name) rest =
-    asks (is_name name) Name (
-    asks (not (is_named name scope || is_named name earlier)) DuplicateLabel
+    asks (is_name name) (rule.Name named.Label) (
+    asks (not (is_named name scope || is_named name earlier)) rule.NewLabel
     rest)
 
 -- an operation, and the labels that are seen after it
 unfoldable pub operation_in : Setting → Scope → Data → Reading (Step × Scope)
 operation_in setting scope d =
     let op = part (codes "op") d in
-    asks (has_only (codes "op" ∷ codes "as" ∷ []) d) Shape (
-    needs (text_item 0 op) Shape (λ object.
-    needs (text_item 1 op) Shape (λ word.
-    asks (label_is_text d) Shape (
+    asks (has_only (member_names form.Operation) d) (rule.Shape (shape.Members form.Operation)) (
+    needs (text_item 0 op) (rule.Shape shape.OperationObject) (λ object.
+    needs (text_item 1 op) (rule.Shape shape.OperationWord) (λ word.
+    asks (label_is_text d) (rule.Shape shape.Label) (
     counted (one_more_operation setting.version) (
-    needs (place_of object setting.names) UnknownObject (λ place.
-    needs (option_and_then (λ k. verb_of_text setting.version k word) (slice_get setting.kinds place)) UnknownOperation (λ verb.
+    needs (place_of object setting.names) rule.KnownObject (λ place.
+    let kind = slice_get setting.kinds place in
+    needs (option_and_then (λ k. verb_of_text setting.version k word) kind) (rule.KnownOperation setting.version kind) (λ verb.
     after (call_in verb op) (λ call.
     new_label scope [] (label_in d) (
     spells (Operation place call (is_some (label_in d)), with_label (label_in d) (Reply verb) scope))))))))))
@@ -88,30 +103,32 @@ BlockReader = Scope → Data → Reading Block
 -- the test of an `if`, against what its label is of
 unfoldable pub test_in : Subject → Data → Reading Test
 test_in subject d =
-    if has (codes "is") d then needs (tested_word subject d) Condition (λ word. spells (Is word))
-    else if has (codes "atleast") d then
-    asks (fits_number subject) Condition (needs (whole_member (codes "atleast") d) Condition (λ n. spells (AtLeast n)))
-    else asks (fits_item subject) Condition (needs_item (text_member (codes "item") d) Condition (λ x. spells (IsItem x)))
+    if has (codes "is") d then needs (tested_word subject d) (rule.Condition (condition.Word subject)) (λ word. spells (Is word))
+    else if has (codes "atleast") d then asks (fits_number subject) (rule.Condition (condition.Number subject)) (
+    needs (whole_member (codes "atleast") d) (rule.Condition condition.AtLeast) (λ n. spells (AtLeast n)))
+    else asks (fits_item subject) (rule.Condition (condition.HasItem subject)) (
+    needs_item (text_member (codes "item") d) (rule.Condition condition.TestedItem) (rule.Name named.TestedItem) (λ x. spells (IsItem x)))
 
 -- an `if`, after which the same labels are seen
 unfoldable pub if_in : ℕ → BlockReader → Scope → Data → Reading (Step × Scope)
 if_in version block scope d =
-    asks (has_only (codes "if" ∷ codes "is" ∷ codes "atleast" ∷ codes "item" ∷ codes "then" ∷ codes "else" ∷ []) d) Shape (
-    asks (has_one_test d) Shape (
-    needs (text_member (codes "if") d) Shape (λ label.
-    needs (get (codes "then") d) Shape (λ inner.
+    asks (has_only (member_names form.If) d) (rule.Shape (shape.Members form.If)) (
+    asks (has_one_test d) (rule.Shape shape.Test) (
+    needs (text_member (codes "if") d) (rule.Shape shape.TestedLabel) (λ label.
+    needs (get (codes "then") d) (rule.Shape shape.Then) (λ inner.
     counted (one_more_node version) (
-    needs (named label scope) UnknownLabel (λ subject.
+    needs (named label scope) rule.SeenLabel (λ subject.
     after (test_in subject d) (λ test.
     inside (member_named (codes "then")) (block scope inner) (λ branch.
     inside (member_named (codes "else")) (if_there (block scope) (get (codes "else") d)) (λ other.
     spells (If (label_number label scope) test branch (unwrap_or other NoStep), scope))))))))))
 
--- The handlers by reason, in the order of the reasons' bytes, as a value has its members. A reason that is no name is a fault of them all.
+-- The handlers by reason, in the order of the reasons' bytes, as a value has its members. A reason that is no name breaks a rule of
+-- them all.
 abbrev pub handlers_by_reason : BlockReader → Scope → Members → Reading (List (ℕ × Block))
 handlers_by_reason block scope no_members = spells []
 handlers_by_reason block scope (member reason d ds) =
-    after (reason_in reason) (λ number.
+    after (reason_in (rule.Name named.Handlers) reason) (λ number.
     inside (member_named reason) (block scope d) (λ handler.
     after (handlers_by_reason block scope ds) (λ others.
     spells ((number, handler) ∷ others))))
@@ -119,10 +136,10 @@ handlers_by_reason block scope (member reason d ds) =
 -- a subaction, or a child whose earlier siblings have these labels; and those labels with its own
 unfoldable pub sub_in : ℕ → BlockReader → Scope → Scope → Data → Reading (Tried × Scope)
 sub_in version block scope earlier d =
-    asks (has_only (codes "sub" ∷ codes "handler" ∷ codes "handlers" ∷ codes "as" ∷ []) d) Shape (
-    needs (get (codes "sub") d) Shape (λ sub.
-    asks (label_is_text d) Shape (
-    asks (handlers_are_members version d) Shape (
+    asks (has_only (member_names form.Subaction) d) (rule.Shape (shape.Members form.Subaction)) (
+    needs (get (codes "sub") d) (rule.Shape shape.Body) (λ sub.
+    asks (label_is_text d) (rule.Shape shape.Label) (
+    asks (handlers_are_members version d) (rule.Shape (shape.Handlers version)) (
     counted (one_more_node version) (
     new_label scope earlier (label_in d) (
     inside (member_named (codes "sub")) (block scope sub) (λ body.
@@ -133,8 +150,8 @@ sub_in version block scope earlier d =
 -- a parallel step, and the labels that are seen after it
 unfoldable pub parallel_in : ℕ → BlockReader → Scope → Data → Reading (Step × Scope)
 parallel_in version block scope d =
-    asks (has_only (codes "parallel" ∷ []) d) Shape (
-    needs (list_member (codes "parallel") d) Shape (λ ds.
+    asks (has_only (member_names form.Parallel) d) (rule.Shape (shape.Members form.Parallel)) (
+    needs (list_member (codes "parallel") d) (rule.Shape shape.Children) (λ ds.
     counted (one_more_node version) (
     inside (member_named (codes "parallel")) (each (sub_in version block scope) 0 [] ds) (λ children.
     spells (Parallel (children_of children.0), with_labels children.1 scope)))))
@@ -142,10 +159,10 @@ parallel_in version block scope d =
 -- an abort, after which the same labels are seen
 unfoldable pub abort_in : ℕ → Scope → Data → Reading (Step × Scope)
 abort_in version scope d =
-    asks (has_only (codes "abort" ∷ []) d) Shape (
-    asks (is_abort version (part (codes "abort") d)) Shape (
+    asks (has_only (member_names form.Abort) d) (rule.Shape (shape.Members form.Abort)) (
+    asks (is_abort version (part (codes "abort") d)) (rule.Shape (shape.Abort version)) (
     counted (one_more_node version) (
-    after (if_there reason_in (as_str (part (codes "abort") d))) (λ reason.
+    after (if_there (reason_in (rule.Name named.Reason)) (as_str (part (codes "abort") d))) (λ reason.
     spells (Abort reason, scope)))))
 
 -- ---- steps and blocks
@@ -161,12 +178,12 @@ step_by a_parallel block setting scope d = parallel_in setting.version block sco
 
 -- a step, and the labels that are seen after it
 unfoldable pub step_in : BlockReader → Setting → Scope → Data → Reading (Step × Scope)
-step_in block setting scope d = needs (sort_of d) Shape (λ sort. step_by sort block setting scope d)
+step_in block setting scope d = needs (sort_of d) (rule.Shape shape.Sort) (λ sort. step_by sort block setting scope d)
 
 -- a block within so many more levels; its labels are no longer seen after it
 unfoldable pub block_in : Setting → ℕ → BlockReader
-block_in setting zero scope d = needs (as_array d) Shape (λ ds. fails Depth)
-block_in setting (suc n) scope d = needs (as_array d) Shape (λ ds.
+block_in setting zero scope d = needs (as_array d) (rule.Shape shape.Block) (λ ds. breaks rule.Depth)
+block_in setting (suc n) scope d = needs (as_array d) (rule.Shape shape.Block) (λ ds.
     after (each (step_in (block_in setting n) setting) 0 scope ds) (λ steps. spells (steps_of steps.0)))
 
 -- ---- objects
@@ -174,54 +191,56 @@ block_in setting (suc n) scope d = needs (as_array d) Shape (λ ds.
 -- an entry of a queue
 abbrev pub entry_in : ℕ → Table → Data → Reading (Item × Table)
 entry_in version earlier d =
-    needs (as_str d) Start (λ name.
-    asks (is_name name) Name (
+    needs (as_str d) (rule.Start start.Entry) (λ name.
+    asks (is_name name) (rule.Name named.Entry) (
     counted (one_more_start version) (
     item_named name (λ x. spells (x, earlier)))))
 
 -- an item of a set, which differs from the earlier ones
 abbrev pub element_in : ℕ → Table → Data → Reading (Item × Table)
 element_in version earlier d =
-    needs (as_str d) Start (λ name.
-    asks (is_name name) Name (
-    asks (not (is_listed name earlier)) Start (
+    needs (as_str d) (rule.Start start.Entry) (λ name.
+    asks (is_name name) (rule.Name named.Entry) (
+    asks (not (is_listed name earlier)) (rule.Start start.NewEntry) (
     counted (one_more_start version) (
     item_named name (λ x. spells (x, with_text name earlier))))))
 
 -- a key and its item; keys differ from the earlier ones
 abbrev pub pair_in : ℕ → Table → Data → Reading ((Item × Item) × Table)
 pair_in version earlier d =
-    asks (has_count 2 d) Start (
-    needs (text_item 0 d) Start (λ key.
-    needs (text_item 1 d) Start (λ name.
-    asks (is_name key) Name (
-    asks (is_name name) Name (
-    asks (not (is_listed key earlier)) Start (
+    asks (has_count 2 d) (rule.Start start.Pair) (
+    needs (text_item 0 d) (rule.Start start.PairKey) (λ key.
+    needs (text_item 1 d) (rule.Start start.PairItem) (λ name.
+    asks (is_name key) (rule.Name named.PairKey) (
+    asks (is_name name) (rule.Name named.PairItem) (
+    asks (not (is_listed key earlier)) (rule.Start start.NewKey) (
     counted (one_more_start version) (
     item_named key (λ k. item_named name (λ x. spells ((k, x), with_text key earlier))))))))))
 
 -- a start that is an array, entry by entry; each is read after the names or keys of the earlier ones
-abbrev pub array_start : {A : Type 0} → (Table → Data → Reading (A × Table)) → (List A → Value) → Data → Reading Value
-array_start entry valued d = needs (as_array d) Start (λ ds. after (each entry 0 [] ds) (λ entries. spells (valued entries.0)))
+abbrev pub array_start : {A : Type 0} → Kind → (Table → Data → Reading (A × Table)) → (List A → Value) → Data → Reading Value
+array_start k entry valued d = needs (as_array d) (rule.Start (start.Of k)) (λ ds.
+    after (each entry 0 [] ds) (λ entries. spells (valued entries.0)))
 
 -- what an object of this kind starts with
 unfoldable pub start_in : ℕ → Kind → Data → Reading Value
-start_in version kind.Account d = needs (number_start d) Start (λ n. spells (value.Account n))
-start_in version kind.Counter d = needs (signed_start d) Start (λ n. spells (value.Counter n))
-start_in version kind.Max d = needs (number_start d) Start (λ n. spells (value.Max n))
-start_in version kind.Set d = array_start (element_in version) (λ items. value.Set (put_all finite_set.empty items)) d
-start_in version kind.Queue d = array_start (entry_in version) value.Queue d
-start_in version kind.Directory d = array_start (pair_in version) (λ pairs. value.Directory (bind_all finite_map.empty pairs)) d
+start_in version kind.Account d = needs (number_start d) (rule.Start (start.Of kind.Account)) (λ n. spells (value.Account n))
+start_in version kind.Counter d = needs (signed_start d) (rule.Start (start.Of kind.Counter)) (λ n. spells (value.Counter n))
+start_in version kind.Max d = needs (number_start d) (rule.Start (start.Of kind.Max)) (λ n. spells (value.Max n))
+start_in version kind.Set d = array_start kind.Set (element_in version) (λ items. value.Set (put_all finite_set.empty items)) d
+start_in version kind.Queue d = array_start kind.Queue (entry_in version) value.Queue d
+start_in version kind.Directory d = array_start kind.Directory (pair_in version)
+    (λ pairs. value.Directory (bind_all finite_map.empty pairs)) d
 
 -- an object after those with these names, and the names with its own
 unfoldable pub object_in : ℕ → Table → Data → Reading (Value × Table)
 object_in version names d =
-    asks (has_only (codes "name" ∷ codes "kind" ∷ codes "start" ∷ []) d) Shape (
-    needs (text_member (codes "name") d) Shape (λ name.
-    needs (object_kind version d) Shape (λ k.
-    needs (get (codes "start") d) Shape (λ start.
-    asks (is_name name) Name (
-    asks (not (is_listed name names)) DuplicateObject (
+    asks (has_only (member_names form.Object) d) (rule.Shape (shape.Members form.Object)) (
+    needs (text_member (codes "name") d) (rule.Shape shape.ObjectName) (λ name.
+    needs (object_kind version d) (rule.Shape (shape.ObjectKind version)) (λ k.
+    needs (get (codes "start") d) (rule.Shape shape.ObjectStart) (λ start.
+    asks (is_name name) (rule.Name named.Object) (
+    asks (not (is_listed name names)) rule.NewObject (
     inside (member_named (codes "start")) (start_in version k start) (λ v.
     spells (v, names ++ name ∷ []))))))))
 
@@ -235,18 +254,18 @@ transaction_in setting number d =
 -- a document: its shape, then its objects, then its transactions
 unfoldable pub whole_in : Data → Reading Document
 whole_in d =
-    asks (has_only (codes "ordtx" ∷ codes "objects" ∷ codes "transactions" ∷ []) d) Shape (
-    needs (version_of d) Shape (λ version.
-    needs (list_member (codes "objects") d) Shape (λ objects.
-    needs (list_member (codes "transactions") d) Shape (λ transactions.
-    asks (nat_le (items_len objects) (limits_of version).objects) TooMany (
-    asks (nat_le (items_len transactions) (limits_of version).transactions) TooMany (
+    asks (has_only (member_names form.Document) d) (rule.Shape (shape.Members form.Document)) (
+    needs (version_of d) (rule.Shape shape.Version) (λ version.
+    needs (list_member (codes "objects") d) (rule.Shape shape.Objects) (λ objects.
+    needs (list_member (codes "transactions") d) (rule.Shape shape.Transactions) (λ transactions.
+    asks (nat_le (items_len objects) (limits_of version).objects) (rule.Few (counted.Objects version)) (
+    asks (nat_le (items_len transactions) (limits_of version).transactions) (rule.Few (counted.Transactions version)) (
     inside (member_named (codes "objects")) (each (object_in version) 0 [] objects) (λ declared.
     let setting : Setting = record { version = version; names = declared.1; kinds = kinds declared.0 } in
     inside (member_named (codes "transactions")) (each (transaction_in setting) 0 1 transactions) (λ blocks seen.
     let texts : Texts = record { objects = declared.1; items = seen.numbers.items; reasons = seen.numbers.reasons } in
     spells (record { start = declared.0; texts = texts; transactions = blocks.0 }) seen))))))))
 
--- the document that a value spells, or its first fault with its place
+-- the document that a value spells, or the first rule that isn't kept, with its place
 unfoldable pub read_document : Data → Result Document Found
 read_document d = then_read (whole_in d nothing_seen) (λ read. Ok read.0)

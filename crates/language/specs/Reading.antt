@@ -5,10 +5,9 @@ use Rattle.std.specs.Result.{result_map_both}
 use Rattle.serde_json.specs.Data.{Data, Items, no_items, item}
 use Rattle.atoms.specs.declared.item.Item.{Item}
 use Rattle.batch.specs.Names.{is_name}
-use Rattle.faults.specs.declared.fault.Wrong.{Wrong}
-use Rattle.faults.specs.declared.fault.Wrong.TheVariants.{Name}
+use Rattle.rules.specs.declared.rule.Rule.{Rule}
 use Rattle.spelling.specs.declared.counts.Counts.{Counts}
-use Rattle.spelling.specs.Demand.{Demand, check_one, fault_at, no_counts}
+use Rattle.spelling.specs.Demand.{Demand, broken_at, check_one, no_counts}
 use Rattle.spelling.specs.Places.{Found, Token, found_here, found_inside, here, item_at}
 use Rattle.spelling.specs.Scope.{Numbers, no_numbers, number_of, with_item, with_reason}
 
@@ -20,7 +19,8 @@ pub record Seen : Type 0 where
 abbrev pub nothing_seen : Seen
 nothing_seen = record { counts = no_counts; numbers = no_numbers }
 
--- After what was seen before, a part spells something, and more is seen. Or it has a first fault, which has its place in the part.
+-- After what was seen before, a part spells something, and more is seen. Or there is a first rule that isn't kept, at a place in
+-- the part.
 abbrev pub Reading : Type 0 → Type 0
 Reading A = Seen → Result (A × Seen) Found
 
@@ -28,21 +28,21 @@ Reading A = Seen → Result (A × Seen) Found
 abbrev pub spells : {A : Type 0} → A → Reading A
 spells x seen = Ok (x, seen)
 
--- a fault of the part itself
-abbrev pub fails : {A : Type 0} → Wrong → Reading A
-fails wrong seen = Err (found_here (fault_at wrong seen.counts))
+-- a rule that the part itself doesn't keep
+abbrev pub breaks : {A : Type 0} → Rule → Reading A
+breaks rule seen = Err (found_here (broken_at rule seen.counts))
 
 -- a test, before the rest
-abbrev pub asks : {A : Type 0} → Bool → Wrong → Reading A → Reading A
-asks true wrong rest = rest
-asks false wrong rest = fails wrong
+abbrev pub asks : {A : Type 0} → Bool → Rule → Reading A → Reading A
+asks true rule rest = rest
+asks false rule rest = breaks rule
 
 -- what has to be there, for the rest
-abbrev pub needs : {A B : Type 0} → Option B → Wrong → (B → Reading A) → Reading A
-needs None wrong rest = fails wrong
-needs (Some x) wrong rest = rest x
+abbrev pub needs : {A B : Type 0} → Option B → Rule → (B → Reading A) → Reading A
+needs None rule rest = breaks rule
+needs (Some x) rule rest = rest x
 
--- what a result has, for the rest; or its fault
+-- what a result has, for the rest; or what was found
 abbrev pub then_read : {A B : Type 0} → Result B Found → (B → Result A Found) → Result A Found
 then_read (Ok x) rest = rest x
 then_read (Err found) rest = Err found
@@ -72,9 +72,9 @@ each part i s (item d ds) =
     after (each part (i + 1) one.1 ds) (λ rest.
     spells (one.0 ∷ rest.0, rest.1)))
 
--- The number of a reason, by first appearance. The reason has to be a name.
-abbrev pub reason_in : List ℕ → Reading ℕ
-reason_in name = asks (is_name name) Name (λ seen.
+-- The number of a reason, by first appearance. The reason has to be a name, by this rule.
+abbrev pub reason_in : Rule → List ℕ → Reading ℕ
+reason_in rule name = asks (is_name name) rule (λ seen.
     spells (number_of name seen.numbers.reasons) (record seen { numbers = with_reason name seen.numbers }))
 
 -- an item, which has the number of its name by first appearance
@@ -82,6 +82,6 @@ abbrev pub item_named : {A : Type 0} → List ℕ → (Item → Reading A) → R
 item_named name rest seen =
     rest (record { 0 = number_of name seen.numbers.items }) (record seen { numbers = with_item name seen.numbers })
 
--- an item whose name has to be there and be one
-abbrev pub needs_item : {A : Type 0} → Option (List ℕ) → Wrong → (Item → Reading A) → Reading A
-needs_item text wrong rest = needs text wrong (λ name. asks (is_name name) Name (item_named name rest))
+-- an item whose name has to be there and be one, by these rules
+abbrev pub needs_item : {A : Type 0} → Option (List ℕ) → Rule → Rule → (Item → Reading A) → Reading A
+needs_item text there named rest = needs text there (λ name. asks (is_name name) named (item_named name rest))

@@ -5,7 +5,7 @@ use Rattle.json.specs.Token.{Token}
 use Rattle.serde_json.specs.Data.{no_items}
 use Rattle.serde_json.specs.Events.{items_len}
 use Rattle.meaning.specs.Trees.{Block}
-use Rattle.spelling.specs.Limits.{limits_of}
+use Rattle.rules.specs.Limits.{limits_of}
 use Rattle.spelling.specs.Places.{seek, transactions_placed}
 use Rattle.spelling.specs.Scope.{Numbers, Setting, no_numbers}
 use Rattle.spelling.specs.Spelled.{blocks_of}

@@ -7,7 +7,8 @@ use Rattle.serde_json.specs.Data.{Items, no_items, item}
 use Rattle.meaning.specs.declared.limits.TheConstants.{MAX_DEPTH}
 use Rattle.spelling.specs.Demand.{Demand, and_then, check, holds, in_transaction, limited, no_counts}
 use Rattle.spelling.specs.Demand.{one_more_node, one_more_operation, one_more_start}
-use Rattle.spelling.specs.Limits.{limits_of}
+use Rattle.rules.specs.Limits.{limits_of}
+use Rattle.rules.specs.declared.rule.CountRule.TheVariants.{Nodes, Operations}
 use Rattle.spelling.specs.Places.{Found, seek, transactions_placed}
 use Rattle.spelling.specs.Scope.{Setting}
 use Rattle.spelling.specs.declared.counts.Counts.{Counts}
@@ -38,7 +39,8 @@ module _ (n : ℕ) (base : Counts) (version : ℕ) where
       → check c (one_more_operation other ∷ ds) ≡ Ok next → MetAfter (one_more_operation other ∷ ds) c next
   operation_after c next ds other is within later met = by (nat_lt c.operations (limits_of other).operations) met
     where
-      by : (b : Bool) → and_then (limited b c (record c { operations = c.operations + 1 })) (λ x. check x ds) ≡ Ok next
+      by : (b : Bool)
+          → and_then (limited b (Operations other) c (record c { operations = c.operations + 1 })) (λ x. check x ds) ≡ Ok next
           → MetAfter (one_more_operation other ∷ ds) c next
       by true rest =
           let counted : Counts = record c { operations = c.operations + 1 } in
@@ -48,7 +50,7 @@ module _ (n : ℕ) (base : Counts) (version : ℕ) where
           let reached = (passed ds counted next rest).operations in
           let few : suc (base.operations + c.operations) ≤ (limits_of other).operations = omega (arith, within.0, most, reached) in
           let sum : base.operations + c.operations + 1 ≡ base.operations + (c.operations + 1) = omega arith in
-          ap (λ t. and_then (limited t after more) (λ x. check x ds))
+          ap (λ t. and_then (limited t (Operations other) after more) (λ x. check x ds))
           (lt-ltb (base.operations + c.operations) (limits_of other).operations few)
           ∙ ap (λ k. check (record after { operations = k }) ds) sum ∙ later counted rest
       by false rest = cc
@@ -58,7 +60,7 @@ module _ (n : ℕ) (base : Counts) (version : ℕ) where
       → check c (one_more_node other ∷ ds) ≡ Ok next → MetAfter (one_more_node other ∷ ds) c next
   node_after c next ds other is within later met = by (nat_lt c.nodes (limits_of other).nodes) met
     where
-      by : (b : Bool) → and_then (limited b c (record c { nodes = c.nodes + 1 })) (λ x. check x ds) ≡ Ok next
+      by : (b : Bool) → and_then (limited b (Nodes other) c (record c { nodes = c.nodes + 1 })) (λ x. check x ds) ≡ Ok next
           → MetAfter (one_more_node other ∷ ds) c next
       by true rest =
           let counted : Counts = record c { nodes = c.nodes + 1 } in
@@ -68,15 +70,16 @@ module _ (n : ℕ) (base : Counts) (version : ℕ) where
           let reached = (passed ds counted next rest).nodes in
           let few : suc (base.nodes + c.nodes) ≤ (limits_of other).nodes = omega (arith, within.1, most, reached) in
           let sum : base.nodes + c.nodes + 1 ≡ base.nodes + (c.nodes + 1) = omega arith in
-          ap (λ t. and_then (limited t after more) (λ x. check x ds)) (lt-ltb (base.nodes + c.nodes) (limits_of other).nodes few)
+          ap (λ t. and_then (limited t (Nodes other) after more) (λ x. check x ds))
+          (lt-ltb (base.nodes + c.nodes) (limits_of other).nodes few)
           ∙ ap (λ k. check (record after { nodes = k }) ds) sum ∙ later counted rest
       by false rest = cc
 
   -- what a block asks is met after what was counted before
   block_after : (ds : List Demand) (c next : Counts) → InBlock version ds → Within next → check c ds ≡ Ok next → MetAfter ds c next
   block_after [] c next asked within met = let same : c ≡ next = cc in ap (λ x. Ok (counts_after n base x)) same
-  block_after (holds true wrong ∷ ds) c next asked within met = block_after ds c next asked within met
-  block_after (holds false wrong ∷ ds) c next asked within met = cc
+  block_after (holds true rule ∷ ds) c next asked within met = block_after ds c next asked within met
+  block_after (holds false rule ∷ ds) c next asked within met = cc
   block_after (one_more_start other ∷ ds) c next asked within met = absurd asked
   block_after (one_more_operation other ∷ ds) c next asked within met =
       operation_after c next ds other asked.0 within (λ c'. block_after ds c' next asked.1 within) met

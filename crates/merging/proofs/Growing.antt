@@ -12,7 +12,7 @@ use Rattle.batch.specs.Views.{Tried, children_of, steps_of}
 use Rattle.words.specs.declared.verb.Verb.{Verb}
 use Rattle.words.specs.declared.verb.Verb.TheVariants.{OfAmount, OfItem, OfPair, Alone}
 use Rattle.meaning.specs.declared.limits.TheConstants.{MAX_DEPTH}
-use Rattle.spelling.specs.declared.subject.Subject.{Subject}
+use Rattle.rules.specs.declared.subject.Subject.{Subject}
 use Rattle.spelling.specs.declared.steps.Sort.{Sort}
 use Rattle.spelling.specs.declared.steps.Sort.TheVariants.{Operation as an_operation, If as an_if, Sub as a_sub, Abort as an_abort}
 use Rattle.spelling.specs.declared.steps.Sort.TheVariants.{Parallel as a_parallel}

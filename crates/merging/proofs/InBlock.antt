@@ -4,11 +4,12 @@ use Rattle.std.proofs.Common.{◌≡◌, ℕ, zero, suc, Bool, true, cond, List,
 use Rattle.serde_json.specs.Data.{Data, Items, no_items, item, Members, no_members, member}
 use Rattle.serde_json.specs.Find.{as_array, as_str, get}
 use Rattle.batch.specs.Names.{is_name}
-use Rattle.faults.specs.declared.fault.Wrong.TheVariants.{Depth, Name}
+use Rattle.rules.specs.declared.rule.NameRule.TheVariants.{Handlers}
+use Rattle.rules.specs.declared.rule.Rule.TheVariants.{Depth, Name}
 use Rattle.words.specs.declared.verb.Verb.{Verb}
 use Rattle.words.specs.declared.verb.Verb.TheVariants.{OfAmount, OfItem, OfPair, Alone}
-use Rattle.spelling.specs.declared.subject.Subject.{Subject}
-use Rattle.spelling.specs.declared.subject.Subject.TheVariants.{Outcome}
+use Rattle.rules.specs.declared.subject.Subject.{Subject}
+use Rattle.rules.specs.declared.subject.Subject.TheVariants.{Outcome}
 use Rattle.spelling.specs.declared.steps.Sort.{Sort}
 use Rattle.spelling.specs.declared.steps.Sort.TheVariants.{Operation as an_operation, If as an_if, Sub as a_sub, Abort as an_abort}
 use Rattle.spelling.specs.declared.steps.Sort.TheVariants.{Parallel as a_parallel}
@@ -24,7 +25,7 @@ use Rattle.spelling.proofs.Demands.{members_asked, parallel_asked, step_asked, s
 
 abbrev pub InBlock : ℕ → List Demand → Type 0
 InBlock version [] = ⊤
-InBlock version (holds b wrong ∷ ds) = InBlock version ds
+InBlock version (holds b rule ∷ ds) = InBlock version ds
 InBlock version (one_more_start other ∷ ds) = ⊥
 InBlock version (one_more_operation other ∷ ds) = (other ≡ version) × InBlock version ds
 InBlock version (one_more_node other ∷ ds) = (other ≡ version) × InBlock version ds
@@ -35,7 +36,7 @@ InBlock version (in_transaction n ∷ ds) = ⊥
 module _ (version : ℕ) where
   both_in : (xs ys : List Demand) → InBlock version xs → InBlock version ys → InBlock version (xs ++ ys)
   both_in [] ys first rest = rest
-  both_in (holds b wrong ∷ xs) ys first rest = both_in xs ys first rest
+  both_in (holds b rule ∷ xs) ys first rest = both_in xs ys first rest
   both_in (one_more_start other ∷ xs) ys first rest = absurd first
   both_in (one_more_operation other ∷ xs) ys first rest = (first.0, both_in xs ys first.1 rest)
   both_in (one_more_node other ∷ xs) ys first rest = (first.0, both_in xs ys first.1 rest)
@@ -154,7 +155,7 @@ module _ (setting : Setting) (asks : Asks) (inner : (scope : Scope) (d : Data) �
   members_in : (scope : Scope) (ds : Members) → In (members_asked asks scope ds)
   members_in scope no_members = tt
   members_in scope (member reason d ds) =
-      joined (holds (is_name reason) Name ∷ asks scope d) (members_asked asks scope ds) (inner scope d) (members_in scope ds)
+      joined (holds (is_name reason) (Name Handlers) ∷ asks scope d) (members_asked asks scope ds) (inner scope d) (members_in scope ds)
 
   handlers_are_in : (scope : Scope) (o : Option Members) → In (handlers_asked asks scope o)
   unfolding handlers_asked

@@ -1,11 +1,10 @@
 //! Puts tables of texts together.
-ghost use Rattle.std.specs.Prelude.{◌≡◌, ◌≤◌, ℕ, length, true, IfErr, IfOk, OnOk};
+ghost use Rattle.std.specs.Prelude.{◌≡◌, ◌≤◌, ℕ, length, true, IfOk, OnOk};
 ghost use Rattle.batch.specs.Names.{texts_of};
-ghost use Rattle.faults.specs.Faults.{memory_fault};
 ghost use Rattle.merging.specs.Renumbered.{merged, new_number, numbers_in};
 ghost use Rattle.merging.specs.declared.tables.TheConstants.{MOST_TEXTS};
 
-use faults::Fault;
+use batch::NoMemory;
 use spelling::hashing::Texts;
 use spelling::state::fit;
 use std::alloc::Global;
@@ -14,12 +13,11 @@ use std::alloc::Global;
 pub(crate) const MOST_TEXTS: usize = 4_294_967_295;
 
 /// Puts these texts into a table, each once, after its own. Returns the number of each.
-fn put_texts(alloc: Global, table: &mut Texts, texts: Texts) -> Result<Vec<u32>, Fault>
+fn put_texts(alloc: Global, table: &mut Texts, texts: Texts) -> Result<Vec<u32>, NoMemory>
     ensures numbers { IfOk result (λ numbers. numbers.items
         ≡ numbers_in (texts_of table.new.keys) (texts_of texts.keys)) }
     ensures table { OnOk result (texts_of table.new.keys
         ≡ merged (texts_of table.old.keys) (texts_of texts.keys)) }
-    ensures err { IfErr result (λ fault. fault ≡ memory_fault) }
 {
     table.reserve(texts.len())?;
     let texts: Vec<String> = texts.into_iter().collect(alloc)?;
@@ -46,13 +44,12 @@ fn are_places(numbers: &[u32]) -> bool
 /// Puts these texts into a table, each once, after its own. Returns the new numbers of those that
 /// have another one there, or none where all keep theirs.
 ///
-/// Returns the fault of memory where a request for memory was refused.
-pub fn merge_texts(alloc: Global, table: &mut Texts, texts: Texts) -> Result<Vec<u32>, Fault>
+/// Returns `NoMemory` where a request for memory was refused.
+pub fn merge_texts(alloc: Global, table: &mut Texts, texts: Texts) -> Result<Vec<u32>, NoMemory>
     ensures numbers { IfOk result (λ numbers. (n : ℕ) → new_number numbers.items n
         ≡ new_number (numbers_in (texts_of table.new.keys) (texts_of texts.keys)) n) }
     ensures table { OnOk result (texts_of table.new.keys
         ≡ merged (texts_of table.old.keys) (texts_of texts.keys)) }
-    ensures err { IfErr result (λ fault. fault ≡ memory_fault) }
 {
     if table.is_empty() && texts.len() <= MOST_TEXTS {
         *table = texts;

@@ -18,7 +18,7 @@ use Rattle.carry.specs.declared.document.Unfit.{Unfit}
 use Rattle.carry.specs.declared.document.Unfit.TheVariants as unfit
 use Rattle.faults.specs.Faults.{code_number, wrong_outside}
 use Rattle.why.specs.Why.{IsWhyText}
-use Rattle.lang.specs.Found.{IsPlaceOf}
+use Rattle.lang.specs.Found.{IsMistake}
 use Rattle.faults.specs.declared.fault.Wrong.{Wrong}
 use Rattle.faults.specs.declared.fault.Wrong.TheVariants as wrong
 use Rattle.faults.specs.declared.fault.Fault.{Fault}
@@ -26,8 +26,8 @@ use Rattle.lang.specs.declared.document.TheConstants.{MAX_BYTES}
 use Rattle.lang.specs.declared.places.Place.{Place}
 use Rattle.lang.specs.declared.positions.Position.{Position}
 use Rattle.lang.specs.declared.places.Place.TheVariants.{Whole, Pointer, LineColumn}
-use Rattle.spelling.specs.Limits.{limits_of}
-use Rattle.spelling.specs.declared.limits.TheConstants.{LAST_VERSION}
+use Rattle.rules.specs.Limits.{limits_of}
+use Rattle.rules.specs.declared.limits.TheConstants.{LAST_VERSION}
 use Rattle.ordtx.specs.declared.carrying.Uncarried.{Uncarried}
 use Rattle.ordtx.specs.declared.location.Located.{Located}
 use Rattle.ordtx.specs.declared.location.Located.TheVariants.{Faultless, Faulty}
@@ -215,13 +215,14 @@ abbrev pub place_line : Fault → Place → List ℕ
 place_line fault place = line (codes "fault " ++ decimal (code_number fault.code) ++ codes " transaction " ++ decimal fault.transaction
     ++ codes " at" ++ place_text place)
 
--- The bytes spell no document, and the text is the line of their first fault and its place.
+-- The bytes spell no document, and the text is the line of their first fault and its place, and one that says what is wrong.
 pub record IsPlacedFaultOf (bytes text : List ℕ) : Type 0 where
   pub fault : Fault
   pub refuses : IsFaultOf bytes fault
   pub place : Place
-  pub at : IsPlaceOf bytes fault place
-  pub is : text ≡ place_line fault place
+  pub words : List ℕ
+  pub mistake : IsMistake bytes fault place words
+  pub is : text ≡ place_line fault place ++ line words
 
 -- The text says where the first fault of the bytes is, or how much they hold.
 abbrev pub IsLocationOf : List ℕ → List ℕ → Type 0

@@ -16,9 +16,9 @@ use carry::{
 use lang::{Code, Fault, MAX_BYTES, Wrong, read};
 use objects::{NoMemory, Objects};
 use report::object_name;
+use rules::{LAST_VERSION, Limits};
 use speculate::plain;
 use spelling::hashing::{NameHashing, Texts};
-use spelling::limits::{LAST_VERSION, Limits};
 use std::alloc::Global;
 
 /// Why no objects are carried.

@@ -5,8 +5,8 @@ ghost use Rattle.ordtx.specs.Laws.{FaultlessLaw, OneFaultLaw, OneTextLaw};
 
 /// The same bytes have at most one report, one report with run counts, each of these with what ended
 /// the rounds, one report without rounds, one document of the objects at the end, one that carries the
-/// objects of given bytes into them, and one line of how much they have. The line of a fault's
-/// place isn't among them: the definition of a place leaves open which line and column it has.
+/// objects of given bytes into them, and one line of how much they have. The lines of a fault aren't
+/// among them: their definition leaves open which line and column it has, and the name in a hint.
 pub fn answers_are_determined()
     ensures reports { OneTextLaw IsReportOf }
     ensures audits { OneTextLaw IsAuditOf }

@@ -1,4 +1,4 @@
-//! Where a document's first fault is, as a line.
+//! Where a document's first fault is and what is wrong, in two lines.
 ghost use Rattle.std.specs.Prelude.{◌≡◌, IfErr, IfOk, string_bytes};
 ghost use Rattle.lang.specs.Reading.{reading};
 ghost use Rattle.faults.specs.Faults.{memory_fault};
@@ -17,7 +17,7 @@ pub enum Located {
     Faulty,
 }
 
-/// The line of a document's first fault and its place, or that of `check` where it has no fault.
+/// The lines of a document's first fault, or that of `check` where it has no fault.
 pub(crate) fn location_of(alloc: Global, document: &[u8]) -> Result<(String, Located), Fault>
     ensures text { IfOk result (λ located. IsLocationOf document.now (string_bytes located.0)) }
     ensures located { IfOk result (λ located. located.1 ≡ located_by (reading document.now)) }
@@ -30,18 +30,20 @@ pub(crate) fn location_of(alloc: Global, document: &[u8]) -> Result<(String, Loc
     if fault.code == Code::Memory {
         return Err(Code::Memory.outside());
     }
-    let text = fault_line(alloc, document, fault)?;
+    let text = fault_lines(alloc, document, fault)?;
     Ok((text, Located::Faulty))
 }
 
-// The line of a document's first fault and its place.
-fn fault_line(alloc: Global, document: &[u8], fault: Fault) -> Result<String, Fault>
+// The line of a document's first fault and its place, and the line of what is wrong.
+fn fault_lines(alloc: Global, document: &[u8], fault: Fault) -> Result<String, Fault>
     requires { IsFaultOf document.now fault }
     ensures text { IfOk result (λ text. IsPlacedFaultOf document.now (string_bytes text)) }
     ensures fault { IfErr result (λ refused. refused ≡ memory_fault) }
 {
-    let place = locate(alloc, document, fault)?;
-    let text = place_line(alloc, fault, &place)?;
+    let mistake = locate(alloc, document, fault)?;
+    let place = place_line(alloc, fault, &mistake.place)?;
+    let words = mistake.words;
+    let text = format!(in alloc; "{place}{words}\n")?;
     Ok(text)
 }
 

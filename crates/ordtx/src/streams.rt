@@ -216,13 +216,14 @@ pub fn check_stream<R: Source, W: Sink>(
     write_text(sink, text.as_bytes())
 }
 
-/// Reads a document from the source, and writes to the sink where its first fault is. For a
-/// document without a fault it writes the line of [`check_stream`]. Nothing is run. Returns whether
-/// there is a fault.
+/// Reads a document from the source, and writes to the sink where its first fault is, and in words
+/// what is wrong there. For a document without a fault it writes the line of [`check_stream`].
+/// Nothing is run. Returns whether there is a fault.
 ///
-/// The line is `fault NUMBER transaction NUMBER at PLACE`. The place is a JSON Pointer (RFC 6901) to
-/// the member or item that the fault is of, or `line NUMBER column NUMBER` where the bytes are no
-/// JSON. It is left out where the fault is of the whole document.
+/// The first line is `fault NUMBER transaction NUMBER at PLACE`. The place is a JSON Pointer (RFC
+/// 6901) to the member or item that the fault is of, and the line and the column at which it
+/// begins. Where the bytes are no JSON it is a line and a column alone. It is left out where the
+/// fault is of the whole document. The second line has the words, as `no label "w" is seen here`.
 ///
 /// The errors are `Memory`, `Input` and `Output` of [`run_stream`], and leave the same. A fault of the
 /// document is no error here.
@@ -234,7 +235,7 @@ pub fn locate_stream<R: Source, W: Sink>(
     requires unended { R.has_ended source.old ≡ false }
     requires unread { R.has_failed source.old ≡ false }
     requires unwritten { W.has_failed sink.old ≡ false }
-    // The line of the fault of what was read is written.
+    // The lines of the fault of what was read are written.
     ensures answer { AnswersStream IsLocationOf (λ _ _. ⊥) (λ fault. fault)
         R.Source source.old source.new W.Sink sink.old sink.new result }
     ensures located { IfOk result (λ located. OfRead (λ bytes. located ≡ located_by (reading bytes))

@@ -7,7 +7,7 @@ use Rattle.spelling.specs.Asked.{declared_by, names_of, objects_in, setting_in, 
 use Rattle.spelling.specs.declared.counts.Counts.{Counts}
 use Rattle.faults.specs.declared.fault.Fault.{Fault}
 use Rattle.spelling.specs.Demand.{no_counts}
-use Rattle.spelling.specs.Places.{Placed, fault_of, first_fault, seek}
+use Rattle.spelling.specs.Places.{Placed, fault_in, first_fault, seek}
 use Rattle.spelling.specs.Scope.{Numbers, Setting, Table, no_numbers}
 use Rattle.spelling.specs.Spelled.{Document, blocks_of, document_in, parts_in, spelled, starts_of}
 
@@ -37,9 +37,9 @@ same_document d start blocks last objects numbers none names parts =
 
 -- what is met before anything is read has no fault
 pub met_first : (start next : Counts) (asked : Placed) → start ≡ no_counts → seek start asked ≡ Ok next → first_fault asked ≡ None
-met_first start next asked begun met = ap (λ c. fault_of (seek c asked)) (sym begun) ∙ ap fault_of met
+met_first start next asked begun met = ap (λ c. fault_in (seek c asked)) (sym begun) ∙ ap fault_in met
 
 -- what fails before anything is read is the first fault
-pub failed_first : (start : Counts) (asked : Placed) (fault : Fault) → start ≡ no_counts → fault_of (seek start asked) ≡ Some fault
+pub failed_first : (start : Counts) (asked : Placed) (fault : Fault) → start ≡ no_counts → fault_in (seek start asked) ≡ Some fault
     → first_fault asked ≡ Some fault
-failed_first start asked fault begun failed = ap (λ c. fault_of (seek c asked)) (sym begun) ∙ failed
+failed_first start asked fault begun failed = ap (λ c. fault_in (seek c asked)) (sym begun) ∙ failed

@@ -22,11 +22,13 @@ use Rattle.serde_json.proofs.Views.{get_member-put, get_member-put_other}
 use Rattle.pull.specs.declared.notes.Notes.{Notes}
 use Rattle.pull.specs.declared.pass.Seen.{Seen}
 use Rattle.spelling.specs.Asked.{document_shape_asked, or_no_items, version_in}
-use Rattle.spelling.specs.Limits.{limits_of}
+use Rattle.rules.specs.Limits.{limits_of}
 use Rattle.spelling.specs.Look.{is_among, members_among, whole, within}
-use Rattle.pull.specs.Passed.{IsNoted, member_names, noted_asked, noted_count, noted_version, seen_as, whole_or_other}
+use Rattle.rules.specs.Forms.{member_names}
+use Rattle.rules.specs.declared.form.Form.TheVariants as form
+use Rattle.pull.specs.Passed.{IsNoted, noted_asked, noted_count, noted_version, seen_as, whole_or_other}
 use Rattle.spelling.specs.Scope.{fit}
-use Rattle.spelling.specs.declared.limits.TheConstants.{LAST_VERSION}
+use Rattle.rules.specs.declared.limits.TheConstants.{LAST_VERSION}
 use Rattle.pull.proofs.PassLemmas.{array_opened}
 
 -- ---- names among others
@@ -72,9 +74,11 @@ kept_at : (q k : List ℕ) (d : Data) (ms : Members) (o : Option Seen) → (q �
     → o ≡ option_map seen_as (get_member q (put k d ms))
 kept_at q k d ms o other is = is ∙ ap (option_map seen_as) (sym (get_member-put_other q k d ms other))
 
-among_still : (k : List ℕ) (d : Data) (ms : Members) (only : Bool) → is_among k member_names ≡ true
-    → only ≡ members_among member_names ms → only ≡ members_among member_names (put k d ms)
-among_still k d ms only listed is = is ∙ sym (members_among-put member_names k d ms ∙ ap (λ b. b && members_among member_names ms) listed)
+among_still : (k : List ℕ) (d : Data) (ms : Members) (only : Bool) → is_among k (member_names form.Document) ≡ true
+    → only ≡ members_among (member_names form.Document) ms → only ≡ members_among (member_names form.Document) (put k d ms)
+among_still k d ms only listed is =
+    let names = member_names form.Document in
+    is ∙ sym (members_among-put names k d ms ∙ ap (λ b. b && members_among names ms) listed)
 
 apart : (q p k : List ℕ) → bytes_eq q p ≡ false → k ≡ p → q ≡ k → ⊥
 apart q p k differ is same = true≢false (sym ((bytes_eq-Decides q p).1 (same ∙ is)) ∙ differ)
@@ -82,7 +86,7 @@ apart q p k differ is same = true≢false (sym ((bytes_eq-Decides q p).1 (same �
 module _ (notes : Notes) (k : List ℕ) (d : Data) (ms : Members) (seen : Seen) (is : seen ≡ seen_as d) (noted : IsNoted notes ms) where
   pub version_noted : k ≡ codes "ordtx" → IsNoted (record notes { version = Some seen }) (put k d ms)
   version_noted named = record {
-    only = among_still k d ms notes.only (ap (λ n. is_among n member_names) named) noted.only;
+    only = among_still k d ms notes.only (ap (λ n. is_among n (member_names form.Document)) named) noted.only;
     version = noted_at (codes "ordtx") k d ms seen (sym named) is;
     objects = kept_at (codes "objects") k d ms notes.objects (apart (codes "objects") (codes "ordtx") k refl named) noted.objects;
     transactions = kept_at (codes "transactions") k d ms notes.transactions
@@ -91,7 +95,7 @@ module _ (notes : Notes) (k : List ℕ) (d : Data) (ms : Members) (seen : Seen) 
 
   pub objects_noted : k ≡ codes "objects" → IsNoted (record notes { objects = Some seen }) (put k d ms)
   objects_noted named = record {
-    only = among_still k d ms notes.only (ap (λ n. is_among n member_names) named) noted.only;
+    only = among_still k d ms notes.only (ap (λ n. is_among n (member_names form.Document)) named) noted.only;
     version = kept_at (codes "ordtx") k d ms notes.version (apart (codes "ordtx") (codes "objects") k refl named) noted.version;
     objects = noted_at (codes "objects") k d ms seen (sym named) is;
     transactions = kept_at (codes "transactions") k d ms notes.transactions
@@ -100,7 +104,7 @@ module _ (notes : Notes) (k : List ℕ) (d : Data) (ms : Members) (seen : Seen) 
 
   pub transactions_noted : k ≡ codes "transactions" → IsNoted (record notes { transactions = Some seen }) (put k d ms)
   transactions_noted named = record {
-    only = among_still k d ms notes.only (ap (λ n. is_among n member_names) named) noted.only;
+    only = among_still k d ms notes.only (ap (λ n. is_among n (member_names form.Document)) named) noted.only;
     version = kept_at (codes "ordtx") k d ms notes.version
         (apart (codes "ordtx") (codes "transactions") k refl named) noted.version;
     objects = kept_at (codes "objects") k d ms notes.objects
@@ -112,7 +116,7 @@ module _ (notes : Notes) (k : List ℕ) (d : Data) (ms : Members) (seen : Seen) 
   pub other_noted : bytes_eq k (codes "ordtx") ≡ false → bytes_eq k (codes "objects") ≡ false
       → bytes_eq k (codes "transactions") ≡ false → IsNoted (record notes { only = false }) (put k d ms)
   other_noted a b e = record {
-    only = sym (members_among-put member_names k d ms ∙ rw (a, b, e) refl);
+    only = sym (members_among-put (member_names form.Document) k d ms ∙ rw (a, b, e) refl);
     version = kept_at (codes "ordtx") k d ms notes.version (differs (codes "ordtx") a) noted.version;
     objects = kept_at (codes "objects") k d ms notes.objects (differs (codes "objects") b) noted.objects;
     transactions = kept_at (codes "transactions") k d ms notes.transactions (differs (codes "transactions") e) noted.transactions;

@@ -18,7 +18,7 @@ use Rattle.objects.specs.declared.value.Value.TheVariants as value
 use Rattle.spelling.specs.Answer.{AreMet, IsMet}
 use Rattle.spelling.specs.Asked.{declared_by, kind_in, names_of, number_start, object_name, object_name_asked, object_shape_asked, part}
 use Rattle.spelling.specs.Asked.{signed_start}
-use Rattle.spelling.specs.Limits.{limits_of}
+use Rattle.rules.specs.Limits.{limits_of}
 use Rattle.spelling.specs.Places.{elements_placed, entries_placed, pairs_placed}
 use Rattle.spelling.specs.Places.{inside, item_at, itself, member_named, nothing, object_placed, objects_placed, seek, start_placed}
 use Rattle.spelling.specs.Scope.{Numbers, Setting, Table}

@@ -13,8 +13,8 @@ use Rattle.pull.proofs.LongerLemmas.{items_left, items_longer}
 use Rattle.pull.proofs.PulledLemmas.{reads_array, reads_member, reads_no_members}
 use Rattle.spelling.specs.Asked.{declared_by, document_shape_asked, setting_in, version_in}
 use Rattle.spelling.specs.Asked.{version_of}
-use Rattle.spelling.specs.Limits.{limits_of}
-use Rattle.spelling.specs.declared.limits.TheConstants.{LAST_VERSION}
+use Rattle.rules.specs.Limits.{limits_of}
+use Rattle.rules.specs.declared.limits.TheConstants.{LAST_VERSION}
 use Rattle.spelling.specs.Places.{inside, member_named, nothing, objects_placed, placed, transactions_placed}
 use Rattle.spelling.proofs.PlaceLemmas.{own_first, part_met}
 

@@ -15,7 +15,7 @@ use Rattle.spelling.proofs.AmountLemmas.{amount_of-value}
 use Rattle.meaning.specs.Trees as tree
 use Rattle.objects.specs.declared.call.Call.{Call}
 use Rattle.spelling.specs.declared.counts.Counts.{Counts}
-use Rattle.spelling.specs.declared.subject.Subject.TheVariants.{Reply}
+use Rattle.rules.specs.declared.subject.Subject.TheVariants.{Reply}
 use Rattle.spelling.specs.Answer.{AreMet, IsMet}
 use Rattle.spelling.specs.Asked.{amount_asked, amount_item, item_asked, arguments_asked, label_asked, label_in, operation_asked}
 use Rattle.spelling.specs.Asked.{operation_verb, part, scope_after, sort_of, target_asked, operation_shape_asked}

@@ -9,13 +9,14 @@ use Rattle.serde_json.specs.Find.{get}
 use Rattle.meaning.specs.Trees.{Block}
 use Rattle.spelling.specs.declared.counts.Counts.{Counts}
 use Rattle.spelling.specs.declared.steps.Sort.TheVariants.{Sub}
-use Rattle.spelling.specs.declared.subject.Subject.TheVariants.{Outcome}
+use Rattle.rules.specs.declared.subject.Subject.TheVariants.{Outcome}
 use Rattle.spelling.specs.Answer.{AreMet, IsMet}
 use Rattle.spelling.specs.Asked.{handlers_in, label_asked, label_in, part, scope_after}
 use Rattle.spelling.specs.Asked.{sort_of, sub_shape_asked, labels_of}
 use Rattle.spelling.specs.Asked.{parallel_shape_asked}
 use Rattle.spelling.specs.Demand.{check, holds, one_more_node}
-use Rattle.faults.specs.declared.fault.Wrong.TheVariants.{DuplicateLabel, Name}
+use Rattle.rules.specs.declared.rule.NameRule.TheVariants.{Label}
+use Rattle.rules.specs.declared.rule.Rule.TheVariants.{Name, NewLabel}
 use Rattle.batch.specs.Names.{is_name}
 use Rattle.pull.specs.Pulled.{ReadsMembers, ReadsValue, SubTail, are_allowed, sub_members}
 use Rattle.spelling.specs.Scope.{Numbers, Scope, Setting, is_named, with_label, with_labels}
@@ -309,8 +310,8 @@ unfolding label_asked
 label_anywhere scope earlier None here there met = refl
 label_anywhere scope earlier (Some name) here there met = by (is_name name) (not (is_named name scope || is_named name earlier)) met
   where
-    by : (a b : Bool) → check here (holds a Name ∷ holds b DuplicateLabel ∷ []) ≡ Ok here
-        → check there (holds a Name ∷ holds b DuplicateLabel ∷ []) ≡ Ok there
+    by : (a b : Bool) → check here (holds a (Name Label) ∷ holds b NewLabel ∷ []) ≡ Ok here
+        → check there (holds a (Name Label) ∷ holds b NewLabel ∷ []) ≡ Ok there
     by true true e = refl
     by true false e = cc
     by false b e = cc

@@ -10,7 +10,7 @@ use Rattle.meaning.specs.Trees as tree
 use Rattle.atoms.specs.declared.item.Item.{Item}
 use Rattle.spelling.specs.declared.counts.Counts.{Counts}
 use Rattle.spelling.specs.declared.steps.Sort.TheVariants.{If, Abort}
-use Rattle.spelling.specs.declared.subject.Subject.{Subject}
+use Rattle.rules.specs.declared.subject.Subject.{Subject}
 use Rattle.spelling.specs.Answer.{AreMet, IsMet}
 use Rattle.spelling.specs.Asked.{abort_asked, abort_shape_asked, if_label, if_shape_asked, is_abort, part}
 use Rattle.spelling.specs.Asked.{reason_asked, scope_after, seen_asked, sort_of, subject_of, test_asked}
@@ -20,7 +20,7 @@ use Rattle.pull.specs.Pulled.TestKey.{word, least, entry}
 use Rattle.spelling.specs.Scope.{Numbers, Scope, Setting, label_number, with_item}
 use Rattle.spelling.specs.Spelled.{Spelling, abort_of, block_of_if, if_of, item_of, or_no_step, reason_of, spelled_map, step_of, test_of}
 use Rattle.batch.specs.Names.{is_name}
-use Rattle.spelling.specs.Subjects.{fits_item, fits_number, fits_word}
+use Rattle.rules.specs.Subjects.{fits_item, fits_number, fits_word}
 use Rattle.words.specs.Words.{word_of_text}
 use Rattle.spelling.proofs.Checks.{check_met}
 use Rattle.spelling.specs.Places.{Places, block_placed_if, if_placed, inside, itself, member_named, nothing, step_placed}

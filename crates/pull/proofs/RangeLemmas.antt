@@ -10,7 +10,7 @@ use Rattle.meaning.specs.Trees as tree
 use Rattle.meaning.specs.declared.limits.TheConstants.{MAX_DEPTH}
 use Rattle.spelling.specs.Answer.{AreMet}
 use Rattle.spelling.specs.Asked.{names_of, objects_in}
-use Rattle.spelling.specs.Limits.{limits_of}
+use Rattle.rules.specs.Limits.{limits_of}
 use Rattle.spelling.specs.Places.{item_at, placed, seek, transaction_placed, transactions_placed}
 use Rattle.spelling.specs.Scope.{Numbers, Setting, setting_of}
 use Rattle.spelling.specs.Spelled.{block_of, blocks_of, parts_in, spelled}

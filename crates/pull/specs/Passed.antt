@@ -7,12 +7,16 @@ use Rattle.spelling.specs.Scope.{fit}
 use Rattle.pull.specs.declared.pass.Seen.{Seen}
 use Rattle.pull.specs.declared.pass.Seen.TheVariants as seen
 use Rattle.pull.specs.declared.notes.Notes.{Notes}
-use Rattle.faults.specs.declared.fault.Wrong.TheVariants.{Shape, TooMany}
+use Rattle.rules.specs.Forms.{member_names}
+use Rattle.rules.specs.declared.form.Form.TheVariants as form
+use Rattle.rules.specs.declared.rule.CountRule.TheVariants as counted
+use Rattle.rules.specs.declared.rule.Rule.TheVariants as rule
+use Rattle.rules.specs.declared.rule.ShapeRule.TheVariants as shape
 use Rattle.spelling.specs.Demand.{Demand, holds}
 use Rattle.spelling.specs.Look.{members_among, within}
-use Rattle.spelling.specs.Limits.{limits_of}
-use Rattle.spelling.specs.declared.limits.Limits.{Limits}
-use Rattle.spelling.specs.declared.limits.TheConstants.{LAST_VERSION}
+use Rattle.rules.specs.Limits.{limits_of}
+use Rattle.rules.specs.declared.limits.Limits.{Limits}
+use Rattle.rules.specs.declared.limits.TheConstants.{LAST_VERSION}
 
 abbrev pub whole_or_other : Option ℤ → Seen
 whole_or_other None = seen.Other
@@ -29,12 +33,9 @@ seen_as (object ms) = seen.Other
 
 -- ---- a document's members
 
-abbrev pub member_names : List (List ℕ)
-member_names = codes "ordtx" ∷ codes "objects" ∷ codes "transactions" ∷ []
-
 -- what is noted of a document's members
 pub record IsNoted (notes : Notes) (ms : Members) : Type 0 where
-  pub only : notes.only ≡ members_among member_names ms
+  pub only : notes.only ≡ members_among (member_names form.Document) ms
   pub version : notes.version ≡ option_map seen_as (get_member (codes "ordtx") ms)
   pub objects : notes.objects ≡ option_map seen_as (get_member (codes "objects") ms)
   pub transactions : notes.transactions ≡ option_map seen_as (get_member (codes "transactions") ms)
@@ -56,17 +57,23 @@ noted_count (Some (seen.Whole n)) = None
 noted_count (Some (seen.List n)) = Some n
 noted_count (Some seen.Other) = None
 
--- the limits of the version that is noted
+-- the version that is noted, or else the first
+abbrev pub version_in_notes : Notes → ℕ
+version_in_notes notes = unwrap_or (noted_version notes.version) 1
+
+-- its limits
 abbrev pub noted_limits : Notes → Limits
-noted_limits notes = limits_of (unwrap_or (noted_version notes.version) 1)
+noted_limits notes = limits_of (version_in_notes notes)
 
 -- what is asked of a document's shape, by what is noted of it
 abbrev pub noted_asked : Notes → List Demand
 noted_asked notes =
-    holds notes.only Shape
-    ∷ holds (is_some (noted_version notes.version)) Shape
-    ∷ holds (is_some (noted_count notes.objects)) Shape
-    ∷ holds (is_some (noted_count notes.transactions)) Shape
-    ∷ holds (nat_le (unwrap_or (noted_count notes.objects) 0) (noted_limits notes).objects) TooMany
-    ∷ holds (nat_le (unwrap_or (noted_count notes.transactions) 0) (noted_limits notes).transactions) TooMany
+    holds notes.only (rule.Shape (shape.Members form.Document))
+    ∷ holds (is_some (noted_version notes.version)) (rule.Shape shape.Version)
+    ∷ holds (is_some (noted_count notes.objects)) (rule.Shape shape.Objects)
+    ∷ holds (is_some (noted_count notes.transactions)) (rule.Shape shape.Transactions)
+    ∷ holds (nat_le (unwrap_or (noted_count notes.objects) 0) (noted_limits notes).objects)
+    (rule.Few (counted.Objects (version_in_notes notes)))
+    ∷ holds (nat_le (unwrap_or (noted_count notes.transactions) 0) (noted_limits notes).transactions)
+    (rule.Few (counted.Transactions (version_in_notes notes)))
     ∷ []

@@ -7,13 +7,13 @@ use Rattle.batch.specs.Names.{texts_of}
 use Rattle.meaning.specs.Trees.{Block}
 use Rattle.spelling.specs.Answer.{AreMet}
 use Rattle.spelling.specs.Asked.{declared_by, names_of}
-use Rattle.spelling.specs.Limits.{limits_of}
+use Rattle.rules.specs.Limits.{limits_of}
 use Rattle.spelling.specs.Places.{objects_placed, seek, transactions_placed}
 use Rattle.spelling.specs.Scope.{Numbers, Setting, numbers_of, setting_of}
 use Rattle.spelling.specs.Spelled.{blocks_of, starts_of}
 use Rattle.spelling.specs.declared.counts.Counts.{Counts}
 use Rattle.spelling.specs.declared.declared.Declared.{Declared}
-use Rattle.spelling.specs.declared.limits.TheConstants.{LAST_VERSION}
+use Rattle.rules.specs.declared.limits.TheConstants.{LAST_VERSION}
 use Rattle.spelling.specs.declared.state.State.{State}
 use Rattle.cuts.specs.Whole.{is_whole}
 use Rattle.pull.specs.Pulled.{ReadsItems, ReadsValue, in_order}

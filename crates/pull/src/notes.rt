@@ -1,9 +1,10 @@
 //! What is noted of the members of a document, without a tree.
-ghost use Rattle.std.specs.Prelude.{◌≡◌, ◌≤◌, length, None, Some, Ok, Err, IfErr, IfOk, OnOk, true};
+ghost use Rattle.std.specs.Prelude.{◌≡◌, ◌≤◌, length, None, Some, Ok, IfErr, IfOk, OnOk, true};
 ghost use Rattle.json.specs.Json.{members, value};
 ghost use Rattle.serde_json.specs.Data.{Data, Members, no_members, put};
 ghost use Rattle.serde_json.specs.Read.{converted, of_json, of_members};
 ghost use Rattle.spelling.specs.Demand.{check, no_counts};
+ghost use Rattle.spelling.specs.Places.{fault_in, here};
 ghost use Rattle.faults.specs.Faults.{is_of_reading};
 ghost use Rattle.pull.specs.Passed.{AreNoted, IsNoted, noted_asked, noted_count, noted_version, seen_as};
 ghost use Rattle.pull.specs.Pulled.{ReadsMembers, ReadsValue};
@@ -11,7 +12,7 @@ ghost use Rattle.pull.specs.Pulled.{ReadsMembers, ReadsValue};
 use crate::pass::{Seen, pass_from, pass_value};
 use faults::{Fault, Wrong};
 use json::{Invalid, Reader, Token};
-use spelling::limits::{LAST_VERSION, Limits};
+use rules::{LAST_VERSION, Limits};
 
 /// How deep the arrays and objects of a document may nest.
 pub const MAX_NESTING: usize = 127;
@@ -124,7 +125,8 @@ fn count_of(seen: Option<Seen>) -> Option<u32>
 /// That the document's shape has no fault, or its first.
 pub fn check_notes(notes: &Notes) -> Result<(), Fault>
     ensures met { OnOk result (check no_counts (noted_asked notes.now) ≡ Ok no_counts) }
-    ensures fault { IfErr result (λ fault. check no_counts (noted_asked notes.now) ≡ Err fault) }
+    ensures fault { IfErr result (λ fault. fault_in (here (check no_counts (noted_asked notes.now)))
+        ≡ Some fault) }
     ensures code { IfErr result (λ fault. is_of_reading fault.code ≡ true) }
 {
     if !notes.only {

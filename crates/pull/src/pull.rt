@@ -22,8 +22,8 @@ ghost use Rattle.pull.specs.Pulled.{Begins, ReadsItems, ReadsMembers, ReadsValue
 ghost use Rattle.spelling.specs.Scope.{numbers_of, scope_of, setting_of};
 ghost use Rattle.spelling.specs.Spelled.{Spelling, call_of, step_of};
 ghost use Rattle.batch.specs.Names.{is_name};
-ghost use Rattle.spelling.specs.Limits.{limits_of};
-ghost use Rattle.spelling.specs.declared.limits.TheConstants.{LAST_VERSION};
+ghost use Rattle.rules.specs.Limits.{limits_of};
+ghost use Rattle.rules.specs.declared.limits.TheConstants.{LAST_VERSION};
 ghost use Rattle.cuts.specs.Whole.{is_left};
 
 use crate::stop::Stop;
@@ -31,15 +31,14 @@ use batch::{Call, Step, is_name};
 use fast_float::Numeral;
 use json::{Reader, Token};
 use objects::Amount;
+use rules::{LAST_VERSION, Limits, Subject};
 use serde_json::{Map, Value};
 use spelling::counts::Counts;
 use spelling::declared::Declared;
 use spelling::labels::add_new_label;
-use spelling::limits::{LAST_VERSION, Limits};
 use spelling::numbers::number_of;
 use spelling::operations::{item_of, target_of};
 use spelling::state::{Numbering, State};
-use spelling::subject::Subject;
 use std::alloc::Global;
 use words::Verb;
 

@@ -30,6 +30,7 @@ use crate::pull_heads::{begin_parallel, end_parallel, new_sub_step, pull_if_head
 use crate::stop::Stop;
 use batch::{Block, Handler, Step, Subaction, Test};
 use json::{Reader, Token};
+use rules::{NameRule, Rule, Subject, fits_item, fits_number, fits_word};
 use serde_json::Map;
 use spelling::declared::Declared;
 use spelling::hashing::Labels;
@@ -38,7 +39,6 @@ use spelling::labels::{add_new_label, leave_block};
 use spelling::operations::item_of;
 use spelling::state::{Numbering, ReasonOrder, State};
 use spelling::steps::{Sort, read_members, read_reason, read_step, reason_number};
-use spelling::subject::{Subject, fits_item, fits_number, fits_word};
 use std::alloc::Global;
 use words::Word;
 
@@ -73,7 +73,14 @@ fn pull_handler(
         (numbers_of state.old.numbering) reason.now d)
         × (scope_of state.new.labels.entries ≡ scope_of state.old.labels.entries)) }
 {
-    let number = reason_number(alloc, reason, &state.counts, &mut state.numbering.reasons)?;
+    let reasons = &mut state.numbering.reasons;
+    let number = reason_number(
+        alloc,
+        reason,
+        Rule::Name(NameRule::Handlers),
+        &state.counts,
+        reasons,
+    )?;
     let block = pull_block(alloc, reader, levels, declared, state)?;
     Ok(Handler {
         reason: number,

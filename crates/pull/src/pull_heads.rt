@@ -16,12 +16,12 @@ use crate::pull_blocks::pull_test;
 use crate::stop::Stop;
 use batch::{Step, Subaction, Test};
 use json::Reader;
+use rules::Subject;
 use spelling::counts::Counts;
 use spelling::hashing::Labels;
 use spelling::heads::take_labels;
 use spelling::labels::{add_new_label, seen_label};
 use spelling::state::State;
-use spelling::subject::Subject;
 use std::alloc::Global;
 
 /// What an `if` has before its branches: the number of its label, and its test.

@@ -10,7 +10,7 @@ ghost use Rattle.batch.specs.Views.{block_view};
 ghost use Rattle.serde_json.specs.Data.{Data};
 ghost use Rattle.meaning.specs.declared.limits.TheConstants.{MAX_DEPTH};
 ghost use Rattle.spelling.specs.Answer.{AreMet};
-ghost use Rattle.spelling.specs.Limits.{limits_of};
+ghost use Rattle.rules.specs.Limits.{limits_of};
 ghost use Rattle.spelling.specs.Places.{transaction_placed};
 ghost use Rattle.spelling.specs.Spelled.{block_of};
 ghost use Rattle.pull.specs.Pulled.{ReadsValue};
@@ -25,8 +25,8 @@ use crate::stop::Stop;
 use batch::Block;
 use json::{Reader, Token};
 use meaning::limits::MAX_DEPTH;
+use rules::Limits;
 use spelling::declared::{Declared, Parts};
-use spelling::limits::Limits;
 use spelling::state::State;
 use std::alloc::Global;
 

@@ -1,8 +1,8 @@
 //! Why a document isn't read from its tokens.
 
-use faults::{Code, Fault};
 use json::Invalid;
 use objects::NoMemory;
+use rules::Failure;
 use spelling::unmet::Unmet;
 use std::alloc::{AllocError, AllocFailed};
 
@@ -11,24 +11,24 @@ use std::alloc::{AllocError, AllocFailed};
 pub enum Stop {
     /// Memory was refused.
     NoMemory,
-    /// The tokens are out of the common form, or spell a document with a fault.
+    /// The tokens are out of the common form, or spell a document that doesn't keep a rule.
     OtherForm,
     /// The reasons of some handlers don't ascend, and are to.
     UnsortedReasons,
 }
 
-impl From<Fault> for Stop {
-    fn from(fault: Fault) -> Stop {
-        match fault.code {
-            Code::Memory => Stop::NoMemory,
-            _ => Stop::OtherForm,
+impl From<Failure> for Stop {
+    fn from(failure: Failure) -> Stop {
+        match failure {
+            Failure::Broken(_, _) => Stop::OtherForm,
+            Failure::NoMemory => Stop::NoMemory,
         }
     }
 }
 
 impl From<Unmet> for Stop {
     fn from(unmet: Unmet) -> Stop {
-        Stop::from(unmet.fault)
+        Stop::from(unmet.failure)
     }
 }
 

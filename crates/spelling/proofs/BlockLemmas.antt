@@ -3,21 +3,22 @@ use Rattle.std.proofs.Common.{◌≡◌, ℕ, zero, suc, None, Some, Err, refl, 
 use Rattle.serde_json.specs.Data.{Data, Items}
 use Rattle.serde_json.specs.Find.{as_array}
 use Rattle.batch.specs.Views.{steps_of}
-use Rattle.faults.specs.declared.fault.Wrong.TheVariants.{Depth, Shape}
+use Rattle.rules.specs.declared.rule.Rule.TheVariants.{Depth, Shape}
+use Rattle.rules.specs.declared.rule.ShapeRule.TheVariants.{Block}
 use Rattle.spelling.specs.declared.counts.Counts.{Counts}
-use Rattle.spelling.specs.Demand.{fault_at}
+use Rattle.spelling.specs.Demand.{broken_at}
 use Rattle.spelling.specs.Places.{block_placed, found_here, seek, steps_placed}
 use Rattle.spelling.specs.Scope.{Numbers, Scope, Setting}
 use Rattle.spelling.specs.Spelled.{block_of, spelled_map, steps_spelled}
 
 module _ (setting : Setting) (scope : Scope) (d : Data) where
-  pub no_array : (n : ℕ) (c : Counts) → as_array d ≡ None → seek c (block_placed setting n scope d) ≡ Err (found_here (fault_at Shape c))
+  pub no_array : (n : ℕ) (c : Counts) → as_array d ≡ None → seek c (block_placed setting n scope d) ≡ Err (found_here (broken_at (Shape Block) c))
   unfolding block_placed
   no_array zero c none = rw none refl
   no_array (suc n) c none = rw none refl
 
   pub too_deep : (n : ℕ) (c : Counts) (ds : Items) → n ≡ 0 → Some ds ≡ as_array d → seek c (block_placed setting n scope d) ≡ Err
-      (found_here (fault_at Depth c))
+      (found_here (broken_at Depth c))
   unfolding block_placed
   too_deep zero c ds e is = rw (← is) refl
   too_deep (suc n) c ds e is = absurd (omega arith)

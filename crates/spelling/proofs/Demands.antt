@@ -12,9 +12,12 @@ use Rattle.meaning.specs.declared.limits.TheConstants.{MAX_DEPTH}
 use Rattle.spelling.specs.declared.steps.Sort.{Sort}
 use Rattle.spelling.specs.declared.steps.Sort.TheVariants.{Operation as an_operation, If as an_if, Sub as a_sub, Abort as an_abort}
 use Rattle.spelling.specs.declared.steps.Sort.TheVariants.{Parallel as a_parallel}
-use Rattle.spelling.specs.declared.subject.Subject.TheVariants.{Outcome}
-use Rattle.faults.specs.declared.fault.Fault.{Fault}
-use Rattle.faults.specs.declared.fault.Wrong.TheVariants.{Depth, Name, Shape, Start}
+use Rattle.rules.specs.declared.subject.Subject.TheVariants.{Outcome}
+use Rattle.rules.specs.declared.failure.Failure.{Failure}
+use Rattle.rules.specs.declared.rule.NameRule.TheVariants.{Handlers}
+use Rattle.rules.specs.declared.rule.Rule.TheVariants.{Depth, Name, Shape, Start}
+use Rattle.rules.specs.declared.rule.ShapeRule.TheVariants as shape
+use Rattle.rules.specs.declared.rule.StartRule.TheVariants.{Of}
 use Rattle.spelling.specs.declared.counts.Counts.{Counts}
 use Rattle.spelling.specs.Demand.{Demand, check, holds, in_transaction, no_counts, one_more_node}
 use Rattle.spelling.specs.Scope.{Scope, Setting, Table, with_label, with_text}
@@ -24,7 +27,7 @@ use Rattle.spelling.specs.Asked.{object_shape_asked, objects_in, operation_asked
 use Rattle.spelling.specs.Asked.{seen_asked, setting_in, signed_start, sort_of, sub_shape_asked, subject_of, test_asked, text_of}
 use Rattle.spelling.specs.Asked.{transactions_in, version_in}
 use Rattle.spelling.specs.Places.{Found, Placed, Places, Token, array_placed, below, block_placed, block_placed_if, children_placed}
-use Rattle.spelling.specs.Places.{elements_placed, entries_placed, fault_of, first_fault, go_on, handlers_placed, here, if_placed, inside}
+use Rattle.spelling.specs.Places.{elements_placed, entries_placed, fault_in, first_fault, go_on, handlers_placed, here, if_placed, inside}
 use Rattle.spelling.specs.Places.{itself, members_placed, nothing, object_placed, objects_placed, pairs_placed, parallel_placed, placed}
 use Rattle.spelling.specs.Places.{seek, start_placed, step_placed, step_placed_by, steps_placed, sub_placed, transactions_placed}
 use Rattle.spelling.proofs.Checks.{and_check, check-after, check-append, failed-before}
@@ -57,7 +60,7 @@ if_asked version asks scope d =
 
 -- each reason is a name, and its block is one
 abbrev pub member_asked : Asks → Scope → List ℕ → Data → List Demand
-member_asked asks scope reason d = holds (is_name reason) Name ∷ asks scope d
+member_asked asks scope reason d = holds (is_name reason) (Name Handlers) ∷ asks scope d
 
 abbrev pub members_asked : Asks → Scope → Members → List Demand
 members_asked asks scope no_members = []
@@ -90,7 +93,7 @@ parallel_asked version asks scope d =
     ++ children_asked version asks scope [] (children_in d)
 
 abbrev pub step_asked_by : Option Sort → Asks → Setting → Scope → Data → List Demand
-step_asked_by None asks setting scope d = holds false Shape ∷ []
+step_asked_by None asks setting scope d = holds false (Shape shape.Sort) ∷ []
 step_asked_by (Some an_operation) asks setting scope d = operation_asked setting scope d
 step_asked_by (Some an_if) asks setting scope d = if_asked setting.version asks scope d
 step_asked_by (Some a_sub) asks setting scope d = sub_asked setting.version asks scope [] d
@@ -105,7 +108,7 @@ steps_asked asks setting scope no_items = []
 steps_asked asks setting scope (item d ds) = step_asked asks setting scope d ++ steps_asked asks setting (scope_after setting scope d) ds
 
 abbrev pub array_asked : (Items → List Demand) → Option Items → List Demand
-array_asked asks None = holds false Shape ∷ []
+array_asked asks None = holds false (Shape shape.Block) ∷ []
 array_asked asks (Some ds) = asks ds
 
 -- a block within so many more levels
@@ -129,17 +132,17 @@ abbrev pub pairs_asked : ℕ → Table → Items → List Demand
 pairs_asked version earlier no_items = []
 pairs_asked version earlier (item d ds) = pair_asked version earlier d ++ pairs_asked version (with_text (key_of d) earlier) ds
 
-unfoldable pub array_start_asked : (Items → List Demand) → Option Items → List Demand
-array_start_asked asks None = holds false Start ∷ []
-array_start_asked asks (Some ds) = asks ds
+unfoldable pub array_start_asked : Kind → (Items → List Demand) → Option Items → List Demand
+array_start_asked k asks None = holds false (Start (Of k)) ∷ []
+array_start_asked k asks (Some ds) = asks ds
 
 unfoldable pub start_asked : ℕ → Kind → Data → List Demand
-start_asked version kind.Account d = holds (is_some (number_start d)) Start ∷ []
-start_asked version kind.Counter d = holds (is_some (signed_start d)) Start ∷ []
-start_asked version kind.Set d = array_start_asked (elements_asked version []) (as_array d)
-start_asked version kind.Queue d = array_start_asked (entries_asked version) (as_array d)
-start_asked version kind.Directory d = array_start_asked (pairs_asked version []) (as_array d)
-start_asked version kind.Max d = holds (is_some (number_start d)) Start ∷ []
+start_asked version kind.Account d = holds (is_some (number_start d)) (Start (Of kind.Account)) ∷ []
+start_asked version kind.Counter d = holds (is_some (signed_start d)) (Start (Of kind.Counter)) ∷ []
+start_asked version kind.Set d = array_start_asked kind.Set (elements_asked version []) (as_array d)
+start_asked version kind.Queue d = array_start_asked kind.Queue (entries_asked version) (as_array d)
+start_asked version kind.Directory d = array_start_asked kind.Directory (pairs_asked version []) (as_array d)
+start_asked version kind.Max d = holds (is_some (number_start d)) (Start (Of kind.Max)) ∷ []
 
 unfoldable pub object_asked : ℕ → Table → Data → List Demand
 object_asked version names d =
@@ -168,27 +171,27 @@ asked d =
     ++ objects_asked (version_in d) [] (objects_in d)
     ++ transactions_asked 1 (setting_in d) (transactions_in d)
 
--- ---- the fault that is found is the first
+-- ---- what is found is the first rule that isn't kept
 
 -- what was found, without its place
-abbrev pub told : Result Counts Found → Result Counts Fault
+abbrev pub told : Result Counts Found → Result Counts Failure
 told (Ok c) = Ok c
-told (Err found) = Err found.fault
+told (Err found) = Err found.failure
 
 told_below : (token : Token) (r : Result Counts Found) → told (below token r) ≡ told r
 told_below token (Ok c) = refl
 told_below token (Err found) = refl
 
-told_here : (r : Result Counts Fault) → told (here r) ≡ r
+told_here : (r : Result Counts Failure) → told (here r) ≡ r
 told_here (Ok c) = refl
-told_here (Err fault) = refl
+told_here (Err failure) = refl
 
 told_on : (r : Result Counts Found) (asked : Placed) (ds : List Demand) → ((c : Counts) → told (seek c asked) ≡ check c ds)
     → told (go_on r (λ next. seek next asked)) ≡ and_check (told r) ds
 told_on (Ok c) asked ds rest = rest c ∙ sym (check-after c ds)
-told_on (Err found) asked ds rest = sym (failed-before found.fault ds)
+told_on (Err found) asked ds rest = sym (failed-before found.failure ds)
 
--- the first fault, with its place and without it
+-- the first rule that isn't kept, with its place and without it
 pub told_first : (c : Counts) (asked : Placed) → told (seek c asked) ≡ check c (demands_of asked)
 told_first c nothing = refl
 told_first c (itself ds rest) =
@@ -282,15 +285,15 @@ module _ (places : Places) (asks : Asks) (same : Agrees places asks) where
 
 -- the items of an array, or the demand for one
 array_same : (asks : Items → List Demand) (places : Items → Placed) (o : Option Items) → ((ds : Items) → demands_of (places ds) ≡ asks ds)
-    → demands_of (array_placed Shape places o) ≡ array_asked asks o
+    → demands_of (array_placed (Shape shape.Block) places o) ≡ array_asked asks o
 array_same asks places None same = refl
 array_same asks places (Some ds) same = same ds
 
-list_same : (asks : Items → List Demand) (places : Items → Placed) (o : Option Items) → ((ds : Items) → demands_of (places ds) ≡ asks ds)
-    → demands_of (array_placed Start places o) ≡ array_start_asked asks o
+list_same : (k : Kind) (asks : Items → List Demand) (places : Items → Placed) (o : Option Items)
+    → ((ds : Items) → demands_of (places ds) ≡ asks ds) → demands_of (array_placed (Start (Of k)) places o) ≡ array_start_asked k asks o
 unfolding array_start_asked
-list_same asks places None same = refl
-list_same asks places (Some ds) same = same ds
+list_same k asks places None same = refl
+list_same k asks places (Some ds) same = same ds
 
 block_same : (setting : Setting) (n : ℕ) → Agrees (block_placed setting n) (block_asked setting n)
 unfolding block_placed block_asked
@@ -318,10 +321,11 @@ start_same : (version : ℕ) (k : Kind) (d : Data) → demands_of (start_placed 
 unfolding start_placed start_asked
 start_same version kind.Account d = refl
 start_same version kind.Counter d = refl
-start_same version kind.Set d = list_same (elements_asked version []) (elements_placed version [] 0) (as_array d)
+start_same version kind.Set d = list_same kind.Set (elements_asked version []) (elements_placed version [] 0) (as_array d)
     (elements_same version [] 0)
-start_same version kind.Queue d = list_same (entries_asked version) (entries_placed version 0) (as_array d) (entries_same version 0)
-start_same version kind.Directory d = list_same (pairs_asked version []) (pairs_placed version [] 0) (as_array d)
+start_same version kind.Queue d = list_same kind.Queue (entries_asked version) (entries_placed version 0) (as_array d)
+    (entries_same version 0)
+start_same version kind.Directory d = list_same kind.Directory (pairs_asked version []) (pairs_placed version [] 0) (as_array d)
     (pairs_same version [] 0)
 start_same version kind.Max d = refl
 
@@ -346,7 +350,7 @@ placed_same d = rw (objects_same, transactions_same, append-nil) (three (documen
 
 -- ---- a document without a fault
 
-met_of : (r : Result Counts Found) → fault_of r ≡ None → (next : Counts) × (r ≡ Ok next)
+met_of : (r : Result Counts Found) → fault_in r ≡ None → (next : Counts) × (r ≡ Ok next)
 met_of (Ok next) none = (next, refl)
 met_of (Err found) none = cc
 
@@ -358,7 +362,7 @@ faultless d none =
       ap (check no_counts) (sym (placed_same d)) ∙ sym (told_first no_counts (placed d)) ∙ ap told met.1,
     )
 
-none_of : (r : Result Counts Found) (next : Counts) → told r ≡ Ok next → fault_of r ≡ None
+none_of : (r : Result Counts Found) (next : Counts) → told r ≡ Ok next → fault_in r ≡ None
 none_of (Ok c) next met = refl
 none_of (Err found) next met = cc
 

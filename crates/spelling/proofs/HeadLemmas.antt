@@ -6,15 +6,18 @@ use Rattle.serde_json.specs.Find.{get}
 use Rattle.meaning.specs.Trees as tree
 use Rattle.meaning.specs.declared.test.Test.{Test}
 use Rattle.spelling.specs.declared.counts.Counts.{Counts}
-use Rattle.faults.specs.declared.fault.Fault.{Fault}
+use Rattle.rules.specs.declared.failure.Failure.{Failure}
+use Rattle.rules.specs.declared.rule.Rule.TheVariants.{Start}
+use Rattle.rules.specs.declared.rule.StartRule.TheVariants.{NewKey}
 use Rattle.spelling.specs.Asked.{arguments_asked, call_named, children_in, handlers_in, if_label, if_shape_asked, label_asked, label_in}
-use Rattle.spelling.specs.Asked.{object_of, operation_asked, operation_shape_asked, parallel_shape_asked, part, seen_asked, sub_shape_asked}
-use Rattle.spelling.specs.Asked.{subject_of, target_asked, test_asked, verb_in}
+use Rattle.spelling.specs.Asked.{object_of, operation_asked, operation_shape_asked, pair_asked, parallel_shape_asked, part, seen_asked}
+use Rattle.spelling.specs.Asked.{key_of, sub_shape_asked, subject_of, target_asked, test_asked, verb_in}
 use Rattle.spelling.specs.Demand.{Demand, check, one_more_node, one_more_operation}
-use Rattle.spelling.specs.Heads.{if_head_asked, operation_head_asked, parallel_head_asked, sub_head_asked}
+use Rattle.spelling.specs.Heads.{if_head_asked, new_start_asked, operation_head_asked, pair_names_asked}
+use Rattle.spelling.specs.Heads.{parallel_head_asked, sub_head_asked}
 use Rattle.spelling.specs.Places.{Found, Placed, Places, block_placed_if, children_placed, found_here, handlers_placed, if_placed, inside}
 use Rattle.spelling.specs.Places.{itself, member_named, nothing, parallel_placed, seek, sub_placed}
-use Rattle.spelling.specs.Scope.{Numbers, Scope, Setting, label_number}
+use Rattle.spelling.specs.Scope.{Numbers, Scope, Setting, Table, label_number}
 use Rattle.spelling.specs.Spelled.{Spelling, block_of_if, handlers_spelled, if_of, or_no_step, sub_of, test_of, tried}
 use Rattle.spelling.proofs.Checks.{check-append, check-after, check_failed, check_met, failed-before}
 use Rattle.spelling.proofs.PlaceLemmas.{inside_met, inside_unmet, own_both, own_first, own_unmet}
@@ -68,7 +71,7 @@ pub ruleset operations = (operation_asked-is, check-append, check-after, failed-
 
 -- ---- demands in two parts
 
-second_failed : (c next : Counts) (e : Fault) (xs ys : List Demand) → check c xs ≡ Ok next → check next ys ≡ Err e
+second_failed : (c next : Counts) (e : Failure) (xs ys : List Demand) → check c xs ≡ Ok next → check next ys ≡ Err e
     → check c (xs ++ ys) ≡ Err e
 second_failed c next e xs ys met failed = check_met c next xs ys met ∙ failed
 
@@ -87,20 +90,20 @@ module _ (setting : Setting) (scope : Scope) (d : Data) (start : Counts) where
   abbrev operation_label : List Demand
   operation_label = label_asked scope [] (label_in d)
 
-  -- the first fault is before the arguments
-  pub operation_head_failed : (e : Fault) → check start operation_head ≡ Err e → check start (operation_asked setting scope d) ≡ Err e
+  -- the first rule that isn't kept is before the arguments
+  pub operation_head_failed : (e : Failure) → check start operation_head ≡ Err e → check start (operation_asked setting scope d) ≡ Err e
   operation_head_failed e failed = ap (check start) (operation_asked-is setting scope d)
       ∙ check_failed start e (operation_head ++ arguments) operation_label (check_failed start e operation_head arguments failed)
 
   -- it is in the arguments
-  pub arguments_failed : (next : Counts) (e : Fault) → check start operation_head ≡ Ok next → check next arguments ≡ Err e
+  pub arguments_failed : (next : Counts) (e : Failure) → check start operation_head ≡ Ok next → check next arguments ≡ Err e
       → check start (operation_asked setting scope d) ≡ Err e
   arguments_failed next e met failed = ap (check start) (operation_asked-is setting scope d)
       ∙ check_failed start e (operation_head ++ arguments) operation_label
       (second_failed start next e operation_head arguments met failed)
 
   -- it is in the label
-  pub operation_label_failed : (next after : Counts) (e : Fault) → check start operation_head ≡ Ok next
+  pub operation_label_failed : (next after : Counts) (e : Failure) → check start operation_head ≡ Ok next
       → check next arguments ≡ Ok after → check after operation_label ≡ Err e → check start (operation_asked setting scope d) ≡ Err e
   operation_label_failed next after e met also failed = ap (check start) (operation_asked-is setting scope d)
       ∙ second_failed start after e (operation_head ++ arguments) operation_label
@@ -125,8 +128,8 @@ module _ (version : ℕ) (places : Places) (scope : Scope) (d : Data) (start : C
   abbrev second : Placed
   second = inside (member_named (codes "else")) (block_placed_if places scope (get (codes "else") d)) nothing
 
-  -- the first fault is before the branches
-  pub if_head_failed : (e : Fault) → check start head ≡ Err e → seek start (if_placed version places scope d) ≡ Err (found_here e)
+  -- the first rule that isn't kept is before the branches
+  pub if_head_failed : (e : Failure) → check start head ≡ Err e → seek start (if_placed version places scope d) ≡ Err (found_here e)
   if_head_failed e failed = if_placed-is version places scope d start ∙ own_unmet start e head (first second) failed
 
   -- they decide
@@ -177,8 +180,8 @@ module _ (version : ℕ) (places : Places) (scope earlier : Scope) (d : Data) (s
   abbrev handler : Placed
   handler = inside (member_named (codes "handler")) (block_placed_if places scope (get (codes "handler") d)) nothing
 
-  -- the first fault is before the blocks
-  pub sub_head_failed : (e : Fault) → check start sub_head ≡ Err e → seek start (sub_placed version places scope earlier d)
+  -- the first rule that isn't kept is before the blocks
+  pub sub_head_failed : (e : Failure) → check start sub_head ≡ Err e → seek start (sub_placed version places scope earlier d)
       ≡ Err (found_here e)
   sub_head_failed e failed = sub_placed-is version places scope earlier d start
       ∙ own_unmet start e sub_head (body (handlers handler)) failed
@@ -242,8 +245,8 @@ module _ (version : ℕ) (places : Places) (scope : Scope) (d : Data) (start : C
   abbrev children : Placed
   children = inside (member_named (codes "parallel")) (children_placed version places scope [] 0 (children_in d)) nothing
 
-  -- the first fault is before the children
-  pub parallel_head_failed : (e : Fault) → check start list ≡ Err e → seek start (parallel_placed version places scope d)
+  -- the first rule that isn't kept is before the children
+  pub parallel_head_failed : (e : Failure) → check start list ≡ Err e → seek start (parallel_placed version places scope d)
       ≡ Err (found_here e)
   parallel_head_failed e failed = parallel_placed-is version places scope d start ∙ own_unmet start e list children failed
 
@@ -265,7 +268,7 @@ module _ (setting : Setting) (d : Data) (start : Counts) where
   target = target_asked setting (object_of (part (codes "op") d)) (call_named (part (codes "op") d))
 
   -- there are too many operations
-  pub operation_count_failed : (e : Fault) → check start operation_shape ≡ Ok start → check start counted ≡ Err e
+  pub operation_count_failed : (e : Failure) → check start operation_shape ≡ Ok start → check start counted ≡ Err e
       → check start (operation_head_asked setting d) ≡ Err e
   unfolding operation_head_asked
   operation_count_failed e right failed = check_failed start e (operation_shape ++ counted) target
@@ -285,33 +288,33 @@ module _ (version : ℕ) (scope : Scope) (d : Data) (start : Counts) where
   tested = test_asked (subject_of (if_label d) scope) d
 
   -- the shape of an `if` is wrong
-  pub if_shape_failed : (e : Fault) → check start shape ≡ Err e → check start (if_head_asked version scope d) ≡ Err e
+  pub if_shape_failed : (e : Failure) → check start shape ≡ Err e → check start (if_head_asked version scope d) ≡ Err e
   unfolding if_head_asked
   if_shape_failed e failed = check_failed start e (shape ++ node ++ named) tested
       (check_failed start e (shape ++ node) named (check_failed start e shape node failed))
 
   -- there are too many steps
-  pub if_node_failed : (e : Fault) → check start shape ≡ Ok start → check start node ≡ Err e
+  pub if_node_failed : (e : Failure) → check start shape ≡ Ok start → check start node ≡ Err e
       → check start (if_head_asked version scope d) ≡ Err e
   unfolding if_head_asked
   if_node_failed e right failed = check_failed start e (shape ++ node ++ named) tested
       (check_failed start e (shape ++ node) named (second_failed start start e shape node right failed))
 
   -- its label is not seen
-  pub if_label_failed : (counted : Counts) (e : Fault) → check start shape ≡ Ok start → check start node ≡ Ok counted
+  pub if_label_failed : (counted : Counts) (e : Failure) → check start shape ≡ Ok start → check start node ≡ Ok counted
       → check counted named ≡ Err e → check start (if_head_asked version scope d) ≡ Err e
   unfolding if_head_asked
   if_label_failed counted e right one failed = check_failed start e (shape ++ node ++ named) tested
       (second_failed start counted e (shape ++ node) named (both_met start start counted shape node right one) failed)
 
   -- its test doesn't fit
-  pub if_test_failed : (counted : Counts) (e : Fault) → check start shape ≡ Ok start → check start node ≡ Ok counted
+  pub if_test_failed : (counted : Counts) (e : Failure) → check start shape ≡ Ok start → check start node ≡ Ok counted
       → check counted named ≡ Ok counted → check counted tested ≡ Err e → check start (if_head_asked version scope d) ≡ Err e
   unfolding if_head_asked
   if_test_failed counted e right one seen failed = second_failed start counted e (shape ++ node ++ named) tested
       (both_met start counted counted (shape ++ node) named (both_met start start counted shape node right one) seen) failed
 
-  -- there is no fault
+  -- all of it is met
   pub if_head_met : (counted : Counts) → check start shape ≡ Ok start → check start node ≡ Ok counted
       → check counted named ≡ Ok counted → check counted tested ≡ Ok counted → check start (if_head_asked version scope d) ≡ Ok counted
   unfolding if_head_asked
@@ -329,27 +332,36 @@ module _ (version : ℕ) (scope earlier : Scope) (d : Data) (start : Counts) whe
   sub_named = label_asked scope earlier (label_in d)
 
   -- the shape of a subaction is wrong
-  pub sub_shape_failed : (e : Fault) → check start sub_shape ≡ Err e → check start (sub_head_asked version scope earlier d) ≡ Err e
+  pub sub_shape_failed : (e : Failure) → check start sub_shape ≡ Err e → check start (sub_head_asked version scope earlier d) ≡ Err e
   unfolding sub_head_asked
   sub_shape_failed e failed = check_failed start e (sub_shape ++ sub_node) sub_named (check_failed start e sub_shape sub_node failed)
 
   -- there are too many steps
-  pub sub_node_failed : (e : Fault) → check start sub_shape ≡ Ok start → check start sub_node ≡ Err e
+  pub sub_node_failed : (e : Failure) → check start sub_shape ≡ Ok start → check start sub_node ≡ Err e
       → check start (sub_head_asked version scope earlier d) ≡ Err e
   unfolding sub_head_asked
   sub_node_failed e right failed = check_failed start e (sub_shape ++ sub_node) sub_named
       (second_failed start start e sub_shape sub_node right failed)
 
   -- its label is no new name
-  pub sub_label_failed : (counted : Counts) (e : Fault) → check start sub_shape ≡ Ok start → check start sub_node ≡ Ok counted
+  pub sub_label_failed : (counted : Counts) (e : Failure) → check start sub_shape ≡ Ok start → check start sub_node ≡ Ok counted
       → check counted sub_named ≡ Err e → check start (sub_head_asked version scope earlier d) ≡ Err e
   unfolding sub_head_asked
   sub_label_failed counted e right one failed = second_failed start counted e (sub_shape ++ sub_node) sub_named
       (both_met start start counted sub_shape sub_node right one) failed
 
-  -- there is no fault
+  -- all of it is met
   pub sub_head_met : (counted : Counts) → check start sub_shape ≡ Ok start → check start sub_node ≡ Ok counted
       → check counted sub_named ≡ Ok counted → check start (sub_head_asked version scope earlier d) ≡ Ok counted
   unfolding sub_head_asked
   sub_head_met counted right one new = both_met start counted counted (sub_shape ++ sub_node) sub_named
       (both_met start start counted sub_shape sub_node right one) new
+
+-- ---- a key and its item
+
+-- the first rule that isn't kept is one on the names
+pub pair_names_failed : (version : ℕ) (earlier : Table) (d : Data) (start : Counts) (e : Failure)
+    → check start (pair_names_asked d) ≡ Err e → check start (pair_asked version earlier d) ≡ Err e
+unfolding pair_asked pair_names_asked new_start_asked
+pair_names_failed version earlier d start e failed =
+    check_failed start e (pair_names_asked d) (new_start_asked version (Start NewKey) earlier (key_of d)) failed

@@ -14,8 +14,9 @@ use Rattle.spelling.specs.Asked.{children_in, label_asked, label_in, labels_of, 
 use Rattle.spelling.specs.Demand.{check, holds}
 use Rattle.batch.specs.Names.{is_name}
 use Rattle.spelling.specs.declared.counts.Counts.{Counts}
-use Rattle.faults.specs.declared.fault.Wrong.TheVariants.{DuplicateLabel, Name}
-use Rattle.spelling.specs.declared.subject.Subject.TheVariants.{Outcome}
+use Rattle.rules.specs.declared.rule.NameRule.TheVariants.{Label}
+use Rattle.rules.specs.declared.rule.Rule.TheVariants.{Name, NewLabel}
+use Rattle.rules.specs.declared.subject.Subject.TheVariants.{Outcome}
 use Rattle.spelling.specs.Scope.{AreUnseen, Extends, Scope, Setting, is_named, named, label_number, scope_of, with_label, with_labels, fit}
 use Rattle.std.specs.List.{position_or_len}
 use Rattle.std.specs.Map.{lookup, keys_of}
@@ -23,7 +24,7 @@ use Rattle.std.specs.Str.{bytes_eq}
 use Rattle.std.specs.String.{string_eq}
 use Rattle.indexmap.specs.IndexMap.{IndexMap, get, insert_entry}
 use Rattle.indexmap.proofs.CallerLemmas.{insert_entry-new}
-use Rattle.spelling.specs.declared.subject.Subject.{Subject}
+use Rattle.rules.specs.declared.subject.Subject.{Subject}
 
 -- what a label is of, from the entries of a map
 pub named_view : (name : List ℕ) (es : List (String Global × Subject)) → named name (scope_of es) ≡ lookup
@@ -189,8 +190,8 @@ child_label_met scope earlier (Some name) ds counts unseen met =
     (seen_once_added name Outcome earlier)) in
     by (is_name name) (is_named name earlier) (is_named name scope) new met
   where
-    by : (a b s : Bool) → s ≡ false → check counts (holds a Name ∷ holds (not (b || false)) DuplicateLabel ∷ []) ≡ Ok counts
-        → check counts (holds a Name ∷ holds (not (s || b)) DuplicateLabel ∷ []) ≡ Ok counts
+    by : (a b s : Bool) → s ≡ false → check counts (holds a (Name Label) ∷ holds (not (b || false)) NewLabel ∷ []) ≡ Ok counts
+        → check counts (holds a (Name Label) ∷ holds (not (s || b)) NewLabel ∷ []) ≡ Ok counts
     by true false false n e = refl
     by true true s n e = cc
     by true false true n e = cc

@@ -5,7 +5,6 @@ pub mod Checks
 pub mod PlaceLemmas
 pub mod Demands
 pub mod HeadLemmas
-pub mod LimitLemmas
 pub mod AmountLemmas
 pub mod ListLemmas
 pub mod BlockLemmas

@@ -2,18 +2,19 @@
 use Rattle.std.proofs.Common.{◌≡◌, ℕ, ◌+◌, ◌≤◌, Bool, true, false, List, [], ◌∷◌, ◌++◌, Ok, refl, ap, arith}
 use Rattle.std.specs.Prelude.{nat_lt, ⊤}
 use Rattle.std.proofs.lemmas.Bool.{ltb-true}
-use Rattle.faults.specs.declared.fault.Wrong.{Wrong}
+use Rattle.rules.specs.declared.rule.Rule.{Rule}
+use Rattle.rules.specs.declared.rule.CountRule.TheVariants.{Entries, Nodes, Operations}
 use Rattle.spelling.specs.declared.counts.Counts.{Counts}
 use Rattle.spelling.specs.Demand.{Demand, holds, one_more_start, one_more_operation, one_more_node, in_transaction, check}
 use Rattle.spelling.specs.Demand.{check_one, and_then, limited}
 use Rattle.meaning.specs.declared.limits.TheConstants.{MAX_ENTRIES, MAX_NODES, MAX_OPERATIONS}
-use Rattle.spelling.specs.Limits.{limits_of}
-use Rattle.spelling.proofs.LimitLemmas.{limits_within}
+use Rattle.rules.specs.Limits.{limits_of}
+use Rattle.rules.proofs.LimitLemmas.{limits_within}
 
 -- each test holds
 abbrev pub AllMet : List Demand → Type 0
 AllMet [] = ⊤
-AllMet (holds b wrong ∷ ds) = (b ≡ true) × AllMet ds
+AllMet (holds b rule ∷ ds) = (b ≡ true) × AllMet ds
 AllMet (one_more_start version ∷ ds) = AllMet ds
 AllMet (one_more_operation version ∷ ds) = AllMet ds
 AllMet (one_more_node version ∷ ds) = AllMet ds
@@ -21,7 +22,7 @@ AllMet (in_transaction n ∷ ds) = AllMet ds
 
 pub first_met : (xs ys : List Demand) → AllMet (xs ++ ys) → AllMet xs
 first_met [] ys met = tt
-first_met (holds b wrong ∷ xs) ys met = (met.0, first_met xs ys met.1)
+first_met (holds b rule ∷ xs) ys met = (met.0, first_met xs ys met.1)
 first_met (one_more_start version ∷ xs) ys met = first_met xs ys met
 first_met (one_more_operation version ∷ xs) ys met = first_met xs ys met
 first_met (one_more_node version ∷ xs) ys met = first_met xs ys met
@@ -29,7 +30,7 @@ first_met (in_transaction n ∷ xs) ys met = first_met xs ys met
 
 pub rest_met : (xs ys : List Demand) → AllMet (xs ++ ys) → AllMet ys
 rest_met [] ys met = met
-rest_met (holds b wrong ∷ xs) ys met = rest_met xs ys met.1
+rest_met (holds b rule ∷ xs) ys met = rest_met xs ys met.1
 rest_met (one_more_start version ∷ xs) ys met = rest_met xs ys met
 rest_met (one_more_operation version ∷ xs) ys met = rest_met xs ys met
 rest_met (one_more_node version ∷ xs) ys met = rest_met xs ys met
@@ -42,7 +43,7 @@ pub data What : Type 0 where
   nodes : What
 
 abbrev pub weight : Demand → What → ℕ
-weight (holds b wrong) x = 0
+weight (holds b rule) x = 0
 weight (one_more_start version) starts = 1
 weight (one_more_start version) operations = 0
 weight (one_more_start version) nodes = 0
@@ -88,9 +89,9 @@ passed_none c next e =
       few_nodes = λ h. omega (arith, d);
     }
 
-passed_test : (b : Bool) (wrong : Wrong) (ds : List Demand) (c next : Counts) → ((c' : Counts) → check c' ds ≡ Ok next → Passed c' next ds)
-    → and_then (check_one c (holds b wrong)) (λ n. check n ds) ≡ Ok next → Passed c next (holds b wrong ∷ ds)
-passed_test true wrong ds c next later e =
+passed_test : (b : Bool) (rule : Rule) (ds : List Demand) (c next : Counts) → ((c' : Counts) → check c' ds ≡ Ok next → Passed c' next ds)
+    → and_then (check_one c (holds b rule)) (λ n. check n ds) ≡ Ok next → Passed c next (holds b rule ∷ ds)
+passed_test true rule ds c next later e =
     let p = later c e in
     record {
       met = (refl, p.met);
@@ -101,11 +102,11 @@ passed_test true wrong ds c next later e =
       few_operations = p.few_operations;
       few_nodes = p.few_nodes;
     }
-passed_test false wrong ds c next later e = cc
+passed_test false rule ds c next later e = cc
 
 passed_start : (b : Bool) (version : ℕ) (ds : List Demand) (c next : Counts) → nat_lt c.starts (limits_of version).entries ≡ b
     → ((c' : Counts) → check c' ds ≡ Ok next → Passed c' next ds)
-    → and_then (limited b c (record c { starts = c.starts + 1 })) (λ n. check n ds) ≡ Ok next
+    → and_then (limited b (Entries version) c (record c { starts = c.starts + 1 })) (λ n. check n ds) ≡ Ok next
     → Passed c next (one_more_start version ∷ ds)
 passed_start true version ds c next lt later e =
     let p = later (record c { starts = c.starts + 1 }) e in
@@ -124,7 +125,7 @@ passed_start false version ds c next lt later e = cc
 
 passed_operation : (b : Bool) (version : ℕ) (ds : List Demand) (c next : Counts) → nat_lt c.operations (limits_of version).operations ≡ b
     → ((c' : Counts) → check c' ds ≡ Ok next → Passed c' next ds)
-    → and_then (limited b c (record c { operations = c.operations + 1 })) (λ n. check n ds) ≡ Ok next
+    → and_then (limited b (Operations version) c (record c { operations = c.operations + 1 })) (λ n. check n ds) ≡ Ok next
     → Passed c next (one_more_operation version ∷ ds)
 passed_operation true version ds c next lt later e =
     let p = later (record c { operations = c.operations + 1 }) e in
@@ -143,7 +144,7 @@ passed_operation false version ds c next lt later e = cc
 
 passed_node : (b : Bool) (version : ℕ) (ds : List Demand) (c next : Counts) → nat_lt c.nodes (limits_of version).nodes ≡ b
     → ((c' : Counts) → check c' ds ≡ Ok next → Passed c' next ds)
-    → and_then (limited b c (record c { nodes = c.nodes + 1 })) (λ n. check n ds) ≡ Ok next
+    → and_then (limited b (Nodes version) c (record c { nodes = c.nodes + 1 })) (λ n. check n ds) ≡ Ok next
     → Passed c next (one_more_node version ∷ ds)
 passed_node true version ds c next lt later e =
     let p = later (record c { nodes = c.nodes + 1 }) e in
@@ -174,7 +175,7 @@ passed_on_to n ds c next p = record {
 
 pub passed : (ds : List Demand) (c next : Counts) → check c ds ≡ Ok next → Passed c next ds
 passed [] c next e = passed_none c next e
-passed (holds b wrong ∷ ds) c next e = passed_test b wrong ds c next (λ c'. passed ds c' next) e
+passed (holds b rule ∷ ds) c next e = passed_test b rule ds c next (λ c'. passed ds c' next) e
 passed (one_more_start version ∷ ds) c next e = passed_start (nat_lt c.starts (limits_of version).entries) version ds c next refl
     (λ c'. passed ds c' next) e
 passed (one_more_operation version ∷ ds) c next e =

@@ -3,9 +3,10 @@ use Rattle.std.specs.Result.{IfErr, IsErrAnd}
 use Rattle.std.proofs.Common.{◌≡◌, ◌≢◌, ℕ, List, [], ◌∷◌, ◌++◌, None, Result, Ok, Err, sym, ap, ap₂, ◌∙◌}
 use Rattle.batch.specs.Names.{is_name}
 use Rattle.serde_json.specs.Data.{Data}
-use Rattle.faults.specs.declared.fault.Fault.{Fault}
-use Rattle.faults.specs.declared.fault.Wrong.TheVariants.{Name}
-use Rattle.faults.specs.Faults.{memory_fault}
+use Rattle.rules.specs.declared.failure.Failure.{Failure}
+use Rattle.rules.specs.declared.failure.Failure.TheVariants.{NoMemory}
+use Rattle.rules.specs.declared.rule.NameRule.TheVariants.{Handlers}
+use Rattle.rules.specs.declared.rule.Rule.TheVariants.{Name}
 use Rattle.spelling.specs.declared.counts.Counts.{Counts}
 use Rattle.spelling.specs.declared.unmet.Unmet.{Unmet}
 use Rattle.spelling.specs.Answer.{IsFirst, IsFound, found_of, pointer_text}
@@ -19,7 +20,7 @@ use Rattle.spelling.proofs.Checks.{and_check, check-after, check-append, failed-
 pub own_met : (c next : Counts) (ds : List Demand) → check c ds ≡ Ok next → seek c (itself ds nothing) ≡ Ok next
 own_met c next ds met = ap (λ r. go_on (here r) (λ n. Ok n)) met
 
-pub own_unmet : (c : Counts) (e : Fault) (ds : List Demand) (rest : Placed) → check c ds ≡ Err e
+pub own_unmet : (c : Counts) (e : Failure) (ds : List Demand) (rest : Placed) → check c ds ≡ Err e
     → seek c (itself ds rest) ≡ Err (found_here e)
 own_unmet c e ds rest failed = ap (λ r. go_on (here r) (λ n. seek n rest)) failed
 
@@ -27,7 +28,7 @@ own_unmet c e ds rest failed = ap (λ r. go_on (here r) (λ n. seek n rest)) fai
 pub own_first : (c next : Counts) (ds : List Demand) (rest : Placed) → check c ds ≡ Ok next → seek c (itself ds rest) ≡ seek next rest
 own_first c next ds rest met = ap (λ r. go_on (here r) (λ n. seek n rest)) met
 
-own_rest : (r : Result Counts Fault) (ys : List Demand) (rest : Placed) → go_on (here r) (λ next. seek next (itself ys rest))
+own_rest : (r : Result Counts Failure) (ys : List Demand) (rest : Placed) → go_on (here r) (λ next. seek next (itself ys rest))
     ≡ go_on (here (and_check r ys)) (λ next. seek next rest)
 own_rest (Ok c) ys rest = ap (λ r. go_on (here r) (λ next. seek next rest)) (sym (check-after c ys))
 own_rest (Err e) ys rest = ap (λ r. go_on (here r) (λ next. seek next rest)) (sym (failed-before e ys))
@@ -65,13 +66,13 @@ pub inside_unmet : (c : Counts) (found : Found) (token : Token) (part rest : Pla
     → seek c (inside token part rest) ≡ Err found
 inside_unmet c found token part rest failed = stopped (below token (seek c part)) found (λ n. seek n rest) failed
 
-over_met : (r : Result Counts Fault) (next : Counts) (token : Token) (part rest : Placed)
+over_met : (r : Result Counts Failure) (next : Counts) (token : Token) (part rest : Placed)
     → go_on (here r) (λ n. seek n (inside token part nothing)) ≡ Ok next → go_on (here r) (λ n. seek n (inside token part rest))
     ≡ seek next rest
 over_met (Ok n) next token part rest met = inside_met n next token part rest met
 over_met (Err e) next token part rest met = cc
 
-over_unmet : (r : Result Counts Fault) (found : Found) (token : Token) (part rest : Placed)
+over_unmet : (r : Result Counts Failure) (found : Found) (token : Token) (part rest : Placed)
     → go_on (here r) (λ n. seek n (inside token part nothing)) ≡ Err found → go_on (here r) (λ n. seek n (inside token part rest))
     ≡ Err found
 over_unmet (Ok n) found token part rest failed = inside_unmet n found token part rest failed
@@ -81,47 +82,48 @@ over_unmet (Err e) found token part rest failed = failed
 module _ (c : Counts) (places : Places) (scope : Scope) (reason : List ℕ) (d : Data) (rest : Placed) where
   pub member_met : (next : Counts) → seek c (member_placed places scope reason d nothing) ≡ Ok next
       → seek c (member_placed places scope reason d rest) ≡ seek next rest
-  member_met next met = over_met (check c (holds (is_name reason) Name ∷ [])) next (member_named reason) (places scope d) rest met
+  member_met next met = over_met (check c (holds (is_name reason) (Name Handlers) ∷ [])) next (member_named reason) (places scope d) rest met
 
   pub member_unmet : (found : Found) → seek c (member_placed places scope reason d nothing) ≡ Err found
       → seek c (member_placed places scope reason d rest) ≡ Err found
   member_unmet found failed =
-      over_unmet (check c (holds (is_name reason) Name ∷ [])) found (member_named reason) (places scope d) rest failed
+      over_unmet (check c (holds (is_name reason) (Name Handlers) ∷ [])) found (member_named reason) (places scope d) rest failed
 
 -- ---- what is returned of a demand that is not met
 
--- a fault that is found at a value has no pointer
-pub found_plain : (u : Unmet) (e : Fault) → u.fault ≡ e → u.pointer ≡ None → found_here e ≡ found_of u
+-- what is found at a value itself has no pointer
+pub found_plain : (u : Unmet) (e : Failure) → u.failure ≡ e → u.pointer ≡ None → found_here e ≡ found_of u
 found_plain u e at none =
-    let make : Fault → List ℕ → Found = λ f p. record { fault = f; pointer = p } in
+    let make : Failure → List ℕ → Found = λ f p. record { failure = f; pointer = p } in
     ap₂ make (sym at) (sym (ap pointer_text none))
 
 -- the first demand of a part is the first of the value that it is in
 pub found_in : (c : Counts) (token : Token) (part rest : Placed) (unmet outer : Unmet)
-    → (outer.fault ≢ memory_fault → (unmet.fault ≢ memory_fault) × (found_of outer ≡ found_inside token (found_of unmet)))
+    → (outer.failure ≢ NoMemory → (unmet.failure ≢ NoMemory) × (found_of outer ≡ found_inside token (found_of unmet)))
     → IsFound c part unmet → IsFound c (inside token part rest) outer
 found_in c token part rest unmet outer told found other =
     part_unmet c (found_of unmet) token part rest (found (told other).0) ∙ ap (λ e. Err e) (sym (told other).1)
 
 -- the same of an entry that is asked as a whole
-pub entry_unmet : (c : Counts) (i : ℕ) (asked : List Demand) (rest : Placed) (fault : Fault) (unmet outer : Unmet)
-    → (unmet.fault ≡ fault) × (unmet.pointer ≡ None)
-    → (outer.fault ≢ memory_fault → (unmet.fault ≢ memory_fault) × (found_of outer ≡ found_inside (item_at i) (found_of unmet)))
-    → IsFirst c asked fault → IsFound c (inside (item_at i) (itself asked nothing) rest) outer
-entry_unmet c i asked rest fault unmet outer from told first =
+pub entry_unmet : (c : Counts) (i : ℕ) (asked : List Demand) (rest : Placed) (failure : Failure) (unmet outer : Unmet)
+    → (unmet.failure ≡ failure) × (unmet.pointer ≡ None)
+    → (outer.failure ≢ NoMemory → (unmet.failure ≢ NoMemory) × (found_of outer ≡ found_inside (item_at i) (found_of unmet)))
+    → IsFirst c asked failure → IsFound c (inside (item_at i) (itself asked nothing) rest) outer
+entry_unmet c i asked rest failure unmet outer from told first =
     found_in c (item_at i) (itself asked nothing) rest unmet outer told (λ other.
-    own_unmet c fault asked nothing (first (λ same. other (from.0 ∙ same)))
-    ∙ ap (λ e. Err e) (found_plain unmet fault from.0 from.1))
+    own_unmet c failure asked nothing (first (λ same. other (from.0 ∙ same)))
+    ∙ ap (λ e. Err e) (found_plain unmet failure from.0 from.1))
 
--- the fault of a value itself, as a `?` makes a demand of it
-pub raised : {T : Type 0} (r : Result T Unmet) (c : Counts) (asked : Placed) (fault : Fault)
-    → IsErrAnd r (λ unmet. (unmet.fault ≡ fault) × (unmet.pointer ≡ None))
-    → (fault ≢ memory_fault → seek c asked ≡ Err (found_here fault)) → IfErr r (IsFound c asked)
-raised (Ok x) c asked fault from first = tt
-raised (Err unmet) c asked fault from first = λ other. first (λ same. other (from.0 ∙ same))
-    ∙ ap (λ e. Err e) (found_plain unmet fault from.0 from.1)
+-- the failure of a value itself, as a `?` makes a demand of it
+pub raised : {T : Type 0} (r : Result T Unmet) (c : Counts) (asked : Placed) (failure : Failure)
+    → IsErrAnd r (λ unmet. (unmet.failure ≡ failure) × (unmet.pointer ≡ None))
+    → (failure ≢ NoMemory → seek c asked ≡ Err (found_here failure)) → IfErr r (IsFound c asked)
+raised (Ok x) c asked failure from first = tt
+raised (Err unmet) c asked failure from first = λ other. first (λ same. other (from.0 ∙ same))
+    ∙ ap (λ e. Err e) (found_plain unmet failure from.0 from.1)
 
 -- a call that may only be refused memory
-pub refused : {T : Type 0} (r : Result T Unmet) (c : Counts) (asked : Placed) (fault : Fault)
-    → IsErrAnd r (λ unmet. (unmet.fault ≡ fault) × (unmet.pointer ≡ None)) → fault ≡ memory_fault → IfErr r (IsFound c asked)
-refused r c asked fault from memory = raised r c asked fault from (λ other. absurd (other memory))
+pub refused : {T : Type 0} (r : Result T Unmet) (c : Counts) (asked : Placed) → IsErrAnd r (λ unmet. unmet.failure ≡ NoMemory)
+    → IfErr r (IsFound c asked)
+refused (Ok x) c asked none = tt
+refused (Err unmet) c asked none = λ other. absurd (other none)

@@ -1,11 +1,13 @@
 -- What a result says of what is asked.
 use Rattle.std.specs.Prelude.{◌≡◌, ◌≢◌, ℕ, List, [], Option, Some, Ok, Err, option_map, string_bytes, unwrap_or, String}
 use Rattle.std.specs.declared.alloc.Global.{Global}
-use Rattle.faults.specs.declared.fault.Fault.{Fault}
+use Rattle.rules.specs.declared.failure.Failure.{Failure}
+use Rattle.rules.specs.declared.failure.Failure.TheVariants.{NoMemory}
 use Rattle.spelling.specs.declared.counts.Counts.{Counts}
 use Rattle.spelling.specs.declared.unmet.Unmet.{Unmet}
 use Rattle.spelling.specs.Demand.{Demand, check}
-use Rattle.spelling.specs.Places.{Found, Placed, fault_of, seek}
+use Rattle.spelling.specs.Places.{Found, Placed, fault_in, seek}
+use Rattle.faults.specs.declared.fault.Fault.{Fault}
 use Rattle.faults.specs.Faults.{memory_fault}
 
 -- ---- of a value itself
@@ -14,9 +16,9 @@ use Rattle.faults.specs.Faults.{memory_fault}
 abbrev pub IsMet : Counts → List Demand → Counts → Type 0
 IsMet c asked next = check c asked ≡ Ok next
 
--- unless memory was refused, the fault is the first
-abbrev pub IsFirst : Counts → List Demand → Fault → Type 0
-IsFirst c asked fault = fault ≢ memory_fault → check c asked ≡ Err fault
+-- unless memory was refused, it is the first rule that isn't kept
+abbrev pub IsFirst : Counts → List Demand → Failure → Type 0
+IsFirst c asked failure = failure ≢ NoMemory → check c asked ≡ Err failure
 
 -- ---- of a value and its parts
 
@@ -29,12 +31,12 @@ pointer_text pointer = unwrap_or (option_map (λ text. string_bytes text) pointe
 
 -- what a demand that is not met gives
 abbrev pub found_of : Unmet → Found
-found_of unmet = record { fault = unmet.fault; pointer = pointer_text unmet.pointer }
+found_of unmet = record { failure = unmet.failure; pointer = pointer_text unmet.pointer }
 
 -- unless memory was refused, the demand is the first that is not met
 abbrev pub IsFound : Counts → Placed → Unmet → Type 0
-IsFound c asked unmet = unmet.fault ≢ memory_fault → seek c asked ≡ Err (found_of unmet)
+IsFound c asked unmet = unmet.failure ≢ NoMemory → seek c asked ≡ Err (found_of unmet)
 
 -- the same of its fault alone
 abbrev pub IsFirstOf : Counts → Placed → Fault → Type 0
-IsFirstOf c asked fault = fault ≢ memory_fault → fault_of (seek c asked) ≡ Some fault
+IsFirstOf c asked fault = fault ≢ memory_fault → fault_in (seek c asked) ≡ Some fault

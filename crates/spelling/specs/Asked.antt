@@ -8,13 +8,23 @@ use Rattle.serde_json.specs.Events.{items_len}
 use Rattle.objects.specs.declared.kind.Kind.{Kind}
 use Rattle.objects.specs.declared.kind.Kind.TheVariants as kind
 use Rattle.words.specs.declared.word.Word.{Word}
-use Rattle.faults.specs.declared.fault.Wrong.TheVariants.{Shape, Name, DuplicateObject, UnknownObject, UnknownOperation, Argument}
-use Rattle.faults.specs.declared.fault.Wrong.TheVariants.{UnknownLabel, DuplicateLabel, Condition, TooMany, Start}
+use Rattle.rules.specs.Forms.{member_names}
+use Rattle.rules.specs.declared.form.Form.TheVariants as form
+use Rattle.rules.specs.declared.rule.Rule.TheVariants as rule
+use Rattle.rules.specs.declared.rule.ArgumentRule.TheVariants as argument
+use Rattle.rules.specs.declared.rule.ConditionRule.TheVariants as condition
+use Rattle.rules.specs.declared.rule.CountRule.TheVariants as counted
+use Rattle.rules.specs.declared.rule.NameRule.TheVariants as named
+use Rattle.rules.specs.declared.rule.ShapeRule.TheVariants as shape
+use Rattle.rules.specs.declared.rule.StartRule.TheVariants as start
+use Rattle.rules.specs.declared.rule.Place.{Place}
+use Rattle.rules.specs.declared.rule.Place.TheVariants.{Third, Fourth}
+use Rattle.words.specs.declared.verb.AmountVerb.{AmountVerb}
 use Rattle.words.specs.declared.verb.LoneVerb.TheVariants.{Balance}
 use Rattle.words.specs.declared.verb.Verb.{Verb}
 use Rattle.words.specs.declared.verb.Verb.TheVariants.{OfAmount, OfItem, OfPair, Alone}
-use Rattle.spelling.specs.declared.subject.Subject.{Subject}
-use Rattle.spelling.specs.declared.subject.Subject.TheVariants.{Reply, Outcome}
+use Rattle.rules.specs.declared.subject.Subject.{Subject}
+use Rattle.rules.specs.declared.subject.Subject.TheVariants.{Reply, Outcome}
 use Rattle.spelling.specs.declared.steps.Sort.{Sort}
 use Rattle.spelling.specs.declared.steps.Sort.TheVariants.{Operation as an_operation, If as an_if, Sub as a_sub, Abort as an_abort}
 use Rattle.spelling.specs.declared.steps.Sort.TheVariants.{Parallel as a_parallel}
@@ -23,12 +33,12 @@ use Rattle.spelling.specs.Look.{has, has_only, text_member, text_item, whole_ite
 use Rattle.spelling.specs.Look.{or_empty, within}
 use Rattle.spelling.specs.Scope.{Table, Setting, Scope, is_listed, kind_named, named, is_named, with_label, with_labels}
 use Rattle.batch.specs.Names.{is_name}
-use Rattle.spelling.specs.Subjects.{fits_word, fits_number, fits_item}
+use Rattle.rules.specs.Subjects.{fits_word, fits_number, fits_item}
 use Rattle.words.specs.Verbs.{verb_of_text}
 use Rattle.words.specs.Words.{kind_of_text, word_of_text}
 use Rattle.meaning.specs.declared.limits.TheConstants.{MAX_START}
-use Rattle.spelling.specs.Limits.{limits_of}
-use Rattle.spelling.specs.declared.limits.TheConstants.{LAST_VERSION}
+use Rattle.rules.specs.Limits.{limits_of}
+use Rattle.rules.specs.declared.limits.TheConstants.{LAST_VERSION}
 use Rattle.meaning.specs.WellFormed.{largest_amount}
 
 -- the member, or null
@@ -48,8 +58,8 @@ label_in d = text_member (codes "as") d
 -- a label is a name, and is neither seen nor an earlier sibling's
 unfoldable pub label_asked : Scope → Scope → Option (List ℕ) → List Demand
 label_asked scope earlier None = []
-label_asked scope earlier (Some name) = holds (is_name name) Name
-    ∷ holds (not (is_named name scope || is_named name earlier)) DuplicateLabel
+label_asked scope earlier (Some name) = holds (is_name name) (rule.Name named.Label)
+    ∷ holds (not (is_named name scope || is_named name earlier)) rule.NewLabel
     ∷ []
 
 -- ---- operations
@@ -61,21 +71,31 @@ amount_item i op = option_and_then (within 1 largest_amount) (whole_item i op)
 abbrev pub has_count : ℕ → Data → Bool
 has_count n op = option_map_or (λ m. m == n) (count op) false
 
+-- the index of a place in an operation's array
+abbrev pub index_of : Place → ℕ
+index_of Third = 2
+index_of Fourth = 3
+
 -- the name of an item in an operation's array
 abbrev pub name_item : ℕ → Data → List ℕ
 name_item i op = or_empty (text_item i op)
 
-unfoldable pub item_asked : ℕ → Data → List Demand
-item_asked i op = holds (is_some (text_item i op)) Argument ∷ holds (is_name (name_item i op)) Name ∷ []
+unfoldable pub item_asked : Place → Data → List Demand
+item_asked place op = holds (is_some (text_item (index_of place) op)) (rule.Argument (argument.Item place))
+    ∷ holds (is_name (name_item (index_of place) op)) (rule.Name (named.Argument place))
+    ∷ []
 
-unfoldable pub amount_asked : Data → List Demand
-amount_asked op = holds (has_count 3 op) Argument ∷ holds (is_some (amount_item 2 op)) Argument ∷ []
+unfoldable pub amount_asked : AmountVerb → Data → List Demand
+amount_asked v op = holds (has_count 3 op) (rule.Argument (argument.Count (OfAmount v)))
+    ∷ holds (is_some (amount_item 2 op)) (rule.Argument argument.Amount)
+    ∷ []
 
 unfoldable pub arguments_asked : Verb → Data → List Demand
-arguments_asked (OfAmount v) op = amount_asked op
-arguments_asked (OfItem v) op = holds (has_count 3 op) Argument ∷ item_asked 2 op
-arguments_asked (OfPair v) op = holds (has_count 4 op) Argument ∷ item_asked 2 op ++ item_asked 3 op
-arguments_asked (Alone v) op = holds (has_count 2 op) Argument ∷ []
+arguments_asked (OfAmount v) op = amount_asked v op
+arguments_asked (OfItem v) op = holds (has_count 3 op) (rule.Argument (argument.Count (OfItem v))) ∷ item_asked Third op
+arguments_asked (OfPair v) op = holds (has_count 4 op) (rule.Argument (argument.Count (OfPair v)))
+    ∷ item_asked Third op ++ item_asked Fourth op
+arguments_asked (Alone v) op = holds (has_count 2 op) (rule.Argument (argument.Count (Alone v))) ∷ []
 
 abbrev pub object_of : Data → List ℕ
 object_of op = or_empty (text_item 0 op)
@@ -92,17 +112,17 @@ operation_verb setting object call = unwrap_or (verb_at setting object call) (Al
 
 unfoldable pub operation_shape_asked : Data → List Demand
 operation_shape_asked d =
-    holds (has_only (codes "op" ∷ codes "as" ∷ []) d) Shape
-    ∷ holds (is_some (text_item 0 (part (codes "op") d))) Shape
-    ∷ holds (is_some (text_item 1 (part (codes "op") d))) Shape
-    ∷ holds (label_is_text d) Shape
+    holds (has_only (member_names form.Operation) d) (rule.Shape (shape.Members form.Operation))
+    ∷ holds (is_some (text_item 0 (part (codes "op") d))) (rule.Shape shape.OperationObject)
+    ∷ holds (is_some (text_item 1 (part (codes "op") d))) (rule.Shape shape.OperationWord)
+    ∷ holds (label_is_text d) (rule.Shape shape.Label)
     ∷ []
 
 -- the object is known, and its kind has the call
 unfoldable pub target_asked : Setting → List ℕ → List ℕ → List Demand
 target_asked setting object call =
-    holds (is_listed object setting.names) UnknownObject
-    ∷ holds (is_some (verb_at setting object call)) UnknownOperation
+    holds (is_listed object setting.names) rule.KnownObject
+    ∷ holds (is_some (verb_at setting object call)) (rule.KnownOperation setting.version (kind_named object setting))
     ∷ []
 
 -- the call of an operation
@@ -136,14 +156,18 @@ abbrev pub tested_word : Subject → Data → Option Word
 tested_word subject d = option_and_then (fitting subject) (option_and_then word_of_text (text_member (codes "is") d))
 
 abbrev pub holds_word : Subject → Data → List Demand
-holds_word subject d = holds (is_some (tested_word subject d)) Condition ∷ []
+holds_word subject d = holds (is_some (tested_word subject d)) (rule.Condition (condition.Word subject)) ∷ []
 
 abbrev pub holds_number : Subject → Data → List Demand
-holds_number subject d = holds (fits_number subject) Condition ∷ holds (is_some (whole_member (codes "atleast") d)) Condition ∷ []
+holds_number subject d = holds (fits_number subject) (rule.Condition (condition.Number subject))
+    ∷ holds (is_some (whole_member (codes "atleast") d)) (rule.Condition condition.AtLeast)
+    ∷ []
 
 abbrev pub holds_item : Subject → Data → List Demand
-holds_item subject d = holds (fits_item subject) Condition ∷ holds (is_some (text_member (codes "item") d)) Condition ∷ holds
-    (is_name (or_empty (text_member (codes "item") d))) Name ∷ []
+holds_item subject d = holds (fits_item subject) (rule.Condition (condition.HasItem subject))
+    ∷ holds (is_some (text_member (codes "item") d)) (rule.Condition condition.TestedItem)
+    ∷ holds (is_name (or_empty (text_member (codes "item") d))) (rule.Name named.TestedItem)
+    ∷ []
 
 -- the test of an `if`, against what its label is of
 unfoldable pub test_asked : Subject → Data → List Demand
@@ -152,10 +176,10 @@ test_asked subject d = if has (codes "is") d then holds_word subject d else if h
 
 unfoldable pub if_shape_asked : Data → List Demand
 if_shape_asked d =
-    holds (has_only (codes "if" ∷ codes "is" ∷ codes "atleast" ∷ codes "item" ∷ codes "then" ∷ codes "else" ∷ []) d) Shape
-    ∷ holds (has_one_test d) Shape
-    ∷ holds (is_some (text_member (codes "if") d)) Shape
-    ∷ holds (has (codes "then") d) Shape
+    holds (has_only (member_names form.If) d) (rule.Shape (shape.Members form.If))
+    ∷ holds (has_one_test d) (rule.Shape shape.Test)
+    ∷ holds (is_some (text_member (codes "if") d)) (rule.Shape shape.TestedLabel)
+    ∷ holds (has (codes "then") d) (rule.Shape shape.Then)
     ∷ []
 
 -- what a label is of, once it is seen
@@ -164,7 +188,7 @@ subject_of name scope = unwrap_or (named name scope) Outcome
 
 -- the label is seen
 unfoldable pub seen_asked : Scope → List ℕ → List Demand
-seen_asked scope name = holds (is_named name scope) UnknownLabel ∷ []
+seen_asked scope name = holds (is_named name scope) rule.SeenLabel ∷ []
 
 -- the label that an `if` tests
 abbrev pub if_label : Data → List ℕ
@@ -177,10 +201,10 @@ handlers_are_members version d = not (has (codes "handlers") d) ||
 
 unfoldable pub sub_shape_asked : ℕ → Data → List Demand
 sub_shape_asked version d =
-    holds (has_only (codes "sub" ∷ codes "handler" ∷ codes "handlers" ∷ codes "as" ∷ []) d) Shape
-    ∷ holds (has (codes "sub") d) Shape
-    ∷ holds (label_is_text d) Shape
-    ∷ holds (handlers_are_members version d) Shape
+    holds (has_only (member_names form.Subaction) d) (rule.Shape (shape.Members form.Subaction))
+    ∷ holds (has (codes "sub") d) (rule.Shape shape.Body)
+    ∷ holds (label_is_text d) (rule.Shape shape.Label)
+    ∷ holds (handlers_are_members version d) (rule.Shape (shape.Handlers version))
     ∷ []
 
 -- the handlers by reason, in the order of the reasons' bytes
@@ -193,17 +217,21 @@ is_abort version d = unwrap_or (as_bool d) false || (nat_le 3 version && is_some
 
 unfoldable pub reason_asked : Option (List ℕ) → List Demand
 reason_asked None = []
-reason_asked (Some reason) = holds (is_name reason) Name ∷ []
+reason_asked (Some reason) = holds (is_name reason) (rule.Name named.Reason) ∷ []
 
 unfoldable pub abort_shape_asked : ℕ → Data → List Demand
-abort_shape_asked version d = holds (has_only (codes "abort" ∷ []) d) Shape ∷ holds (is_abort version (part (codes "abort") d)) Shape
-    ∷ one_more_node version ∷ []
+abort_shape_asked version d = holds (has_only (member_names form.Abort) d) (rule.Shape (shape.Members form.Abort))
+    ∷ holds (is_abort version (part (codes "abort") d)) (rule.Shape (shape.Abort version))
+    ∷ one_more_node version
+    ∷ []
 
 unfoldable pub abort_asked : ℕ → Data → List Demand
 abort_asked version d = abort_shape_asked version d ++ reason_asked (as_str (part (codes "abort") d))
 
 unfoldable pub parallel_shape_asked : Data → List Demand
-parallel_shape_asked d = holds (has_only (codes "parallel" ∷ []) d) Shape ∷ holds (is_some (list_member (codes "parallel") d)) Shape ∷ []
+parallel_shape_asked d = holds (has_only (member_names form.Parallel) d) (rule.Shape (shape.Members form.Parallel))
+    ∷ holds (is_some (list_member (codes "parallel") d)) (rule.Shape shape.Children)
+    ∷ []
 
 -- the labels of the children
 abbrev pub labels_of : Scope → Items → Scope
@@ -246,12 +274,18 @@ abbrev pub text_of : Data → List ℕ
 text_of d = or_empty (as_str d)
 
 unfoldable pub entry_asked : ℕ → Data → List Demand
-entry_asked version d = holds (is_some (as_str d)) Start ∷ holds (is_name (text_of d)) Name ∷ one_more_start version ∷ []
+entry_asked version d = holds (is_some (as_str d)) (rule.Start start.Entry)
+    ∷ holds (is_name (text_of d)) (rule.Name named.Entry)
+    ∷ one_more_start version
+    ∷ []
 
 unfoldable pub element_asked : ℕ → Table → Data → List Demand
 element_asked version earlier d =
-    holds (is_some (as_str d)) Start ∷ holds (is_name (text_of d)) Name ∷ holds (not (is_listed (text_of d) earlier)) Start
-    ∷ one_more_start version ∷ []
+    holds (is_some (as_str d)) (rule.Start start.Entry)
+    ∷ holds (is_name (text_of d)) (rule.Name named.Entry)
+    ∷ holds (not (is_listed (text_of d) earlier)) (rule.Start start.NewEntry)
+    ∷ one_more_start version
+    ∷ []
 
 abbrev pub key_of : Data → List ℕ
 key_of d = or_empty (text_item 0 d)
@@ -261,9 +295,14 @@ value_of d = or_empty (text_item 1 d)
 
 unfoldable pub pair_asked : ℕ → Table → Data → List Demand
 pair_asked version earlier d =
-    holds (has_count 2 d) Start ∷ holds (is_some (text_item 0 d)) Start ∷ holds (is_some (text_item 1 d)) Start
-    ∷ holds (is_name (key_of d)) Name ∷ holds (is_name (value_of d)) Name
-    ∷ holds (not (is_listed (key_of d) earlier)) Start ∷ one_more_start version ∷ []
+    holds (has_count 2 d) (rule.Start start.Pair)
+    ∷ holds (is_some (text_item 0 d)) (rule.Start start.PairKey)
+    ∷ holds (is_some (text_item 1 d)) (rule.Start start.PairItem)
+    ∷ holds (is_name (key_of d)) (rule.Name named.PairKey)
+    ∷ holds (is_name (value_of d)) (rule.Name named.PairItem)
+    ∷ holds (not (is_listed (key_of d) earlier)) (rule.Start start.NewKey)
+    ∷ one_more_start version
+    ∷ []
 
 -- the number within a limit on its size
 abbrev pub number_start : Data → Option ℕ
@@ -287,15 +326,15 @@ object_name d = or_empty (text_member (codes "name") d)
 
 unfoldable pub object_shape_asked : ℕ → Data → List Demand
 object_shape_asked version d =
-    holds (has_only (codes "name" ∷ codes "kind" ∷ codes "start" ∷ []) d) Shape
-    ∷ holds (is_some (text_member (codes "name") d)) Shape
-    ∷ holds (is_some (object_kind version d)) Shape
-    ∷ holds (has (codes "start") d) Shape
+    holds (has_only (member_names form.Object) d) (rule.Shape (shape.Members form.Object))
+    ∷ holds (is_some (text_member (codes "name") d)) (rule.Shape shape.ObjectName)
+    ∷ holds (is_some (object_kind version d)) (rule.Shape (shape.ObjectKind version))
+    ∷ holds (has (codes "start") d) (rule.Shape shape.ObjectStart)
     ∷ []
 
 -- the name is a name, and no earlier object has it
 unfoldable pub object_name_asked : Table → List ℕ → List Demand
-object_name_asked names name = holds (is_name name) Name ∷ holds (not (is_listed name names)) DuplicateObject ∷ []
+object_name_asked names name = holds (is_name name) (rule.Name named.Object) ∷ holds (not (is_listed name names)) rule.NewObject ∷ []
 
 abbrev pub names_of : Items → Table
 names_of no_items = []
@@ -325,12 +364,12 @@ version_in d = unwrap_or (version_of d) 1
 
 unfoldable pub document_shape_asked : Data → List Demand
 document_shape_asked d =
-    holds (has_only (codes "ordtx" ∷ codes "objects" ∷ codes "transactions" ∷ []) d) Shape
-    ∷ holds (is_some (version_of d)) Shape
-    ∷ holds (is_some (list_member (codes "objects") d)) Shape
-    ∷ holds (is_some (list_member (codes "transactions") d)) Shape
-    ∷ holds (nat_le (items_len (objects_in d)) (limits_of (version_in d)).objects) TooMany
-    ∷ holds (nat_le (items_len (transactions_in d)) (limits_of (version_in d)).transactions) TooMany
+    holds (has_only (member_names form.Document) d) (rule.Shape (shape.Members form.Document))
+    ∷ holds (is_some (version_of d)) (rule.Shape shape.Version)
+    ∷ holds (is_some (list_member (codes "objects") d)) (rule.Shape shape.Objects)
+    ∷ holds (is_some (list_member (codes "transactions") d)) (rule.Shape shape.Transactions)
+    ∷ holds (nat_le (items_len (objects_in d)) (limits_of (version_in d)).objects) (rule.Few (counted.Objects (version_in d)))
+    ∷ holds (nat_le (items_len (transactions_in d)) (limits_of (version_in d)).transactions) (rule.Few (counted.Transactions (version_in d)))
     ∷ []
 
 abbrev pub setting_in : Data → Setting

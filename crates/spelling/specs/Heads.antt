@@ -2,7 +2,10 @@
 use Rattle.std.specs.Prelude.{ℕ, List, [], ◌∷◌, ◌++◌, codes, is_some, not}
 use Rattle.serde_json.specs.Data.{Data}
 use Rattle.batch.specs.Names.{is_name}
-use Rattle.faults.specs.declared.fault.Wrong.TheVariants.{Name, Start}
+use Rattle.rules.specs.declared.rule.Rule.{Rule}
+use Rattle.rules.specs.declared.rule.NameRule.TheVariants as named
+use Rattle.rules.specs.declared.rule.Rule.TheVariants.{Name, Start}
+use Rattle.rules.specs.declared.rule.StartRule.TheVariants.{Pair, PairItem, PairKey}
 use Rattle.spelling.specs.Look.{text_item}
 use Rattle.spelling.specs.Asked.{if_label, if_shape_asked, label_asked, label_in, parallel_shape_asked, seen_asked}
 use Rattle.spelling.specs.Asked.{sub_shape_asked, subject_of}
@@ -38,12 +41,16 @@ parallel_head_asked version d =
     parallel_shape_asked d
     ++ one_more_node version ∷ []
 
--- of an item of a set or a key: that it differs from these earlier ones
-unfoldable pub new_start_asked : ℕ → Table → List ℕ → List Demand
-new_start_asked version earlier name = holds (not (is_listed name earlier)) Start ∷ one_more_start version ∷ []
+-- of an item of a set or a key: that it differs from these earlier ones, by this rule
+unfoldable pub new_start_asked : ℕ → Rule → Table → List ℕ → List Demand
+new_start_asked version rule earlier name = holds (not (is_listed name earlier)) rule ∷ one_more_start version ∷ []
 
 -- of a key and its item: their names
 unfoldable pub pair_names_asked : Data → List Demand
 pair_names_asked d =
-    holds (has_count 2 d) Start ∷ holds (is_some (text_item 0 d)) Start ∷ holds (is_some (text_item 1 d)) Start
-    ∷ holds (is_name (key_of d)) Name ∷ holds (is_name (value_of d)) Name ∷ []
+    holds (has_count 2 d) (Start Pair)
+    ∷ holds (is_some (text_item 0 d)) (Start PairKey)
+    ∷ holds (is_some (text_item 1 d)) (Start PairItem)
+    ∷ holds (is_name (key_of d)) (Name named.PairKey)
+    ∷ holds (is_name (value_of d)) (Name named.PairItem)
+    ∷ []

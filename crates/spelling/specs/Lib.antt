@@ -1,8 +1,6 @@
 pub mod Hashing
-pub mod Limits
 pub mod Demand
 pub mod Amounts
-pub mod Subjects
 pub mod Look
 pub mod Scope
 pub mod Asked

@@ -9,13 +9,18 @@ use Rattle.objects.specs.declared.kind.Kind.TheVariants as kind
 use Rattle.batch.specs.Names.{is_name}
 use Rattle.meaning.specs.declared.limits.TheConstants.{MAX_DEPTH}
 use Rattle.faults.specs.declared.fault.Fault.{Fault}
-use Rattle.faults.specs.declared.fault.Wrong.{Wrong}
-use Rattle.faults.specs.declared.fault.Wrong.TheVariants.{Depth, Name, Shape, Start}
+use Rattle.rules.specs.Failures.{fault_of}
+use Rattle.rules.specs.declared.failure.Failure.{Failure}
+use Rattle.rules.specs.declared.rule.Rule.{Rule}
+use Rattle.rules.specs.declared.rule.NameRule.TheVariants.{Handlers}
+use Rattle.rules.specs.declared.rule.Rule.TheVariants.{Depth, Name, Shape, Start}
+use Rattle.rules.specs.declared.rule.ShapeRule.TheVariants as shape
+use Rattle.rules.specs.declared.rule.StartRule.TheVariants.{Of}
 use Rattle.spelling.specs.declared.counts.Counts.{Counts}
 use Rattle.spelling.specs.declared.steps.Sort.{Sort}
 use Rattle.spelling.specs.declared.steps.Sort.TheVariants.{Operation as an_operation, If as an_if, Sub as a_sub, Abort as an_abort}
 use Rattle.spelling.specs.declared.steps.Sort.TheVariants.{Parallel as a_parallel}
-use Rattle.spelling.specs.declared.subject.Subject.TheVariants.{Outcome}
+use Rattle.rules.specs.declared.subject.Subject.TheVariants.{Outcome}
 use Rattle.spelling.specs.Demand.{Demand, holds, one_more_node, in_transaction, check, no_counts}
 use Rattle.spelling.specs.Scope.{Scope, Setting, Table, with_label, with_text}
 use Rattle.spelling.specs.Asked.{abort_asked, children_in, document_shape_asked, element_asked, entry_asked, handlers_in, if_label}
@@ -37,9 +42,9 @@ pub data Placed : Type 0 where
 
 -- ---- the first that is not met
 
--- A fault, and the JSON Pointer (RFC 6901) from a value to the part in which it is.
+-- What failed, and the JSON Pointer (RFC 6901) from a value to the part in which it did.
 pub record Found : Type 0 where
-  pub fault : Fault
+  pub failure : Failure
   pub pointer : List ℕ
 
 -- A name has neither `~` nor `/`, and so stands for itself in a pointer.
@@ -47,15 +52,15 @@ abbrev pub token_text : Token → List ℕ
 token_text (member_named name) = name
 token_text (item_at index) = decimal index
 
-abbrev pub found_here : Fault → Found
-found_here fault = record { fault = fault; pointer = [] }
+abbrev pub found_here : Failure → Found
+found_here failure = record { failure = failure; pointer = [] }
 
 abbrev pub found_inside : Token → Found → Found
-found_inside token found = record { fault = found.fault; pointer = codes "/" ++ token_text token ++ found.pointer }
+found_inside token found = record { failure = found.failure; pointer = codes "/" ++ token_text token ++ found.pointer }
 
-abbrev pub here : Result Counts Fault → Result Counts Found
+abbrev pub here : Result Counts Failure → Result Counts Found
 here (Ok c) = Ok c
-here (Err fault) = Err (found_here fault)
+here (Err failure) = Err (found_here failure)
 
 abbrev pub below : Token → Result Counts Found → Result Counts Found
 below token (Ok c) = Ok c
@@ -65,20 +70,20 @@ abbrev pub go_on : Result Counts Found → (Counts → Result Counts Found) → 
 go_on (Ok c) f = f c
 go_on (Err found) f = Err found
 
--- the counts after all the demands, or the first fault with its place
+-- the counts after all the demands, or the first that isn't met with its place
 abbrev pub seek : Counts → Placed → Result Counts Found
 seek c nothing = Ok c
 seek c (itself ds rest) = go_on (here (check c ds)) (λ next. seek next rest)
 seek c (inside token part rest) = go_on (below token (seek c part)) (λ next. seek next rest)
 
 -- the fault, without its place
-abbrev pub fault_of : Result Counts Found → Option Fault
-fault_of (Ok c) = None
-fault_of (Err found) = Some found.fault
+abbrev pub fault_in : Result Counts Found → Option Fault
+fault_in (Ok c) = None
+fault_in (Err found) = Some (fault_of found.failure)
 
 -- the first fault of a document's demands
 abbrev pub first_fault : Placed → Option Fault
-first_fault asked = fault_of (seek no_counts asked)
+first_fault asked = fault_in (seek no_counts asked)
 
 -- ---- steps
 
@@ -102,7 +107,7 @@ if_placed version places scope d =
 
 -- A reason that is no name is a fault of the handlers, not of its block.
 abbrev pub member_placed : Places → Scope → List ℕ → Data → Placed → Placed
-member_placed places scope reason d rest = itself (holds (is_name reason) Name ∷ []) (inside (member_named reason) (places scope d) rest)
+member_placed places scope reason d rest = itself (holds (is_name reason) (Name Handlers) ∷ []) (inside (member_named reason) (places scope d) rest)
 
 abbrev pub members_placed : Places → Scope → Members → Placed
 members_placed places scope no_members = nothing
@@ -137,7 +142,7 @@ parallel_placed version places scope d =
     nothing))
 
 abbrev pub step_placed_by : Option Sort → Places → Setting → Scope → Data → Placed
-step_placed_by None places setting scope d = itself (holds false Shape ∷ []) nothing
+step_placed_by None places setting scope d = itself (holds false (Shape shape.Sort) ∷ []) nothing
 step_placed_by (Some an_operation) places setting scope d = itself (operation_asked setting scope d) nothing
 step_placed_by (Some an_if) places setting scope d = if_placed setting.version places scope d
 step_placed_by (Some a_sub) places setting scope d = sub_placed setting.version places scope [] d
@@ -153,15 +158,15 @@ steps_placed places setting scope i no_items = nothing
 steps_placed places setting scope i (item d ds) = inside (item_at i) (step_placed places setting scope d)
     (steps_placed places setting (scope_after setting scope d) (i + 1) ds)
 
--- the items of an array; what is none is wrong so
-abbrev pub array_placed : Wrong → (Items → Placed) → Option Items → Placed
-array_placed wrong placed None = itself (holds false wrong ∷ []) nothing
-array_placed wrong placed (Some ds) = placed ds
+-- the items of an array; what is none breaks the rule
+abbrev pub array_placed : Rule → (Items → Placed) → Option Items → Placed
+array_placed rule placed None = itself (holds false rule ∷ []) nothing
+array_placed rule placed (Some ds) = placed ds
 
 -- a block within so many more levels
 unfoldable pub block_placed : Setting → ℕ → Places
-block_placed setting zero scope d = array_placed Shape (λ ds. itself (holds false Depth ∷ []) nothing) (as_array d)
-block_placed setting (suc n) scope d = array_placed Shape (steps_placed (block_placed setting n) setting scope 0) (as_array d)
+block_placed setting zero scope d = array_placed (Shape shape.Block) (λ ds. itself (holds false Depth ∷ []) nothing) (as_array d)
+block_placed setting (suc n) scope d = array_placed (Shape shape.Block) (steps_placed (block_placed setting n) setting scope 0) (as_array d)
 
 -- ---- objects
 
@@ -183,12 +188,12 @@ pairs_placed version earlier i (item d ds) = inside (item_at i) (itself (pair_as
     (pairs_placed version (with_text (key_of d) earlier) (i + 1) ds)
 
 unfoldable pub start_placed : ℕ → Kind → Data → Placed
-start_placed version kind.Account d = itself (holds (is_some (number_start d)) Start ∷ []) nothing
-start_placed version kind.Counter d = itself (holds (is_some (signed_start d)) Start ∷ []) nothing
-start_placed version kind.Set d = array_placed Start (elements_placed version [] 0) (as_array d)
-start_placed version kind.Queue d = array_placed Start (entries_placed version 0) (as_array d)
-start_placed version kind.Directory d = array_placed Start (pairs_placed version [] 0) (as_array d)
-start_placed version kind.Max d = itself (holds (is_some (number_start d)) Start ∷ []) nothing
+start_placed version kind.Account d = itself (holds (is_some (number_start d)) (Start (Of kind.Account)) ∷ []) nothing
+start_placed version kind.Counter d = itself (holds (is_some (signed_start d)) (Start (Of kind.Counter)) ∷ []) nothing
+start_placed version kind.Set d = array_placed (Start (Of kind.Set)) (elements_placed version [] 0) (as_array d)
+start_placed version kind.Queue d = array_placed (Start (Of kind.Queue)) (entries_placed version 0) (as_array d)
+start_placed version kind.Directory d = array_placed (Start (Of kind.Directory)) (pairs_placed version [] 0) (as_array d)
+start_placed version kind.Max d = itself (holds (is_some (number_start d)) (Start (Of kind.Max)) ∷ []) nothing
 
 unfoldable pub object_placed : ℕ → Table → Data → Placed
 object_placed version names d =

@@ -8,7 +8,7 @@ use Rattle.std.specs.declared.alloc.Global.{Global}
 use Rattle.objects.specs.declared.kind.Kind.{Kind}
 use Rattle.objects.specs.Entries.{kinds}
 use Rattle.batch.specs.Names.{texts_of}
-use Rattle.spelling.specs.declared.subject.Subject.{Subject}
+use Rattle.rules.specs.declared.subject.Subject.{Subject}
 use Rattle.spelling.specs.declared.declared.Declared.{Declared}
 use Rattle.spelling.specs.declared.state.Numbering.{Numbering}
 

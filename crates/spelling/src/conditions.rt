@@ -11,9 +11,11 @@ use crate::counts::Counts;
 use crate::look::{has, has_only, text_member, whole_member};
 use crate::operations::item_of;
 use crate::state::Numbering;
-use crate::subject::{Subject, fits_item, fits_number, fits_word};
 use batch::{Test, Word, is_name};
-use faults::{Fault, Wrong};
+use rules::{
+    ConditionRule, Failure, Form, NameRule, Rule, ShapeRule, Subject, fits_item, fits_number,
+    fits_word,
+};
 use serde_json::Value;
 use std::alloc::Global;
 
@@ -37,22 +39,23 @@ fn has_one_test(step: &Value) -> bool
 }
 
 #[tactic(auto, unfolding(crate::specs::Asked::if_shape_asked))]
-pub(crate) fn if_shape_of<'v>(step: &'v Value, counts: &Counts) -> Result<IfShape<'v>, Fault>
+pub(crate) fn if_shape_of<'v>(step: &'v Value, counts: &Counts) -> Result<IfShape<'v>, Failure>
     ensures met { OnOk result (IsMet counts.now (if_shape_asked (view step.now)) counts.now) }
     ensures first { IfErr result (IsFirst counts.now (if_shape_asked (view step.now))) }
     ensures label { IfOk result (λ shape. shape.label.now ≡ if_label (view step.now)) }
     ensures then { IfOk result (λ shape. view shape.then.now ≡ part (codes "then") (view step.now)) }
 {
+    let form = Form::If;
     counts.demand(
-        has_only(step, &["if", "is", "atleast", "item", "then", "else"]),
-        Wrong::Shape,
+        has_only(step, form.members()),
+        Rule::Shape(ShapeRule::Members(form)),
     )?;
-    counts.demand(has_one_test(step), Wrong::Shape)?;
+    counts.demand(has_one_test(step), Rule::Shape(ShapeRule::Test))?;
     let Some(label) = text_member(step, "if") else {
-        return Err(counts.fault(Wrong::Shape));
+        return Err(counts.broken(Rule::Shape(ShapeRule::TestedLabel)));
     };
     let Some(then) = step.get("then") else {
-        return Err(counts.fault(Wrong::Shape));
+        return Err(counts.broken(Rule::Shape(ShapeRule::Then)));
     };
     Ok(IfShape { label, then })
 }
@@ -77,29 +80,35 @@ pub(crate) fn read_test(
     step: &Value,
     counts: &Counts,
     numbering: &mut Numbering,
-) -> Result<Test, Fault>
+) -> Result<Test, Failure>
     ensures met { OnOk result (IsMet counts.now (test_asked subject (view step.now)) counts.now) }
     ensures first { IfErr result (IsFirst counts.now (test_asked subject (view step.now))) }
     ensures value { IfOk result (λ test. (test, numbers_of numbering.new) ≡ test_of subject (numbers_of numbering.old) (view step.now)) }
 {
     if has(step, "is") {
         let Some(word) = tested_word(subject, step) else {
-            return Err(counts.fault(Wrong::Condition));
+            return Err(counts.broken(Rule::Condition(ConditionRule::Word(subject))));
         };
         return Ok(Test::Is(word));
     }
     if has(step, "atleast") {
-        counts.demand(fits_number(subject), Wrong::Condition)?;
+        counts.demand(
+            fits_number(subject),
+            Rule::Condition(ConditionRule::Number(subject)),
+        )?;
         let Some(least) = whole_member(step, "atleast") else {
-            return Err(counts.fault(Wrong::Condition));
+            return Err(counts.broken(Rule::Condition(ConditionRule::AtLeast)));
         };
         return Ok(Test::AtLeast(least));
     }
-    counts.demand(fits_item(subject), Wrong::Condition)?;
+    counts.demand(
+        fits_item(subject),
+        Rule::Condition(ConditionRule::HasItem(subject)),
+    )?;
     let Some(name) = text_member(step, "item") else {
-        return Err(counts.fault(Wrong::Condition));
+        return Err(counts.broken(Rule::Condition(ConditionRule::TestedItem)));
     };
-    counts.demand(is_name(name), Wrong::Name)?;
+    counts.demand(is_name(name), Rule::Name(NameRule::TestedItem))?;
     let item = item_of(alloc, name, numbering)?;
     Ok(Test::IsItem(item))
 }

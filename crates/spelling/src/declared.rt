@@ -1,13 +1,11 @@
 //! The objects that a document declares, and with them its transactions.
-ghost use Rattle.std.specs.Prelude.{◌≡◌, ◌≤◌, length, IfErr, IfOk};
-ghost use Rattle.faults.specs.Faults.{memory_fault};
-ghost use Rattle.spelling.specs.Limits.{limits_of};
+ghost use Rattle.std.specs.Prelude.{◌≡◌, ◌≤◌, length, IfOk};
+ghost use Rattle.rules.specs.Limits.{limits_of};
 ghost use Rattle.meaning.specs.declared.limits.TheConstants.{MAX_OBJECTS};
 
 use crate::hashing::Texts;
 use crate::hints::Hints;
-use batch::{Block, Objects};
-use faults::Fault;
+use batch::{Block, NoMemory, Objects};
 use std::alloc::Global;
 
 /// The objects by place, with their names, and the version that says what words there are.
@@ -22,19 +20,18 @@ pub struct Declared {
 }
 
 impl Declared {
-    /// The declared objects under these names. The fault is one of memory.
+    /// The declared objects under these names.
     pub fn new(
         alloc: Global,
         version: u8,
         names: Texts,
         objects: Objects,
-    ) -> Result<Declared, Fault>
+    ) -> Result<Declared, NoMemory>
         requires named { length names.keys ≡ length objects }
         requires few { length objects ≤ (limits_of version).objects }
         ensures version { IfOk result (λ declared. declared.version ≡ version) }
         ensures names { IfOk result (λ declared. declared.names.keys ≡ names.keys) }
         ensures objects { IfOk result (λ declared. declared.objects ≡ objects) }
-        ensures err { IfErr result (λ fault. fault ≡ memory_fault) }
     {
         let hints = Hints::of(alloc, &names)?;
         Ok(Declared {

@@ -4,9 +4,9 @@ ghost use Rattle.objects.specs.Hashing.{begun_with};
 ghost use Rattle.std.specs.Hash.DefaultHasher.{finish};
 ghost use Rattle.spelling.specs.Hashing.{behind};
 
-use crate::subject::Subject;
 use indexmap::{IndexMap, IndexSet};
 use objects::EntryHashing;
+use rules::Subject;
 use std::hash::{BuildHasher, DefaultHasher, Hasher};
 
 /// Hashes each name as what follows the whole document.

@@ -5,7 +5,6 @@ ghost use Rattle.meaning.specs.Trees as tree;
 ghost use Rattle.batch.specs.Views.{block_view, children_of, handler_view, step_view, subaction_view};
 ghost use Rattle.spelling.specs.Answer.{IsFirst, IsMet};
 ghost use Rattle.spelling.specs.Asked.{children_in, handlers_in, if_label, label_in, part, subject_of};
-ghost use Rattle.faults.specs.Faults.{memory_fault};
 ghost use Rattle.spelling.specs.Heads.{if_head_asked, parallel_head_asked, sub_head_asked};
 ghost use Rattle.spelling.specs.Scope.{AreUnseen, label_number, numbers_of, scope_of, with_label, with_labels};
 ghost use Rattle.spelling.specs.Spelled.{or_no_step, sub_step, test_of, tried};
@@ -17,10 +16,9 @@ use crate::hashing::Labels;
 use crate::labels::{add_label, add_labels, check_label, seen_label};
 use crate::state::State;
 use crate::steps::{SubShape, children_of, sub_shape_of, taking};
-use crate::subject::Subject;
-use batch::{Block, Handler, Step, Subaction, Test};
-use faults::Fault;
+use batch::{Block, Handler, NoMemory, Step, Subaction, Test};
 use indexmap::IndexMap;
+use rules::{Failure, Subject};
 use serde_json::Value;
 use std::alloc::Global;
 
@@ -42,7 +40,7 @@ pub(crate) fn if_head<'v>(
     step: &'v Value,
     version: u8,
     state: &mut State,
-) -> Result<IfHead<'v>, Fault>
+) -> Result<IfHead<'v>, Failure>
     ensures met { OnOk result (IsMet state.old.counts (if_head_asked version
         (scope_of state.old.labels.entries) (view step.now)) state.new.counts) }
     ensures first { IfErr result (IsFirst state.old.counts (if_head_asked version
@@ -71,10 +69,9 @@ pub fn if_step(
     test: Test,
     then: Block,
     otherwise: Option<Block>,
-) -> Result<Step, Fault>
+) -> Result<Step, NoMemory>
     ensures value { IfOk result (λ step. step_view step
         ≡ tree.If label test (block_view then) (or_no_step (option_map block_view otherwise))) }
-    ensures err { IfErr result (λ fault. fault ≡ memory_fault) }
 {
     let otherwise = otherwise.unwrap_or(Block {
         steps: Vec::new(alloc),
@@ -97,7 +94,7 @@ pub(crate) fn sub_head<'v>(
     labels: &Labels,
     earlier: Option<&Labels>,
     counts: &mut Counts,
-) -> Result<SubShape<'v>, Fault>
+) -> Result<SubShape<'v>, Failure>
     ensures met { OnOk result (IsMet counts.old (sub_head_asked version (scope_of labels.now.entries)
         (unwrap_or (option_map (λ labels. scope_of labels.now.entries) earlier.entry) []) (view step.now)) counts.new) }
     ensures first { IfErr result (IsFirst counts.old (sub_head_asked version (scope_of labels.now.entries)
@@ -139,11 +136,10 @@ pub fn sub_step(
     child: Subaction,
     label: Option<&str>,
     labels: &mut Labels,
-) -> Result<Step, Fault>
+) -> Result<Step, NoMemory>
     ensures value { IfOk result (λ step. step_view step ≡ sub_step (subaction_view child)) }
     ensures labels { OnOk result (scope_of labels.new.entries
         ≡ with_label (option_map (λ text. text.now) label.entry) Subject.Outcome (scope_of labels.old.entries)) }
-    ensures err { IfErr result (λ fault. fault ≡ memory_fault) }
 {
     add_label(alloc, label, Subject::Outcome, labels)?;
     Ok(Step::Sub(Box::new(alloc, child)?))
@@ -164,7 +160,7 @@ pub(crate) fn parallel_head<'v>(
     step: &'v Value,
     version: u8,
     counts: &mut Counts,
-) -> Result<&'v Vec<Value>, Fault>
+) -> Result<&'v Vec<Value>, Failure>
     ensures met { OnOk result (IsMet counts.old (parallel_head_asked version
         (view step.now)) counts.new) }
     ensures first { IfErr result (IsFirst counts.old (parallel_head_asked version
@@ -177,11 +173,10 @@ pub(crate) fn parallel_head<'v>(
 }
 
 /// Makes the labels of children seen after the others, and returns whether none of them was seen before.
-pub fn take_labels(alloc: Global, earlier: Labels, labels: &mut Labels) -> Result<bool, Fault>
+pub fn take_labels(alloc: Global, earlier: Labels, labels: &mut Labels) -> Result<bool, NoMemory>
     ensures new { IfOk result (λ new. new ≡ true → AreUnseen (scope_of earlier.entries) (scope_of labels.old.entries)) }
     ensures labels { OnOk result (scope_of labels.new.entries
         ≡ with_labels (scope_of earlier.entries) (scope_of labels.old.entries)) }
-    ensures err { IfErr result (λ fault. fault ≡ memory_fault) }
 {
     add_labels(alloc, &earlier, labels)
 }
@@ -192,11 +187,10 @@ pub(crate) fn parallel_step(
     children: Vec<Subaction>,
     earlier: Labels,
     labels: &mut Labels,
-) -> Result<Step, Fault>
+) -> Result<Step, NoMemory>
     ensures value { IfOk result (λ step. step_view step ≡ tree.Parallel (children_of (map subaction_view children.items))) }
     ensures labels { OnOk result (scope_of labels.new.entries
         ≡ with_labels (scope_of earlier.entries) (scope_of labels.old.entries)) }
-    ensures err { IfErr result (λ fault. fault ≡ memory_fault) }
 {
     take_labels(alloc, earlier, labels)?;
     Ok(Step::Parallel(children))

@@ -1,12 +1,11 @@
 //! Where to look for a name first.
-ghost use Rattle.std.specs.Prelude.{◌≡◌, ◌<◌, is_some, length, IfErr, IfSome};
+ghost use Rattle.std.specs.Prelude.{◌≡◌, ◌<◌, is_some, length, IfSome};
 ghost use Rattle.batch.specs.Names.{texts_of};
-ghost use Rattle.faults.specs.Faults.{memory_fault};
 ghost use Rattle.spelling.specs.Scope.{is_listed, place_of};
 
 use crate::hashing::Texts;
 use crate::state::fit;
-use faults::Fault;
+use batch::NoMemory;
 use std::alloc::Global;
 
 /// An odd number whose bits look random. A product by it mixes the bits of a number upwards.
@@ -57,10 +56,8 @@ impl Hints {
         }
     }
 
-    /// Hints at the places of these names, or that memory was refused.
-    pub(crate) fn of(alloc: Global, names: &Texts) -> Result<Hints, Fault>
-        ensures { IfErr result (λ fault. fault ≡ memory_fault) }
-    {
+    /// Hints at the places of these names.
+    pub(crate) fn of(alloc: Global, names: &Texts) -> Result<Hints, NoMemory> {
         let ends = vec![in alloc; 0u32; names.len().saturating_mul(8)]?;
         let mut hints = Hints { ends };
         for (place, name) in names.as_slice().iter().enumerate() {
@@ -84,9 +81,7 @@ impl Hints {
         name: &str,
         place: usize,
         names: &Texts,
-    ) -> Result<(), Fault>
-        ensures { IfErr result (λ fault. fault ≡ memory_fault) }
-    {
+    ) -> Result<(), NoMemory> {
         if self.ends.len() / 4 < names.len() {
             *self = Hints::of(alloc, names)?;
         } else {

@@ -3,34 +3,32 @@ ghost use Rattle.std.specs.Prelude.{◌≡◌, [], length, option_map, true, fal
 ghost use Rattle.serde_json.specs.View.{view};
 ghost use Rattle.spelling.specs.Answer.{IsFirst, IsMet};
 ghost use Rattle.spelling.specs.Asked.{label_asked, label_in, label_is_text, seen_asked, subject_of};
-ghost use Rattle.spelling.specs.Demand.{fault_at};
-ghost use Rattle.faults.specs.Faults.{memory_fault};
+ghost use Rattle.spelling.specs.Demand.{broken_at};
 ghost use Rattle.spelling.specs.Scope.{AreUnseen, Extends, Scope, is_named, label_number, scope_of, with_label, with_labels};
 
 use crate::counts::Counts;
 use crate::hashing::Labels;
 use crate::state::fit;
-use crate::subject::Subject;
-use batch::is_name;
-use faults::{Fault, Wrong};
+use batch::{NoMemory, is_name};
 use indexmap::map::Entry;
+use rules::{Failure, NameRule, Rule, ShapeRule, Subject};
 use serde_json::Value;
 use std::alloc::Global;
 
 /// A step's label, where it has one.
-pub(crate) fn label_of<'v>(step: &'v Value, counts: &Counts) -> Result<Option<&'v str>, Fault>
+pub(crate) fn label_of<'v>(step: &'v Value, counts: &Counts) -> Result<Option<&'v str>, Failure>
     ensures { MatchResult result
         (λ label. (label_is_text (view step.now) ≡ true)
         × (option_map (λ text. text.now) label ≡ label_in (view step.now)))
-        (λ fault. (label_is_text (view step.now) ≡ false)
-        × (fault ≡ fault_at Wrong.Shape counts.now)) }
+        (λ failure. (label_is_text (view step.now) ≡ false)
+        × (failure ≡ broken_at (Rule.Shape ShapeRule.Label) counts.now)) }
 {
     let Some(label) = step.get("as") else {
         return Ok(None);
     };
     match label.as_str() {
         Some(text) => Ok(Some(text)),
-        None => Err(counts.fault(Wrong::Shape)),
+        None => Err(counts.broken(Rule::Shape(ShapeRule::Label))),
     }
 }
 
@@ -49,7 +47,7 @@ pub(crate) fn check_label(
     labels: &Labels,
     earlier: Option<&Labels>,
     counts: &Counts,
-) -> Result<(), Fault>
+) -> Result<(), Failure>
     ensures { MatchResult result
         (λ _. IsMet counts.now (label_asked (scope_of labels.now.entries) (unwrap_or (option_map (λ labels. scope_of labels.now.entries) earlier.entry) [])
         (option_map (λ text. text.now) label.entry)) counts.now)
@@ -59,13 +57,13 @@ pub(crate) fn check_label(
     let Some(name) = label else {
         return Ok(());
     };
-    counts.demand(is_name(name), Wrong::Name)?;
+    counts.demand(is_name(name), Rule::Name(NameRule::Label))?;
     let earlier_has_it = match earlier {
         Some(earlier) => is_seen(earlier, name),
         None => false,
     };
     let seen = is_seen(labels, name) || earlier_has_it;
-    counts.demand(!seen, Wrong::DuplicateLabel)?;
+    counts.demand(!seen, Rule::NewLabel)?;
     Ok(())
 }
 
@@ -75,11 +73,10 @@ fn insert_label(
     name: &str,
     subject: Subject,
     labels: &mut Labels,
-) -> Result<bool, Fault>
+) -> Result<bool, NoMemory>
     ensures new { IfOk result (λ new. new ≡ not (is_named name.now (scope_of labels.old.entries))) }
     ensures labels { OnOk result (scope_of labels.new.entries
         ≡ with_label (Some name.now) subject (scope_of labels.old.entries)) }
-    ensures err { IfErr result (λ fault. fault ≡ memory_fault) }
 {
     match labels.entry(String::from_str(alloc, name)?)? {
         Entry::Occupied(_) => Ok(false),
@@ -98,7 +95,7 @@ pub fn add_new_label(
     subject: Subject,
     labels: &mut Labels,
     counts: &Counts,
-) -> Result<(), Fault>
+) -> Result<(), Failure>
     ensures met { OnOk result (IsMet counts.now (label_asked (scope_of labels.old.entries) []
         (option_map (λ text. text.now) label.entry)) counts.now) }
     ensures first { IfErr result (IsFirst counts.now (label_asked (scope_of labels.old.entries) []
@@ -109,9 +106,9 @@ pub fn add_new_label(
     let Some(name) = label else {
         return Ok(());
     };
-    counts.demand(is_name(name), Wrong::Name)?;
+    counts.demand(is_name(name), Rule::Name(NameRule::Label))?;
     let new = insert_label(alloc, name, subject, labels)?;
-    counts.demand(new, Wrong::DuplicateLabel)?;
+    counts.demand(new, Rule::NewLabel)?;
     Ok(())
 }
 
@@ -121,10 +118,9 @@ pub(crate) fn add_label(
     label: Option<&str>,
     subject: Subject,
     labels: &mut Labels,
-) -> Result<(), Fault>
+) -> Result<(), NoMemory>
     ensures ok { OnOk result (scope_of labels.new.entries
         ≡ with_label (option_map (λ text. text.now) label.entry) subject (scope_of labels.old.entries)) }
-    ensures err { IfErr result (λ fault. fault ≡ memory_fault) }
 {
     let Some(name) = label else {
         return Ok(());
@@ -134,12 +130,15 @@ pub(crate) fn add_label(
 }
 
 /// Makes labels seen after the others, and returns whether none of them was seen before.
-pub(crate) fn add_labels(alloc: Global, added: &Labels, labels: &mut Labels) -> Result<bool, Fault>
+pub(crate) fn add_labels(
+    alloc: Global,
+    added: &Labels,
+    labels: &mut Labels,
+) -> Result<bool, NoMemory>
     ensures new { IfOk result (λ new. new ≡ true
         → AreUnseen (scope_of added.now.entries) (scope_of labels.old.entries)) }
     ensures ok { OnOk result (scope_of labels.new.entries
         ≡ with_labels (scope_of added.now.entries) (scope_of labels.old.entries)) }
-    ensures err { IfErr result (λ fault. fault ≡ memory_fault) }
 {
     let mut all_new = true;
     for index in 0..added.len() {
@@ -160,14 +159,14 @@ pub fn leave_block(labels: &mut Labels, seen: usize)
 
 /// The number of a label that is seen, and what it is of.
 #[tactic(auto, using(crate::proofs::LabelLemmas::all_labels), unfolding(crate::specs::Asked::seen_asked))]
-pub fn seen_label(name: &str, labels: &Labels, counts: &Counts) -> Result<(u32, Subject), Fault>
+pub fn seen_label(name: &str, labels: &Labels, counts: &Counts) -> Result<(u32, Subject), Failure>
     ensures met { OnOk result (IsMet counts.now (seen_asked (scope_of labels.now.entries) name.now) counts.now) }
     ensures first { IfErr result (IsFirst counts.now (seen_asked (scope_of labels.now.entries) name.now)) }
     ensures number { IfOk result (λ label. label.0 ≡ label_number name.now (scope_of labels.now.entries)) }
     ensures subject { IfOk result (λ label. label.1 ≡ subject_of name.now (scope_of labels.now.entries)) }
 {
     let Some((number, _, subject)) = labels.get_full(name) else {
-        return Err(counts.fault(Wrong::UnknownLabel));
+        return Err(counts.broken(Rule::SeenLabel));
     };
     Ok((fit(number), *subject))
 }

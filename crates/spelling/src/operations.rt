@@ -5,8 +5,7 @@ ghost use Rattle.batch.specs.Names.{texts_of};
 ghost use Rattle.batch.specs.Views.{step_view};
 ghost use Rattle.spelling.specs.Amounts.{amount_of};
 ghost use Rattle.spelling.specs.Answer.{IsFirst, IsMet};
-ghost use Rattle.spelling.specs.Asked.{amount_asked, amount_item, arguments_asked, call_named, item_asked, label_in, name_item, object_of, operation_asked, operation_shape_asked, operation_verb, part, target_asked, verb_in};
-ghost use Rattle.faults.specs.Faults.{memory_fault};
+ghost use Rattle.spelling.specs.Asked.{amount_asked, amount_item, arguments_asked, call_named, index_of, item_asked, label_in, name_item, object_of, operation_asked, operation_shape_asked, operation_verb, part, target_asked, verb_in};
 ghost use Rattle.spelling.specs.Heads.{operation_head_asked};
 ghost use Rattle.spelling.specs.Look.{text_item};
 ghost use Rattle.spelling.specs.Scope.{is_listed, kind_named, numbers_of, place_of, scope_of, setting_of, with_item, with_label};
@@ -18,13 +17,12 @@ use crate::hints::place_in;
 use crate::labels::{add_new_label, label_of};
 use crate::look::{count, has_only, text_item, whole_item};
 use crate::state::{Numbering, State, number_of_item};
-use crate::subject::Subject;
-use batch::{Call, Item, Kind, Step, is_name};
-use faults::{Fault, Wrong};
+use batch::{Call, Item, Kind, NoMemory, Step, is_name};
 use objects::Amount;
+use rules::{ArgumentRule, Failure, Form, NameRule, Place, Rule, ShapeRule, Subject};
 use serde_json::Value;
 use std::alloc::Global;
-use words::{ItemVerb, PairVerb, Verb};
+use words::{AmountVerb, ItemVerb, PairVerb, Verb};
 
 /// The parts of an operation.
 #[derive(Clone, Copy, Drop)]
@@ -36,7 +34,7 @@ pub struct Shape<'v> {
 }
 
 #[tactic(auto, unfolding(crate::specs::Asked::operation_shape_asked))]
-fn shape_of<'v>(step: &'v Value, counts: &Counts) -> Result<Shape<'v>, Fault>
+fn shape_of<'v>(step: &'v Value, counts: &Counts) -> Result<Shape<'v>, Failure>
     ensures met { OnOk result (IsMet counts.now (operation_shape_asked (view step.now)) counts.now) }
     ensures first { IfErr result (IsFirst counts.now (operation_shape_asked (view step.now))) }
     ensures op { IfOk result (λ shape. view shape.op.now ≡ part (codes "op") (view step.now)) }
@@ -44,15 +42,19 @@ fn shape_of<'v>(step: &'v Value, counts: &Counts) -> Result<Shape<'v>, Fault>
     ensures call { IfOk result (λ shape. shape.call.now ≡ call_named (part (codes "op") (view step.now))) }
     ensures label { IfOk result (λ shape. option_map (λ text. text.now) shape.label ≡ label_in (view step.now)) }
 {
-    counts.demand(has_only(step, &["op", "as"]), Wrong::Shape)?;
+    let form = Form::Operation;
+    counts.demand(
+        has_only(step, form.members()),
+        Rule::Shape(ShapeRule::Members(form)),
+    )?;
     let Some(op) = step.get("op") else {
-        return Err(counts.fault(Wrong::Shape));
+        return Err(counts.broken(Rule::Shape(ShapeRule::OperationObject)));
     };
     let Some(object) = text_item(op, 0) else {
-        return Err(counts.fault(Wrong::Shape));
+        return Err(counts.broken(Rule::Shape(ShapeRule::OperationObject)));
     };
     let Some(call) = text_item(op, 1) else {
-        return Err(counts.fault(Wrong::Shape));
+        return Err(counts.broken(Rule::Shape(ShapeRule::OperationWord)));
     };
     let label = label_of(step, counts)?;
     Ok(Shape {
@@ -75,39 +77,49 @@ fn amount_item(op: &Value, index: usize) -> Option<Amount>
     }
 }
 
-/// The amount that a call takes.
+/// The amount that a verb takes.
 #[tactic(auto, unfolding(crate::specs::Asked::amount_asked))]
-fn amount_of(op: &Value, counts: &Counts) -> Result<Amount, Fault>
-    ensures met { OnOk result (IsMet counts.now (amount_asked (view op.now)) counts.now) }
-    ensures first { IfErr result (IsFirst counts.now (amount_asked (view op.now))) }
+fn amount_of(verb: AmountVerb, op: &Value, counts: &Counts) -> Result<Amount, Failure>
+    ensures met { OnOk result (IsMet counts.now (amount_asked verb (view op.now)) counts.now) }
+    ensures first { IfErr result (IsFirst counts.now (amount_asked verb (view op.now))) }
     ensures value { IfOk result (λ amount. amount ≡ amount_of (or_zero (amount_item 2 (view op.now)))) }
 {
-    counts.demand(count(op) == Some(3), Wrong::Argument)?;
+    let arguments = Rule::Argument(ArgumentRule::Count(Verb::OfAmount(verb)));
+    counts.demand(count(op) == Some(3), arguments)?;
     match amount_item(op, 2) {
         Some(amount) => Ok(amount),
-        None => Err(counts.fault(Wrong::Argument)),
+        None => Err(counts.broken(Rule::Argument(ArgumentRule::Amount))),
+    }
+}
+
+/// The index of a place in an operation's array.
+fn index_of(place: Place) -> usize
+    ensures { result ≡ index_of place }
+{
+    match place {
+        Place::Third => 2,
+        Place::Fourth => 3,
     }
 }
 
 /// The name of the item at a place of an operation's array.
 #[tactic(auto, unfolding(crate::specs::Asked::item_asked))]
-fn name_at<'v>(op: &'v Value, index: usize, counts: &Counts) -> Result<&'v str, Fault>
-    ensures met { OnOk result (IsMet counts.now (item_asked index (view op.now)) counts.now) }
-    ensures first { IfErr result (IsFirst counts.now (item_asked index (view op.now))) }
-    ensures value { IfOk result (λ name. name.now ≡ name_item index (view op.now)) }
+fn name_at<'v>(op: &'v Value, place: Place, counts: &Counts) -> Result<&'v str, Failure>
+    ensures met { OnOk result (IsMet counts.now (item_asked place (view op.now)) counts.now) }
+    ensures first { IfErr result (IsFirst counts.now (item_asked place (view op.now))) }
+    ensures value { IfOk result (λ name. name.now ≡ name_item (index_of place) (view op.now)) }
 {
-    let Some(name) = text_item(op, index) else {
-        return Err(counts.fault(Wrong::Argument));
+    let Some(name) = text_item(op, index_of(place)) else {
+        return Err(counts.broken(Rule::Argument(ArgumentRule::Item(place))));
     };
-    counts.demand(is_name(name), Wrong::Name)?;
+    counts.demand(is_name(name), Rule::Name(NameRule::Argument(place)))?;
     Ok(name)
 }
 
 /// The item of a name, which joins the others if it is new.
-pub fn item_of(alloc: Global, name: &str, numbering: &mut Numbering) -> Result<Item, Fault>
+pub fn item_of(alloc: Global, name: &str, numbering: &mut Numbering) -> Result<Item, NoMemory>
     ensures value { IfOk result (λ item. item ≡ item_of name.now (numbers_of numbering.old)) }
     ensures numbers { OnOk result (numbers_of numbering.new ≡ with_item name.now (numbers_of numbering.old)) }
-    ensures err { IfErr result (λ fault. fault ≡ memory_fault) }
 {
     Ok(Item(number_of_item(alloc, numbering, name)?))
 }
@@ -118,9 +130,8 @@ pub(crate) fn items_of(
     first: &str,
     second: &str,
     numbering: &mut Numbering,
-) -> Result<(Item, Item), Fault>
+) -> Result<(Item, Item), NoMemory>
     ensures value { IfOk result (λ items. (items, numbers_of numbering.new) ≡ items_of first.now second.now (numbers_of numbering.old)) }
-    ensures err { IfErr result (λ fault. fault ≡ memory_fault) }
 {
     let first = item_of(alloc, first, numbering)?;
     let second = item_of(alloc, second, numbering)?;
@@ -135,13 +146,14 @@ fn read_item_call(
     op: &Value,
     counts: &Counts,
     numbering: &mut Numbering,
-) -> Result<Call, Fault>
+) -> Result<Call, Failure>
     ensures met { OnOk result (IsMet counts.now (arguments_asked (Verb.OfItem verb) (view op.now)) counts.now) }
     ensures first { IfErr result (IsFirst counts.now (arguments_asked (Verb.OfItem verb) (view op.now))) }
     ensures value { IfOk result (λ call. (call, numbers_of numbering.new) ≡ call_of (Verb.OfItem verb) (numbers_of numbering.old) (view op.now)) }
 {
-    counts.demand(count(op) == Some(3), Wrong::Argument)?;
-    let name = name_at(op, 2, counts)?;
+    let arguments = Rule::Argument(ArgumentRule::Count(Verb::OfItem(verb)));
+    counts.demand(count(op) == Some(3), arguments)?;
+    let name = name_at(op, Place::Third, counts)?;
     let item = item_of(alloc, name, numbering)?;
     Ok(verb.call(item))
 }
@@ -154,14 +166,15 @@ fn read_pair_call(
     op: &Value,
     counts: &Counts,
     numbering: &mut Numbering,
-) -> Result<Call, Fault>
+) -> Result<Call, Failure>
     ensures met { OnOk result (IsMet counts.now (arguments_asked (Verb.OfPair verb) (view op.now)) counts.now) }
     ensures first { IfErr result (IsFirst counts.now (arguments_asked (Verb.OfPair verb) (view op.now))) }
     ensures value { IfOk result (λ call. (call, numbers_of numbering.new) ≡ call_of (Verb.OfPair verb) (numbers_of numbering.old) (view op.now)) }
 {
-    counts.demand(count(op) == Some(4), Wrong::Argument)?;
-    let key_name = name_at(op, 2, counts)?;
-    let name = name_at(op, 3, counts)?;
+    let arguments = Rule::Argument(ArgumentRule::Count(Verb::OfPair(verb)));
+    counts.demand(count(op) == Some(4), arguments)?;
+    let key_name = name_at(op, Place::Third, counts)?;
+    let name = name_at(op, Place::Fourth, counts)?;
     let (key, item) = items_of(alloc, key_name, name, numbering)?;
     Ok(verb.call(key, item))
 }
@@ -173,20 +186,21 @@ fn read_call(
     op: &Value,
     counts: &Counts,
     numbering: &mut Numbering,
-) -> Result<Call, Fault>
+) -> Result<Call, Failure>
     ensures met { OnOk result (IsMet counts.now (arguments_asked verb (view op.now)) counts.now) }
     ensures first { IfErr result (IsFirst counts.now (arguments_asked verb (view op.now))) }
     ensures value { IfOk result (λ call. (call, numbers_of numbering.new) ≡ call_of verb (numbers_of numbering.old) (view op.now)) }
 {
     match verb {
         Verb::OfAmount(verb) => {
-            let amount = amount_of(op, counts)?;
+            let amount = amount_of(verb, op, counts)?;
             Ok(verb.call(amount))
         }
         Verb::OfItem(verb) => read_item_call(alloc, verb, op, counts, numbering),
         Verb::OfPair(verb) => read_pair_call(alloc, verb, op, counts, numbering),
         Verb::Alone(verb) => {
-            counts.demand(count(op) == Some(2), Wrong::Argument)?;
+            let arguments = Rule::Argument(ArgumentRule::Count(Verb::Alone(verb)));
+            counts.demand(count(op) == Some(2), arguments)?;
             Ok(verb.call())
         }
     }
@@ -223,17 +237,18 @@ pub fn target_of(
     call: &str,
     declared: &Declared,
     counts: &Counts,
-) -> Result<(u32, Verb), Fault>
+) -> Result<(u32, Verb), Failure>
     ensures met { OnOk result (IsMet counts.now (target_asked (setting_of declared.now) object.now call.now) counts.now) }
     ensures first { IfErr result (IsFirst counts.now (target_asked (setting_of declared.now) object.now call.now)) }
     ensures object { IfOk result (λ target. target.0 ≡ target_of (setting_of declared.now) object.now) }
     ensures verb { IfOk result (λ target. target.1 ≡ operation_verb (setting_of declared.now) object.now call.now) }
 {
     let Some((place, kind)) = find(object, declared) else {
-        return Err(counts.fault(Wrong::UnknownObject));
+        return Err(counts.broken(Rule::KnownObject));
     };
     let Some(verb) = Verb::of_text(declared.version, kind, call) else {
-        return Err(counts.fault(Wrong::UnknownOperation));
+        let rule = Rule::KnownOperation(declared.version, Some(kind));
+        return Err(counts.broken(rule));
     };
     Ok((place, verb))
 }
@@ -249,7 +264,11 @@ struct Head<'v> {
 
 /// Reads an operation up to its arguments.
 #[tactic(auto, using(crate::proofs::Checks::parts), unfolding(crate::specs::Heads::operation_head_asked))]
-fn head_of<'v>(step: &'v Value, declared: &Declared, counts: &mut Counts) -> Result<Head<'v>, Fault>
+fn head_of<'v>(
+    step: &'v Value,
+    declared: &Declared,
+    counts: &mut Counts,
+) -> Result<Head<'v>, Failure>
     ensures met { OnOk result (IsMet counts.old (operation_head_asked (setting_of declared.now) (view step.now)) counts.new) }
     ensures first { IfErr result (IsFirst counts.old (operation_head_asked (setting_of declared.now) (view step.now))) }
     ensures op { IfOk result (λ head. view head.op.now ≡ part (codes "op") (view step.now)) }
@@ -277,7 +296,7 @@ pub fn read_operation(
     step: &Value,
     declared: &Declared,
     state: &mut State,
-) -> Result<Step, Fault>
+) -> Result<Step, Failure>
     ensures met { OnOk result (IsMet state.old.counts (operation_asked (setting_of declared.now)
         (scope_of state.old.labels.entries) (view step.now)) state.new.counts) }
     ensures first { IfErr result (IsFirst state.old.counts (operation_asked (setting_of declared.now)

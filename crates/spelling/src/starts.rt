@@ -7,7 +7,7 @@ ghost use Rattle.batch.specs.Names.{texts_of};
 ghost use Rattle.spelling.specs.Answer.{AreMet, IsFirst, IsFound, IsMet};
 ghost use Rattle.spelling.specs.Asked.{declared_by, element_asked, entry_asked, key_of, kind_in, names_of, number_start, object_kind, object_name, object_name_asked, object_shape_asked, pair_asked, part, signed_start, text_of, value_of};
 ghost use Rattle.spelling.specs.Heads.{new_start_asked, pair_names_asked};
-ghost use Rattle.spelling.specs.Limits.{limits_of};
+ghost use Rattle.rules.specs.Limits.{limits_of};
 ghost use Rattle.spelling.specs.Places.{elements_placed, entries_placed, object_placed, objects_placed, pairs_placed, start_placed};
 ghost use Rattle.spelling.specs.Scope.{numbers_of, setting_of, with_item, with_text};
 ghost use Rattle.spelling.specs.Spelled.{bind_all, entries_of, item_of, pair_of, pairs_of, put_all, spelled_map, start_of, starts_of};
@@ -20,10 +20,10 @@ use crate::operations::{item_of, items_of};
 use crate::state::{Numbering, add_text};
 use crate::unmet::Unmet;
 use batch::{Item, Kind, Objects, Value as ObjectValue, is_name};
-use faults::{Fault, Wrong};
 use indexmap::IndexSet;
 use meaning::limits::MAX_START;
 use objects::{Directory, ItemSet, Queue};
+use rules::{Failure, Form, NameRule, Rule, ShapeRule, StartRule};
 use serde_json::Value;
 use std::alloc::Global;
 use words::kind_of_text;
@@ -61,18 +61,19 @@ fn read_entry(
     version: u8,
     counts: &mut Counts,
     numbering: &mut Numbering,
-) -> Result<Item, Fault>
+) -> Result<Item, Failure>
     ensures met { OnOk result (IsMet counts.old (entry_asked version (view value.now)) counts.new) }
     ensures first { IfErr result (IsFirst counts.old (entry_asked version (view value.now))) }
     ensures item { IfOk result (λ item. item ≡ item_of (text_of (view value.now)) (numbers_of numbering.old)) }
     ensures numbers { OnOk result (numbers_of numbering.new ≡ with_item (text_of (view value.now)) (numbers_of numbering.old)) }
 {
     let Some(name) = value.as_str() else {
-        return Err(counts.fault(Wrong::Start));
+        return Err(counts.broken(Rule::Start(StartRule::Entry)));
     };
-    counts.demand(is_name(name), Wrong::Name)?;
+    counts.demand(is_name(name), Rule::Name(NameRule::Entry))?;
     counts.one_more_start(version)?;
-    item_of(alloc, name, numbering)
+    let item = item_of(alloc, name, numbering)?;
+    Ok(item)
 }
 
 fn read_queue(
@@ -92,29 +93,30 @@ fn read_queue(
     for (index, entry) in list.iter().enumerate() {
         match read_entry(alloc, entry, version, counts, numbering) {
             Ok(item) => queue.push_back(item)?,
-            Err(fault) => return Err(Unmet::from(fault).in_item(alloc, index)),
+            Err(failure) => return Err(Unmet::from(failure).in_item(alloc, index)),
         }
     }
     Ok(queue)
 }
 
-/// Adds an item of a set or a key, which differs from the earlier ones, and counts it.
+/// Adds an item of a set or a key, which by a rule differs from the earlier ones, and counts it.
 #[tactic(auto, unfolding(crate::specs::Heads::new_start_asked))]
 fn add_start(
     alloc: Global,
     name: &str,
     version: u8,
+    rule: Rule,
     earlier: &mut Texts,
     counts: &mut Counts,
-) -> Result<(), Fault>
-    ensures met { OnOk result (IsMet counts.old (new_start_asked version
+) -> Result<(), Failure>
+    ensures met { OnOk result (IsMet counts.old (new_start_asked version rule
         (texts_of earlier.old.keys) name.now) counts.new) }
-    ensures first { IfErr result (IsFirst counts.old (new_start_asked version
+    ensures first { IfErr result (IsFirst counts.old (new_start_asked version rule
         (texts_of earlier.old.keys) name.now)) }
     ensures earlier { OnOk result (texts_of earlier.new.keys ≡ with_text name.now (texts_of earlier.old.keys)) }
 {
     let new = add_text(alloc, earlier, name)?;
-    counts.demand(new, Wrong::Start)?;
+    counts.demand(new, rule)?;
     counts.one_more_start(version)?;
     Ok(())
 }
@@ -128,7 +130,7 @@ fn read_element(
     earlier: &mut Texts,
     counts: &mut Counts,
     numbering: &mut Numbering,
-) -> Result<Item, Fault>
+) -> Result<Item, Failure>
     ensures met { OnOk result (IsMet counts.old (element_asked version (texts_of earlier.old.keys)
         (view value.now)) counts.new) }
     ensures first { IfErr result (IsFirst counts.old (element_asked version
@@ -138,11 +140,19 @@ fn read_element(
     ensures earlier { OnOk result (texts_of earlier.new.keys ≡ with_text (text_of (view value.now)) (texts_of earlier.old.keys)) }
 {
     let Some(name) = value.as_str() else {
-        return Err(counts.fault(Wrong::Start));
+        return Err(counts.broken(Rule::Start(StartRule::Entry)));
     };
-    counts.demand(is_name(name), Wrong::Name)?;
-    add_start(alloc, name, version, earlier, counts)?;
-    item_of(alloc, name, numbering)
+    counts.demand(is_name(name), Rule::Name(NameRule::Entry))?;
+    add_start(
+        alloc,
+        name,
+        version,
+        Rule::Start(StartRule::NewEntry),
+        earlier,
+        counts,
+    )?;
+    let item = item_of(alloc, name, numbering)?;
+    Ok(item)
 }
 
 /// The items of a set, which differ from these earlier ones.
@@ -164,7 +174,7 @@ fn read_elements(
     for (index, element) in list.iter().enumerate() {
         match read_element(alloc, element, version, earlier, counts, numbering) {
             Ok(item) => set.insert(item)?,
-            Err(fault) => return Err(Unmet::from(fault).in_item(alloc, index)),
+            Err(failure) => return Err(Unmet::from(failure).in_item(alloc, index)),
         };
     }
     Ok(set)
@@ -193,21 +203,21 @@ fn read_set(
 
 /// The names of a key and its item.
 #[tactic(auto, unfolding(crate::specs::Heads::pair_names_asked))]
-fn pair_names<'v>(value: &'v Value, counts: &Counts) -> Result<(&'v str, &'v str), Fault>
+fn pair_names<'v>(value: &'v Value, counts: &Counts) -> Result<(&'v str, &'v str), Failure>
     ensures met { OnOk result (IsMet counts.now (pair_names_asked (view value.now)) counts.now) }
     ensures first { IfErr result (IsFirst counts.now (pair_names_asked (view value.now))) }
     ensures key { IfOk result (λ pair. pair.0.now ≡ key_of (view value.now)) }
     ensures value { IfOk result (λ pair. pair.1.now ≡ value_of (view value.now)) }
 {
-    counts.demand(count(value) == Some(2), Wrong::Start)?;
+    counts.demand(count(value) == Some(2), Rule::Start(StartRule::Pair))?;
     let Some(key) = text_item(value, 0) else {
-        return Err(counts.fault(Wrong::Start));
+        return Err(counts.broken(Rule::Start(StartRule::PairKey)));
     };
     let Some(bound) = text_item(value, 1) else {
-        return Err(counts.fault(Wrong::Start));
+        return Err(counts.broken(Rule::Start(StartRule::PairItem)));
     };
-    counts.demand(is_name(key), Wrong::Name)?;
-    counts.demand(is_name(bound), Wrong::Name)?;
+    counts.demand(is_name(key), Rule::Name(NameRule::PairKey))?;
+    counts.demand(is_name(bound), Rule::Name(NameRule::PairItem))?;
     Ok((key, bound))
 }
 
@@ -219,7 +229,7 @@ fn check_pair<'v>(
     version: u8,
     earlier: &mut Texts,
     counts: &mut Counts,
-) -> Result<(&'v str, &'v str), Fault>
+) -> Result<(&'v str, &'v str), Failure>
     ensures met { OnOk result (IsMet counts.old (pair_asked version (texts_of earlier.old.keys)
         (view value.now)) counts.new) }
     ensures first { IfErr result (IsFirst counts.old (pair_asked version
@@ -229,7 +239,14 @@ fn check_pair<'v>(
     ensures earlier { OnOk result (texts_of earlier.new.keys ≡ with_text (key_of (view value.now)) (texts_of earlier.old.keys)) }
 {
     let (key, bound) = pair_names(value, counts)?;
-    add_start(alloc, key, version, earlier, counts)?;
+    add_start(
+        alloc,
+        key,
+        version,
+        Rule::Start(StartRule::NewKey),
+        earlier,
+        counts,
+    )?;
     Ok((key, bound))
 }
 
@@ -241,7 +258,7 @@ fn read_pair(
     earlier: &mut Texts,
     counts: &mut Counts,
     numbering: &mut Numbering,
-) -> Result<(Item, Item), Fault>
+) -> Result<(Item, Item), Failure>
     ensures met { OnOk result (IsMet counts.old (pair_asked version (texts_of earlier.old.keys)
         (view value.now)) counts.new) }
     ensures first { IfErr result (IsFirst counts.old (pair_asked version
@@ -250,7 +267,8 @@ fn read_pair(
     ensures earlier { OnOk result (texts_of earlier.new.keys ≡ with_text (key_of (view value.now)) (texts_of earlier.old.keys)) }
 {
     let (key_name, name) = check_pair(alloc, value, version, earlier, counts)?;
-    items_of(alloc, key_name, name, numbering)
+    let pair = items_of(alloc, key_name, name, numbering)?;
+    Ok(pair)
 }
 
 /// The entries of a directory, whose keys differ from these earlier ones.
@@ -272,7 +290,7 @@ fn read_pairs(
     for (index, pair) in list.iter().enumerate() {
         match read_pair(alloc, pair, version, earlier, counts, numbering) {
             Ok((key, item)) => directory.put(key, item)?,
-            Err(fault) => return Err(Unmet::from(fault).in_item(alloc, index)),
+            Err(failure) => return Err(Unmet::from(failure).in_item(alloc, index)),
         }
     }
     Ok(directory)
@@ -315,7 +333,7 @@ fn read_set_start(
     ensures value { IfOk result (λ start. (start, numbers_of numbering.new) ≡ start_of Kind.Set (numbers_of numbering.old) (view value.now)) }
 {
     let Some(list) = value.as_array() else {
-        return Err(Unmet::from(counts.fault(Wrong::Start)));
+        return Err(Unmet::from(counts.broken(Rule::Start(StartRule::Of(Kind::Set)))));
     };
     let start = read_set(alloc, list, version, counts, numbering)?;
     Ok(ObjectValue::Set(start))
@@ -337,7 +355,7 @@ fn read_queue_start(
     ensures value { IfOk result (λ start. (start, numbers_of numbering.new) ≡ start_of Kind.Queue (numbers_of numbering.old) (view value.now)) }
 {
     let Some(list) = value.as_array() else {
-        return Err(Unmet::from(counts.fault(Wrong::Start)));
+        return Err(Unmet::from(counts.broken(Rule::Start(StartRule::Of(Kind::Queue)))));
     };
     let start = read_queue(alloc, list, version, counts, numbering)?;
     Ok(ObjectValue::Queue(start))
@@ -359,7 +377,7 @@ fn read_directory_start(
     ensures value { IfOk result (λ start. (start, numbers_of numbering.new) ≡ start_of Kind.Directory (numbers_of numbering.old) (view value.now)) }
 {
     let Some(list) = value.as_array() else {
-        return Err(Unmet::from(counts.fault(Wrong::Start)));
+        return Err(Unmet::from(counts.broken(Rule::Start(StartRule::Of(Kind::Directory)))));
     };
     let start = read_directory(alloc, list, version, counts, numbering)?;
     Ok(ObjectValue::Directory(start))
@@ -385,15 +403,15 @@ fn read_start(
     match kind {
         Kind::Account => match number_start(value) {
             Some(number) => Ok(ObjectValue::Account(number)),
-            None => Err(Unmet::from(counts.fault(Wrong::Start))),
+            None => Err(Unmet::from(counts.broken(Rule::Start(StartRule::Of(kind))))),
         },
         Kind::Counter => match signed_start(value) {
             Some(number) => Ok(ObjectValue::Counter(number)),
-            None => Err(Unmet::from(counts.fault(Wrong::Start))),
+            None => Err(Unmet::from(counts.broken(Rule::Start(StartRule::Of(kind))))),
         },
         Kind::Max => match number_start(value) {
             Some(number) => Ok(ObjectValue::Max(number)),
-            None => Err(Unmet::from(counts.fault(Wrong::Start))),
+            None => Err(Unmet::from(counts.broken(Rule::Start(StartRule::Of(kind))))),
         },
         Kind::Set => read_set_start(alloc, value, version, counts, numbering),
         Kind::Queue => read_queue_start(alloc, value, version, counts, numbering),
@@ -411,24 +429,29 @@ struct Shape<'v> {
     start: &'v Value,
 }
 
-/// The parts of an object. Returns the fault of its shape where it isn't an object of just these parts.
+/// The parts of an object. Returns the first rule that isn't kept where it isn't an object of just
+/// these parts.
 #[tactic(auto, unfolding(crate::specs::Asked::object_shape_asked))]
-fn shape_of<'v>(value: &'v Value, version: u8, counts: &Counts) -> Result<Shape<'v>, Fault>
+fn shape_of<'v>(value: &'v Value, version: u8, counts: &Counts) -> Result<Shape<'v>, Failure>
     ensures met { OnOk result (IsMet counts.now (object_shape_asked version (view value.now)) counts.now) }
     ensures first { IfErr result (IsFirst counts.now (object_shape_asked version (view value.now))) }
     ensures name { IfOk result (λ shape. shape.name.now ≡ object_name (view value.now)) }
     ensures kind { IfOk result (λ shape. shape.kind ≡ kind_in version (view value.now)) }
     ensures start { IfOk result (λ shape. view shape.start.now ≡ part (codes "start") (view value.now)) }
 {
-    counts.demand(has_only(value, &["name", "kind", "start"]), Wrong::Shape)?;
+    let form = Form::Object;
+    counts.demand(
+        has_only(value, form.members()),
+        Rule::Shape(ShapeRule::Members(form)),
+    )?;
     let Some(name) = text_member(value, "name") else {
-        return Err(counts.fault(Wrong::Shape));
+        return Err(counts.broken(Rule::Shape(ShapeRule::ObjectName)));
     };
     let Some(kind) = kind_member(value, version) else {
-        return Err(counts.fault(Wrong::Shape));
+        return Err(counts.broken(Rule::Shape(ShapeRule::ObjectKind(version))));
     };
     let Some(start) = value.get("start") else {
-        return Err(counts.fault(Wrong::Shape));
+        return Err(counts.broken(Rule::Shape(ShapeRule::ObjectStart)));
     };
     Ok(Shape { name, kind, start })
 }
@@ -439,17 +462,22 @@ fn kind_member(value: &Value, version: u8) -> Option<Kind>
     kind_of_text(version, text_member(value, "kind")?)
 }
 
-/// Adds an object's name to the others. Returns the fault of a text that is no name or is there
-/// already, or of memory.
+/// Adds an object's name to the others. Returns the failure of a text that is no name or is there
+/// already, or that memory was refused.
 #[tactic(auto, unfolding(crate::specs::Asked::object_name_asked))]
-pub fn add_name(alloc: Global, name: &str, names: &mut Texts, counts: &Counts) -> Result<(), Fault>
+pub fn add_name(
+    alloc: Global,
+    name: &str,
+    names: &mut Texts,
+    counts: &Counts,
+) -> Result<(), Failure>
     ensures met { OnOk result (IsMet counts.now (object_name_asked (texts_of names.old.keys) name.now) counts.now) }
     ensures first { IfErr result (IsFirst counts.now (object_name_asked (texts_of names.old.keys) name.now)) }
     ensures names { OnOk result (texts_of names.new.keys ≡ texts_of names.old.keys ++ name.now ∷ []) }
 {
-    counts.demand(is_name(name), Wrong::Name)?;
+    counts.demand(is_name(name), Rule::Name(NameRule::Object))?;
     let new = add_text(alloc, names, name)?;
-    counts.demand(new, Wrong::DuplicateObject)?;
+    counts.demand(new, Rule::NewObject)?;
     Ok(())
 }
 

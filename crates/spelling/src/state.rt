@@ -1,14 +1,13 @@
 //! What has been seen of a document at a place.
-ghost use Rattle.std.specs.Prelude.{◌≡◌, [], not, Some, IfErr, IfOk, IfSome, OnOk};
+ghost use Rattle.std.specs.Prelude.{◌≡◌, [], not, Some, IfOk, IfSome, OnOk};
 ghost use Rattle.batch.specs.Names.{texts_of};
 ghost use Rattle.spelling.specs.Demand.{no_counts};
-ghost use Rattle.faults.specs.Faults.{memory_fault};
 ghost use Rattle.spelling.specs.Scope.{fit, is_listed, no_numbers, number_of, numbers_of, place_of, scope_of, with_item, with_text};
 
 use crate::counts::Counts;
 use crate::hashing::{Labels, NameHashing, Texts};
 use crate::hints::{Hints, place_in};
-use faults::Fault;
+use batch::NoMemory;
 use indexmap::{IndexMap, IndexSet};
 use std::alloc::Global;
 
@@ -74,20 +73,18 @@ pub fn fit(number: usize) -> u32
 }
 
 /// Adds a text to the others if it is new, and returns whether it is.
-pub(crate) fn add_text(alloc: Global, table: &mut Texts, text: &str) -> Result<bool, Fault>
+pub(crate) fn add_text(alloc: Global, table: &mut Texts, text: &str) -> Result<bool, NoMemory>
     ensures new { IfOk result (λ new. new ≡ not (is_listed text.now (texts_of table.old.keys))) }
     ensures table { OnOk result (texts_of table.new.keys ≡ with_text text.now (texts_of table.old.keys)) }
-    ensures err { IfErr result (λ fault. fault ≡ memory_fault) }
 {
     let new = table.insert(String::from_str(alloc, text)?)?;
     Ok(new)
 }
 
 /// The number of a text, which joins the others if it is new.
-pub fn number_of(alloc: Global, table: &mut Texts, text: &str) -> Result<u32, Fault>
+pub fn number_of(alloc: Global, table: &mut Texts, text: &str) -> Result<u32, NoMemory>
     ensures number { IfOk result (λ number. number ≡ number_of text.now (texts_of table.old.keys)) }
     ensures table { OnOk result (texts_of table.new.keys ≡ with_text text.now (texts_of table.old.keys)) }
-    ensures err { IfErr result (λ fault. fault ≡ memory_fault) }
 {
     if let Some(number) = table.get_index_of(text) {
         return Ok(fit(number));
@@ -106,10 +103,9 @@ fn known_item(numbering: &Numbering, name: &str) -> Option<usize>
 }
 
 /// Adds an item's name to the others if it is new, and returns its place.
-fn add_item(alloc: Global, numbering: &mut Numbering, name: &str) -> Result<usize, Fault>
+fn add_item(alloc: Global, numbering: &mut Numbering, name: &str) -> Result<usize, NoMemory>
     ensures place { IfOk result (λ place. fit place ≡ number_of name.now (texts_of numbering.old.items.keys)) }
     ensures numbers { OnOk result (numbers_of numbering.new ≡ with_item name.now (numbers_of numbering.old)) }
-    ensures err { IfErr result (λ fault. fault ≡ memory_fault) }
 {
     let (place, _) = numbering.items.insert_full(String::from_str(alloc, name)?)?;
     numbering
@@ -123,10 +119,9 @@ pub(crate) fn number_of_item(
     alloc: Global,
     numbering: &mut Numbering,
     name: &str,
-) -> Result<u32, Fault>
+) -> Result<u32, NoMemory>
     ensures number { IfOk result (λ number. number ≡ number_of name.now (texts_of numbering.old.items.keys)) }
     ensures numbers { OnOk result (numbers_of numbering.new ≡ with_item name.now (numbers_of numbering.old)) }
-    ensures err { IfErr result (λ fault. fault ≡ memory_fault) }
 {
     if let Some(place) = known_item(numbering, name) {
         return Ok(fit(place));

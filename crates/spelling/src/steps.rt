@@ -7,9 +7,8 @@ ghost use Rattle.batch.specs.Names.{is_name, texts_of};
 ghost use Rattle.batch.specs.Views.{block_view, handler_view, otherwise_view, step_view, subaction_view};
 ghost use Rattle.spelling.specs.Answer.{AreMet, IsFirst, IsFound, IsMet};
 ghost use Rattle.spelling.specs.Asked.{abort_asked, abort_shape_asked, children_in, handlers_are_members, handlers_in, is_abort, label_in, labels_of, parallel_shape_asked, part, reason_asked, scope_after, sort_of, sub_shape_asked};
-ghost use Rattle.spelling.specs.Demand.{fault_at};
-ghost use Rattle.faults.specs.Faults.{memory_fault};
-ghost use Rattle.spelling.specs.Limits.{limits_of};
+ghost use Rattle.spelling.specs.Demand.{broken_at};
+ghost use Rattle.rules.specs.Limits.{limits_of};
 ghost use Rattle.spelling.specs.Places.{block_placed, block_placed_if, children_placed, handlers_placed, if_placed, inside, member_named, member_placed, members_placed, nothing, parallel_placed, step_placed, steps_placed, sub_placed, transaction_placed, transactions_placed};
 ghost use Rattle.spelling.specs.Scope.{Extends, number_of, numbers_of, scope_of, setting_of, with_label, with_labels, with_text};
 ghost use Rattle.spelling.specs.Spelled.{abort_of, block_of, block_of_if, blocks_of, children_spelled, handlers_spelled, if_of, member_of, members_of, parallel_of, reason_of, spelled_map, step_of, steps_spelled, sub_of, sub_step};
@@ -25,11 +24,10 @@ use crate::labels::{add_label, label_of, leave_block};
 use crate::look::{has, has_only, list_member, text_member};
 use crate::operations::read_operation;
 use crate::state::{State, number_of};
-use crate::subject::Subject;
 use crate::unmet::Unmet;
 use batch::{Block, Handler, Otherwise, Step, Subaction, is_name};
-use faults::{Fault, Wrong};
 use meaning::limits::MAX_DEPTH;
+use rules::{Failure, Form, NameRule, Rule, ShapeRule, Subject};
 use serde_json::{Map, Value};
 use std::alloc::Global;
 
@@ -50,7 +48,7 @@ fn sort_of(step: &Value) -> Option<Sort>
 {
     let op = has(step, "op");
     // Most steps are operations: one look at the names of their members shows that they have no other.
-    if op && has_only(step, &["op", "as"]) {
+    if op && has_only(step, Form::Operation.members()) {
         return Some(Sort::Operation);
     }
     let condition = has(step, "if");
@@ -83,21 +81,23 @@ fn is_abort(version: u8, value: &Value) -> bool
     value.as_bool() == Some(true) || has_reasons(version) && value.is_string()
 }
 
-/// The number of a reason, which is a name and joins the others if it is new.
+/// The number of a reason, which by a rule is a name, and joins the others if it is new.
 pub fn reason_number(
     alloc: Global,
     reason: &str,
+    rule: Rule,
     counts: &Counts,
     reasons: &mut Texts,
-) -> Result<u32, Fault>
+) -> Result<u32, Failure>
     ensures met { OnOk result (is_name reason.now ≡ true) }
-    ensures first { IfErr result (λ fault. fault ≢ memory_fault
-        → (is_name reason.now ≡ false) × (fault ≡ fault_at Wrong.Name counts.now)) }
+    ensures first { IfErr result (λ failure. failure ≢ Failure.NoMemory
+        → (is_name reason.now ≡ false) × (failure ≡ broken_at rule counts.now)) }
     ensures number { IfOk result (λ number. number ≡ number_of reason.now (texts_of reasons.old.keys)) }
     ensures table { OnOk result (texts_of reasons.new.keys ≡ with_text reason.now (texts_of reasons.old.keys)) }
 {
-    counts.demand(is_name(reason), Wrong::Name)?;
-    number_of(alloc, reasons, reason)
+    counts.demand(is_name(reason), rule)?;
+    let number = number_of(alloc, reasons, reason)?;
+    Ok(number)
 }
 
 /// The reason's number, where there is a reason.
@@ -106,7 +106,7 @@ pub fn read_reason(
     alloc: Global,
     reason: Option<&str>,
     state: &mut State,
-) -> Result<Option<u32>, Fault>
+) -> Result<Option<u32>, Failure>
     ensures met { OnOk result (IsMet state.old.counts (reason_asked (option_map (λ text. text.now) reason.entry)) state.new.counts) }
     ensures first { IfErr result (IsFirst state.old.counts (reason_asked (option_map (λ text. text.now) reason.entry))) }
     ensures value { IfOk result (λ number. (number, numbers_of state.new.numbering)
@@ -116,21 +116,39 @@ pub fn read_reason(
     let Some(name) = reason else {
         return Ok(None);
     };
-    let number = reason_number(alloc, name, &state.counts, &mut state.numbering.reasons)?;
+    let reasons = &mut state.numbering.reasons;
+    let number = reason_number(
+        alloc,
+        name,
+        Rule::Name(NameRule::Reason),
+        &state.counts,
+        reasons,
+    )?;
     Ok(Some(number))
 }
 
 #[tactic(auto, using(crate::proofs::Checks::parts), unfolding(crate::specs::Asked::abort_shape_asked))]
-fn abort_of<'v>(step: &'v Value, version: u8, counts: &mut Counts) -> Result<Option<&'v str>, Fault>
+fn abort_of<'v>(
+    step: &'v Value,
+    version: u8,
+    counts: &mut Counts,
+) -> Result<Option<&'v str>, Failure>
     ensures met { OnOk result (IsMet counts.old (abort_shape_asked version (view step.now)) counts.new) }
     ensures first { IfErr result (IsFirst counts.old (abort_shape_asked version (view step.now))) }
     ensures reason { IfOk result (λ reason. option_map (λ text. text.now) reason ≡ as_str (part (codes "abort") (view step.now))) }
 {
-    counts.demand(has_only(step, &["abort"]), Wrong::Shape)?;
+    let form = Form::Abort;
+    counts.demand(
+        has_only(step, form.members()),
+        Rule::Shape(ShapeRule::Members(form)),
+    )?;
     let Some(value) = step.get("abort") else {
-        return Err(counts.fault(Wrong::Shape));
+        return Err(counts.broken(Rule::Shape(ShapeRule::Abort(version))));
     };
-    counts.demand(is_abort(version, value), Wrong::Shape)?;
+    counts.demand(
+        is_abort(version, value),
+        Rule::Shape(ShapeRule::Abort(version)),
+    )?;
     counts.one_more_node(version)?;
     Ok(value.as_str())
 }
@@ -139,7 +157,7 @@ fn abort_of<'v>(step: &'v Value, version: u8, counts: &mut Counts) -> Result<Opt
 ///
 /// Returns the first demand that isn't met, or that memory was refused.
 #[tactic(auto, using(crate::proofs::Checks::parts), unfolding(crate::specs::Asked::abort_asked, crate::specs::Spelled::abort_of))]
-fn read_abort(alloc: Global, step: &Value, version: u8, state: &mut State) -> Result<Step, Fault>
+fn read_abort(alloc: Global, step: &Value, version: u8, state: &mut State) -> Result<Step, Failure>
     ensures met { OnOk result (IsMet state.old.counts (abort_asked version (view step.now)) state.new.counts) }
     ensures first { IfErr result (IsFirst state.old.counts (abort_asked version (view step.now))) }
     ensures value { IfOk result (λ read. (step_view read, numbers_of state.new.numbering) ≡ abort_of (numbers_of state.old.numbering) (view step.now)) }
@@ -219,22 +237,22 @@ fn handlers_of<'v>(
     step: &'v Value,
     version: u8,
     counts: &Counts,
-) -> Result<Option<&'v Map<String, Value>>, Fault>
+) -> Result<Option<&'v Map<String, Value>>, Failure>
     ensures { MatchResult result
         (λ handlers. (handlers_are_members version (view step.now) ≡ true)
         × (option_map (λ members. members_view members.now.entries) handlers ≡ handlers_in (view step.now)))
-        (λ fault. (handlers_are_members version (view step.now) ≡ false)
-        × (fault ≡ fault_at Wrong.Shape counts.now)) }
+        (λ failure. (handlers_are_members version (view step.now) ≡ false)
+        × (failure ≡ broken_at (Rule.Shape (ShapeRule.Handlers version)) counts.now)) }
 {
     let Some(handlers) = step.get("handlers") else {
         return Ok(None);
     };
     if !has_reasons(version) {
-        return Err(counts.fault(Wrong::Shape));
+        return Err(counts.broken(Rule::Shape(ShapeRule::Handlers(version))));
     }
     match handlers.as_object() {
         Some(members) => Ok(Some(members)),
-        None => Err(counts.fault(Wrong::Shape)),
+        None => Err(counts.broken(Rule::Shape(ShapeRule::Handlers(version)))),
     }
 }
 
@@ -243,7 +261,7 @@ pub(crate) fn sub_shape_of<'v>(
     step: &'v Value,
     version: u8,
     counts: &Counts,
-) -> Result<SubShape<'v>, Fault>
+) -> Result<SubShape<'v>, Failure>
     ensures met { OnOk result (IsMet counts.now (sub_shape_asked version (view step.now)) counts.now) }
     ensures first { IfErr result (IsFirst counts.now (sub_shape_asked version (view step.now))) }
     ensures body { IfOk result (λ shape. view shape.body.now ≡ part (codes "sub") (view step.now)) }
@@ -251,12 +269,13 @@ pub(crate) fn sub_shape_of<'v>(
     ensures handlers { IfOk result (λ shape. option_map (λ members. members_view members.now.entries) shape.handlers
         ≡ handlers_in (view step.now)) }
 {
+    let form = Form::Subaction;
     counts.demand(
-        has_only(step, &["sub", "handler", "handlers", "as"]),
-        Wrong::Shape,
+        has_only(step, form.members()),
+        Rule::Shape(ShapeRule::Members(form)),
     )?;
     let Some(body) = step.get("sub") else {
-        return Err(counts.fault(Wrong::Shape));
+        return Err(counts.broken(Rule::Shape(ShapeRule::Body)));
     };
     let label = label_of(step, counts)?;
     let handlers = handlers_of(step, version, counts)?;
@@ -267,7 +286,7 @@ pub(crate) fn sub_shape_of<'v>(
     })
 }
 
-/// A handler by reason. A reason that is no name is a fault of the handlers.
+/// A handler by reason. A reason that is no name breaks a rule of the handlers.
 #[cycle(steps)]
 fn read_handler(
     alloc: Global,
@@ -288,7 +307,14 @@ fn read_handler(
         (numbers_of state.old.numbering) reason.now (view value.now)) }
     ensures labels { OnOk result (scope_of state.new.labels.entries ≡ scope_of state.old.labels.entries) }
 {
-    let number = reason_number(alloc, reason, &state.counts, &mut state.numbering.reasons)?;
+    let reasons = &mut state.numbering.reasons;
+    let number = reason_number(
+        alloc,
+        reason,
+        Rule::Name(NameRule::Handlers),
+        &state.counts,
+        reasons,
+    )?;
     let block = read_part(alloc, reason, value, levels, declared, state)?;
     Ok(Handler {
         reason: number,
@@ -477,17 +503,21 @@ fn read_children(
     Ok(children)
 }
 
-/// The children of a parallel step. Returns the fault of its shape where it has no such list, or another
-/// member.
+/// The children of a parallel step. Returns the first rule that isn't kept where it has no such
+/// list, or another member.
 #[tactic(auto, unfolding(crate::specs::Asked::parallel_shape_asked))]
-pub(crate) fn children_of<'v>(step: &'v Value, counts: &Counts) -> Result<&'v Vec<Value>, Fault>
+pub(crate) fn children_of<'v>(step: &'v Value, counts: &Counts) -> Result<&'v Vec<Value>, Failure>
     ensures met { OnOk result (IsMet counts.now (parallel_shape_asked (view step.now)) counts.now) }
     ensures first { IfErr result (IsFirst counts.now (parallel_shape_asked (view step.now))) }
     ensures children { IfOk result (λ list. items_view list.now.items ≡ children_in (view step.now)) }
 {
-    counts.demand(has_only(step, &["parallel"]), Wrong::Shape)?;
+    let form = Form::Parallel;
+    counts.demand(
+        has_only(step, form.members()),
+        Rule::Shape(ShapeRule::Members(form)),
+    )?;
     let Some(list) = list_member(step, "parallel") else {
-        return Err(counts.fault(Wrong::Shape));
+        return Err(counts.broken(Rule::Shape(ShapeRule::Children)));
     };
     Ok(list)
 }
@@ -592,7 +622,7 @@ pub fn read_step(
             Ok(abort)
         }
         Some(Sort::Parallel) => read_parallel(alloc, step, levels, declared, state),
-        None => Err(Unmet::from(state.counts.fault(Wrong::Shape))),
+        None => Err(Unmet::from(state.counts.broken(Rule::Shape(ShapeRule::Sort)))),
     }
 }
 
@@ -649,10 +679,10 @@ fn read_block(
     ensures labels { OnOk result (scope_of state.new.labels.entries ≡ scope_of state.old.labels.entries) }
 {
     let Some(list) = value.as_array() else {
-        return Err(Unmet::from(state.counts.fault(Wrong::Shape)));
+        return Err(Unmet::from(state.counts.broken(Rule::Shape(ShapeRule::Block))));
     };
     if levels == 0 {
-        return Err(Unmet::from(state.counts.fault(Wrong::Depth)));
+        return Err(Unmet::from(state.counts.broken(Rule::Depth)));
     }
     let seen = state.labels.len();
     let steps = read_steps(alloc, list, levels - 1, declared, state)?;

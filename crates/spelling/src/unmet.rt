@@ -1,107 +1,97 @@
 //! A demand that is not met, and where.
 ghost use Rattle.std.specs.Prelude.{◌≡◌, ◌≢◌, ◌++◌, codes, string_bytes, IfOk};
-ghost use Rattle.faults.specs.Faults.{memory_fault};
 ghost use Rattle.spelling.specs.Answer.{found_of, pointer_text};
 ghost use Rattle.spelling.specs.Places.{found_inside, item_at, member_named};
 
 use batch::NoMemory;
-use faults::{Code, Fault};
+use rules::Failure;
 use std::alloc::{AllocError, AllocFailed, Global};
 
-/// A demand that is not met: its fault, and the pointer from a value to the part that it is asked
-/// of, where that is not the value itself.
+/// A demand that is not met: the rule that isn't kept, and the pointer from a value to the part
+/// that it is asked of, where that is not the value itself. Or that memory was refused.
 #[derive(Drop)]
 pub struct Unmet {
-    pub fault: Fault,
+    pub failure: Failure,
     /// A JSON Pointer (RFC 6901).
     pub pointer: Option<String>,
 }
 
-impl From<Fault> for Unmet {
+impl From<Failure> for Unmet {
     ghost use Rattle.std.specs.Prelude.{None};
 
-    ghost from_gives = { λ fault unmet. (unmet.fault ≡ fault) × (unmet.pointer ≡ None) };
+    ghost from_gives = { λ failure unmet. (unmet.failure ≡ failure) × (unmet.pointer ≡ None) };
 
-    fn from(fault: Fault) -> Unmet {
+    fn from(failure: Failure) -> Unmet {
         Unmet {
-            fault,
+            failure,
             pointer: None,
         }
     }
 }
 
 impl From<AllocError> for Unmet {
-    ghost from_gives = { λ _ unmet. unmet.fault ≡ memory_fault };
+    ghost use Rattle.rules.specs.declared.failure.Failure.TheVariants as failure;
 
-    fn from(refused: AllocError) -> Unmet {
-        Unmet {
-            fault: Fault::from(refused),
-            pointer: None,
-        }
+    ghost from_gives = { λ _ unmet. unmet.failure ≡ failure.NoMemory };
+
+    fn from(_refused: AllocError) -> Unmet {
+        Unmet::from(Failure::NoMemory)
     }
 }
 
 impl<T: Drop> From<AllocFailed<T>> for Unmet {
-    ghost use Rattle.faults.specs.Faults.{memory_fault};
+    ghost use Rattle.rules.specs.declared.failure.Failure.TheVariants as failure;
 
-    ghost from_gives = { λ _ unmet. unmet.fault ≡ memory_fault };
+    ghost from_gives = { λ _ unmet. unmet.failure ≡ failure.NoMemory };
 
-    fn from(refused: AllocFailed<T>) -> Unmet {
-        Unmet {
-            fault: Fault::from(refused),
-            pointer: None,
-        }
+    fn from(_refused: AllocFailed<T>) -> Unmet {
+        Unmet::from(Failure::NoMemory)
     }
 }
 
 impl From<NoMemory> for Unmet {
-    ghost use Rattle.faults.specs.Faults.{memory_fault};
+    ghost use Rattle.rules.specs.declared.failure.Failure.TheVariants as failure;
 
-    ghost from_gives = { λ _ unmet. unmet.fault ≡ memory_fault };
+    ghost from_gives = { λ _ unmet. unmet.failure ≡ failure.NoMemory };
 
-    fn from(refused: NoMemory) -> Unmet {
-        Unmet {
-            fault: Fault::from(refused),
-            pointer: None,
-        }
+    fn from(_refused: NoMemory) -> Unmet {
+        Unmet::from(Failure::NoMemory)
     }
 }
 
 impl Unmet {
     /// As one of the value whose member of that name it is of.
     ///
-    /// Where memory is refused, the fault is that.
+    /// Where memory is refused, it says so.
     pub fn in_member(self, alloc: Global, name: &str) -> Unmet
-        ensures { result.fault ≢ memory_fault
-            → (self.fault ≢ memory_fault) × (found_of result ≡ found_inside (member_named name.now)
-            (found_of self)) }
+        ensures { result.failure ≢ Failure.NoMemory → (self.failure ≢ Failure.NoMemory)
+            × (found_of result ≡ found_inside (member_named name.now) (found_of self)) }
     {
-        if self.fault.code == Code::Memory {
+        if matches!(self.failure, Failure::NoMemory) {
             // No place is asked for, which would take memory.
-            return Unmet::from(AllocError);
+            return Unmet::from(Failure::NoMemory);
         }
         let Ok(pointer) = in_front(alloc, name, self.pointer) else {
-            return Unmet::from(AllocError);
+            return Unmet::from(Failure::NoMemory);
         };
         Unmet {
-            fault: self.fault,
+            failure: self.failure,
             pointer: Some(pointer),
         }
     }
 
     /// As one of the value whose item at that index it is of.
     ///
-    /// Where memory is refused, the fault is that.
+    /// Where memory is refused, it says so.
     pub(crate) fn in_item(self, alloc: Global, index: usize) -> Unmet
-        ensures { result.fault ≢ memory_fault
-            → (self.fault ≢ memory_fault) × (found_of result ≡ found_inside (item_at index)
-            (found_of self)) }
+        ensures { result.failure ≢ Failure.NoMemory → (self.failure ≢ Failure.NoMemory)
+            × (found_of result ≡ found_inside (item_at index) (found_of self)) }
     {
-        if self.fault.code == Code::Memory {
-            return Unmet::from(AllocError);
+        if matches!(self.failure, Failure::NoMemory) {
+            return Unmet::from(Failure::NoMemory);
         }
         let Ok(name) = format!(in alloc; "{index}") else {
-            return Unmet::from(AllocError);
+            return Unmet::from(Failure::NoMemory);
         };
         self.in_member(alloc, name.as_str())
     }

@@ -1,6 +1,6 @@
 use Rattle.std.proofs.Common.{◌≡◌, ◌≤◌, drop}
-use Rattle.spelling.specs.Limits.{limits_of}
-use Rattle.spelling.specs.declared.limits.TheConstants.{LAST_VERSION}
+use Rattle.rules.specs.Limits.{limits_of}
+use Rattle.rules.specs.declared.limits.TheConstants.{LAST_VERSION}
 use Rattle.carry.specs.Carried.{first_unfit}
 use Rattle.carry.proofs.document.first_unfit.Given as goal
 

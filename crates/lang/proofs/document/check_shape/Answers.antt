@@ -1,8 +1,9 @@
-use Rattle.std.proofs.Common.{◌≡◌, ◌≢◌, [], Err, sym, subst, ap, ◌∙◌, arith, rules}
+use Rattle.std.proofs.Common.{◌≡◌, ◌≢◌, [], Some, Err, sym, subst, ap, ◌∙◌, arith, rules}
 use Rattle.json.specs.Lex.{tokens}
 use Rattle.serde_json.specs.Data.{object}
 use Rattle.spelling.specs.Asked.{document_shape_asked}
 use Rattle.spelling.specs.Demand.{check, no_counts}
+use Rattle.spelling.specs.Places.{fault_in, here}
 use Rattle.faults.specs.Faults.{memory_fault}
 use Rattle.pull.specs.Passed.{AreNoted}
 use Rattle.pull.specs.Pulled.{ReadsValue}
@@ -42,9 +43,10 @@ returns-in_err-check_notes-clause-fault c =
     let known = value_known bytes text 127 d (omega arith) c.in-Some.ensures.0 c.in-Some.ensures.1 reads in
     let noted = subst (λ notes. AreNoted notes d) c.in-Some-noted.is done.2 in
     let e = c.in_err-check_notes.field-0.0 in
-    let shape : check no_counts (document_shape_asked d) ≡ Err e =
-    ap (λ x. check no_counts (document_shape_asked x)) noted.1
-    ∙ ap (check no_counts) (sym (noted_shape c.in-Some-noted.notes noted.0 noted.2)) ∙ c.in_err-check_notes.ensures.fault in
+    let shape : fault_in (here (check no_counts (document_shape_asked d))) ≡ Some e =
+    ap (λ x. fault_in (here (check no_counts (document_shape_asked x)))) noted.1
+    ∙ ap (λ asked. fault_in (here (check no_counts asked))) (sym (noted_shape c.in-Some-noted.notes noted.0 noted.2))
+    ∙ c.in_err-check_notes.ensures.fault in
     passed_on c.from_residual-in_err-check_notes.result (λ fault. fault ≢ memory_fault → spelled_by (value_of bytes) ≡ Err fault) e
     c.from_residual-in_err-check_notes.ensures.1 (λ other. refused_for bytes d e known (shape_first d e shape))
 

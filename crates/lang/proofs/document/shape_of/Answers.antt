@@ -5,14 +5,24 @@ use Rattle.serde_json.specs.Events.{items_len}
 use Rattle.serde_json.specs.View.{items_view, view}
 use Rattle.serde_json.specs.declared.value.Value.{Value}
 use Rattle.serde_json.proofs.Views.{items_len-items_view}
+use Rattle.rules.specs.declared.rule.CountRule.TheVariants as counted
+use Rattle.rules.specs.declared.rule.Rule.TheVariants.{Few}
 use Rattle.spelling.specs.Answer.{IsFirst}
+use Rattle.spelling.specs.Demand.{broken_at}
 use Rattle.spelling.specs.Asked.{document_shape_asked, objects_in, or_no_items, transactions_in, version_in, version_of}
-use Rattle.spelling.specs.Limits.{limits_of}
-use Rattle.spelling.specs.declared.limits.Limits.{Limits}
-use Rattle.spelling.specs.Look.{list_member}
+use Rattle.rules.specs.Limits.{limits_of}
+use Rattle.rules.specs.declared.limits.Limits.{Limits}
+use Rattle.rules.specs.Forms.{member_names}
+use Rattle.rules.specs.declared.form.Form.TheVariants as form
+use Rattle.spelling.specs.Look.{has_only, list_member}
 use Rattle.spelling.proofs.Checks.{passed_on}
 use Rattle.lang.proofs.ShapeLemmas.{many_objects, many_transactions, no_objects, no_transactions, no_version, other_part, shape_met}
 use Rattle.lang.proofs.document.shape_of.Goals as goal
+
+-- the members that are looked for are those of the form
+abbrev of_form : {names : List (List ℕ)} (d : Data) → names ≡ member_names form.Document
+    → has_only (member_names form.Document) d ≡ has_only names d
+of_form d known = ap (λ n. has_only n d) (sym known)
 
 pub returns-in_err-demand-clause-first : goal.returns-in_err-demand-clause-first
 returns-in_err-demand-clause-first c =
@@ -20,24 +30,24 @@ returns-in_err-demand-clause-first c =
     let d = view c.args.value.now in
     let failed = c.in_err-demand.ensures in
     passed_on c.from_residual.result (IsFirst start (document_shape_asked d)) c.in_err-demand.field-0.0 c.from_residual.ensures.1
-    (λ other. other_part start d (sym c.has_only.ensures ∙ failed.0) ∙ ap Err (sym failed.1))
+    (λ other. other_part start d (of_form _ c.members.ensures ∙ sym c.has_only.ensures ∙ failed.0) ∙ ap Err (sym failed.1))
 
 pub returns-in_default-clause-first : goal.returns-in_default-clause-first
 returns-in_default-clause-first c other =
-    no_version c.args.counts.now (view c.args.value.now) (sym c.has_only.ensures ∙ c.in_ok-demand.ensures)
-    (ap is_some (sym c.in_default.ensures)) ∙ ap Err (sym c.fault.ensures)
+    no_version c.args.counts.now (view c.args.value.now) (of_form _ c.members.ensures ∙ sym c.has_only.ensures ∙ c.in_ok-demand.ensures)
+    (ap is_some (sym c.in_default.ensures)) ∙ ap Err (sym c.broken.ensures)
 
 pub returns-in_default-list_member-clause-first : goal.returns-in_default-list_member-clause-first
 returns-in_default-list_member-clause-first c other =
-    no_objects c.args.counts.now (view c.args.value.now) (sym c.has_only.ensures ∙ c.in_ok-demand.ensures)
+    no_objects c.args.counts.now (view c.args.value.now) (of_form _ c.members.ensures ∙ sym c.has_only.ensures ∙ c.in_ok-demand.ensures)
     (ap is_some (sym c.in-Some.ensures)) (ap is_some (sym c.in_default-list_member.ensures))
-    ∙ ap Err (sym c.fault-in_default-list_member.ensures)
+    ∙ ap Err (sym c.broken-in_default-list_member.ensures)
 
 pub returns-in_default-list_member-2-clause-first : goal.returns-in_default-list_member-2-clause-first
 returns-in_default-list_member-2-clause-first c other =
-    no_transactions c.args.counts.now (view c.args.value.now) (sym c.has_only.ensures ∙ c.in_ok-demand.ensures)
+    no_transactions c.args.counts.now (view c.args.value.now) (of_form _ c.members.ensures ∙ sym c.has_only.ensures ∙ c.in_ok-demand.ensures)
     (ap is_some (sym c.in-Some.ensures)) (ap is_some (sym c.in-Some-list_member.ensures))
-    (ap is_some (sym c.in_default-list_member-2.ensures)) ∙ ap Err (sym c.fault-in_default-list_member-2.ensures)
+    (ap is_some (sym c.in_default-list_member-2.ensures)) ∙ ap Err (sym c.broken-in_default-list_member-2.ensures)
 
 -- the limits of a version are those of the document that has it
 abbrev limits_known : (version : ℕ) (limits : Limits) (d : Data) → Some version ≡ version_of d → limits ≡ limits_of version
@@ -64,34 +74,39 @@ returns-in_err-demand-2-clause-first c =
     let start = c.args.counts.now in
     let d = view c.args.value.now in
     let known = limits_known _ _ d c.in-Some.ensures c.of-limits.ensures in
+    let versioned = ap (λ version. unwrap_or version 1) c.in-Some.ensures in
     let failed = c.in_err-demand-2.ensures in
     passed_on c.from_residual-in_err-demand-2.result (IsFirst start (document_shape_asked d)) c.in_err-demand-2.field-0.0
     c.from_residual-in_err-demand-2.ensures.1
-    (λ other. many_objects start d (sym c.has_only.ensures ∙ c.in_ok-demand.ensures) (ap is_some (sym c.in-Some.ensures))
+    (λ other. many_objects start d (of_form _ c.members.ensures ∙ sym c.has_only.ensures ∙ c.in_ok-demand.ensures)
+    (ap is_some (sym c.in-Some.ensures))
     (ap is_some (sym c.in-Some-list_member.ensures)) (ap is_some (sym c.in-Some-list_member-2.ensures))
     (objects_counted _ _ d _ known c.in-Some-list_member.ensures (c.len.ensures ∙ c.in-Some-list_member.objects.now.ok.0)
-    ∙ failed.0) ∙ ap Err (sym failed.1))
+    ∙ failed.0) ∙ ap (λ v. Err (broken_at (Few (counted.Objects v)) start)) (sym versioned) ∙ ap Err (sym failed.1))
 
 pub returns-in_err-demand-3-clause-first : goal.returns-in_err-demand-3-clause-first
 returns-in_err-demand-3-clause-first c =
     let start = c.args.counts.now in
     let d = view c.args.value.now in
     let known = limits_known _ _ d c.in-Some.ensures c.of-limits.ensures in
+    let versioned = ap (λ version. unwrap_or version 1) c.in-Some.ensures in
     let failed = c.in_err-demand-3.ensures in
     passed_on c.from_residual-in_err-demand-3.result (IsFirst start (document_shape_asked d)) c.in_err-demand-3.field-0.0
     c.from_residual-in_err-demand-3.ensures.1
-    (λ other. many_transactions start d (sym c.has_only.ensures ∙ c.in_ok-demand.ensures) (ap is_some (sym c.in-Some.ensures))
+    (λ other. many_transactions start d (of_form _ c.members.ensures ∙ sym c.has_only.ensures ∙ c.in_ok-demand.ensures)
+    (ap is_some (sym c.in-Some.ensures))
     (ap is_some (sym c.in-Some-list_member.ensures)) (ap is_some (sym c.in-Some-list_member-2.ensures))
     (objects_counted _ _ d _ known c.in-Some-list_member.ensures (c.len.ensures ∙ c.in-Some-list_member.objects.now.ok.0)
     ∙ c.in_ok-demand-2.ensures)
     (transactions_counted _ _ d _ known c.in-Some-list_member-2.ensures (c.len-2.ensures ∙ c.in-Some-list_member-2.transactions.now.ok.0)
-    ∙ failed.0) ∙ ap Err (sym failed.1))
+    ∙ failed.0) ∙ ap (λ v. Err (broken_at (Few (counted.Transactions v)) start)) (sym versioned) ∙ ap Err (sym failed.1))
 
 pub returns-clause-met : goal.returns-clause-met
 returns-clause-met c =
     let d = view c.args.value.now in
     let known = limits_known _ _ d c.in-Some.ensures c.of-limits.ensures in
-    shape_met c.args.counts.now d (sym c.has_only.ensures ∙ c.in_ok-demand.ensures) (ap is_some (sym c.in-Some.ensures))
+    shape_met c.args.counts.now d (of_form _ c.members.ensures ∙ sym c.has_only.ensures ∙ c.in_ok-demand.ensures)
+    (ap is_some (sym c.in-Some.ensures))
     (ap is_some (sym c.in-Some-list_member.ensures)) (ap is_some (sym c.in-Some-list_member-2.ensures))
     (objects_counted _ _ d _ known c.in-Some-list_member.ensures (c.len.ensures ∙ c.in-Some-list_member.objects.now.ok.0)
     ∙ c.in_ok-demand-2.ensures)

@@ -5,35 +5,38 @@ use Rattle.std.proofs.lemmas.Str.{IsUtf8-from_is_utf8, is_utf8-from_IsUtf8}
 use Rattle.serde_json.specs.Read.{read as read_text}
 use Rattle.serde_json.specs.Errors.{IsMemory}
 use Rattle.serde_json.specs.View.{view}
-use Rattle.spelling.specs.Answer.{pointer_text}
+use Rattle.spelling.specs.Answer.{found_of}
 use Rattle.lang.specs.Reading.{value_of}
-use Rattle.lang.proofs.Located.{not_all_met, place_shown}
+use Rattle.lang.proofs.Located.{mistake_told, not_all_met}
 use Rattle.lang.proofs.places.locate.Goals as goal
 
 no_value : (bytes : List ℕ) (b : Bool) → is_utf8 bytes ≡ b → (IsUtf8 bytes → read_text bytes ≡ None) → cond b (read_text bytes) None ≡ None
 no_value bytes true is h = h (IsUtf8-from_is_utf8 bytes is)
 no_value bytes false is h = refl
 
-pub returns-in-Err-clause-place : goal.returns-in-Err-clause-place
-returns-in-Err-clause-place c =
+pub returns-in-Err-clause-mistake : goal.returns-in-Err-clause-mistake
+returns-in-Err-clause-mistake c =
     let refused = λ (m : IsMemory c.in-Err.error). true≢false
-    (sym (subst (λ b. IsTrue b) c.if-is_memory.false (c.is_memory.ensures.1 m))) in
-    (omega (arith, c.if-bytes-gt-MAX_BYTES.false), no_value c.args.bytes.now (is_utf8 c.args.bytes.now) refl (c.in-Err.ensures.err refused))
+    (sym (subst (λ b. IsTrue b) c.if-is_memory.false (c.is_memory.ensures.1 m))) in (
+      omega (arith, c.if-bytes-gt-MAX_BYTES.false),
+      no_value c.args.bytes.now (is_utf8 c.args.bytes.now) refl (c.in-Err.ensures.err refused),
+      c.in_ok-words-in-Err.ensures,
+    )
 
-pub returns-in-Ok-read_parts-clause-place : goal.returns-in-Ok-read_parts-clause-place
-returns-in-Ok-read_parts-clause-place c =
+pub returns-in-Ok-read_parts-clause-mistake : goal.returns-in-Ok-read_parts-clause-mistake
+returns-in-Ok-read_parts-clause-mistake c =
     let bytes = c.args.bytes.now in
     let d = view c.in-Ok.value in
     let known : value_of bytes ≡ Some d = rw (is_utf8-from_IsUtf8 bytes c.in-Ok.ensures.ok.0) c.in-Ok.ensures.ok.1 in
     absurd (not_all_met bytes d c.args.fault c.new-state.result.counts c.read_parts.new.state.counts c.requires
     (omega (arith, c.if-bytes-gt-MAX_BYTES.false)) known c.new-state.ensures.counts c.in-Ok-read_parts.ensures.met)
 
-pub returns-clause-place : goal.returns-clause-place
-returns-clause-place c =
+pub returns-clause-mistake : goal.returns-clause-mistake
+returns-clause-mistake c =
     let bytes = c.args.bytes.now in
     let d = view c.in-Ok.value in
     let unmet = c.in-Err-read_parts.unmet in
     let known : value_of bytes ≡ Some d = rw (is_utf8-from_IsUtf8 bytes c.in-Ok.ensures.ok.0) c.in-Ok.ensures.ok.1 in
-    IfOk-weaker c.place_of.result _ _ (λ place shown. place_shown bytes d c.args.fault unmet.fault (pointer_text unmet.pointer) place
+    IfOk-weaker c.mistake_in.result _ _ (λ mistake told. mistake_told bytes d c.args.fault (found_of unmet) mistake.place _
     c.new-state.result.counts c.requires (omega (arith, c.if-bytes-gt-MAX_BYTES.false)) known c.new-state.ensures.counts
-    (c.in-Err-read_parts.ensures.unmet shown.0) shown.1) c.place_of.ensures.place
+    (c.in-Err-read_parts.ensures.unmet told.0) told.1) c.mistake_in.ensures.told

@@ -3,7 +3,7 @@ use Rattle.std.specs.Prelude.{slice_index}
 use Rattle.json.specs.Lex.{tokens}
 use Rattle.batch.specs.Views.{block_view}
 use Rattle.pull.specs.Ranges.{IsBegun, left_by, reached}
-use Rattle.spelling.specs.Limits.{limits_of}
+use Rattle.rules.specs.Limits.{limits_of}
 use Rattle.spelling.specs.Scope.{numbers_of, scope_of}
 use Rattle.lang.proofs.ranges.pull_ranges.Given as goal
 

@@ -1,4 +1,4 @@
-use Rattle.std.proofs.Common.{◌≡◌, ◌≤◌, ◌∷◌, [], ap, map, refl, subst, arith, rules}
+use Rattle.std.proofs.Common.{◌≡◌, ◌≤◌, ◌∷◌, [], Some, ap, map, refl, subst, sym, ◌∙◌, arith, rules}
 use Rattle.json.specs.Token.{Token}
 use Rattle.serde_json.specs.Events.{items_len}
 use Rattle.serde_json.specs.View.{items_view}
@@ -7,13 +7,14 @@ use Rattle.batch.specs.Names.{texts_of}
 use Rattle.batch.specs.Views.{block_view}
 use Rattle.spelling.specs.Answer.{AreMet, IsFirstOf, IsFound}
 use Rattle.spelling.specs.Asked.{declared_by, names_of}
-use Rattle.spelling.specs.Limits.{limits_of}
-use Rattle.spelling.specs.Places.{fault_of, objects_placed, transactions_placed}
+use Rattle.rules.specs.Limits.{limits_of}
+use Rattle.spelling.specs.Places.{fault_in, objects_placed, transactions_placed}
 use Rattle.spelling.specs.Scope.{numbers_of, setting_of}
 use Rattle.spelling.specs.Spelled.{starts_of}
 use Rattle.pull.specs.Pulled.{ReadsItems, in_order}
 use Rattle.pull.proofs.DocumentLemmas.{same_parts}
 use Rattle.pull.proofs.PulledDocument.{in_order_met, version_is}
+use Rattle.lang.proofs.CodeLemmas.{not_refused}
 use Rattle.lang.proofs.RangeLaws.{nothing_later}
 use Rattle.lang.proofs.SinglyLemmas.{matched_err, matched_ok, objects_failed, transactions_failed}
 use Rattle.lang.proofs.singly.each_part.Goals as goal
@@ -33,7 +34,8 @@ returns-in-Err c =
       in_order version os ts,
       nothing_later version os c.args.reader.now c.pull_head.new.reader (c.in_ok-version.ensures.reads) ts new
           (subst (λ l. ReadsItems 125 c.pull_head.new.reader ts l) ended rest.1),
-      λ shape other. objects_failed version os ts known.0 known.1 start shape unmet.fault (ap fault_of (failed other)),
+      λ shape other. objects_failed version os ts known.0 known.1 start shape _
+          (ap fault_in (failed (not_refused _ _ c.fault.ensures other)) ∙ ap (λ x. Some x) (sym c.fault.ensures)),
     )
 
 pub returns-in-Ok-answer : goal.returns-in-Ok-answer

@@ -4,7 +4,7 @@ use Rattle.json.specs.Json.{after_end_array}
 use Rattle.serde_json.specs.Data.{no_items, item}
 use Rattle.meaning.specs.Trees as tree
 use Rattle.batch.specs.Views.{block_view}
-use Rattle.spelling.specs.Places.{fault_of, item_at, transaction_placed, transactions_placed}
+use Rattle.spelling.specs.Places.{fault_in, item_at, transaction_placed, transactions_placed}
 use Rattle.spelling.specs.Scope.{Numbers, numbers_of, setting_of}
 use Rattle.spelling.specs.Spelled.{blocks_of}
 use Rattle.pull.specs.Pulled.{ReadsValue}
@@ -80,7 +80,7 @@ returns-in-Err c =
       l.invariant.0 (item d ds),
       l.invariant.1 (item d ds) new
           (reads_item 125 l.reader mid new d ds going.0 (subst (λ ts. ReadsValue 125 ts d mid) going.1 answer.1) rest.1),
-      λ other. ap fault_of (l.invariant.2 (item d ds))
+      λ other. ap fault_in (l.invariant.2 (item d ds))
           ∙ fault_inside l.state.counts (item_at l.number) (transaction_placed (l.number + 1) setting d)
           (transactions_placed setting (l.number + 1) ds) e (failed other),
     )

@@ -3,7 +3,7 @@ use Rattle.json.specs.Token.{Token}
 use Rattle.serde_json.specs.Data.{Items}
 use Rattle.serde_json.specs.Events.{items_len}
 use Rattle.batch.specs.Views.{block_view}
-use Rattle.spelling.specs.Limits.{limits_of}
+use Rattle.rules.specs.Limits.{limits_of}
 use Rattle.spelling.specs.Places.{seek, transactions_placed}
 use Rattle.pull.specs.Pulled.{ReadsItems}
 use Rattle.spelling.specs.Scope.{numbers_of, scope_of, setting_of}

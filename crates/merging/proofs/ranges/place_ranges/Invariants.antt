@@ -1,6 +1,6 @@
 use Rattle.std.proofs.Common.{◌≡◌, ◌≤◌, [], length}
 use Rattle.pull.specs.Ranges.{Reached, reached}
-use Rattle.spelling.specs.Limits.{limits_of}
+use Rattle.rules.specs.Limits.{limits_of}
 use Rattle.spelling.specs.Scope.{setting_of}
 use Rattle.merging.specs.Parts.{renumbered_parts}
 use Rattle.merging.specs.RangeReads.{AreMerged}

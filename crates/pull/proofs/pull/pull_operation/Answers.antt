@@ -9,7 +9,7 @@ use Rattle.spelling.specs.Demand.{one_more_operation}
 use Rattle.std.specs.Prelude.{is_some}
 use Rattle.meaning.specs.Trees as tree
 use Rattle.batch.specs.declared.tree.Step.{Op, the_lemmas}
-use Rattle.spelling.specs.declared.subject.Subject.TheVariants.{Reply}
+use Rattle.rules.specs.declared.subject.Subject.TheVariants.{Reply}
 use Rattle.spelling.specs.Spelled.{call_of, target_of}
 use Rattle.spelling.specs.Scope.{numbers_of, scope_of, setting_of, with_label}
 use Rattle.pull.specs.Pulled.{ReadsValue, op_array, op_step}

@@ -1,7 +1,7 @@
 use Rattle.std.proofs.Common.{List, ◌≤◌, length}
 use Rattle.json.specs.Token.{Token}
 use Rattle.serde_json.specs.Data.{Items}
-use Rattle.spelling.specs.Limits.{limits_of}
+use Rattle.rules.specs.Limits.{limits_of}
 use Rattle.pull.specs.Pulled.{ReadsItems}
 use Rattle.pull.proofs.PulledLemmas.{items_before}
 use Rattle.pull.proofs.pull.pull_trees.Given as goal

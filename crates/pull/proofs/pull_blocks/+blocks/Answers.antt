@@ -29,9 +29,10 @@ use Rattle.spelling.specs.Answer.{AreMet, IsMet}
 use Rattle.pull.proofs.PulledSubs.{label_anywhere, sub_label, sub_met, sub_sort, sub_spelled, sub_step_met, sub_step_scope}
 use Rattle.pull.proofs.PulledSubs.{sub_step_spelled, tail_handler, tail_handlers, tail_label, tail_none, parallel_met, parallel_scope}
 use Rattle.pull.proofs.PulledSubs.{parallel_spelled, parallel_step}
-use Rattle.spelling.specs.declared.subject.Subject.TheVariants.{Outcome}
+use Rattle.rules.specs.declared.subject.Subject.TheVariants.{Outcome}
 use Rattle.batch.specs.Names.{is_name, texts_of}
-use Rattle.faults.specs.declared.fault.Wrong.TheVariants.{Name}
+use Rattle.rules.specs.declared.rule.NameRule.TheVariants.{Handlers}
+use Rattle.rules.specs.declared.rule.Rule.TheVariants.{Name}
 use Rattle.pull.proofs.PulledHandlers.{after_both, put_after}
 use Rattle.pull.proofs.PulledTests.{if_met, if_scope, if_spelled}
 use Rattle.spelling.specs.Places.{block_placed, block_placed_if, children_placed, inside, item_at, member_named, member_placed}
@@ -160,7 +161,8 @@ pull_handler-returns t c =
     let shown : handler_view (roll-Handler (record { reason = n; block = b })) ≡ (n, block_view b) = search (rules, handler_lemmas) in (
       d,
       done.1,
-      own_first start start (holds (is_name reason) Name ∷ []) (inside (member_named reason) (places scope d) nothing) (rw named refl)
+      own_first start start (holds (is_name reason) (Name Handlers) ∷ []) (inside (member_named reason) (places scope d) nothing)
+          (rw named refl)
           ∙ part_met start c.pull_block.new.state.counts (member_named reason) (places scope d) nothing done.2,
       ap (λ (v : ℕ × tree.Block). (v, after)) shown ∙ ap (spelled_map (λ (x : tree.Block). (n, x))) done.3
           ∙ ap₂ (λ m (ts : Table). spelled_map (λ (x : tree.Block). (m, x)) (block_of setting c.args.levels scope (record {

@@ -6,7 +6,7 @@ use Rattle.pull.specs.Pulled.{ReadsMembers}
 use Rattle.pull.specs.Pulled.TestKey.{word, least, entry}
 use Rattle.spelling.specs.Scope.{numbers_of, with_item}
 use Rattle.spelling.specs.Spelled.{item_of}
-use Rattle.spelling.specs.Subjects.{fits_item, fits_number, fits_word}
+use Rattle.rules.specs.Subjects.{fits_item, fits_number, fits_word}
 use Rattle.words.specs.Words.{word_of_text}
 use Rattle.pull.proofs.PulledLemmas.{reads_member, reads_number, reads_string}
 use Rattle.pull.proofs.PulledTests.{entry_met, entry_spelled, least_met, least_spelled, word_met, word_spelled}

@@ -1,6 +1,6 @@
 use Rattle.std.proofs.Common.{◌≤◌, length}
 use Rattle.batch.specs.Names.{texts_of}
-use Rattle.spelling.specs.Limits.{limits_of}
+use Rattle.rules.specs.Limits.{limits_of}
 use Rattle.spelling.specs.Scope.{numbers_of}
 use Rattle.pull.proofs.ObjectLemmas.{ObjectsRead}
 use Rattle.pull.proofs.pull_objects.pull_objects.Given as goal

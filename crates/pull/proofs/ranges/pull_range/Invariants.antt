@@ -1,7 +1,7 @@
 use Rattle.std.proofs.Common.{◌≡◌, ◌≤◌, [], length, map}
 use Rattle.batch.specs.Views.{block_view}
 use Rattle.pull.specs.Ranges.{AreRead, reached}
-use Rattle.spelling.specs.Limits.{limits_of}
+use Rattle.rules.specs.Limits.{limits_of}
 use Rattle.spelling.specs.Scope.{scope_of, setting_of}
 use Rattle.pull.proofs.ranges.pull_range.Given as goal
 

@@ -2,7 +2,7 @@ use Rattle.std.proofs.Common.{◌≡◌, ℕ, ◌+◌, Bool, List, String, Globa
 use Rattle.std.proofs.Common.{true, false, HashMap}
 use Rattle.std.specs.Prelude.{slice_get}
 use Rattle.std.proofs.lemmas.Bool.{and_parts}
-use Rattle.spelling.specs.declared.subject.Subject.{Subject}
+use Rattle.rules.specs.declared.subject.Subject.{Subject}
 use Rattle.spelling.specs.declared.hashing.NameHashing.{NameHashing}
 use Rattle.spelling.specs.Scope.{AreUnseen, Extends, Scope, is_named, scope_of, with_label, with_labels}
 use Rattle.spelling.proofs.LabelLemmas.{extends_twice, labels_from, unseen_before, unseen_one, with_label_extends}

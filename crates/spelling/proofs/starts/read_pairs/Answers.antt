@@ -25,7 +25,7 @@ returns-in-Err-clause-unmet c other =
     (sym c.deref-pair-items.ensures.value) ∙ l.invariant.asked
     ∙ ap (λ ds. seek l.counts (pairs_placed version here l.index ds)) (items_from xs l.index x (omega arith) c.pair-item.is)
     ∙ entry_unmet l.counts l.index (pair_asked version here (view x))
-    (pairs_placed version (with_text (key_of (view x)) here) (l.index + 1) rest) c.in-Err.fault c.from.result c.in_item.result
+    (pairs_placed version (with_text (key_of (view x)) here) (l.index + 1) rest) c.in-Err.failure c.from.result c.in_item.result
     c.from.ensures c.in_item.ensures c.in-Err.ensures.first other
 
 pub loop-index-preserved : goal.loop-index-preserved

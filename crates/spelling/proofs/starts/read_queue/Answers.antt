@@ -19,7 +19,7 @@ returns-in-Err-clause-unmet c other =
     ap (λ vs. seek c.args.counts.now (entries_placed version 0 (items_view vs))) (sym c.deref-entry-items.ensures.value) ∙ l.invariant.asked
     ∙ ap (λ ds. seek l.counts (entries_placed version l.index ds)) (items_from xs l.index x (omega arith) c.entry-item.is)
     ∙ entry_unmet l.counts l.index (entry_asked version (view x)) (entries_placed version (l.index + 1) rest)
-    c.in-Err.fault c.from.result c.in_item.result c.from.ensures c.in_item.ensures c.in-Err.ensures.first other
+    c.in-Err.failure c.from.result c.in_item.result c.from.ensures c.in_item.ensures c.in-Err.ensures.first other
 
 pub loop-index-preserved : goal.loop-index-preserved
 loop-index-preserved c =

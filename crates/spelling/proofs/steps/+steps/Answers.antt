@@ -11,12 +11,13 @@ use Rattle.spelling.specs.Answer.{IsFound, found_of}
 use Rattle.spelling.specs.Asked.{children_in, label_in, labels_of, scope_after}
 use Rattle.batch.specs.Names.{is_name}
 use Rattle.spelling.specs.Demand.{holds}
-use Rattle.faults.specs.declared.fault.Wrong.TheVariants.{Name}
+use Rattle.rules.specs.declared.rule.NameRule.TheVariants.{Handlers}
+use Rattle.rules.specs.declared.rule.Rule.TheVariants.{Name}
 use Rattle.spelling.specs.Places.{block_placed, children_placed, if_placed, inside, item_at, member_named, member_placed, members_placed}
 use Rattle.spelling.specs.Places.{nothing, parallel_placed, seek, step_placed, steps_placed, sub_placed}
 use Rattle.spelling.specs.Scope.{Extends, Numbers, Scope, Table, numbers_of, scope_of, setting_of, with_label, with_labels}
 use Rattle.spelling.specs.Spelled.{block_of, children_spelled, spelled_map, steps_spelled, sub_step}
-use Rattle.spelling.specs.declared.subject.Subject.TheVariants.{Outcome}
+use Rattle.rules.specs.declared.subject.Subject.TheVariants.{Outcome}
 use Rattle.spelling.proofs.Checks.{passed_on}
 use Rattle.spelling.proofs.ListLemmas.{in_front, in_front_push, items_from}
 use Rattle.batch.specs.declared.tree.Block.{roll-Block}
@@ -36,14 +37,14 @@ read_block-returns-in_default-clause-unmet t c other =
     let none : as_array (view c.args.value.now) ≡ None = search rules in
     no_array (setting_of c.args.declared.now) (scope_of c.args.state.now.labels.entries) (view c.args.value.now) c.args.levels
     c.args.state.now.counts none
-    ∙ ap (λ e. Err e) (found_plain c.from.result _ (c.from.ensures.0 ∙ c.fault.ensures) c.from.ensures.1)
+    ∙ ap (λ e. Err e) (found_plain c.from.result _ (c.from.ensures.0 ∙ c.broken.ensures) c.from.ensures.1)
 
 pub read_block-returns-then-levels-eq0-clause-unmet : goal.read_block-returns-then-levels-eq0-clause-unmet
 read_block-returns-then-levels-eq0-clause-unmet t c other =
     let made = c.from-then-levels-eq0 in
     too_deep (setting_of c.args.declared.now) (scope_of c.args.state.now.labels.entries) (view c.args.value.now) c.args.levels
     c.args.state.now.counts (items_view c.in-Some.list.now.items) (omega arith) c.in-Some.ensures
-    ∙ ap (λ e. Err e) (found_plain made.result _ (made.ensures.0 ∙ c.fault-then-levels-eq0.ensures) made.ensures.1)
+    ∙ ap (λ e. Err e) (found_plain made.result _ (made.ensures.0 ∙ c.broken-then-levels-eq0.ensures) made.ensures.1)
 
 pub read_block-returns-in_err-steps-clause-unmet : goal.read_block-returns-in_err-steps-clause-unmet
 read_block-returns-in_err-steps-clause-unmet t c =
@@ -211,7 +212,7 @@ read_handler-returns-in_err-number-clause-unmet t c =
     let e = c.in_err-number.field-0.0 in
     raised c.from_residual.result start (member_placed places scope reason d nothing) e c.from_residual.ensures.1
     (λ other. let failed = c.in_err-number.ensures.first other in
-    own_unmet start e (holds (is_name reason) Name ∷ []) (inside (member_named reason) (places scope d) nothing)
+    own_unmet start e (holds (is_name reason) (Name Handlers) ∷ []) (inside (member_named reason) (places scope d) nothing)
     (rw failed.0 (ap Err (sym failed.1))))
 
 pub read_handler-returns-in_err-block-clause-unmet : goal.read_handler-returns-in_err-block-clause-unmet
@@ -223,7 +224,7 @@ read_handler-returns-in_err-block-clause-unmet t c =
     let start = c.args.state.now.counts in
     passed_on c.from_residual-in_err-block.result (IsFound start (member_placed places scope reason d nothing))
     c.in_err-block.field-0.0 c.from_residual-in_err-block.ensures.1
-    (λ other. own_first start start (holds (is_name reason) Name ∷ []) (inside (member_named reason) (places scope d) nothing)
+    (λ other. own_first start start (holds (is_name reason) (Name Handlers) ∷ []) (inside (member_named reason) (places scope d) nothing)
     (rw c.in_ok-number.ensures.met refl) ∙ c.in_err-block.ensures.unmet other)
 
 pub read_handler-returns-clause-met : goal.read_handler-returns-clause-met
@@ -232,8 +233,8 @@ read_handler-returns-clause-met t c =
     let scope = scope_of c.args.state.now.labels.entries in
     let reason = c.args.reason.now in
     let start = c.args.state.now.counts in
-    own_first start start (holds (is_name reason) Name ∷ []) (inside (member_named reason) (places scope (view c.args.value.now)) nothing)
-    (rw c.in_ok-number.ensures.met refl) ∙ c.in_ok-block.ensures.met
+    own_first start start (holds (is_name reason) (Name Handlers) ∷ [])
+    (inside (member_named reason) (places scope (view c.args.value.now)) nothing) (rw c.in_ok-number.ensures.met refl) ∙ c.in_ok-block.ensures.met
 
 pub read_handler-returns-clause-value : goal.read_handler-returns-clause-value
 read_handler-returns-clause-value t c =
@@ -327,8 +328,8 @@ read_parallel-returns-in_err-step-clause-unmet t c =
     let version = c.args.declared.now.version in
     let d = view c.args.step.now in
     let start = c.args.state.now.counts in
-    refused c.from_residual-in_err-step.result start (parallel_placed version places scope d) c.in_err-step.field-0.0
-    c.from_residual-in_err-step.ensures.1 c.in_err-step.ensures.err
+    refused c.from_residual-in_err-step.result start (parallel_placed version places scope d)
+    c.from_residual-in_err-step.ensures.1
 
 pub read_parallel-returns-clause-met : goal.read_parallel-returns-clause-met
 read_parallel-returns-clause-met t c =
@@ -375,8 +376,8 @@ read_sub_step-returns-in_err-step-clause-unmet t c =
     let places = block_placed (setting_of c.args.declared.now) c.args.levels in
     let scope = scope_of c.args.state.now.labels.entries in
     refused c.from_residual-in_err-step.result c.args.state.now.counts
-    (sub_placed c.args.declared.now.version places scope [] (view c.args.step.now)) c.in_err-step.field-0.0
-    c.from_residual-in_err-step.ensures.1 c.in_err-step.ensures.err
+    (sub_placed c.args.declared.now.version places scope [] (view c.args.step.now))
+    c.from_residual-in_err-step.ensures.1
 
 pub read_sub_step-returns-clause-value : goal.read_sub_step-returns-clause-value
 read_sub_step-returns-clause-value t c =
@@ -492,8 +493,8 @@ read_if-returns-in_err-step-clause-unmet t c =
     let version = c.args.declared.now.version in
     let d = view c.args.step.now in
     let start = c.args.state.now.counts in
-    refused c.from_residual-in_err-step.result start (if_placed version places scope d) c.in_err-step.field-0.0
-    c.from_residual-in_err-step.ensures.1 c.in_err-step.ensures.err
+    refused c.from_residual-in_err-step.result start (if_placed version places scope d)
+    c.from_residual-in_err-step.ensures.1
 
 pub read_if-returns-clause-met : goal.read_if-returns-clause-met
 read_if-returns-clause-met t c =
