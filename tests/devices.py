@@ -118,4 +118,4 @@ def try_all(program, case):
     try_file_names(program, document, report)
     try_failing_output(program, document)
     try_limited_output(program, ["run"], document, report)
-    try_limited_output(program, ["locate"], b"{", b"fault 1 transaction 0 at line 1 column 1\n")
+    try_limited_output(program, ["locate"], b"{", b"fault 1 transaction 0 at line 1 column 1\nthis cannot be read as JSON\n")

@@ -72,15 +72,16 @@ def try_places(program, library, case):
     deep = [{"sub": [], "handlers": {"r": [{"parallel": [{"sub": []}, {"sub": [], "handler": [
         {"op": ["a", "balance"], "as": "n"}, {"if": "n", "atleast": 0, "then": [], "else": [{"op": ["b", "balance"]}]}]}]}]}}]
     starts = [{"name": "a", "kind": "account", "start": 0}, {"name": "s", "kind": "set", "start": ["x", "x"]}]
-    for name, objects, transactions, line in (
+    for name, objects, transactions, line, words in (
             ("a fault deep in a transaction", starts[:1], [[], deep],
-             "fault 5 transaction 2 at /transactions/1/0/handlers/r/0/parallel/1/handler/1/else/0"),
-            ("a fault of a start", starts, [], "fault 13 transaction 0 at /objects/1/start/1")):
+             "fault 5 transaction 2 at /transactions/1/0/handlers/r/0/parallel/1/handler/1/else/0",
+             b'no object has the name "b"\n'),
+            ("a fault of a start", starts, [], "fault 13 transaction 0 at /objects/1/start/1", b'"x" is there twice\n')):
         document = json.dumps({"ordtx": 4, "objects": objects, "transactions": transactions}).encode()
         for way, given in (("", document), (", turned round", turned_round(document))):
-            try_document(program, library, ["locate"], name + way, given, placed(given, line), 1)
+            try_document(program, library, ["locate"], name + way, given, placed(given, line) + words, 1)
     try_document(program, library, ["locate"], "no JSON", b'{"ordtx":4,\n"objects"?',
-                 b"fault 1 transaction 0 at line 2 column 10\n", 1)
+                 b"fault 1 transaction 0 at line 2 column 10\nthis cannot be read as JSON\n", 1)
     try_document(program, library, ["locate"], case.name, case.with_suffix(".json").read_bytes(),
                  case.with_suffix(".check").read_bytes())
 

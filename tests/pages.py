@@ -10,7 +10,7 @@ import subprocess
 from places import part_at
 
 ROOT = pathlib.Path(__file__).resolve().parent.parent
-FAULT = re.compile(r"^`(fault (\d+) transaction (\d+) at(?: (/\S*))?(?: line \d+ column \d+)?)`")
+FAULT = re.compile(r"^    (fault (\d+) transaction (\d+) at(?: (/\S*))?(?: line \d+ column \d+)?)$")
 JQ = re.compile(r"^    (jq -c --arg at .*) FILE$", re.M)
 
 
@@ -40,12 +40,13 @@ def try_pointer(program, words, document, pointer):
 
 
 def try_faults(program):
-    """Each fault's section: a document, the line that `locate` prints for it, and a document that is read."""
+    """Each fault's section: a document, the lines that `locate` prints for it, and a document that is read."""
     text = (ROOT / "docs" / "FAULTS.md").read_text()
     shown = 0
     for section in text.split("\n## ")[1:]:
         document = None
-        for line in section.splitlines():
+        lines = section.splitlines()
+        for line, next_line in zip(lines, lines[1:] + [""]):
             fault = FAULT.match(line)
             if line.startswith("    {") and document is None:
                 document = line.strip().encode()
@@ -57,7 +58,7 @@ def try_faults(program):
             elif fault and document is not None:
                 name = section.split("\n")[0]
                 program.expect_fault_everywhere(name, document, int(fault[2]), int(fault[3]))
-                program.expect(name, ["locate"], document, fault[1].encode() + b"\n", 1)
+                program.expect(name, ["locate"], document, ("%s\n%s\n" % (fault[1], next_line.strip())).encode(), 1)
                 if fault[4] and fault[4].startswith("/") and shutil.which("jq"):
                     try_pointer(program, JQ.search(text)[1], document, fault[4])
                 shown += 1

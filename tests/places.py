@@ -68,17 +68,17 @@ IN_BLOCKS = (
     (2, [GOOD, GOOD, {"if": "x", "atleast": 1}], [2]),
     (2, [{"abort": False}], [0]),
     (2, [{"parallel": {}}], [0]),
-    (2, [{"parallel": [{"sub": []}, GOOD]}], [0, "parallel", 1]),
+    (2, [{"parallel": [{"sub": []}, GOOD]}], [0, "parallel", 1, "op"]),
     (2, [{"sub": [], "handlers": []}], [0]),
     (2, [{"sub": [], "handler": {}}], [0, "handler"]),
     (3, [{**BALANCE, "as": "no name"}], [0]),
     (3, [{"abort": "no/name"}], [0]),
-    (3, [{"sub": [], "handlers": {"no~name": [LATER]}}], [0, "handlers"]),
+    (3, [{"sub": [], "handlers": {"no~name": [LATER]}}], [0, "handlers", "no~0name"]),
     (3, [{"op": ["q", "enq", "x"]}, {"op": ["q", "enq", ""]}], [1]),
     (5, [LATER], [0]),
     (6, [GOOD, {"op": ["a", "add", 1]}], [1]),
     (7, [{"op": ["c", "sub", 0]}], [0]),
-    (8, [{"sub": [{**BALANCE, "as": "own"}]}, {"if": "own", "atleast": 0, "then": []}], [1]),
+    (8, [{"sub": [{**BALANCE, "as": "own"}]}, {"if": "own", "atleast": 0, "then": []}], [1, "if"]),
     (9, [{**BALANCE, "as": "own"}, {**BALANCE, "as": "own"}], [1]),
     (9, [{"parallel": [{"sub": [], "as": "own"}, {"sub": [], "as": "own"}]}], [0, "parallel", 1]),
     (10, [{**BALANCE, "as": "own"}, {"if": "own", "is": "ok", "then": []}], [1]),
@@ -143,13 +143,13 @@ LINES = (
      'fault 2 transaction 1 at /transactions/0/1/then/0'),
     (ONE,
      '[{"if":"l","atleast":1,"then":7}]',
-     'fault 8 transaction 1 at /transactions/0/0'),
+     'fault 8 transaction 1 at /transactions/0/0/if'),
     (ONE,
      '[{"sub":[{"abort":"late"}],"handlers":{"late":[{"parallel":[{"sub":[],"as":"x"},{"sub":[{"if":"x","is":"committed","then":[]}]}]}]},"handler":[{"abort":7}]}]',
-     'fault 8 transaction 1 at /transactions/0/0/handlers/late/0/parallel/1/sub/0'),
+     'fault 8 transaction 1 at /transactions/0/0/handlers/late/0/parallel/1/sub/0/if'),
     (ONE,
      '[{"sub":[],"handlers":{"a/~b":[]}}]',
-     'fault 3 transaction 1 at /transactions/0/0/handlers'),
+     'fault 3 transaction 1 at /transactions/0/0/handlers/a~1~0b'),
     (ONE,
      '[{"sub":[],"handler":[{"abort":7}]}]',
      'fault 2 transaction 1 at /transactions/0/0/handler/0'),
@@ -179,7 +179,7 @@ def bytes_of(value):
 
 
 def pointer(way):
-    """A JSON Pointer; no name here has `~` or `/`."""
+    """A JSON Pointer, of names that are escaped already."""
     return "".join("/%s" % part for part in way)
 
 
@@ -207,13 +207,18 @@ def parts_of(text, place):
         index += 1
 
 
+def name_of(token):
+    """The name that a token of a pointer stands for: `~` and `/` are escaped, and then what JSON escapes in a text."""
+    return json.loads('"%s"' % token).replace("~1", "/").replace("~0", "~")
+
+
 def position(document, path):
     """The line and the column, in bytes, at which the part begins to which a JSON Pointer leads."""
     text = document.decode()
     begin = after_spaces(text, 0)
     for token in path.split("/")[1:]:
         # Of members of one name the last counts.
-        begin = dict(parts_of(text, begin))[token]
+        begin = dict(parts_of(text, begin))[name_of(token)]
     before = text[:begin].encode()
     return " line %d column %d" % (1 + before.count(b"\n"), len(before) - before.rfind(b"\n"))
 
@@ -232,8 +237,8 @@ def located(document, number, transaction, way):
 def expect_place(program, name, value, number, transaction, way):
     """In the usual order of the members, which is read without a tree, and in the opposite order."""
     for given in (value, dict(reversed(value.items())) if isinstance(value, dict) else value):
-        program.expect("%s at %s" % (name, pointer(way)), ["locate"],
-                       bytes_of(given), located(bytes_of(given), number, transaction, way), 1)
+        program.expect_located("%s at %s" % (name, pointer(way)), bytes_of(given),
+                               located(bytes_of(given), number, transaction, way))
 
 
 def inside(ways, block, way):
@@ -295,13 +300,13 @@ def try_limits(program):
 
 
 def try_wholes(program):
-    """Faults of the whole document have no pointer."""
-    for number, value in (
-            (2, []), (2, 7), (2, {}), (2, {"ordtx": 1, "objects": []}),
-            (2, {**batch([], []), "more": 1}), (2, batch([], [], 5)), (2, batch({}, [])), (2, batch([], "")),
-            (12, batch([ACCOUNT] * 1_001, [])), (12, batch([], [[]] * 10_001))):
-        expect_place(program, "fault %d of a whole document" % number, value, number, 0, [])
-    program.expect("a byte too many", ["locate"], b" " * 67_108_865, located(b"", 12, 0, []), 1)
+    """Faults of the whole document have no pointer, but for those of one of its members."""
+    for number, value, way in (
+            (2, [], []), (2, 7, []), (2, {}, []), (2, {"ordtx": 1, "objects": []}, []),
+            (2, {**batch([], []), "more": 1}, ["more"]), (2, batch([], [], 5), ["ordtx"]), (2, batch({}, []), ["objects"]),
+            (2, batch([], ""), ["transactions"]), (12, batch([ACCOUNT] * 1_001, []), ["objects"]),
+            (12, batch([], [[]] * 10_001), ["transactions"])):
+        expect_place(program, "fault %d of a whole document" % number, value, number, 0, way)
 
 
 def no_json(before):
@@ -316,19 +321,18 @@ def try_no_json(program):
     """A text that is cut off, and one with a byte that can't be there, which is counted."""
     whole = json.dumps(batch(OBJECTS, [[GOOD], [{"sub": [], "as": "l"}]]), indent=2).encode()
     for length in range(len(whole)):
-        program.expect("the first %d bytes" % length, ["locate"], whole[:length], no_json(whole[:length]), 1)
+        program.expect_located("the first %d bytes" % length, whole[:length], no_json(whole[:length]))
     for place in (whole.index(word) for word in (
             b"{", b'"ordtx"', b"4", b'"objects"', b'"name"', b'"kind"', b"9", b'"transactions"', b'"op"', b'"sub"')):
         given = whole[:place] + b"?" + whole[place:]
-        program.expect("a question mark at %d" % place, ["locate"], given, no_json(given[:place + 1]), 1)
-    program.expect("a second text", ["locate"], whole + b"\n7", no_json(whole + b"\n7"), 1)
+        program.expect_located("a question mark at %d" % place, given, no_json(given[:place + 1]))
+    program.expect_located("a second text", whole + b"\n7", no_json(whole + b"\n7"))
 
 
 def part_at(value, path):
     """The part to which a JSON Pointer (RFC 6901) leads."""
     for token in path.split("/")[1:]:
-        token = token.replace("~1", "/").replace("~0", "~")
-        value = value[int(token) if isinstance(value, list) else token]
+        value = value[int(token) if isinstance(value, list) else name_of(token)]
     return value
 
 
@@ -344,9 +348,9 @@ def leads_there(document, place):
 
 def try_fault_of_a_case(program, name, document, fault):
     out, status, err = program.run(["locate"], document)
-    line, at, place = out.decode().rstrip("\n").partition(" at")
+    line, at, place = out.decode().partition("\n")[0].partition(" at")
     program.compare(name, ["locate"], (line.encode() + b"\n", status, err), (fault, 1, b""))
-    program.compare(name + " has a place", ["locate"], (at, out.count(b"\n")), (" at", 1))
+    program.compare(name + " has a place", ["locate"], (at, out.count(b"\n")), (" at", 2))
     if fault.startswith(b"fault 1 "):
         program.compare(name + " has a line", ["locate"], (place.startswith(" line "),), (True,))
     else:
@@ -376,16 +380,16 @@ POSITIONS = (
 def try_positions(program):
     for given, place in POSITIONS:
         out, status, err = program.run(["locate"], given)
-        program.compare("at " + place, ["locate"], (out.decode().partition(" at ")[2], status, err), (place + "\n", 1, b""))
+        shown = out.decode().partition("\n")[0].partition(" at ")[2]
+        program.compare("at " + place, ["locate"], (shown, status, err), (place, 1, b""))
 
 
 def try_lines(program):
     for objects, transactions, line in LINES:
         given = '{"ordtx":4,"objects":[%s],"transactions":[%s]}' % (objects, transactions)
-        program.expect(line, ["locate"], given.encode(), placed(given.encode(), line), 1)
+        program.expect_located(line, given.encode(), placed(given.encode(), line))
     for given, line, column in NO_JSON:
-        program.expect("no JSON", ["locate"], given,
-                       b"fault 1 transaction 0 at line %d column %d\n" % (line, column), 1)
+        program.expect_located("no JSON", given, b"fault 1 transaction 0 at line %d column %d\n" % (line, column))
 
 
 def try_all(program):

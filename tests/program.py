@@ -1,10 +1,12 @@
 """Runs the program, and keeps count of what it did otherwise than it should."""
 
 import os
+import re
 import subprocess
 
 WORKERS = (1, 2, 64)
 CUTS = (1, 16, 1000)
+WORDS = re.compile(rb"[^\n]+\n")
 PLANS = [
     ["--workers", str(workers), "--cut", str(cut)]
     for workers in WORKERS
@@ -47,6 +49,13 @@ class Program:
     def expect_fault_everywhere(self, name, document, number, transaction):
         for command in ("run", "serial", "check"):
             self.expect_fault(name, [command], document, number, transaction)
+
+    def expect_located(self, name, document, line):
+        """`locate` prints this line of a fault, and one that says in words what is wrong."""
+        out, status, err = self.run(["locate"], document)
+        first, end, words = out.partition(b"\n")
+        self.compare(name, ["locate"], (first + end, status, err), (line, 1, b""))
+        self.compare(name + " has words", ["locate"], (bool(WORDS.fullmatch(words)),), (True,))
 
     def expect_report(self, name, document, report, plans=PLANS):
         """`run` with each plan, and `serial`."""
