@@ -39,6 +39,10 @@ def try_pointer(program, words, document, pointer):
                     (part_at(json.loads(document), pointer), b""))
 
 
+# A document with a fault at a member whose name has signs that are escaped in a pointer.
+ESCAPED = (b'{"ordtx":4,"objects":[],"transactions":[[{"abort":true,"a/b~c d":1}]]}', "/transactions/0/0/a~1b~0c d")
+
+
 def try_faults(program):
     """Each fault's section: a document, the lines that `locate` prints for it, and a document that is read."""
     text = (ROOT / "docs" / "FAULTS.md").read_text()
@@ -63,6 +67,11 @@ def try_faults(program):
                     try_pointer(program, JQ.search(text)[1], document, fault[4])
                 shown += 1
     program.compare("faults that are shown", [], (shown,), (12,))
+    document, pointer = ESCAPED
+    out, status, err = program.run(["locate"], document)
+    program.compare("an escaped name", ["locate"], (pointer.encode() in out, status, err), (True, 1, b""))
+    if shutil.which("jq"):
+        try_pointer(program, JQ.search(text)[1], document, pointer)
 
 
 # Steps that get fault 7, each with those of the page's lines that list it, and one that gets none.
