@@ -15,6 +15,8 @@ use objects::{EntryHashing, Objects};
 /// no number outgrows its type.
 #[derive(Drop)]
 pub struct Batch {
+    /// The version of the document that it was read from.
+    pub version: u8,
     /// The objects before the first transaction.
     pub objects: Objects,
     /// The names of objects, items and reasons.
@@ -27,20 +29,23 @@ pub struct Batch {
 }
 
 impl Batch {
-    /// The batch of these objects, names and transactions.
+    /// The batch of these objects, names and transactions, as a document of this version has them.
     pub fn new(
+        version: u8,
         objects: Objects,
         names: Names,
         transactions: Vec<Block>,
         hashing: EntryHashing,
     ) -> Batch
         requires { IsBatch objects names (map block_view transactions.items) }
+        ensures version { result.version ≡ version }
         ensures objects { result.objects ≡ objects }
         ensures names { result.names ≡ names }
         ensures transactions { result.transactions ≡ transactions }
         ensures hashing { result.hashing ≡ hashing }
     {
         Batch {
+            version,
             objects,
             names,
             transactions,

@@ -13,7 +13,7 @@ use crate::batch::Batch;
 use crate::tree::{Block, Handler, Otherwise, Step, Subaction};
 
 impl Batch {
-    /// How many operations the transactions have, at most 1,000,000. Those of branches and handlers
+    /// How many operations the transactions have, at most 9,000,000. Those of branches and handlers
     /// count too, though a run may not take them.
     pub fn operations(&self) -> u32
         ensures { result ≡ all_operations (map block_view self.now.transactions.items) }

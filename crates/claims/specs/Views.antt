@@ -5,7 +5,7 @@ use Rattle.claims.specs.declared.view.View.{View}
 
 -- the most pieces, and the most seats, that a board has
 abbrev pub most_pieces : ℕ
-most_pieces = 10000
+most_pieces = 1000000
 
 abbrev pub most_seats : ℕ
 most_seats = 64

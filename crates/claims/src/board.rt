@@ -113,7 +113,7 @@ fn close(table: Table<(), View, Size, Rule, Global>, whole: Token) -> [u64; 3]
 }
 
 impl Board {
-    /// Opens a board of `pieces` pieces, at most 10,000, and its `seats` seats, 1 to 64, one for
+    /// Opens a board of `pieces` pieces, at most 1,000,000, and its `seats` seats, 1 to 64, one for
     /// each worker. No piece is drawn yet, and no seat raised or lowered.
     ///
     /// Returns `NoMemory` where there is no memory for the words or the list of the seats. Nothing

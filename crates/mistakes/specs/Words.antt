@@ -184,7 +184,7 @@ condition_words (condition.HasItem subject) d = subject_text subject ++ codes " 
 condition_words condition.TestedItem d = wanting (codes "item") (codes "a text") d
 
 abbrev pub count_words : CountRule → Data → List ℕ
-count_words counted.Bytes d = codes "the document has more than 67,108,864 bytes"
+count_words (counted.Bytes version) d = codes "the document has " ++ more_than (limits_of version).bytes (codes "bytes")
 count_words (counted.Objects version) d = more_than (limits_of version).objects (codes "objects")
 count_words (counted.Transactions version) d = more_than (limits_of version).transactions (codes "transactions")
 count_words (counted.Entries version) d = more_than (limits_of version).entries (codes "entries that objects start with")

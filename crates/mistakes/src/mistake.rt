@@ -145,7 +145,10 @@ fn write_count_rule(
         ++ count_words rule (view part.now)) }
 {
     match rule {
-        CountRule::Bytes => out.push_str("the document has more than 67,108,864 bytes")?,
+        CountRule::Bytes(version) => {
+            out.push_str("the document has ")?;
+            write_more_than(out, Limits::of(version).bytes, "bytes")?;
+        }
         CountRule::Objects(version) => write_more_than(
             out,
             Limits::of(version).objects,

@@ -12,7 +12,7 @@ mod subject;
 
 pub use failure::Failure;
 pub use form::Form;
-pub use limits::{LAST_VERSION, Limits};
+pub use limits::{LAST_VERSION, Limits, MAX_BYTES};
 pub use rule::{
     ArgumentRule, ConditionRule, CountRule, NameRule, Place, Rule, ShapeRule, StartRule,
 };

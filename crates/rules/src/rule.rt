@@ -111,7 +111,8 @@ pub enum ConditionRule {
 /// What there may not be too many of in a document, by its version.
 #[derive(Clone, Copy, Drop)]
 pub enum CountRule {
-    Bytes,
+    /// The bytes of the whole document.
+    Bytes(u8),
     Objects(u8),
     Transactions(u8),
     /// The entries that objects start with.
