@@ -1,13 +1,14 @@
 -- Drafts in a table whose places may be stale.
 use Rattle.std.proofs.Common.{◌≡◌, ◌≢◌, ℕ, zero, suc, ◌<◌, List, [], ◌∷◌, ◌++◌, Some, None, Option, length, Bool, true, false, cond, refl}
-use Rattle.std.proofs.Common.{sym, ap, ◌∙◌, subst}
-use Rattle.std.specs.Prelude.{nat_eq, slice_get, slice_set, option_map, option_and_then, IsSomeAnd, get_or}
+use Rattle.std.proofs.Common.{inl, inr, sym, ap, ◌∙◌, subst}
+use Rattle.std.specs.Prelude.{◌⊎◌, nat_eq, slice_get, slice_set, option_map, option_and_then, IsSomeAnd, get_or, if◌then◌else◌}
 use Rattle.std.proofs.lemmas.Bool.{eqb-true, eqb-false, eq-eqb}
 use Rattle.std.proofs.lemmas.Option.{slice_get-get_or}
 use Rattle.objects.specs.declared.value.Value.{Value}
 use Rattle.drafts.specs.History.{History}
 use Rattle.intentions.specs.declared.draft_table.Drafted.{Drafted}
 use Rattle.intentions.specs.DraftTables.{draft_of, drafts_in, IsPut}
+use Rattle.intentions.specs.Places.{IsReached}
 
 -- an entry by its parts
 abbrev pub drafted : ℕ → History Value → Drafted
@@ -64,10 +65,14 @@ other-last [] object q (suc p) h e = refl
 other-last (d ∷ drafts) object q zero h e = refl
 other-last (d ∷ drafts) object q (suc p) h e = other-last drafts object q p h e
 
+-- the places where an object has this one
+abbrev pub placed_at : (ℕ → Option ℕ) → ℕ → ℕ → ℕ → Option ℕ
+placed_at places object place q = if nat_eq object q then Some place else places q
+
 -- a draft at the end, where its object has that place
-pub put-last : (places : List ℕ) (drafts : List Drafted) (object : ℕ) (h : History Value) → object < length places
-    → IsPut (drafts_in places drafts) (drafts_in (slice_set places object (length drafts)) (drafts ++ drafted object h ∷ [])) object h
-put-last places drafts object h long q = by_test (nat_eq object q) refl
+pub put-last : (places : ℕ → Option ℕ) (drafts : List Drafted) (object : ℕ) (h : History Value)
+    → IsPut (drafts_in places drafts) (drafts_in (placed_at places object (length drafts)) (drafts ++ drafted object h ∷ [])) object h
+put-last places drafts object h q = by_test (nat_eq object q) refl
   where
     by_place : nat_eq object q ≡ false → (o : Option ℕ)
         → option_and_then (draft_of q) (option_and_then (slice_get (drafts ++ drafted object h ∷ [])) o) ≡ option_and_then (draft_of q)
@@ -76,21 +81,31 @@ put-last places drafts object h long q = by_test (nat_eq object q) refl
     by_place e (Some p) = other-last drafts object q p h e
 
     by_test : (b : Bool) → nat_eq object q ≡ b
-        → drafts_in (slice_set places object (length drafts)) (drafts ++ drafted object h ∷ []) q ≡ cond b (Some h)
+        → drafts_in (placed_at places object (length drafts)) (drafts ++ drafted object h ∷ []) q ≡ cond b (Some h)
         (drafts_in places drafts q)
     by_test true e =
-        let at : slice_get (slice_set places object (length drafts)) object ≡ Some (length drafts) =
-        get_set_same places object (length drafts) ∙ ap (option_map (λ _. length drafts)) (slice_get-get_or places object 0 long) in
-        subst (λ p. drafts_in (slice_set places object (length drafts)) (drafts ++ drafted object h ∷ []) p ≡ Some h) (eqb-true object q e)
-        (ap (λ o. option_and_then (draft_of object) (option_and_then (slice_get (drafts ++ drafted object h ∷ [])) o)) at
-        ∙ ap (option_and_then (draft_of object)) (get-last drafts (drafted object h)) ∙ of_object object h)
+        ap (λ b. option_and_then (draft_of q) (option_and_then (slice_get (drafts ++ drafted object h ∷ [])) (cond b (Some (length drafts)) (places q)))) e
+        ∙ ap (option_and_then (draft_of q)) (get-last drafts (drafted object h)) ∙ ap (λ b. cond b (Some h) None) e
     by_test false e =
-        ap (λ o. option_and_then (draft_of q) (option_and_then (slice_get (drafts ++ drafted object h ∷ [])) o))
-        (get_set_other places object q (length drafts) (eqb-false object q e))
-        ∙ by_place e (slice_get places q)
+        ap (λ b. option_and_then (draft_of q) (option_and_then (slice_get (drafts ++ drafted object h ∷ [])) (cond b (Some (length drafts)) (places q)))) e
+        ∙ by_place e (places q)
+
+-- the place past the end has no draft
+past_end : (drafts : List Drafted) → slice_get drafts (length drafts) ≡ None
+past_end [] = refl
+past_end (d ∷ drafts) = past_end drafts
+
+-- places that are the same, or past the end where there was none, have the same drafts
+pub reached : (old new : ℕ → Option ℕ) (drafts : List Drafted) (q : ℕ) → IsReached (length drafts) (old q) (new q)
+    → drafts_in new drafts q ≡ drafts_in old drafts q
+reached old new drafts q (inl same) = ap (λ o. option_and_then (draft_of q) (option_and_then (slice_get drafts) o)) same
+reached old new drafts q (inr (none, some)) =
+    ap (λ o. option_and_then (draft_of q) (option_and_then (slice_get drafts) o)) some
+    ∙ ap (option_and_then (draft_of q)) (past_end drafts)
+    ∙ sym (ap (λ o. option_and_then (draft_of q) (option_and_then (slice_get drafts) o)) none)
 
 -- a draft that is found at its place
-pub found-at : (places : List ℕ) (drafts : List Drafted) (object place : ℕ) (d : Drafted) → slice_get places object ≡ Some place
+pub found-at : (places : ℕ → Option ℕ) (drafts : List Drafted) (object place : ℕ) (d : Drafted) → places object ≡ Some place
     → slice_get drafts place ≡ Some d → d.object ≡ object
     → drafts_in places drafts object ≡ Some d.draft
 found-at places drafts object place d placed there named =
@@ -111,8 +126,8 @@ other-set (x ∷ drafts) q (suc place) zero d h e there = refl
 other-set (x ∷ drafts) q (suc place) (suc p) d h e there = other-set drafts q place p d h e there
 
 -- another draft of an object at its place
-pub put-at : (places : List ℕ) (drafts : List Drafted) (object place : ℕ) (d : Drafted) (h : History Value)
-    → slice_get places object ≡ Some place → slice_get drafts place ≡ Some d → d.object ≡ object
+pub put-at : (places : ℕ → Option ℕ) (drafts : List Drafted) (object place : ℕ) (d : Drafted) (h : History Value)
+    → places object ≡ Some place → slice_get drafts place ≡ Some d → d.object ≡ object
     → IsPut (drafts_in places drafts) (drafts_in places (slice_set drafts place (drafted d.object h))) object h
 put-at places drafts object place d h placed there named q = by_test (nat_eq object q) refl
   where
@@ -131,4 +146,4 @@ put-at places drafts object place d h placed there named q = by_test (nat_eq obj
         get_set_same drafts place (drafted d.object h) ∙ ap (option_map (λ _. drafted d.object h)) there in
         subst (λ p. drafts_in places new p ≡ Some h) (eqb-true object q e)
         (found-at places new object place (drafted d.object h) placed at named)
-    by_test false e = by_place e (slice_get places q)
+    by_test false e = by_place e (places q)

@@ -2,6 +2,7 @@
 use Rattle.std.specs.Prelude.{◌≡◌, ℕ, nat_eq, List, Option, Some, None, option_map, option_and_then, slice_get, if◌then◌else◌, IsSomeAnd}
 use Rattle.objects.specs.declared.value.Value.{Value}
 use Rattle.drafts.specs.History.{History}
+use Rattle.intentions.specs.Places.{place_in}
 use Rattle.intentions.specs.declared.draft_table.Drafted.{Drafted}
 use Rattle.intentions.specs.declared.draft_table.DraftTable.{DraftTable}
 
@@ -14,11 +15,11 @@ abbrev pub draft_of : ℕ → Drafted → Option (History Value)
 draft_of object drafted = if nat_eq drafted.object object then Some drafted.draft else None
 
 -- the draft at the place of each object, if it is of that object
-abbrev pub drafts_in : List ℕ → List Drafted → Drafts
-drafts_in places drafts object = option_and_then (draft_of object) (option_and_then (slice_get drafts) (slice_get places object))
+abbrev pub drafts_in : (ℕ → Option ℕ) → List Drafted → Drafts
+drafts_in places drafts object = option_and_then (draft_of object) (option_and_then (slice_get drafts) (places object))
 
 abbrev pub drafts_of : DraftTable → Drafts
-drafts_of table = drafts_in table.places.items table.drafts.items
+drafts_of table = drafts_in (place_in table.places) table.drafts.items
 
 -- the draft at a place
 abbrev pub draft_at : DraftTable → ℕ → Option (History Value)
@@ -26,7 +27,7 @@ draft_at table place = option_map (λ (drafted : Drafted). drafted.draft) (slice
 
 -- the draft of the object is at this place
 pub record IsPlaceOf (table : DraftTable) (object place : ℕ) : Type 0 where
-  pub placed : slice_get table.places.items object ≡ Some place
+  pub placed : place_in table.places object ≡ Some place
   pub named : IsSomeAnd (slice_get table.drafts.items place) (λ drafted. drafted.object ≡ object)
 
 -- drafts in which the object has this one, and each other object what it had

@@ -8,6 +8,7 @@ ghost use Rattle.drafts.specs.History.{unchanged, changed};
 ghost use Rattle.intentions.specs.DraftTables.{drafts_of, draft_at, IsPut, IsPlaceOf};
 ghost use Rattle.intentions.specs.Layers.{histories, undo_at};
 
+use crate::places::PagedPlaces;
 use drafts::{Draft, Shown};
 use objects::{Call, NoMemory, Reply, Value};
 use std::alloc::Global;
@@ -23,9 +24,9 @@ struct Drafted<'s> {
 /// for sparse sets", 1993). It is emptied at once, and keeps its memory.
 #[derive(Drop)]
 pub struct DraftTable<'s> {
-    /// For each object, the place of its draft. Where that place is past the end, or has another
-    /// object's draft, the object has none.
-    places: Vec<usize>,
+    /// The place of each object's draft. Where that place is past the end, or has another object's
+    /// draft, the object has none.
+    places: PagedPlaces,
     drafts: Vec<Drafted<'s>>,
 }
 
@@ -35,7 +36,7 @@ impl<'s> DraftTable<'s> {
         ensures { (object : ℕ) → drafts_of result object ≡ None }
     {
         DraftTable {
-            places: Vec::new(alloc),
+            places: PagedPlaces::new(alloc),
             drafts: Vec::new(alloc),
         }
     }
@@ -53,7 +54,7 @@ impl<'s> DraftTable<'s> {
         ensures found { IfSome result (λ place. IsPlaceOf self.now object place) }
         ensures draft { option_and_then (draft_at self.now) result ≡ drafts_of self.now object }
     {
-        let place = *self.places.get(object as usize)?;
+        let place = self.places.get(object)?;
         let drafted = self.drafts.get(place)?;
         if drafted.object == object {
             Some(place)
@@ -102,25 +103,13 @@ impl<'s> DraftTable<'s> {
         ensures ok { OnOk result (IsPut (drafts_of self.old) (drafts_of self.new) object (unchanged lent.now)) }
         ensures err { OnErr result ((q : ℕ) → drafts_of self.new q ≡ drafts_of self.old q) }
     {
-        self.lengthen(object)?;
         let place = self.drafts.len();
+        // The place past the end has no draft.
+        self.places.reach(alloc, object, place)?;
         let draft = Draft::of(alloc, lent);
         self.drafts.push(Drafted { object, draft })?;
-        self.places[object as usize] = place;
+        self.places.set(object, place);
         Ok(place)
-    }
-
-    /// Makes the list of places long enough for the object. All drafts stay.
-    fn lengthen(&mut self, object: u32) -> Result<(), NoMemory>
-        ensures long { OnOk result (object < length self.new.places.items) }
-        ensures places { (q : ℕ) → drafts_of self.new q ≡ drafts_of self.old q }
-        ensures drafts { self.new.drafts.items ≡ self.old.drafts.items }
-    {
-        if self.places.len() <= object as usize {
-            // The place past the end has no draft.
-            self.places.resize(object as usize + 1, self.drafts.len())?;
-        }
-        Ok(())
     }
 
     /// Performs a call that changes the draft at this place, and returns its reply. On `NoMemory`

@@ -8,6 +8,7 @@
 
 mod draft_table;
 mod layers;
+mod places;
 mod view;
 
 pub use committed::{Committed, FEW_ENTRIES, Mark, MarkedEntry, mark_all, summarize};

@@ -5,6 +5,7 @@ use Rattle.std.proofs.lemmas.List.{length-map, map-append}
 use Rattle.objects.specs.Objects.{kind_of_value}
 use Rattle.objects.specs.Entries.{State, kinds}
 use Rattle.meaning.specs.Trees as meant
+use Rattle.meaning.specs.declared.limits.TheConstants.{MAX_OBJECTS}
 use Rattle.meaning.specs.OneThread.{one}
 use Rattle.meaning.specs.Batch.{block_at, state_at, answer, settled, shown_of, shown_from, all_shown, final_state}
 use Rattle.meaning.proofs.Keeping.{batch_keeps}
@@ -96,7 +97,7 @@ part_answered-all batch items same i records now h within over =
     )
 
 -- there are as many objects at the end as at the start, and so few
-pub few_at_end : (batch : Batch) (objects : State) → objects ≡ final_state (start_of batch) (blocks_of batch) → length objects ≤ 1000
+pub few_at_end : (batch : Batch) (objects : State) → objects ≡ final_state (start_of batch) (blocks_of batch) → length objects ≤ MAX_OBJECTS
 few_at_end batch objects is =
     let same : kinds objects ≡ kinds (start_of batch) = ap kinds is
     ∙ (batch_keeps (start_of batch) (blocks_of batch) (length (blocks_of batch)) (omega arith)).same_kinds in

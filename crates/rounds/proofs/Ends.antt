@@ -4,6 +4,7 @@ use Rattle.std.proofs.lemmas.List.{get_or-map, length-map}
 use Rattle.objects.specs.Objects.{kind_of_value}
 use Rattle.objects.specs.Entries.{State, kinds, after}
 use Rattle.batch.specs.Views.{record_view}
+use Rattle.meaning.specs.declared.limits.TheConstants.{MAX_OBJECTS}
 use Rattle.meaning.specs.Trees.{Block}
 use Rattle.meaning.specs.Batch.{state_at, answer, nets, shown_of, shown_from, all_shown}
 use Rattle.meaning.specs.Rounds.{Rounds}
@@ -44,7 +45,7 @@ module _ (batch : Batch) (at : Opening) (here : IsOpening batch at) (over : leng
   pub end_state : at.objects ≡ state_at (start_of batch) (blocks_of batch) (length (blocks_of batch))
   end_state = here.objects ∙ ap (state_at (start_of batch) (blocks_of batch)) is_end
 
-  pub end_few : length at.objects ≤ 1000
+  pub end_few : length at.objects ≤ MAX_OBJECTS
   end_few =
       let same : kinds at.objects ≡ kinds (start_of batch) = ap kinds here.objects ∙ kinds_at batch at.opened here.within in
       let count : length at.objects ≡ length (start_of batch) = sym (length-map at.objects kind_of_value) ∙ ap length same

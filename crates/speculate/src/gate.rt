@@ -21,8 +21,8 @@ pub struct Progress {
 /// - `pass(t, c)` is called as child `c` (from 1) of one of its parallel blocks starts, and once
 ///   more where the child is run again.
 /// - `pass(0, i)` is called as the check of the `i`-th run of a round (from 1) starts.
-/// - `pass(0, 10000 + i)` is called as a worker begins to decide whether the `i`-th pending run of
-///   a later opening (from 1) is kept.
+/// - `pass(0, m + i)`, where `m` is the most transactions that a batch has, is called as a worker
+///   begins to decide whether the `i`-th pending run of a later opening (from 1) is kept.
 pub trait Gate: Sync {
     fn pass(&self, transaction: u32, child: u32);
 

@@ -1,6 +1,7 @@
 use Rattle.std.proofs.Common.{◌≡◌, ◌≤◌, length, sym, ◌∙◌, subst, arith}
 use Rattle.std.proofs.lemmas.List.{length-map}
 use Rattle.std.proofs.lemmas.Result.{IfOk-weaker}
+use Rattle.meaning.specs.declared.limits.TheConstants.{MAX_OBJECTS}
 use Rattle.meaning.specs.Rounds.{Rounds}
 use Rattle.rounds.specs.Views.{start_of, blocks_of}
 use Rattle.batch.specs.Views.{block_view}
@@ -38,7 +39,7 @@ returns-clause-few_objects g c =
     let over = c.opening-test.false in
     let count = c.len.ensures in
     let done : length (blocks_of batch) ≤ c.opening.at.opened = omega arith in
-    IfOk-weaker c.outcome_of.result _ _ (λ o same. subst (λ s. length s ≤ 1000) (sym same)
+    IfOk-weaker c.outcome_of.result _ _ (λ o same. subst (λ s. length s ≤ MAX_OBJECTS) (sym same)
     (end_few batch c.opening.at c.opening.invariant done)) c.outcome_of.ensures.objects
 
 pub returns-clause-objects : goal.returns-clause-objects

@@ -1,5 +1,6 @@
 use Rattle.std.proofs.Common.{◌≡◌, sym}
 use Rattle.intentions.specs.DraftTables.{drafts_of, drafts_in}
+use Rattle.intentions.specs.Places.{place_in}
 use Rattle.intentions.specs.declared.draft_table.Drafted.{Drafted}
 use Rattle.intentions.proofs.LayersLemmas.{undo-put, undo_none}
 use Rattle.intentions.proofs.DraftTableLemmas.{drafted, found_item, found-at, put-at}
@@ -8,7 +9,7 @@ use Rattle.intentions.proofs.draft_table.DraftTable.undo.Goals as goal
 
 pub returns-in-Some : goal.returns-in-Some
 returns-in-Some c =
-    let places = c.args.self.now.places.items in
+    let places = place_in c.args.self.now.places in
     let drafts = c.args.self.now.drafts.items in
     let object = c.args.object in
     let place = c.in-Some.place in
