@@ -1,42 +1,34 @@
 -- What is said of a document's first fault.
-use Rattle.std.specs.Prelude.{nat_lt}
-use Rattle.std.proofs.Common.{◌≡◌, ℕ, ◌<◌, ◌≤◌, Bool, true, false, cond, None, Some, Result, Ok, Err, List}
-use Rattle.std.proofs.Common.{length, inr, subst, sym, ap, ◌∙◌}
-use Rattle.std.proofs.lemmas.Bool.{le-ltb}
-use Rattle.serde_json.specs.Data.{Data}
-use Rattle.faults.specs.declared.fault.Wrong.TheVariants.{TooMany}
+use Rattle.std.proofs.Common.{◌≡◌, ℕ, ◌<◌, ◌≤◌, Option, None, Some, Result, Ok, Err, List, length, inl, inr, subst, sym, ap, ◌∙◌}
+use Rattle.serde_json.specs.Data.{Data, null}
 use Rattle.faults.specs.declared.fault.Fault.{Fault}
-use Rattle.faults.specs.Faults.{wrong_outside}
 use Rattle.rules.specs.Failures.{fault_of}
+use Rattle.rules.specs.Limits.{limits_of}
+use Rattle.rules.specs.declared.limits.TheConstants.{MAX_BYTES}
+use Rattle.rules.specs.declared.limits.Limits.{Limits}
+use Rattle.rules.specs.declared.rule.CountRule.TheVariants.{Bytes}
+use Rattle.rules.specs.declared.rule.Rule.TheVariants.{Few}
+use Rattle.mistakes.specs.Words.{IsSaid}
 use Rattle.spelling.specs.declared.counts.Counts.{Counts}
 use Rattle.spelling.specs.Demand.{no_counts}
 use Rattle.spelling.specs.Places.{Found, fault_in, first_fault, placed, seek}
-use Rattle.lang.specs.declared.document.TheConstants.{MAX_BYTES}
 use Rattle.lang.specs.declared.places.Place.{Place}
 use Rattle.lang.specs.declared.places.Place.TheVariants.{Whole, Pointer, LineColumn}
-use Rattle.lang.specs.Found.{IsFoundAt, IsMistake, IsToldOf, Shows, Tells}
-use Rattle.lang.specs.Reading.{Document, reading, spelled_by, value_of}
-use Rattle.lang.proofs.SpelledLemmas.{found_there, refused_for_first}
-
-reads_short : (b : Bool) (long short : Result Document Fault) (fault : Fault) → b ≡ false → cond b long short ≡ Err fault
-    → short ≡ Err fault
-reads_short true long short fault is reads = cc
-reads_short false long short fault is reads = reads
+use Rattle.lang.specs.Found.{IsFoundAt, IsMistake, IsShort, IsToldOf, IsTooLong, Shows, Tells}
+use Rattle.lang.specs.Reading.{reading, spelled_by, value_of, version_by}
+use Rattle.lang.proofs.SpelledLemmas.{found_there, reads_short, refused_for_first}
 
 -- what a value's first demand is refused for
-fault_known : (bytes : List ℕ) (d : Data) (fault : Fault) → reading bytes ≡ Err fault → length bytes ≤ MAX_BYTES
+fault_known : (bytes : List ℕ) (d : Data) (fault : Fault) → reading bytes ≡ Err fault → IsShort bytes
     → value_of bytes ≡ Some d → first_fault (placed d) ≡ Some fault
-unfolding reading
 fault_known bytes d fault reads short known =
-    let spelled = reads_short (nat_lt MAX_BYTES (length bytes)) (Err (wrong_outside TooMany)) (spelled_by (value_of bytes)) fault
-    (le-ltb MAX_BYTES (length bytes) short) reads in
-    refused_for_first d fault (sym (ap spelled_by known) ∙ spelled)
+    refused_for_first d fault (sym (reads_short bytes short ∙ ap spelled_by known) ∙ reads)
 
 none_or : (fault : Fault) (next : Counts) (r : Result Counts Found) → fault_in r ≡ Some fault → r ≡ Ok next → ⊥
 none_or fault next r failed met = let none : None ≡ Some fault = sym (ap fault_in met) ∙ failed in cc
 
 -- a document with a fault does not meet all its demands
-pub not_all_met : (bytes : List ℕ) (d : Data) (fault : Fault) (start next : Counts) → reading bytes ≡ Err fault → length bytes ≤ MAX_BYTES
+pub not_all_met : (bytes : List ℕ) (d : Data) (fault : Fault) (start next : Counts) → reading bytes ≡ Err fault → IsShort bytes
     → value_of bytes ≡ Some d
     → start ≡ no_counts → seek start (placed d) ≡ Ok next → ⊥
 not_all_met bytes d fault start next reads short known begun met =
@@ -48,7 +40,7 @@ faults_alike found fault r failed is = let both : Some (fault_of found.failure) 
 
 -- what is said of the first demand that isn't met is said of the fault
 pub mistake_told : (bytes : List ℕ) (d : Data) (fault : Fault) (found : Found) (place : Place) (words : List ℕ) (start : Counts)
-    → reading bytes ≡ Err fault → length bytes ≤ MAX_BYTES → value_of bytes ≡ Some d
+    → reading bytes ≡ Err fault → IsShort bytes → value_of bytes ≡ Some d
     → start ≡ no_counts → seek start (placed d) ≡ Err found → Tells d found place words
     → IsMistake bytes fault place words
 mistake_told bytes d fault found place words start reads short known begun failed (pointer, shown, told) = by place shown
@@ -67,6 +59,17 @@ mistake_told bytes d fault found place words start reads short known begun faile
     }
 
     by : (place : Place) → Shows pointer place → IsMistake bytes fault place words
-    by Whole shows = inr (at _ shows)
+    by Whole shows = inr (short, at _ shows)
     by (Pointer text position) shows = (short, subst (λ p. 0 < length p) (sym shows.1) shows.0, at _ (sym shows.1))
     by (LineColumn position) shows = absurd shows
+
+-- what is said of too many bytes is said of the fault, too
+pub length_told : (bytes : List ℕ) (fault : Fault) (place : Place) (words : List ℕ) → place ≡ Whole → IsTooLong bytes words
+    → IsMistake bytes fault place words
+length_told bytes fault place words whole long = subst (λ p. IsMistake bytes fault p words) (sym whole) (inl long)
+
+-- bytes are more than the limits of their value's version ask for, and this is said of it
+pub long_by : (bytes words : List ℕ) (version : ℕ) → length bytes ≤ MAX_BYTES → version ≡ version_by (value_of bytes)
+    → (limits_of version).bytes < length bytes → IsSaid (Few (Bytes version)) null words → IsTooLong bytes words
+long_by bytes words version fits is long said =
+    inr (fits, subst (λ v. (limits_of v).bytes < length bytes) is long, subst (λ v. IsSaid (Few (Bytes v)) null words) is said)

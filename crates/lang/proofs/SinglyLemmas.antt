@@ -1,6 +1,6 @@
 -- Documents that are read a transaction at a time.
-use Rattle.std.proofs.Common.{◌≡◌, ◌≤◌, ℕ, [], Some, Result, Ok, Err, subst, ap, ◌∙◌}
-use Rattle.std.specs.Prelude.{MatchResult, codes}
+use Rattle.std.proofs.Common.{◌≡◌, ◌≤◌, ℕ, [], Option, None, Some, Result, Ok, Err, subst, ap, ◌∙◌}
+use Rattle.std.specs.Prelude.{MatchOption, MatchResult, codes}
 use Rattle.serde_json.specs.Data.{Items}
 use Rattle.spelling.specs.declared.counts.Counts.{Counts}
 use Rattle.rules.specs.declared.limits.TheConstants.{LAST_VERSION}
@@ -19,6 +19,13 @@ matched_ok r x P Q is said = subst (λ s. MatchResult s P Q) is said
 
 pub matched_err : {T E : Type 0} (r : Result T E) (e : E) (P : T → Type 0) (Q : E → Type 0) → r ≡ Err e → MatchResult r P Q → Q e
 matched_err r e P Q is said = subst (λ s. MatchResult s P Q) is said
+
+-- what is said of an option that is known
+pub matched_some : {T : Type 0} (o : Option T) (x : T) (A : Type 0) (P : T → Type 0) → o ≡ Some x → MatchOption o A P → P x
+matched_some o x A P is said = subst (λ s. MatchOption s A P) is said
+
+pub matched_none : {T : Type 0} (o : Option T) (A : Type 0) (P : T → Type 0) → o ≡ None → MatchOption o A P → A
+matched_none o A P is said = subst (λ s. MatchOption s A P) is said
 
 -- the first fault of a part is that of the value that it is in
 pub fault_inside : (c : Counts) (token : Token) (part rest : Placed) (fault : Fault) → fault_in (seek c part) ≡ Some fault

@@ -1,20 +1,21 @@
 -- What a value spells, by the reader's demands on it.
-use Rattle.std.proofs.Common.{◌≡◌, ◌≤◌, ℕ, List, cond, length, None, Some, Result, Ok, Err, refl, ap, sym, ◌∙◌}
-use Rattle.std.proofs.lemmas.Bool.{le-ltb}
+use Rattle.std.proofs.Common.{◌≡◌, ◌≤◌, ◌<◌, ℕ, List, cond, length, Option, None, Some, Result, Ok, Err, refl, ap, subst, sym, ◌∙◌}
+use Rattle.std.proofs.lemmas.Bool.{le-ltb, lt-ltb}
 use Rattle.serde_json.specs.Data.{Data}
 use Rattle.faults.specs.Faults.{wrong_outside}
 use Rattle.faults.specs.declared.fault.Fault.{Fault}
 use Rattle.faults.specs.declared.fault.Wrong.TheVariants.{TooMany}
 use Rattle.spelling.specs.declared.counts.Counts.{Counts}
+use Rattle.spelling.specs.Asked.{version_in}
 use Rattle.spelling.specs.Demand.{no_counts}
 use Rattle.rules.specs.Failures.{fault_of}
+use Rattle.rules.specs.Limits.{limits_of}
 use Rattle.spelling.specs.Places.{Found, fault_in, first_fault, placed, seek}
 use Rattle.spelling.specs.Spelled.{Document, document_in}
 use Rattle.language.specs.Document.{read_document}
 use Rattle.language.specs.Laws.{spelled_or_found}
 use Rattle.language.proofs.DocumentLemmas.{documents_read}
-use Rattle.lang.specs.Reading.{reading, spelled_by, value_of, without_place}
-use Rattle.lang.specs.declared.document.TheConstants.{MAX_BYTES}
+use Rattle.lang.specs.Reading.{most_bytes, reading, spelled_by, value_of, version_by, without_place}
 
 -- without the place, the two definitions say the same
 same_fault : (d : Data) → spelled_by (Some d) ≡ without_place (spelled_or_found (seek no_counts (placed d)) (document_in d))
@@ -56,21 +57,34 @@ pub spelled_faultless : (d : Data) (spelled : Document) → spelled_by (Some d) 
     → (first_fault (placed d) ≡ None) × (document_in d ≡ spelled)
 spelled_faultless d spelled is = was_met (document_in d) spelled (seek no_counts (placed d)) (sym (same_fault d) ∙ is)
 
--- bytes of a value without a fault are read as its document
-pub reads_as : (bytes : List ℕ) (d : Data) (document : Document) → length bytes ≤ MAX_BYTES → value_of bytes ≡ Some d
-    → first_fault (placed d) ≡ None → document ≡ document_in d → reading bytes ≡ Ok document
-unfolding reading
-reads_as bytes d document short known none is =
-    ap (λ b. cond b (Err (wrong_outside TooMany)) (spelled_by (value_of bytes))) (le-ltb MAX_BYTES (length bytes) short)
-    ∙ ap spelled_by known ∙ spells d none ∙ ap (λ x. Ok x) (sym is)
+-- bytes of a value without a fault spell its document
+pub spelled_as : (bytes : List ℕ) (d : Data) (document : Document) → value_of bytes ≡ Some d
+    → first_fault (placed d) ≡ None → document ≡ document_in d → spelled_by (value_of bytes) ≡ Ok document
+spelled_as bytes d document known none is = ap spelled_by known ∙ spells d none ∙ ap (λ x. Ok x) (sym is)
 
--- bytes of a value with a fault are refused for it
-pub refused_as : (bytes : List ℕ) (d : Data) (fault : Fault) → length bytes ≤ MAX_BYTES → value_of bytes ≡ Some d
-    → first_fault (placed d) ≡ Some fault → reading bytes ≡ Err fault
+-- bytes that are as few as their value's version asks for are read as that value
+pub reads_short : (bytes : List ℕ) → length bytes ≤ most_bytes (value_of bytes) → reading bytes ≡ spelled_by (value_of bytes)
 unfolding reading
-refused_as bytes d fault short known some =
-    ap (λ b. cond b (Err (wrong_outside TooMany)) (spelled_by (value_of bytes))) (le-ltb MAX_BYTES (length bytes) short)
-    ∙ ap spelled_by known ∙ refuses d fault some
+reads_short bytes short =
+    ap (λ b. cond b (Err (wrong_outside TooMany)) (spelled_by (value_of bytes))) (le-ltb (most_bytes (value_of bytes)) (length bytes) short)
+
+-- more bytes are not read
+pub reads_long : (bytes : List ℕ) → most_bytes (value_of bytes) < length bytes → reading bytes ≡ Err (wrong_outside TooMany)
+unfolding reading
+reads_long bytes long =
+    ap (λ b. cond b (Err (wrong_outside TooMany)) (spelled_by (value_of bytes))) (lt-ltb (most_bytes (value_of bytes)) (length bytes) long)
+
+-- bytes of a value without a fault are read as its document, where they are as few as its version asks for
+pub reads_as : (bytes : List ℕ) (d : Data) (document : Document) → length bytes ≤ (limits_of (version_in d)).bytes
+    → value_of bytes ≡ Some d → first_fault (placed d) ≡ None → document ≡ document_in d → reading bytes ≡ Ok document
+reads_as bytes d document short known none is =
+    reads_short bytes (subst (λ value. length bytes ≤ most_bytes value) (sym known) short) ∙ spelled_as bytes d document known none is
+
+-- a document that is spelled has the version of its value
+pub version_spelled : (value : Option Data) (document : Document) → spelled_by value ≡ Ok document → version_by value ≡ document.version
+unfolding document_in
+version_spelled None document is = cc
+version_spelled (Some d) document is = ap (λ x. x.version) (spelled_faultless d document is).1
 
 -- the first demand that isn't met has the fault and the place
 pub found_there : (d : Data) (found : Found) → seek no_counts (placed d) ≡ Err found → read_document d ≡ Err found

@@ -12,8 +12,8 @@ use Rattle.mistakes.specs.Words.{IsSaid}
 use Rattle.mistakes.specs.Within.{place_within}
 use Rattle.spelling.specs.Places.{Found}
 use Rattle.language.specs.Document.{read_document}
-use Rattle.lang.specs.Reading.{value_of}
-use Rattle.lang.specs.declared.document.TheConstants.{MAX_BYTES}
+use Rattle.rules.specs.declared.limits.TheConstants.{LAST_VERSION, MAX_BYTES}
+use Rattle.lang.specs.Reading.{most_bytes, value_of, version_by}
 use Rattle.lang.specs.declared.places.Place.{Place}
 use Rattle.lang.specs.declared.places.Place.TheVariants.{Whole, Pointer, LineColumn}
 
@@ -39,12 +39,22 @@ pub record IsFoundAt (bytes : List ℕ) (fault : Fault) (place words : List ℕ)
   pub is : fault ≡ fault_of found.failure
   pub told : IsToldOf value found place words
 
+-- the words of a length that no version has, or that the bytes' own version doesn't have
+abbrev pub IsTooLong : List ℕ → List ℕ → Type 0
+IsTooLong bytes words = ((MAX_BYTES < length bytes) × IsSaid (Few (Bytes LAST_VERSION)) null words)
+    ⊎ ((length bytes ≤ MAX_BYTES) × (most_bytes (value_of bytes) < length bytes)
+    × IsSaid (Few (Bytes (version_by (value_of bytes)))) null words)
+
+-- so many bytes may write their value
+abbrev pub IsShort : List ℕ → Type 0
+IsShort bytes = length bytes ≤ most_bytes (value_of bytes)
+
 -- The place of a fault, and what is said of it. The whole is the place of a fault of its length, too.
 abbrev pub IsMistake : List ℕ → Fault → Place → List ℕ → Type 0
-IsMistake bytes fault Whole words = ((MAX_BYTES < length bytes) × IsSaid (Few Bytes) null words) ⊎ IsFoundAt bytes fault [] words
-IsMistake bytes fault (Pointer text position) words = (length bytes ≤ MAX_BYTES) × (0 < length (string_bytes text))
+IsMistake bytes fault Whole words = IsTooLong bytes words ⊎ (IsShort bytes × IsFoundAt bytes fault [] words)
+IsMistake bytes fault (Pointer text position) words = IsShort bytes × (0 < length (string_bytes text))
     × IsFoundAt bytes fault (string_bytes text) words
-IsMistake bytes fault (LineColumn position) words = (length bytes ≤ MAX_BYTES) × (value_of bytes ≡ None) × IsSaid Json null words
+IsMistake bytes fault (LineColumn position) words = IsShort bytes × (value_of bytes ≡ None) × IsSaid Json null words
 
 -- A pointer is shown so. The empty pointer is that of the whole.
 abbrev pub Shows : List ℕ → Place → Type 0

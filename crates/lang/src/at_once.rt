@@ -7,7 +7,6 @@ ghost use Rattle.std.specs.Prelude.{◌≡◌, ◌≤◌, ◌<◌, ◌+◌, ℕ,
 ghost use Rattle.std.specs.Prelude.{slice_index_or, true, IfOk, IfSome, Ok, OnOk};
 ghost use Rattle.json.specs.Lex.{tokens};
 ghost use Rattle.serde_json.specs.Data.{Data};
-ghost use Rattle.batch.specs.Names.{texts_of};
 ghost use Rattle.batch.specs.Views.{block_view};
 ghost use Rattle.cuts.specs.Whole.{is_open};
 ghost use Rattle.lang.specs.AtOnce.{Follow};
@@ -15,7 +14,7 @@ ghost use Rattle.merging.specs.RangeReads.{IsReadAlone};
 ghost use Rattle.pull.specs.Pulled.{ReadsValue};
 ghost use Rattle.pull.specs.Ranges.{IsHead};
 ghost use Rattle.spelling.specs.Answer.{AreMet};
-ghost use Rattle.spelling.specs.Asked.{names_of, objects_in};
+ghost use Rattle.spelling.specs.Asked.{setting_in};
 ghost use Rattle.spelling.specs.Places.{placed};
 ghost use Rattle.spelling.specs.Scope.{numbers_of, scope_of, setting_of};
 ghost use Rattle.spelling.specs.Spelled.{parts_in, spelled};
@@ -194,7 +193,7 @@ pub(crate) fn pull_at_once<T: Threads + Sync>(
     requires { scope_of state.old.labels.entries ≡ [] }
     ensures { IfOk result (λ parts. (d : Data) × ReadsValue 127 (tokens text.now) d []
         × AreMet state.old.counts (placed d) state.new.counts
-        × (texts_of parts.declared.names.keys ≡ names_of (objects_in d))
+        × (setting_of parts.declared ≡ setting_in d)
         × (spelled parts.declared.objects (map block_view parts.transactions.items)
         (numbers_of state.new.numbering)
         ≡ parts_in (numbers_of state.old.numbering) d)) }

@@ -3,15 +3,20 @@ ghost use Rattle.std.specs.Prelude.{◌≡◌, ◌≢◌, Err, IfErr, IfOk, stri
 ghost use Rattle.serde_json.specs.View.{view};
 ghost use Rattle.faults.specs.Faults.{memory_fault};
 ghost use Rattle.rules.specs.declared.failure.Failure.TheVariants as failure;
+ghost use Rattle.serde_json.specs.Data.{null};
+ghost use Rattle.rules.specs.declared.rule.CountRule.TheVariants.{Bytes};
+ghost use Rattle.rules.specs.declared.rule.Rule.TheVariants.{Few};
+ghost use Rattle.mistakes.specs.Words.{IsSaid};
 ghost use Rattle.lang.specs.Found.{IsMistake, IsToldAt, Shows, Tells};
+ghost use Rattle.lang.specs.declared.places.Place.TheVariants.{Whole};
 ghost use Rattle.lang.specs.Reading.{reading};
 ghost use Rattle.spelling.specs.Answer.{found_of, pointer_text};
 
-use crate::document::{MAX_BYTES, read_parts, utf8_of};
+use crate::document::{read_parts, too_long_for, utf8_of};
 use crate::positions::{Position, position_of};
 use faults::{Code, Fault};
 use mistakes::{place_within, words};
-use rules::{CountRule, Failure, Rule};
+use rules::{CountRule, Failure, LAST_VERSION, MAX_BYTES, Rule};
 use serde_json::Value;
 use spelling::hashing::NameHashing;
 use spelling::state::State;
@@ -47,11 +52,10 @@ pub fn locate(alloc: Global, bytes: &[u8], fault: Fault) -> Result<Mistake, Faul
     ensures err { IfErr result (λ refused. refused ≡ memory_fault) }
 {
     if bytes.len() > MAX_BYTES {
-        let words = words(alloc, Rule::Few(CountRule::Bytes), &Value::Null)?;
-        return Ok(Mistake {
-            place: Place::Whole,
-            words,
-        });
+        return Ok(too_long(alloc, LAST_VERSION)?);
+    }
+    if let Some(version) = too_long_for(alloc, bytes)? {
+        return Ok(too_long(alloc, version)?);
     }
     let value = match Value::from_slice(alloc, bytes) {
         Ok(value) => value,
@@ -79,6 +83,18 @@ pub fn locate(alloc: Global, bytes: &[u8], fault: Fault) -> Result<Mistake, Faul
         }),
         Err(unmet) => mistake_in(alloc, bytes, &value, &unmet),
     }
+}
+
+// What is said of more bytes than a document of this version may have.
+fn too_long(alloc: Global, version: u8) -> Result<Mistake, AllocError>
+    ensures place { IfOk result (λ mistake. mistake.place ≡ Whole) }
+    ensures words { IfOk result (λ mistake. IsSaid (Few (Bytes version)) null (string_bytes mistake.words)) }
+{
+    let words = words(alloc, Rule::Few(CountRule::Bytes(version)), &Value::Null)?;
+    Ok(Mistake {
+        place: Place::Whole,
+        words,
+    })
 }
 
 // What is said of a rule that the value of these bytes doesn't keep.

@@ -7,12 +7,11 @@ ghost use Rattle.std.specs.Prelude.{◌≡◌, ◌≤◌, ◌<◌, List, [], ◌
 ghost use Rattle.json.specs.Lex.{tokens};
 ghost use Rattle.json.specs.Token.{Token, begin_array};
 ghost use Rattle.serde_json.specs.Data.{Data};
-ghost use Rattle.batch.specs.Names.{texts_of};
 ghost use Rattle.batch.specs.Views.{block_view};
 ghost use Rattle.pull.specs.Pulled.{ReadsValue};
 ghost use Rattle.pull.specs.Ranges.{AreRead, IsBegun, left_by, reached};
 ghost use Rattle.spelling.specs.Answer.{AreMet};
-ghost use Rattle.spelling.specs.Asked.{names_of, objects_in};
+ghost use Rattle.spelling.specs.Asked.{setting_in};
 ghost use Rattle.rules.specs.Limits.{limits_of};
 ghost use Rattle.spelling.specs.Places.{placed};
 ghost use Rattle.spelling.specs.Scope.{numbers_of, scope_of, setting_of};
@@ -96,7 +95,7 @@ pub(crate) fn pull_ranges(
     requires { scope_of state.old.labels.entries ≡ [] }
     ensures { IfOk result (λ parts. (d : Data) × ReadsValue 127 (tokens text.now) d []
         × AreMet state.old.counts (placed d) state.new.counts
-        × (texts_of parts.declared.names.keys ≡ names_of (objects_in d))
+        × (setting_of parts.declared ≡ setting_in d)
         × (spelled parts.declared.objects (map block_view parts.transactions.items)
         (numbers_of state.new.numbering)
         ≡ parts_in (numbers_of state.old.numbering) d)) }

@@ -5,10 +5,9 @@
 ghost use Rattle.std.specs.Prelude.{◌≡◌, [], ◌∷◌, map, IfOk, MatchResult, ◌≤◌};
 ghost use Rattle.serde_json.specs.Data.{Data, Items};
 ghost use Rattle.serde_json.specs.Events.{items_len};
-ghost use Rattle.batch.specs.Names.{texts_of};
 ghost use Rattle.batch.specs.Views.{block_view};
 ghost use Rattle.spelling.specs.Answer.{AreMet, IsFirstOf, IsMet};
-ghost use Rattle.spelling.specs.Asked.{document_shape_asked, names_of, objects_in};
+ghost use Rattle.spelling.specs.Asked.{document_shape_asked, setting_in};
 ghost use Rattle.pull.specs.Pulled.{ReadsItems, ReadsValue};
 ghost use Rattle.spelling.specs.Places.{placed, transaction_placed, transactions_placed};
 ghost use Rattle.spelling.specs.Scope.{numbers_of, scope_of, setting_of};
@@ -101,7 +100,7 @@ pub(crate) fn each_part(
     ensures { IfOk result (λ answer. (d : Data) × ReadsValue 127 reader.old d reader.new
         × MatchResult answer
         (λ parts. AreMet state.old.counts (placed d) state.new.counts
-        × (texts_of parts.declared.names.keys ≡ names_of (objects_in d))
+        × (setting_of parts.declared ≡ setting_in d)
         × (spelled parts.declared.objects (map block_view parts.transactions.items) (numbers_of state.new.numbering)
         ≡ parts_in (numbers_of state.old.numbering) d))
         (λ fault. IsMet state.old.counts (document_shape_asked d) state.old.counts

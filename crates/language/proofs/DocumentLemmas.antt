@@ -1,6 +1,6 @@
 -- What is asked and spelled of a document.
 use Rattle.std.specs.Prelude.{codes, nat_le}
-use Rattle.std.proofs.Common.{◌≡◌, ℕ, ◌+◌, refl, ap, ◌∙◌, [], ◌∷◌, Result, Ok, Err}
+use Rattle.std.proofs.Common.{◌≡◌, ℕ, ◌+◌, refl, ap, ◌∙◌, [], Result, Ok, Err}
 use Rattle.serde_json.specs.Data.{Data, Items, no_items, item}
 use Rattle.serde_json.specs.Events.{items_len}
 use Rattle.meaning.specs.declared.limits.TheConstants.{MAX_DEPTH}

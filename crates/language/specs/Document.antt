@@ -264,7 +264,7 @@ whole_in d =
     let setting : Setting = record { version = version; names = declared.1; kinds = kinds declared.0 } in
     inside (member_named (codes "transactions")) (each (transaction_in setting) 0 1 transactions) (λ blocks seen.
     let texts : Texts = record { objects = declared.1; items = seen.numbers.items; reasons = seen.numbers.reasons } in
-    spells (record { start = declared.0; texts = texts; transactions = blocks.0 }) seen))))))))
+    spells (record { version = version; start = declared.0; texts = texts; transactions = blocks.0 }) seen))))))))
 
 -- the document that a value spells, or the first rule that isn't kept, with its place
 unfoldable pub read_document : Data → Result Document Found

@@ -3,12 +3,12 @@ use Rattle.std.proofs.Common.{◌≡◌, ℕ, List, Some, None, Ok, refl, sym, a
 use Rattle.serde_json.specs.Data.{Data, Items}
 use Rattle.objects.specs.Entries.{State}
 use Rattle.meaning.specs.Trees as tree
-use Rattle.spelling.specs.Asked.{declared_by, names_of, objects_in, setting_in, transactions_in, version_in}
+use Rattle.spelling.specs.Asked.{declared_by, objects_in, setting_in, transactions_in, version_in}
 use Rattle.spelling.specs.declared.counts.Counts.{Counts}
 use Rattle.faults.specs.declared.fault.Fault.{Fault}
 use Rattle.spelling.specs.Demand.{no_counts}
 use Rattle.spelling.specs.Places.{Placed, fault_in, first_fault, seek}
-use Rattle.spelling.specs.Scope.{Numbers, Setting, Table, no_numbers}
+use Rattle.spelling.specs.Scope.{Numbers, Setting, no_numbers}
 use Rattle.spelling.specs.Spelled.{Document, blocks_of, document_in, parts_in, spelled, starts_of}
 
 pub same_parts : (d : Data) (numbers mid last : Numbers) (version : ℕ) (os ts : Items) (setting : Setting) (start : State)
@@ -23,17 +23,18 @@ same_parts d numbers mid last version os ts setting start blocks v o t s started
     rw (← started_here, ← read_here) refl
 
 -- the same, as a document
-pub same_document : (d : Data) (start : State) (blocks : List tree.Block) (last : Numbers) (objects : Table) (numbers : Numbers)
-    → numbers ≡ no_numbers → objects ≡ names_of (objects_in d) → spelled start blocks last ≡ parts_in numbers d
+pub same_document : (d : Data) (start : State) (blocks : List tree.Block) (last : Numbers) (setting : Setting) (numbers : Numbers)
+    → numbers ≡ no_numbers → setting ≡ setting_in d → spelled start blocks last ≡ parts_in numbers d
     → (let read : Document = record {
+      version = setting.version;
       start = start;
-      texts = record { objects = objects; items = last.items; reasons = last.reasons };
+      texts = record { objects = setting.names; items = last.items; reasons = last.reasons };
       transactions = blocks;
     } in read ≡ document_in d)
 unfolding document_in
-same_document d start blocks last objects numbers none names parts =
+same_document d start blocks last setting numbers none set parts =
     let parts_here : spelled start blocks last ≡ parts_in no_numbers d = rw none at parts in
-    rw (← parts_here, names) refl
+    rw (← parts_here, set) refl
 
 -- what is met before anything is read has no fault
 pub met_first : (start next : Counts) (asked : Placed) → start ≡ no_counts → seek start asked ≡ Ok next → first_fault asked ≡ None

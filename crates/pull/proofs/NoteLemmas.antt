@@ -23,10 +23,11 @@ use Rattle.pull.specs.declared.notes.Notes.{Notes}
 use Rattle.pull.specs.declared.pass.Seen.{Seen}
 use Rattle.spelling.specs.Asked.{document_shape_asked, or_no_items, version_in}
 use Rattle.rules.specs.Limits.{limits_of}
+use Rattle.rules.proofs.LimitLemmas.{limits_within}
 use Rattle.spelling.specs.Look.{is_among, members_among, whole, within}
 use Rattle.rules.specs.Forms.{member_names}
 use Rattle.rules.specs.declared.form.Form.TheVariants as form
-use Rattle.pull.specs.Passed.{IsNoted, noted_asked, noted_count, noted_version, seen_as, whole_or_other}
+use Rattle.pull.specs.Passed.{AreNoted, IsNoted, noted_asked, noted_count, noted_version, seen_as, version_in_notes, whole_or_other}
 use Rattle.spelling.specs.Scope.{fit}
 use Rattle.rules.specs.declared.limits.TheConstants.{LAST_VERSION}
 use Rattle.pull.proofs.PassLemmas.{array_opened}
@@ -216,7 +217,9 @@ few_items (Some ds) most few = fit_within (items_len ds) most _ refl few
 pub noted_shape : (notes : Notes) (ms : Members) → IsNoted notes ms → noted_asked notes ≡ document_shape_asked (object ms)
 unfolding document_shape_asked
 noted_shape notes ms noted =
-    let limits = limits_of (version_in (object ms)) in
+    let version = version_in (object ms) in
+    let limits = limits_of version in
+    let within = limits_within version in
     rw (
       noted.only,
       noted.version,
@@ -227,6 +230,22 @@ noted_shape notes ms noted =
       count_same (get_member (codes "transactions") ms),
       is_list (option_and_then as_array (get_member (codes "objects") ms)),
       is_list (option_and_then as_array (get_member (codes "transactions") ms)),
-      few_items (option_and_then as_array (get_member (codes "objects") ms)) limits.objects (omega arith),
-      few_items (option_and_then as_array (get_member (codes "transactions") ms)) limits.transactions (omega arith),
+      few_items (option_and_then as_array (get_member (codes "objects") ms)) limits.objects (omega (arith, within.objects)),
+      few_items (option_and_then as_array (get_member (codes "transactions") ms)) limits.transactions (omega (arith, within.transactions)),
     ) refl
+
+-- the version that is noted of a document is its version
+pub noted_version_in : (notes : Notes) (d : Data) → AreNoted (Some notes) d → version_in_notes notes ≡ version_in d
+noted_version_in notes d (ms, is, noted) =
+    ap (λ o. unwrap_or (noted_version o) 1) noted.version
+    ∙ ap (λ o. unwrap_or o 1) (version_same (get_member (codes "ordtx") ms))
+    ∙ ap version_in (sym is)
+
+-- a value that is no object has the first version
+pub no_object_version : (d : Data) → as_object d ≡ None → version_in d ≡ 1
+no_object_version null none = refl
+no_object_version (boolean b) none = refl
+no_object_version (number x) none = refl
+no_object_version (string s) none = refl
+no_object_version (array ds) none = refl
+no_object_version (object ms) none = cc

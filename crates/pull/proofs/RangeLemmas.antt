@@ -5,11 +5,10 @@ use Rattle.std.proofs.lemmas.List.{length-append}
 use Rattle.json.specs.Token.{Token, begin_array, end_array, end_object}
 use Rattle.serde_json.specs.Data.{Data, Items, item, no_items}
 use Rattle.serde_json.specs.Events.{items_len}
-use Rattle.batch.specs.Names.{texts_of}
 use Rattle.meaning.specs.Trees as tree
 use Rattle.meaning.specs.declared.limits.TheConstants.{MAX_DEPTH}
 use Rattle.spelling.specs.Answer.{AreMet}
-use Rattle.spelling.specs.Asked.{names_of, objects_in}
+use Rattle.spelling.specs.Asked.{declared_by, setting_in}
 use Rattle.rules.specs.Limits.{limits_of}
 use Rattle.spelling.specs.Places.{item_at, placed, seek, transaction_placed, transactions_placed}
 use Rattle.spelling.specs.Scope.{Numbers, Setting, setting_of}
@@ -139,7 +138,7 @@ module _ (declared : Declared) (start : Counts) (numbers : Numbers) where
       → IsHead old (begin_array ∷ inside) declared start numbers mid between
       → AreRead (setting_of declared) inside (end_array ∷ end_object ∷ []) (record { counts = mid; numbers = between; blocks = [] }) q
       → length q.blocks ≤ (limits_of declared.version).transactions
-      → (d : Data) × ReadsValue 127 old d [] × AreMet start (placed d) q.counts × (texts_of declared.names.keys ≡ names_of (objects_in d))
+      → (d : Data) × ReadsValue 127 old d [] × AreMet start (placed d) q.counts × (setting_of declared ≡ setting_in d)
       × (spelled declared.objects q.blocks q.numbers ≡ parts_in numbers d)
   head_whole old inside mid between q head read few =
       let setting = setting_of declared in
@@ -159,7 +158,7 @@ module _ (declared : Declared) (start : Counts) (numbers : Numbers) where
         reads,
         in_order_met version os ts head.known.0 head.known.1 start mid q.counts head.few fewer head.objects
             (subst (λ s. AreMet mid (transactions_placed s 0 ts) q.counts) head.set (read.met no_items)),
-        head.named,
+        head.set ∙ ap (λ v. declared_by v os) (version_is version os ts head.known.0 head.known.1),
         same_parts (in_order version os ts) numbers between q.numbers version os ts setting declared.objects q.blocks
             (version_is version os ts head.known.0 head.known.1) refl refl head.set head.started spells,
       )
@@ -167,7 +166,7 @@ module _ (declared : Declared) (start : Counts) (numbers : Numbers) where
   -- a document that was read to its end
   pub begun_whole : (old : List Token) (q : Reached) → IsBegun old (end_array ∷ end_object ∷ []) declared start numbers q
       → length q.blocks ≤ (limits_of declared.version).transactions
-      → (d : Data) × ReadsValue 127 old d [] × AreMet start (placed d) q.counts × (texts_of declared.names.keys ≡ names_of (objects_in d))
+      → (d : Data) × ReadsValue 127 old d [] × AreMet start (placed d) q.counts × (setting_of declared ≡ setting_in d)
       × (spelled declared.objects q.blocks q.numbers ≡ parts_in numbers d)
   begun_whole old q begun few = head_whole old begun.inside begun.mid begun.between q begun.head begun.transactions few
 

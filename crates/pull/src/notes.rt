@@ -6,7 +6,7 @@ ghost use Rattle.serde_json.specs.Read.{converted, of_json, of_members};
 ghost use Rattle.spelling.specs.Demand.{check, no_counts};
 ghost use Rattle.spelling.specs.Places.{fault_in, here};
 ghost use Rattle.faults.specs.Faults.{is_of_reading};
-ghost use Rattle.pull.specs.Passed.{AreNoted, IsNoted, noted_asked, noted_count, noted_version, seen_as};
+ghost use Rattle.pull.specs.Passed.{AreNoted, IsNoted, noted_asked, noted_count, noted_version, seen_as, version_in_notes};
 ghost use Rattle.pull.specs.Pulled.{ReadsMembers, ReadsValue};
 
 use crate::pass::{Seen, pass_from, pass_value};
@@ -110,6 +110,13 @@ fn version_of(seen: Option<Seen>) -> Option<u8>
         }
         _ => None,
     }
+}
+
+/// The version of the noted members, or else the first.
+pub fn version_or_first(notes: &Notes) -> u8
+    ensures { result ≡ version_in_notes notes.now }
+{
+    version_of(notes.version).unwrap_or(1)
 }
 
 /// How many items are noted, if it is an array.

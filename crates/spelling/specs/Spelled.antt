@@ -222,8 +222,9 @@ blocks_of setting numbers (item d ds) =
     let rest = blocks_of setting here.1 ds in
     (here.0 ∷ rest.0, rest.1)
 
--- what a document spells: the objects at their start, the texts of their numbers, and the transactions
+-- what a document spells: its version, the objects at their start, the texts of their numbers, and the transactions
 pub record Document : Type 0 where
+  pub version : ℕ
   pub start : State
   pub texts : Texts
   pub transactions : List Block
@@ -242,6 +243,7 @@ unfoldable pub document_in : Data → Document
 document_in d =
     let parts = parts_in no_numbers d in
     record {
+      version = version_in d;
       start = parts.0;
       texts = record { objects = names_of (objects_in d); items = parts.2.items; reasons = parts.2.reasons };
       transactions = parts.1;

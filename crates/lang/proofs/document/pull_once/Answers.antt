@@ -1,10 +1,9 @@
 use Rattle.std.proofs.Common.{◌≡◌, map, subst, sym, ◌∙◌, arith, rules}
 use Rattle.batch.specs.Limits.{IsBatch}
-use Rattle.batch.specs.Names.{texts_of}
 use Rattle.batch.specs.Views.{block_view}
 use Rattle.spelling.specs.Places.{placed}
 use Rattle.lang.specs.Reading.{document_of, document_with}
-use Rattle.spelling.specs.Scope.{numbers_of}
+use Rattle.spelling.specs.Scope.{numbers_of, setting_of}
 use Rattle.spelling.specs.Spelled.{Document}
 use Rattle.pull.proofs.DocumentLemmas.{met_first, same_document}
 use Rattle.lang.proofs.FaultlessBatch.{faultless_is_batch}
@@ -17,7 +16,7 @@ batch_of-requires c =
     let parts = c.in_ok-parts.parts in
     let last = numbers_of c.pull_bytes.new.state.numbering in
     let read = same_document d parts.declared.objects (map block_view parts.transactions.items) last
-    (texts_of parts.declared.names.keys) _ c.new-state.ensures.numbers done.3 done.4 in
+    (setting_of parts.declared) _ c.new-state.ensures.numbers done.3 done.4 in
     subst (λ (shown : Document). IsBatch shown.start shown.texts shown.transactions) (sym read)
     (faultless_is_batch d (met_first _ _ (placed d) c.new-state.ensures.counts done.2))
 
@@ -29,7 +28,7 @@ returns c =
     let last = numbers_of c.pull_bytes.new.state.numbering in
     let shown : document_of c.in_ok-batch.batch ≡ document_with parts c.pull_bytes.new.state.numbering = grind (arith, rules) in
     let read = same_document d parts.declared.objects (map block_view parts.transactions.items) last
-    (texts_of parts.declared.names.keys) _ c.new-state.ensures.numbers done.3 done.4 in (
+    (setting_of parts.declared) _ c.new-state.ensures.numbers done.3 done.4 in (
       d,
       done.1,
       met_first _ _ (placed d) c.new-state.ensures.counts done.2,

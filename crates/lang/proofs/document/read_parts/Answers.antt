@@ -1,7 +1,8 @@
 use Rattle.std.specs.Prelude.{codes}
-use Rattle.std.proofs.Common.{map, ◌∙◌}
+use Rattle.std.proofs.Common.{ap₂, map, ◌∙◌}
 use Rattle.serde_json.specs.View.{items_view, view}
 use Rattle.batch.specs.Views.{block_view}
+use Rattle.spelling.specs.Asked.{declared_by}
 use Rattle.spelling.specs.Places.{member_named, nothing, placed}
 use Rattle.spelling.specs.Scope.{numbers_of, setting_of}
 use Rattle.spelling.proofs.PlaceLemmas.{found_in, part_met, raised}
@@ -47,6 +48,11 @@ returns-in-Err-read_transactions-clause-unmet c other =
     ∙ found_in next (member_named (codes "transactions")) (transactions d start) nothing c.in-Err-read_transactions.unmet
     c.in_member-in-Err-read_transactions.result c.in_member-in-Err-read_transactions.ensures
     (rw (declared.setting, shape.version, shape.objects, shape.transactions) at c.in-Err-read_transactions.ensures.unmet) other
+
+pub returns-in-Ok-read_transactions-clause-set : goal.returns-in-Ok-read_transactions-clause-set
+returns-in-Ok-read_transactions-clause-set c =
+    let shape = c.in_ok-shape.ensures in
+    c.in-Ok.ensures.setting ∙ ap₂ declared_by shape.version shape.objects
 
 pub returns-in-Ok-read_transactions-clause-value : goal.returns-in-Ok-read_transactions-clause-value
 returns-in-Ok-read_transactions-clause-value c =

@@ -1,13 +1,12 @@
 use Rattle.std.proofs.Common.{◌≡◌, ◌≢◌, Ok, Some, map, subst, sym, ap, ◌∙◌, arith, rules}
 use Rattle.batch.specs.Limits.{IsBatch}
-use Rattle.batch.specs.Names.{texts_of}
 use Rattle.batch.specs.Views.{block_view}
 use Rattle.spelling.specs.Answer.{IsMet}
 use Rattle.spelling.specs.Asked.{document_shape_asked}
 use Rattle.spelling.specs.Places.{first_fault, placed}
 use Rattle.faults.specs.Faults.{memory_fault}
 use Rattle.lang.specs.Reading.{document_of, document_with, spelled_by}
-use Rattle.spelling.specs.Scope.{numbers_of}
+use Rattle.spelling.specs.Scope.{numbers_of, setting_of}
 use Rattle.spelling.specs.Spelled.{Document}
 use Rattle.lang.proofs.CodeLemmas.{first_fault_code, memory_or}
 use Rattle.pull.proofs.DocumentLemmas.{failed_first, met_first, same_document}
@@ -25,7 +24,7 @@ batch_of-requires c =
     let done = matched_ok c.in_ok-answer.answer parts _ _ c.in-Ok.is answer.2 in
     let last = numbers_of c.read_bytes_singly.new.state.numbering in
     let read = same_document d parts.declared.objects (map block_view parts.transactions.items) last
-    (texts_of parts.declared.names.keys) _ c.new-state.ensures.numbers done.1 done.2 in
+    (setting_of parts.declared) _ c.new-state.ensures.numbers done.1 done.2 in
     subst (λ (shown : Document). IsBatch shown.start shown.texts shown.transactions) (sym read)
     (faultless_is_batch d (met_first _ _ (placed d) c.new-state.ensures.counts done.0))
 
@@ -41,7 +40,7 @@ returns-in_ok-batch-in-Ok c =
     let shown : document_of c.in_ok-batch-in-Ok.batch ≡ document_with parts c.read_bytes_singly.new.state.numbering =
     grind (arith, rules) in
     let read = same_document d parts.declared.objects (map block_view parts.transactions.items) last
-    (texts_of parts.declared.names.keys) _ c.new-state.ensures.numbers done.1 done.2 in
+    (setting_of parts.declared) _ c.new-state.ensures.numbers done.1 done.2 in
     ap spelled_by known ∙ spells d faultless ∙ ap Ok (sym (shown ∙ read))
 
 pub returns-in-Err : goal.returns-in-Err

@@ -3,10 +3,9 @@ use Rattle.json.specs.Token.{Token}
 use Rattle.serde_json.specs.Events.{items_len}
 use Rattle.serde_json.specs.View.{items_view}
 use Rattle.serde_json.proofs.Views.{items_len-items_view}
-use Rattle.batch.specs.Names.{texts_of}
 use Rattle.batch.specs.Views.{block_view}
 use Rattle.spelling.specs.Answer.{AreMet, IsFirstOf, IsFound}
-use Rattle.spelling.specs.Asked.{declared_by, names_of}
+use Rattle.spelling.specs.Asked.{declared_by}
 use Rattle.rules.specs.Limits.{limits_of}
 use Rattle.spelling.specs.Places.{fault_in, objects_placed, transactions_placed}
 use Rattle.spelling.specs.Scope.{numbers_of, setting_of}
@@ -58,7 +57,6 @@ returns-in-Ok-answer c =
     let ended : c.each_transaction.new.reader ≡ Token.end_object ∷ new = grind (arith, rules) in
     let reads = subst (λ l. ReadsItems 125 c.pull_head.new.reader ts l) ended answer.1 in
     let met : AreMet start (objects_placed version [] 0 os) mid = c.in-Ok.ensures.met in
-    let named : texts_of declared.names.keys ≡ names_of os = c.in-Ok.ensures.names in
     let set : setting ≡ declared_by version os = c.in-Ok.ensures.setting in
     let started : (declared.objects, between) ≡ starts_of version numbers os = c.in-Ok.ensures.objects in
     let few : items_len os ≤ (limits_of version).objects = omega
@@ -71,7 +69,7 @@ returns-in-Ok-answer c =
       (
         in_order_met version os ts known.0 known.1 start mid next few many met
             (subst (λ x. AreMet mid (transactions_placed x 0 ts) next) set done.0),
-        named,
+        set ∙ ap (λ v. declared_by v os) (version_is version os ts known.0 known.1),
         same_parts (in_order version os ts) numbers between last version os ts setting declared.objects
             (map block_view c.in-Ok-answer.transactions.items) (version_is version os ts known.0 known.1) refl refl set started done.1,
       ),
