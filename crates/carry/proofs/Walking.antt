@@ -31,20 +31,20 @@ module _ (values : List Value) (i : ℕ) (value : Value) (there : slice_get valu
   next_object names = ap (object_texts names i) next_value
 
   -- the next object can't start so, or it can
-  module _ (entries : ℕ) where
+  module _ (version entries : ℕ) where
     abbrev rest : Option Misfit
-    rest = first_unfit (i + 1) (entries + entries_in value) (drop (i + 1) values)
+    rest = first_unfit version (i + 1) (entries + entries_in value) (drop (i + 1) values)
 
-    pub unfit_here : (unfit : Unfit) → unfit_after entries value ≡ Some unfit
-        → first_unfit i entries (drop i values) ≡ Some (record { place = i; unfit = unfit })
-    unfit_here unfit is = ap (first_unfit i entries) next_value ∙ ap (unfit_or i rest) is
+    pub unfit_here : (unfit : Unfit) → unfit_after version entries value ≡ Some unfit
+        → first_unfit version i entries (drop i values) ≡ Some (record { place = i; unfit = unfit })
+    unfit_here unfit is = ap (first_unfit version i entries) next_value ∙ ap (unfit_or i rest) is
 
-    pub fits_here : unfit_after entries value ≡ None → first_unfit i entries (drop i values) ≡ rest
-    fits_here none = ap (first_unfit i entries) next_value ∙ ap (unfit_or i rest) none
+    pub fits_here : unfit_after version entries value ≡ None → first_unfit version i entries (drop i values) ≡ rest
+    fits_here none = ap (first_unfit version i entries) next_value ∙ ap (unfit_or i rest) none
 
 -- no object is left
-pub none_fits : (entries i : ℕ) (values : List Value) → length values ≤ i → first_unfit i entries (drop i values) ≡ None
-none_fits entries i values le = ap (first_unfit i entries) (drop_of_length-le values le)
+pub none_fits : (version entries i : ℕ) (values : List Value) → length values ≤ i → first_unfit version i entries (drop i values) ≡ None
+none_fits version entries i values le = ap (first_unfit version i entries) (drop_of_length-le values le)
 
 pub no_object : (names : Names) (i : ℕ) (values : List Value) → length values ≤ i → object_texts names i (drop i values) ≡ []
 no_object names i values le = ap (object_texts names i) (drop_of_length-le values le)

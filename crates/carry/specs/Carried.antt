@@ -1,5 +1,5 @@
 -- The document of objects as they are, for the next batch to start with.
-use Rattle.std.specs.Prelude.{ℕ, ◌+◌, List, [], ◌∷◌, ◌++◌, map, codes, Option, Some, None, nat_lt, if◌then◌else◌}
+use Rattle.std.specs.Prelude.{ℕ, ◌+◌, max, List, [], ◌∷◌, ◌++◌, map, codes, Option, Some, None, nat_lt, if◌then◌else◌}
 use Rattle.std.specs.Fmt.{decimal, signed_decimal}
 use Rattle.std.specs.FinMap as finite_map
 use Rattle.atoms.specs.declared.item.Item.{Item}
@@ -16,13 +16,17 @@ use Rattle.carry.specs.declared.document.Unfit.{Unfit}
 use Rattle.carry.specs.declared.document.Unfit.TheVariants.{Start, TooMany}
 use Rattle.meaning.specs.declared.limits.TheConstants.{MAX_START}
 use Rattle.rules.specs.Limits.{limits_of}
-use Rattle.rules.specs.declared.limits.TheConstants.{LAST_VERSION}
+use Rattle.carry.specs.declared.document.TheConstants.{FIRST_CARRIED}
 
--- Why an object can't start as it is, where so many entries start before it. A carried document is of the last version.
-abbrev pub unfit_after : ℕ → Value → Option Unfit
-unfit_after entries v =
+-- the version of a document into which objects of a document of this version are carried
+abbrev pub carried_version : ℕ → ℕ
+carried_version version = max FIRST_CARRIED version
+
+-- Why an object can't start a document of a version as it is, where so many entries start before it.
+abbrev pub unfit_after : ℕ → ℕ → Value → Option Unfit
+unfit_after version entries v =
     if nat_lt MAX_START (size_of v) then Some Start
-    else if nat_lt (limits_of LAST_VERSION).entries (entries + entries_in v) then Some TooMany
+    else if nat_lt (limits_of version).entries (entries + entries_in v) then Some TooMany
     else None
 
 -- an object at a place that is unfit, or what is found after it
@@ -30,10 +34,11 @@ abbrev pub unfit_or : ℕ → Option Misfit → Option Unfit → Option Misfit
 unfit_or place later None = later
 unfit_or place later (Some unfit) = Some (record { place = place; unfit = unfit })
 
--- The first object that can't start as it is, from a place on, where so many entries start before it.
-abbrev pub first_unfit : ℕ → ℕ → State → Option Misfit
-first_unfit place entries [] = None
-first_unfit place entries (v ∷ values) = unfit_or place (first_unfit (place + 1) (entries + entries_in v) values) (unfit_after entries v)
+-- The first object that can't start a document of a version as it is, from a place on, where so many entries start before it.
+abbrev pub first_unfit : ℕ → ℕ → ℕ → State → Option Misfit
+first_unfit version place entries [] = None
+first_unfit version place entries (v ∷ values) =
+    unfit_or place (first_unfit version (place + 1) (entries + entries_in v) values) (unfit_after version entries v)
 
 -- JSON texts and lists. Names have ASCII letters, digits, `_` and `-` alone, so that nothing is escaped.
 abbrev pub quoted : List ℕ → List ℕ
@@ -67,12 +72,12 @@ abbrev pub object_texts : Names → ℕ → State → List (List ℕ)
 object_texts names n [] = []
 object_texts names n (v ∷ values) = object_text names n v ∷ object_texts names (n + 1) values
 
--- what a carried document begins with
-abbrev pub document_head : List ℕ
-document_head = codes "{\"ordtx\": " ++ decimal LAST_VERSION ++ codes ",\n\"objects\": [\n"
+-- what a carried document of a version begins with
+abbrev pub document_head : ℕ → List ℕ
+document_head version = codes "{\"ordtx\": " ++ decimal version ++ codes ",\n\"objects\": [\n"
 
 -- the document of these objects without a transaction, an object a line
-abbrev pub carried_text : Names → State → List ℕ
-carried_text names values =
-    document_head ++ joined (codes ",\n") (object_texts names 0 values)
+abbrev pub carried_text : ℕ → Names → State → List ℕ
+carried_text version names values =
+    document_head version ++ joined (codes ",\n") (object_texts names 0 values)
     ++ codes "\n],\n\"transactions\": [\n]}\n"

@@ -1,5 +1,5 @@
 -- The objects of a next document, with those of a first one carried into it.
-use Rattle.std.specs.Prelude.{ℕ, ◌+◌, Bool, List, [], ◌∷◌, ◌++◌, Option, Some, None, option_and_then, option_map, unwrap_or, slice_get}
+use Rattle.std.specs.Prelude.{ℕ, ◌+◌, max, Bool, List, [], ◌∷◌, ◌++◌, Option, Some, None, option_and_then, option_map, unwrap_or, slice_get}
 use Rattle.std.specs.Prelude.{if◌then◌else◌}
 use Rattle.std.specs.Str.{bytes_eq}
 use Rattle.objects.specs.Entries.{State}
@@ -11,7 +11,7 @@ use Rattle.words.specs.Words.{kind_text}
 use Rattle.batch.specs.Names.{Texts, names_of}
 use Rattle.spelling.specs.Scope.{Table, is_listed, place_of}
 use Rattle.spelling.specs.Spelled.{Document}
-use Rattle.carry.specs.Carried.{object_text}
+use Rattle.carry.specs.Carried.{carried_version, object_text}
 use Rattle.carry.specs.declared.starts.NamedObjects.{NamedObjects}
 use Rattle.carry.specs.declared.starts.Start.{Start}
 
@@ -83,3 +83,7 @@ first_clash place (v ∷ values) (start ∷ starts) =
 abbrev pub starts_into : Document → Document → List StartOf
 starts_into first next = joined (record { texts = first.texts; values = final_state first.start first.transactions })
     (record { texts = next.texts; values = next.start })
+
+-- the version of a next document into which a first one is carried
+abbrev pub version_into : Document → Document → ℕ
+version_into first next = carried_version (max first.version next.version)

@@ -25,8 +25,8 @@ item_texts (item j js) = print (json_tokens j) ∷ item_texts js
 abbrev pub transaction_texts : List ℕ → List (List ℕ)
 transaction_texts bytes = item_texts (transactions_of (tree_of bytes))
 
--- the document of these starts with the transactions of that one, a start or a transaction a line
-abbrev pub joined_text : List StartOf → List ℕ → List ℕ
-joined_text starts bytes =
-    document_head ++ joined (codes ",\n") (map object_text_of starts)
+-- the document of a version, of these starts with the transactions of that one, a start or a transaction a line
+abbrev pub joined_text : ℕ → List StartOf → List ℕ → List ℕ
+joined_text version starts bytes =
+    document_head version ++ joined (codes ",\n") (map object_text_of starts)
     ++ codes "\n],\n\"transactions\": [\n" ++ joined (codes ",\n") (transaction_texts bytes) ++ codes "\n]}\n"

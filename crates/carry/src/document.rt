@@ -6,16 +6,25 @@ ghost use Rattle.meaning.specs.Words.{joined, members};
 ghost use Rattle.batch.specs.Limits.{entries_in};
 ghost use Rattle.batch.specs.Names.{names_of};
 ghost use Rattle.rules.specs.Limits.{limits_of};
-ghost use Rattle.carry.specs.Carried.{carried_text, document_head, first_unfit, item_text, object_text, object_texts, pair_text, start_text, unfit_after};
-ghost use Rattle.rules.specs.declared.limits.TheConstants.{LAST_VERSION};
+ghost use Rattle.carry.specs.Carried.{carried_text, carried_version, document_head, first_unfit, item_text, object_text, object_texts, pair_text, start_text, unfit_after};
 
 use batch::Names;
 use meaning::limits::MAX_START;
 use objects::{Directory, ItemSet, NoMemory, Objects, Queue, Value};
 use report::{item_name, object_name};
-use rules::{LAST_VERSION, Limits};
+use rules::Limits;
 use std::alloc::Global;
 use words::kind_text;
+
+/// No carried document is of an earlier version, whatever the one is that it is carried from.
+pub const FIRST_CARRIED: u8 = 4;
+
+/// The version of a document into which objects of a document of this version are carried.
+pub fn carried_version(version: u8) -> u8
+    ensures { result ≡ carried_version version }
+{
+    version.max(FIRST_CARRIED)
+}
 
 /// Why objects can't all be the starts of a document.
 #[derive(Clone, Copy, Debug, Drop, PartialEq, Eq)]
@@ -35,17 +44,18 @@ pub struct Misfit {
     pub unfit: Unfit,
 }
 
-/// The first of the objects that can't start as it is after those before it.
-pub fn first_unfit(objects: &Objects) -> Option<Misfit>
+/// The first of the objects that can't start a document of this version as it is after those before
+/// it.
+pub fn first_unfit(version: u8, objects: &Objects) -> Option<Misfit>
     requires { length objects.now < 2 ^ 32 }
-    ensures { result ≡ first_unfit 0 0 objects.now }
+    ensures { result ≡ first_unfit version 0 0 objects.now }
 {
     let mut entries = 0;
     for place in 0..objects.len() as u32 {
         let Some(value) = objects.value(place) else {
             return None;
         };
-        if let Some(unfit) = unfit_after(entries, value) {
+        if let Some(unfit) = unfit_after(version, entries, value) {
             return Some(Misfit { place, unfit });
         }
         entries += entries_in(value);
@@ -53,16 +63,17 @@ pub fn first_unfit(objects: &Objects) -> Option<Misfit>
     None
 }
 
-/// Why an object can't start as it is, where so many entries start before it.
-pub(crate) fn unfit_after(entries: usize, value: &Value) -> Option<Unfit>
-    requires { entries ≤ (limits_of LAST_VERSION).entries }
-    ensures unfit { result ≡ unfit_after entries value.now }
-    ensures few { result ≡ None → entries + entries_in value.now ≤ (limits_of LAST_VERSION).entries }
+/// Why an object can't start a document of this version as it is, where so many entries start
+/// before it.
+pub(crate) fn unfit_after(version: u8, entries: usize, value: &Value) -> Option<Unfit>
+    requires { entries ≤ (limits_of version).entries }
+    ensures unfit { result ≡ unfit_after version entries value.now }
+    ensures few { result ≡ None → entries + entries_in value.now ≤ (limits_of version).entries }
 {
     if magnitude(value) > MAX_START {
         return Some(Unfit::Start);
     }
-    if entries_in(value) > Limits::of(LAST_VERSION).entries - entries {
+    if entries_in(value) > Limits::of(version).entries - entries {
         return Some(Unfit::TooMany);
     }
     None
@@ -91,26 +102,32 @@ pub(crate) fn entries_in(value: &Value) -> usize
     }
 }
 
-/// The document of the objects as they are, without a transaction. It has a line for each object.
+/// The document of the objects as they are, of this version and without a transaction. It has a line
+/// for each object.
 ///
 /// A number that has no name has the empty name. Where [`first_unfit`] is none, and each name is one,
 /// the document can be read. Returns `NoMemory` where a request for memory was refused.
-pub fn carried(alloc: Global, names: &Names, objects: &Objects) -> Result<String, NoMemory>
+pub fn carried(
+    alloc: Global,
+    version: u8,
+    names: &Names,
+    objects: &Objects,
+) -> Result<String, NoMemory>
     requires { length objects.now < 2 ^ 32 }
-    ensures { IfOk result (λ t. string_bytes t ≡ carried_text (names_of names.now) objects.now) }
+    ensures { IfOk result (λ t. string_bytes t ≡ carried_text version (names_of names.now) objects.now) }
 {
     let mut out = String::new(alloc);
-    write_head(&mut out)?;
+    write_head(&mut out, version)?;
     write_objects(&mut out, names, objects)?;
     write!(&mut out, "\n],\n\"transactions\": [\n]}}\n")?;
     Ok(out)
 }
 
-// Writes what a carried document begins with.
-pub(crate) fn write_head(out: &mut String) -> Result<(), NoMemory>
-    ensures { OnOk result (string_bytes out.new ≡ string_bytes out.old ++ document_head) }
+// Writes what a carried document of this version begins with.
+pub(crate) fn write_head(out: &mut String, version: u8) -> Result<(), NoMemory>
+    ensures { OnOk result (string_bytes out.new ≡ string_bytes out.old ++ document_head version) }
 {
-    write!(out, "{{\"ordtx\": {LAST_VERSION},\n\"objects\": [\n")?;
+    write!(out, "{{\"ordtx\": {version},\n\"objects\": [\n")?;
     Ok(())
 }
 

@@ -7,6 +7,6 @@ mod starts;
 mod transactions;
 
 pub use batch::{Names, NoMemory, Objects};
-pub use document::{Misfit, Unfit, carried, first_unfit};
+pub use document::{Misfit, Unfit, carried, carried_version, first_unfit};
 pub use starts::{NamedObjects, Start, first_clash, first_misfit, join, name_table, start_name};
 pub use transactions::carried_into;

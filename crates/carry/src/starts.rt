@@ -197,17 +197,17 @@ fn are_of_one_kind(value: &Value, other: &Value) -> bool
     kind_text(value.kind()) == kind_text(other.kind())
 }
 
-/// The first of these starts that no document may have after those before it.
-pub fn first_misfit(starts: &[Start<'_>]) -> Option<Misfit>
+/// The first of these starts that no document of this version may have after those before it.
+pub fn first_misfit(version: u8, starts: &[Start<'_>]) -> Option<Misfit>
     requires { length starts.now < 2 ^ 32 }
-    ensures { result ≡ first_unfit 0 0 (map value_of (map start_view starts.now)) }
+    ensures { result ≡ first_unfit version 0 0 (map value_of (map start_view starts.now)) }
 {
     let mut entries = 0;
     for place in 0..starts.len() as u32 {
         let Some(start) = starts.get(place as usize) else {
             return None;
         };
-        if let Some(unfit) = unfit_after(entries, start.value) {
+        if let Some(unfit) = unfit_after(version, entries, start.value) {
             return Some(Misfit { place, unfit });
         }
         entries += entries_in(start.value);

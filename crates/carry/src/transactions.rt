@@ -13,20 +13,21 @@ use json::{Error, Scratch, Value, to_vec};
 use objects::NoMemory;
 use std::alloc::Global;
 
-/// The document of these starts, with the transactions of the document that the bytes are. It has a
-/// line for each object and each transaction.
+/// The document of this version and of these starts, with the transactions of the document that the
+/// bytes are. It has a line for each object and each transaction.
 ///
 /// The transactions are written without spaces. Their numbers, names and members stay as they are.
 /// Returns `NoMemory` where a request for memory was refused.
 pub fn carried_into(
     alloc: Global,
+    version: u8,
     starts: &[Start<'_>],
     document: &[u8],
 ) -> Result<String, NoMemory>
-    ensures { IfOk result (λ t. string_bytes t ≡ joined_text (map start_view starts.now) document.now) }
+    ensures { IfOk result (λ t. string_bytes t ≡ joined_text version (map start_view starts.now) document.now) }
 {
     let mut out = String::new(alloc);
-    write_head(&mut out)?;
+    write_head(&mut out, version)?;
     write_starts(&mut out, starts)?;
     write!(&mut out, "\n],\n\"transactions\": [\n")?;
     write_transactions(alloc, &mut out, document)?;

@@ -15,7 +15,6 @@ use Rattle.batch.specs.Names.{AreNames, is_name}
 use Rattle.meaning.specs.WellFormed.{size_of}
 use Rattle.meaning.specs.declared.limits.TheConstants.{MAX_START}
 use Rattle.rules.specs.Limits.{limits_of}
-use Rattle.rules.specs.declared.limits.TheConstants.{LAST_VERSION}
 use Rattle.carry.specs.Carried.{first_unfit, unfit_or}
 use Rattle.carry.specs.declared.document.Unfit.TheVariants.{Start, TooMany}
 use Rattle.carry_laws.specs.Carrying.{HasItem, SomeHasItem, object_names}
@@ -23,21 +22,21 @@ use Rattle.carry_laws.proofs.Among.{Among, Apart, apart_map, among_from_map, con
 use Rattle.carry_laws.proofs.ItemsOf.{among_bound, among_contained, keys_apart, members_apart}
 use Rattle.carry_laws.proofs.Listed.{AreNamedBoth, AreWritable, IsNamed, IsWritable}
 
--- the first object can start, and so can the others after it
-pub record Fits (place entries : ℕ) (v : Value) (values : State) : Type 0 where
+-- the first object can start a document of a version, and so can the others after it
+pub record Fits (version place entries : ℕ) (v : Value) (values : State) : Type 0 where
   pub small : size_of v ≤ MAX_START
-  pub few : entries + entries_in v ≤ (limits_of LAST_VERSION).entries
-  pub rest : first_unfit (place + 1) (entries + entries_in v) values ≡ None
+  pub few : entries + entries_in v ≤ (limits_of version).entries
+  pub rest : first_unfit version (place + 1) (entries + entries_in v) values ≡ None
 
-pub first_fits : (place entries : ℕ) (v : Value) (values : State) → first_unfit place entries (v ∷ values) ≡ None
-    → Fits place entries v values
-first_fits place entries v values e =
-    by (nat_lt MAX_START (size_of v)) (nat_lt (limits_of LAST_VERSION).entries (entries + entries_in v)) refl refl e
+pub first_fits : (version place entries : ℕ) (v : Value) (values : State) → first_unfit version place entries (v ∷ values) ≡ None
+    → Fits version place entries v values
+first_fits version place entries v values e =
+    by (nat_lt MAX_START (size_of v)) (nat_lt (limits_of version).entries (entries + entries_in v)) refl refl e
   where
     by : (large many : Bool) → nat_lt MAX_START (size_of v) ≡ large
-        → nat_lt (limits_of LAST_VERSION).entries (entries + entries_in v) ≡ many
-        → unfit_or place (first_unfit (place + 1) (entries + entries_in v) values)
-        (cond large (Some Start) (cond many (Some TooMany) None)) ≡ None → Fits place entries v values
+        → nat_lt (limits_of version).entries (entries + entries_in v) ≡ many
+        → unfit_or place (first_unfit version (place + 1) (entries + entries_in v) values)
+        (cond large (Some Start) (cond many (Some TooMany) None)) ≡ None → Fits version place entries v values
     by true many l m none = cc
     by false true l m none = cc
     by false false l m none = record { small = ltb-false _ _ l; few = ltb-false _ _ m; rest = none }
@@ -75,15 +74,15 @@ module _ (names : Names) where
       (λ x y at at'. one x y (key_of_map d x at) (key_of_map d y at')) (keys_apart d)
   apart (value.Max n) one = tt
 
-  pub all_writable : (n entries : ℕ) (values : State) → first_unfit n entries values ≡ None → AreNames (object_names names n values)
-      → ((x : Item) → SomeHasItem values x → IsNamed names x) → AreWritable names n values
-  all_writable n entries [] fit object named = tt
-  all_writable n entries (v ∷ values) fit object named =
-      let fits = first_fits n entries v values fit in
+  pub all_writable : (version n entries : ℕ) (values : State) → first_unfit version n entries values ≡ None
+      → AreNames (object_names names n values) → ((x : Item) → SomeHasItem values x → IsNamed names x) → AreWritable names n values
+  all_writable version n entries [] fit object named = tt
+  all_writable version n entries (v ∷ values) fit object named =
+      let fits = first_fits version n entries v values fit in
       let both = and_parts (is_name (names.object n)) _ object in (
         both.0,
         writable v fits.small (λ x has. named x (inl has)),
-        all_writable (n + 1) (entries + entries_in v) values fits.rest both.1 (λ x has. named x (inr has)),
+        all_writable version (n + 1) (entries + entries_in v) values fits.rest both.1 (λ x has. named x (inr has)),
       )
 
   pub all_apart : (values : State)

@@ -6,7 +6,7 @@ use Rattle.std.specs.FinSet as finite_set
 use Rattle.std.specs.FinMap as finite_map
 use Rattle.std.specs.List.{AllByRecursion}
 use Rattle.std.proofs.lemmas.Bool.{le-leb, lt-ltb}
-use Rattle.serde_json.specs.Data.{number, unsigned}
+use Rattle.serde_json.specs.Data.{no_items, number, unsigned}
 use Rattle.serde_json.specs.Find.{of_integer}
 use Rattle.serde_json.specs.Events.{items_len}
 use Rattle.atoms.specs.declared.item.Item.{Item}
@@ -22,18 +22,17 @@ use Rattle.batch.specs.Limits.{entries_in}
 use Rattle.batch.specs.Names.{is_name}
 use Rattle.spelling.specs.Asked.{document_shape_asked, element_asked, entry_asked}
 use Rattle.spelling.specs.Asked.{kind_in, object_kind, object_name_asked, object_shape_asked, pair_asked}
-use Rattle.spelling.specs.Asked.{number_start, signed_start}
+use Rattle.spelling.specs.Asked.{number_start, signed_start, version_in}
 use Rattle.spelling.specs.Demand.{check, no_counts}
 use Rattle.spelling.specs.Scope.{Table, is_listed}
 use Rattle.words.specs.Words.{kind_of_text}
 use Rattle.spelling.proofs.Checks.{check_met}
 use Rattle.meaning.specs.declared.limits.TheConstants.{MAX_START}
 use Rattle.rules.specs.Limits.{limits_of}
-use Rattle.rules.specs.declared.limits.TheConstants.{LAST_VERSION}
 use Rattle.meaning.specs.WellFormed.{size_of}
 use Rattle.carry.specs.Carried.{first_unfit}
 use Rattle.carry_laws.specs.CarriedData.{carried_data, items_data, object_data, objects_data, pairs_data, start_data}
-use Rattle.carry_laws.specs.Carrying.{object_names}
+use Rattle.carry_laws.specs.Carrying.{IsCarriedVersion, object_names}
 use Rattle.carry_laws.proofs.Among.{Apart}
 use Rattle.carry_laws.proofs.Carriable.{IsApart, first_fits}
 use Rattle.carry_laws.proofs.ItemsOf.{members_few}
@@ -42,17 +41,32 @@ use Rattle.carry_laws.proofs.Meeting.{AreNew, Counts, Meet, all_new, meet_fewer,
 use Rattle.spelling.proofs.Demands.{array_start_asked, asked, elements_asked, entries_asked, object_asked, objects_asked, pairs_asked}
 use Rattle.spelling.proofs.Demands.{start_asked, met_faultless}
 use Rattle.spelling.specs.Places.{first_fault, placed}
+use Rattle.pull.proofs.PulledDocument.{version_is, version_read}
+use Rattle.carry_laws.proofs.Versions.{each_version, is_version}
 
 -- ---- kinds
 
-pub kind_back : (k : Kind) → kind_of_text LAST_VERSION (kind_text k) ≡ Some k
+kind_of_4 : (k : Kind) → kind_of_text 4 (kind_text k) ≡ Some k
 unfolding kind_of_text
-kind_back kind.Account = refl
-kind_back kind.Counter = refl
-kind_back kind.Set = refl
-kind_back kind.Queue = refl
-kind_back kind.Directory = refl
-kind_back kind.Max = refl
+kind_of_4 kind.Account = refl
+kind_of_4 kind.Counter = refl
+kind_of_4 kind.Set = refl
+kind_of_4 kind.Queue = refl
+kind_of_4 kind.Directory = refl
+kind_of_4 kind.Max = refl
+
+kind_of_5 : (k : Kind) → kind_of_text 5 (kind_text k) ≡ Some k
+unfolding kind_of_text
+kind_of_5 kind.Account = refl
+kind_of_5 kind.Counter = refl
+kind_of_5 kind.Set = refl
+kind_of_5 kind.Queue = refl
+kind_of_5 kind.Directory = refl
+kind_of_5 kind.Max = refl
+
+-- the word of a kind names it in each version that objects are carried into
+pub kind_back : (version : ℕ) → IsCarriedVersion version → (k : Kind) → kind_of_text version (kind_text k) ≡ Some k
+kind_back = each_version (λ v. (k : Kind) → kind_of_text v (kind_text k) ≡ Some k) kind_of_4 kind_of_5
 
 -- ---- starts
 
@@ -63,88 +77,90 @@ pub signed_back : (z : ℤ) → size_of (value.Counter z) ≤ MAX_START → sign
 signed_back (pos n) small = rw (lt-ltb n (2 ^ 63) (omega arith)) (rw (le-leb n MAX_START small))
 signed_back (negsuc n) small = rw (le-leb (suc n) MAX_START small)
 
-module _ (names : Names) where
-  entries_meet : (xs : List Item) → AllByRecursion (IsNamed names) xs → Meet (length xs) (entries_asked LAST_VERSION (items_data names xs))
+module _ (version : ℕ) (carried : IsCarriedVersion version) (names : Names) where
+  entries_meet : (xs : List Item) → AllByRecursion (IsNamed names) xs
+      → Meet version (length xs) (entries_asked version (items_data names xs))
   unfolding entry_asked
-  entries_meet [] named = meet_none
+  entries_meet [] named = meet_none version
   entries_meet (x ∷ xs) named =
-      let rest = entries_asked LAST_VERSION (items_data names xs) in
-      meet_test _ true _ _ refl (meet_test _ (is_name (names.item x)) _ _ named.0
-      (meet_start (length xs) rest (entries_meet xs named.1)))
+      let rest = entries_asked version (items_data names xs) in
+      meet_test version _ true _ _ refl (meet_test version _ (is_name (names.item x)) _ _ named.0
+      (meet_start version (length xs) rest (entries_meet xs named.1)))
 
   elements_meet : (earlier : Table) (xs : List Item) → AllByRecursion (IsNamed names) xs → Apart (map names.item xs)
-      → AreNew earlier (map names.item xs) → Meet (length xs) (elements_asked LAST_VERSION earlier (items_data names xs))
+      → AreNew earlier (map names.item xs) → Meet version (length xs) (elements_asked version earlier (items_data names xs))
   unfolding element_asked
-  elements_meet earlier [] named apart new = meet_none
+  elements_meet earlier [] named apart new = meet_none version
   elements_meet earlier (x ∷ xs) named apart new =
       let text = names.item x in
-      let rest = λ (table : Table). elements_asked LAST_VERSION table (items_data names xs) in
-      let later = subst (λ table. Meet (length xs) (rest table)) (sym (with_new text earlier new.0))
+      let rest = λ (table : Table). elements_asked version table (items_data names xs) in
+      let later = subst (λ table. Meet version (length xs) (rest table)) (sym (with_new text earlier new.0))
       (elements_meet (earlier ++ text ∷ []) xs named.1 apart.1 (new_after text earlier (map names.item xs) apart.0 new.1)) in
-      meet_test _ true _ _ refl (meet_test _ (is_name text) _ _ named.0
-      (meet_test _ (not (is_listed text earlier)) _ _ (ap not new.0) (meet_start (length xs) _ later)))
+      meet_test version _ true _ _ refl (meet_test version _ (is_name text) _ _ named.0
+      (meet_test version _ (not (is_listed text earlier)) _ _ (ap not new.0) (meet_start version (length xs) _ later)))
 
   pairs_meet : (earlier : Table) (pairs : List (Item × Item)) → AllByRecursion (AreNamedBoth names) pairs
       → Apart (map names.item (map (λ e. e.0) pairs)) → AreNew earlier (map names.item (map (λ e. e.0) pairs))
-      → Meet (length pairs) (pairs_asked LAST_VERSION earlier (pairs_data names pairs))
+      → Meet version (length pairs) (pairs_asked version earlier (pairs_data names pairs))
   unfolding pair_asked
-  pairs_meet earlier [] named apart new = meet_none
+  pairs_meet earlier [] named apart new = meet_none version
   pairs_meet earlier (pair ∷ pairs) named apart new =
       let text = names.item pair.0 in
-      let rest = λ (table : Table). pairs_asked LAST_VERSION table (pairs_data names pairs) in
+      let rest = λ (table : Table). pairs_asked version table (pairs_data names pairs) in
       let keys = map names.item (map (λ (e : Item × Item). e.0) pairs) in
-      let later = subst (λ table. Meet (length pairs) (rest table)) (sym (with_new text earlier new.0))
+      let later = subst (λ table. Meet version (length pairs) (rest table)) (sym (with_new text earlier new.0))
       (pairs_meet (earlier ++ text ∷ []) pairs named.1 apart.1 (new_after text earlier keys apart.0 new.1)) in
-      meet_test _ true _ _ refl (meet_test _ true _ _ refl (meet_test _ true _ _ refl
-      (meet_test _ (is_name text) _ _ named.0.0 (meet_test _ (is_name (names.item pair.1)) _ _ named.0.1
-      (meet_test _ (not (is_listed text earlier)) _ _ (ap not new.0) (meet_start (length pairs) _ later))))))
+      meet_test version _ true _ _ refl (meet_test version _ true _ _ refl (meet_test version _ true _ _ refl
+      (meet_test version _ (is_name text) _ _ named.0.0 (meet_test version _ (is_name (names.item pair.1)) _ _ named.0.1
+      (meet_test version _ (not (is_listed text earlier)) _ _ (ap not new.0) (meet_start version (length pairs) _ later))))))
 
   start_meet : (v : Value) → size_of v ≤ MAX_START → IsWritable names v → IsApart names v
-      → Meet (entries_in v) (start_asked LAST_VERSION (kind_of_value v) (start_data names v))
+      → Meet version (entries_in v) (start_asked version (kind_of_value v) (start_data names v))
   unfolding start_asked array_start_asked
-  start_meet (value.Account n) small ok apart = meet_test 0 (is_some (number_start (start_data names (value.Account n)))) _ []
-      (ap is_some (number_back n small)) meet_none
-  start_meet (value.Counter n) small ok apart = meet_test 0 (is_some (signed_start (start_data names (value.Counter n)))) _ []
-      (ap is_some (signed_back n small)) meet_none
-  start_meet (value.Set s) small ok apart = meet_fewer (length (members s)) (finite_set.len s) _ (members_few s)
+  start_meet (value.Account n) small ok apart = meet_test version 0 (is_some (number_start (start_data names (value.Account n)))) _ []
+      (ap is_some (number_back n small)) (meet_none version)
+  start_meet (value.Counter n) small ok apart = meet_test version 0 (is_some (signed_start (start_data names (value.Counter n)))) _ []
+      (ap is_some (signed_back n small)) (meet_none version)
+  start_meet (value.Set s) small ok apart = meet_fewer version (length (members s)) (finite_set.len s) _ (members_few s)
       (elements_meet [] (members s) ok apart (all_new (map names.item (members s))))
   start_meet (value.Queue q) small ok apart = entries_meet q ok
   start_meet (value.Directory d) small ok apart =
       let few = finite_map.len-entries d in
-      meet_fewer (length (finite_map.entries d)) (finite_map.len d) _ (omega arith)
+      meet_fewer version (length (finite_map.entries d)) (finite_map.len d) _ (omega arith)
       (pairs_meet [] (finite_map.entries d) ok apart (all_new (map names.item (finite_map.keys d))))
-  start_meet (value.Max n) small ok apart = meet_test 0 (is_some (number_start (start_data names (value.Max n)))) _ []
-      (ap is_some (number_back n small)) meet_none
+  start_meet (value.Max n) small ok apart = meet_test version 0 (is_some (number_start (start_data names (value.Max n)))) _ []
+      (ap is_some (number_back n small)) (meet_none version)
 
   -- ---- objects
 
-  pub kind_read : (n : ℕ) (v : Value) → object_kind LAST_VERSION (object_data names n v) ≡ Some (kind_of_value v)
-  kind_read n v = kind_back (kind_of_value v)
+  pub kind_read : (n : ℕ) (v : Value) → object_kind version (object_data names n v) ≡ Some (kind_of_value v)
+  kind_read n v = kind_back version carried (kind_of_value v)
 
-  pub kind_is : (n : ℕ) (v : Value) → kind_in LAST_VERSION (object_data names n v) ≡ kind_of_value v
+  pub kind_is : (n : ℕ) (v : Value) → kind_in version (object_data names n v) ≡ kind_of_value v
   kind_is n v = ap (λ k. unwrap_or k kind.Account) (kind_read n v)
 
   pub object_meets : (n : ℕ) (v : Value) (earlier : Table) → is_name (names.object n) ≡ true → is_listed (names.object n) earlier ≡ false
       → size_of v ≤ MAX_START → IsWritable names v → IsApart names v
-      → Meet (entries_in v) (object_asked LAST_VERSION earlier (object_data names n v))
+      → Meet version (entries_in v) (object_asked version earlier (object_data names n v))
   unfolding object_asked object_shape_asked object_name_asked
   object_meets n v earlier named new small ok apart =
-      let start = start_asked LAST_VERSION (kind_in LAST_VERSION (object_data names n v)) (start_data names v) in
-      let started : Meet (entries_in v) start =
-      subst (λ k. Meet (entries_in v) (start_asked LAST_VERSION k (start_data names v))) (sym (kind_is n v))
+      let start = start_asked version (kind_in version (object_data names n v)) (start_data names v) in
+      let started : Meet version (entries_in v) start =
+      subst (λ k. Meet version (entries_in v) (start_asked version k (start_data names v))) (sym (kind_is n v))
       (start_meet v small ok apart) in
-      meet_test _ true _ _ refl (meet_test _ true _ _ refl
-      (meet_test _ (is_some (object_kind LAST_VERSION (object_data names n v))) _ _ (ap is_some (kind_read n v))
-      (meet_test _ true _ _ refl (meet_test _ (is_name (names.object n)) _ _ named
-      (meet_test _ (not (is_listed (names.object n) earlier)) _ start (ap not new) started)))))
+      meet_test version _ true _ _ refl (meet_test version _ true _ _ refl
+      (meet_test version _ (is_some (object_kind version (object_data names n v))) _ _ (ap is_some (kind_read n v))
+      (meet_test version _ true _ _ refl (meet_test version _ (is_name (names.object n)) _ _ named
+      (meet_test version _ (not (is_listed (names.object n) earlier)) _ start (ap not new) started)))))
 
-  objects_met : (n entries : ℕ) (values : State) (earlier : Table) (c : Counts) → c.starts ≤ entries → first_unfit n entries values ≡ None
-      → AreWritable names n values → AllByRecursion (IsApart names) values → Apart (object_names names n values)
+  objects_met : (n entries : ℕ) (values : State) (earlier : Table) (c : Counts) → c.starts ≤ entries
+      → first_unfit version n entries values ≡ None → AreWritable names n values → AllByRecursion (IsApart names) values
+      → Apart (object_names names n values)
       → AreNew earlier (object_names names n values)
-      → (next : Counts) × (check c (objects_asked LAST_VERSION earlier (objects_data names n values)) ≡ Ok next)
+      → (next : Counts) × (check c (objects_asked version earlier (objects_data names n values)) ≡ Ok next)
   objects_met n entries [] earlier c few fit ok apart differ new = (c, refl)
   objects_met n entries (v ∷ values) earlier c few fit ok apart differ new =
-      let fits = first_fits n entries v values fit in
+      let fits = first_fits version n entries v values fit in
       let bound = fits.few in
       let here = (object_meets n v earlier ok.0 new.0 fits.small ok.1 apart.0).met c (omega arith) in
       let counted = here.2 in
@@ -152,8 +168,8 @@ module _ (names : Names) where
       ok.2 apart.1
       differ.1 (new_after (names.object n) earlier (object_names names (n + 1) values) differ.0 new.1) in (
         rest.0,
-        check_met c here.0 (object_asked LAST_VERSION earlier (object_data names n v))
-            (objects_asked LAST_VERSION (earlier ++ names.object n ∷ []) (objects_data names (n + 1) values)) here.1 ∙ rest.1,
+        check_met c here.0 (object_asked version earlier (object_data names n v))
+            (objects_asked version (earlier ++ names.object n ∷ []) (objects_data names (n + 1) values)) here.1 ∙ rest.1,
       )
 
   -- ---- the document
@@ -162,20 +178,28 @@ module _ (names : Names) where
   objects_len n [] = refl
   objects_len n (v ∷ values) = ap suc (objects_len (n + 1) values)
 
-  shape_met : (values : State) → length values ≤ (limits_of LAST_VERSION).objects
-      → check no_counts (document_shape_asked (carried_data names values)) ≡ Ok no_counts
+  shape_met : (values : State) → length values ≤ (limits_of version).objects
+      → check no_counts (document_shape_asked (carried_data version names values)) ≡ Ok no_counts
   unfolding document_shape_asked
   shape_met values few =
-      rw (le-leb (items_len (objects_data names 0 values)) (limits_of LAST_VERSION).objects (omega (arith, objects_len 0 values)))
+      let known = is_version version carried in
+      rw (
+        version_read version (objects_data names 0 values) no_items known.0 known.1,
+        le-leb (items_len (objects_data names 0 values)) (limits_of version).objects (omega (arith, objects_len 0 values)),
+        le-leb 0 (limits_of version).transactions (omega arith),
+      ) refl
 
-  pub carried_faultless : (values : State) → length values ≤ (limits_of LAST_VERSION).objects → first_unfit 0 0 values ≡ None
+  pub carried_faultless : (values : State) → length values ≤ (limits_of version).objects → first_unfit version 0 0 values ≡ None
       → AreWritable names 0 values
       → AllByRecursion (IsApart names) values → Apart (object_names names 0 values)
-      → first_fault (placed (carried_data names values)) ≡ None
+      → first_fault (placed (carried_data version names values)) ≡ None
   unfolding asked
   carried_faultless values few fit ok apart differ =
-      let d = carried_data names values in
-      let objects = objects_asked LAST_VERSION [] (objects_data names 0 values) in
+      let d = carried_data version names values in
+      let known = is_version version carried in
+      let ds = objects_data names 0 values in
+      let objects = objects_asked (version_in d) [] ds in
       let met = objects_met 0 0 values [] no_counts (omega arith) fit ok apart differ (all_new (object_names names 0 values)) in
+      let here = subst (λ v. check no_counts (objects_asked v [] ds) ≡ Ok met.0) (version_is version ds no_items known.0 known.1) met.1 in
       met_faultless d met.0 (check_met no_counts met.0 (document_shape_asked d ++ objects) []
-      (check_met no_counts no_counts (document_shape_asked d) objects (shape_met values few) ∙ met.1))
+      (check_met no_counts no_counts (document_shape_asked d) objects (shape_met values few) ∙ here))

@@ -1,5 +1,6 @@
 -- The document of objects as they are, as JSON.
-use Rattle.std.proofs.Common.{◌≡◌, ℕ, pos, negsuc, ◌+◌, true, List, [], ◌∷◌, ◌++◌, map, decimal, refl, sym, ap, ◌∙◌, append_assoc, arith}
+use Rattle.std.proofs.Common.{◌≡◌, ◌≤◌, ℕ, pos, negsuc, ◌+◌, true, List, [], ◌∷◌, ◌++◌, map, decimal, refl, sym, ap, ◌∙◌}
+use Rattle.std.proofs.Common.{append_assoc, arith}
 use Rattle.std.specs.Prelude.{codes}
 use Rattle.std.specs.Fmt.{signed_decimal}
 use Rattle.std.specs.FinMap as finite_map
@@ -56,8 +57,8 @@ abbrev pub objects_json : Names → ℕ → State → json.Items
 objects_json names n [] = json.no_items
 objects_json names n (v ∷ values) = json.item (object_json names n v) (objects_json names (n + 1) values)
 
-abbrev pub carried_json : Names → State → json.Json
-carried_json names values = json.object (json.member (codes "ordtx") (json.number (decimal LAST_VERSION))
+abbrev pub carried_json : ℕ → Names → State → json.Json
+carried_json version names values = json.object (json.member (codes "ordtx") (json.number (decimal version))
     (json.member (codes "objects") (json.array (objects_json names 0 values))
     (json.member (codes "transactions") (json.array json.no_items) json.no_members)))
 
@@ -96,15 +97,15 @@ closed : (rest : List ℕ) → lex between (codes "}" ++ rest) ≡ token Token.e
 unfolding lex
 closed rest = refl
 
-pub version_key : (rest : List ℕ) → lex between (document_head ++ rest)
+pub version_key : (version : ℕ) (rest : List ℕ) → lex between (document_head version ++ rest)
     ≡ token Token.begin_object ∷ token (Token.string (codes "ordtx")) ∷ colon
-    ∷ lex between (decimal LAST_VERSION ++ (codes ",\n\"objects\": [\n" ++ rest))
+    ∷ lex between (decimal version ++ (codes ",\n\"objects\": [\n" ++ rest))
 unfolding lex content
-version_key rest =
+version_key version rest =
     let first = codes "{\"ordtx\": " in
-    let version = decimal LAST_VERSION in
+    let digits = decimal version in
     let last = codes ",\n\"objects\": [\n" in
-    ap (lex between) (append_assoc (first ++ version) last rest ∙ append_assoc first version (last ++ rest))
+    ap (lex between) (append_assoc (first ++ digits) last rest ∙ append_assoc first digits (last ++ rest))
 
 pub objects_key : (rest : List ℕ) → lex between (codes ",\n\"objects\": [\n" ++ rest)
     ≡ comma ∷ token (Token.string (codes "objects")) ∷ colon ∷ token Token.begin_array ∷ lex between rest
@@ -112,8 +113,8 @@ unfolding lex content
 objects_key rest = refl
 
 -- the version is written as a number
-pub version_written : IsNumber (decimal LAST_VERSION)
-version_written = IsNumber-decimal LAST_VERSION (omega arith)
+pub version_written : (version : ℕ) → version ≤ LAST_VERSION → IsNumber (decimal version)
+version_written version known = IsNumber-decimal version (omega arith)
 
 module _ (names : Names) where
   items_written : (xs : List Item) → AllByRecursion (IsNamed names) xs → AllWrite (map (item_text names) xs) (items_json names xs)
@@ -164,17 +165,18 @@ module _ (names : Names) where
   objects_written n [] ok = tt
   objects_written n (v ∷ values) ok = (object_written n v ok.0 ok.1, objects_written (n + 1) values ok.2)
 
-  pub carried_lexed : (values : State) → AreWritable names 0 values
-      → lex between (carried_text names values) ≡ json_lexemes (carried_json names values)
-  unfolding lex content
-  carried_lexed values ok =
-      let texts = joined (codes ",\n") (object_texts names 0 values) in
-      let last = codes ",\n\"transactions\": [\n]}\n" in
-      ap (lex between) (append_assoc document_head texts (codes "\n]" ++ last)) ∙ version_key (texts ++ (codes "\n]" ++ last))
-      ∙ ap (λ ls. token Token.begin_object ∷ token (Token.string (codes "ordtx")) ∷ colon ∷ ls) (
-      lex-number (decimal LAST_VERSION) _ version_written refl
-      ∙ ap (λ ls. token (Token.number (decimal LAST_VERSION)) ∷ ls) (
-      objects_key (texts ++ (codes "\n]" ++ last))
-      ∙ ap (λ ls. comma ∷ token (Token.string (codes "objects")) ∷ colon ∷ token Token.begin_array ∷ ls)
-      (joined_lexed (codes ",\n") (codes "\n]") (λ r. refl) (λ r. refl) (λ r. refl) (λ r. refl)
-      (object_texts names 0 values) (objects_json names 0 values) last (objects_written 0 values ok))))
+pub carried_lexed : (version : ℕ) → version ≤ LAST_VERSION → (names : Names) (values : State) → AreWritable names 0 values
+    → lex between (carried_text version names values) ≡ json_lexemes (carried_json version names values)
+unfolding lex content
+carried_lexed version known names values ok =
+    let texts = joined (codes ",\n") (object_texts names 0 values) in
+    let last = codes ",\n\"transactions\": [\n]}\n" in
+    ap (lex between) (append_assoc (document_head version) texts (codes "\n]" ++ last))
+    ∙ version_key version (texts ++ (codes "\n]" ++ last))
+    ∙ ap (λ ls. token Token.begin_object ∷ token (Token.string (codes "ordtx")) ∷ colon ∷ ls) (
+    lex-number (decimal version) _ (version_written version known) refl
+    ∙ ap (λ ls. token (Token.number (decimal version)) ∷ ls) (
+    objects_key (texts ++ (codes "\n]" ++ last))
+    ∙ ap (λ ls. comma ∷ token (Token.string (codes "objects")) ∷ colon ∷ token Token.begin_array ∷ ls)
+    (joined_lexed (codes ",\n") (codes "\n]") (λ r. refl) (λ r. refl) (λ r. refl) (λ r. refl)
+    (object_texts names 0 values) (objects_json names 0 values) last (objects_written names 0 values ok))))

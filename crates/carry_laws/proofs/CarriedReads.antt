@@ -24,8 +24,8 @@ use Rattle.carry_laws.proofs.Lexemes.{tokens_alone}
 use Rattle.carry_laws.proofs.Listed.{AreWritable, IsWritable}
 
 -- the version is read
-pub version_read : number_of (decimal LAST_VERSION) ≡ Some (unsigned LAST_VERSION)
-version_read = number_of-decimal LAST_VERSION (omega arith)
+pub version_number : (version : ℕ) → version ≤ LAST_VERSION → number_of (decimal version) ≡ Some (unsigned version)
+version_number version known = number_of-decimal version (omega arith)
 
 module _ (names : Names) where
   -- ---- the value
@@ -55,8 +55,9 @@ module _ (names : Names) where
   objects_read n [] ok = refl
   objects_read n (v ∷ values) ok = rw (object_read n v ok.1, objects_read (n + 1) values ok.2)
 
-  document_read : (values : State) → AreWritable names 0 values → of_json (carried_json names values) ≡ Some (carried_data names values)
-  document_read values ok = rw (version_read, objects_read 0 values ok)
+  document_read : (version : ℕ) → version ≤ LAST_VERSION → (values : State) → AreWritable names 0 values
+      → of_json (carried_json version names values) ≡ Some (carried_data version names values)
+  document_read version known values ok = rw (version_number version known, objects_read 0 values ok)
 
   -- ---- how deep it is
 
@@ -80,22 +81,25 @@ module _ (names : Names) where
   objects_flat n [] = omega arith
   objects_flat n (v ∷ values) = omega (arith, start_flat v, objects_flat (n + 1) values)
 
-  shallow : (values : State) → depth (carried_json names values) ≤ 127
-  shallow values = omega (arith, objects_flat 0 values)
+  shallow : (version : ℕ) (values : State) → depth (carried_json version names values) ≤ 127
+  shallow version values = omega (arith, objects_flat 0 values)
 
   -- ---- the text
 
-  pub carried_read : (values : State) → AreWritable names 0 values → read (carried_text names values) ≡ Some (carried_data names values)
-  carried_read values ok =
-      let j = carried_json names values in
-      let tokens_are = tokens_alone (carried_text names values) j (carried_lexed names values ok) in
-      ap (λ o. option_and_then of_json (option_and_then (λ p. json.if_last p.0 p.1) o))
-      (ap (json.value max_depth) (tokens_are ∙ sym (append-nil _))
-      ∙ value-json_tokens j max_depth [] (shallow values))
-      ∙ document_read values ok
+  module _ (version : ℕ) (known : version ≤ LAST_VERSION) where
+    pub carried_read : (values : State) → AreWritable names 0 values
+        → read (carried_text version names values) ≡ Some (carried_data version names values)
+    carried_read values ok =
+        let j = carried_json version names values in
+        let tokens_are = tokens_alone (carried_text version names values) j (carried_lexed version known names values ok) in
+        ap (λ o. option_and_then of_json (option_and_then (λ p. json.if_last p.0 p.1) o))
+        (ap (json.value max_depth) (tokens_are ∙ sym (append-nil _))
+        ∙ value-json_tokens j max_depth [] (shallow version values))
+        ∙ document_read version known values ok
 
-  pub carried_value : (values : State) → AreWritable names 0 values
-      → (if is_utf8 (carried_text names values) then read (carried_text names values) else None) ≡ Some (carried_data names values)
-  carried_value values ok =
-      let utf8 = is_utf8-from_IsUtf8 (carried_text names values) (carried_utf8 names values ok) in
-      ap (λ b. cond b (read (carried_text names values)) None) utf8 ∙ carried_read values ok
+    pub carried_value : (values : State) → AreWritable names 0 values
+        → (if is_utf8 (carried_text version names values) then read (carried_text version names values) else None)
+        ≡ Some (carried_data version names values)
+    carried_value values ok =
+        let utf8 = is_utf8-from_IsUtf8 (carried_text version names values) (carried_utf8 version known names values ok) in
+        ap (λ b. cond b (read (carried_text version names values)) None) utf8 ∙ carried_read values ok

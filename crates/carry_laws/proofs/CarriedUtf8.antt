@@ -106,14 +106,15 @@ module _ (names : Names) where
   objects_utf8 n [] ok = tt
   objects_utf8 n (v ∷ values) ok = (object_utf8 n v ok.0 ok.1, objects_utf8 (n + 1) values ok.2)
 
+module _ (version : ℕ) (known : version ≤ LAST_VERSION) where
   -- what it begins with
-  head_utf8 : IsUtf8 document_head
-  head_utf8 = between_utf8 (codes "{\"ordtx\": ") (decimal LAST_VERSION) (codes ",\n\"objects\": [\n")
-      (IsUtf8-are_ascii (codes "{\"ordtx\": ") refl) (number_utf8 LAST_VERSION (omega arith))
+  head_utf8 : IsUtf8 (document_head version)
+  head_utf8 = between_utf8 (codes "{\"ordtx\": ") (decimal version) (codes ",\n\"objects\": [\n")
+      (IsUtf8-are_ascii (codes "{\"ordtx\": ") refl) (number_utf8 version (omega arith))
       (IsUtf8-are_ascii (codes ",\n\"objects\": [\n") refl)
 
-  pub carried_utf8 : (values : State) → AreWritable names 0 values → IsUtf8 (carried_text names values)
-  carried_utf8 values ok = between_utf8 document_head (joined (codes ",\n") (object_texts names 0 values))
+  pub carried_utf8 : (names : Names) (values : State) → AreWritable names 0 values → IsUtf8 (carried_text version names values)
+  carried_utf8 names values ok = between_utf8 (document_head version) (joined (codes ",\n") (object_texts names 0 values))
       (codes "\n],\n\"transactions\": [\n]}\n") head_utf8
-      (joined_utf8 (codes ",\n") (IsUtf8-are_ascii (codes ",\n") refl) (object_texts names 0 values) (objects_utf8 0 values ok))
+      (joined_utf8 (codes ",\n") (IsUtf8-are_ascii (codes ",\n") refl) (object_texts names 0 values) (objects_utf8 names 0 values ok))
       (IsUtf8-are_ascii _ refl)

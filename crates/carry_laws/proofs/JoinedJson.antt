@@ -1,5 +1,5 @@
 -- The document with carried objects, as JSON.
-use Rattle.std.proofs.Common.{◌≡◌, ℕ, false, true, List, [], ◌∷◌, ◌++◌, map, decimal, refl, ap, ◌∙◌, append_assoc}
+use Rattle.std.proofs.Common.{◌≡◌, ◌≤◌, ℕ, false, true, List, [], ◌∷◌, ◌++◌, map, decimal, refl, ap, ◌∙◌, append_assoc}
 use Rattle.std.specs.Prelude.{codes}
 use Rattle.std.specs.List.{AllByRecursion}
 use Rattle.json.specs.Json as json
@@ -24,8 +24,8 @@ abbrev pub starts_json : List StartOf → json.Items
 starts_json [] = json.no_items
 starts_json (start ∷ starts) = json.item (object_json start.names start.place start.value) (starts_json starts)
 
-abbrev pub joined_json : List StartOf → json.Items → json.Json
-joined_json starts js = json.object (json.member (codes "ordtx") (json.number (decimal LAST_VERSION))
+abbrev pub joined_json : ℕ → List StartOf → json.Items → json.Json
+joined_json version starts js = json.object (json.member (codes "ordtx") (json.number (decimal version))
     (json.member (codes "objects") (json.array (starts_json starts))
     (json.member (codes "transactions") (json.array js) json.no_members)))
 
@@ -53,10 +53,11 @@ lines_lexed : (texts : List (List ℕ)) (js : json.Items) (rest : List ℕ) → 
 unfolding lex
 lines_lexed texts js rest all = joined_lexed (codes ",\n") (codes "\n]") (λ r. refl) (λ r. refl) (λ r. refl) (λ r. refl) texts js rest all
 
-pub text_lexed : (starts : List StartOf) (bytes : List ℕ) → AllByRecursion CanStart starts
+pub text_lexed : (version : ℕ) → version ≤ LAST_VERSION → (starts : List StartOf) (bytes : List ℕ) → AllByRecursion CanStart starts
     → ItemsHaveNumbers (transactions_of (tree_of bytes))
-    → lex between (joined_text starts bytes) ≡ json_lexemes (joined_json starts (transactions_of (tree_of bytes)))
-text_lexed starts bytes ok numbers =
+    → lex between (joined_text version starts bytes) ≡ json_lexemes (joined_json version starts (transactions_of (tree_of bytes)))
+text_lexed version known starts bytes ok numbers =
+    let head = document_head version in
     let js = transactions_of (tree_of bytes) in
     let objects = joined (codes ",\n") (map object_text_of starts) in
     let transactions = joined (codes ",\n") (item_texts js) in
@@ -65,13 +66,13 @@ text_lexed starts bytes ok numbers =
     let middle = codes "\n],\n\"transactions\": [\n" in
     let closing = codes "\n]}\n" in
     ap (lex between)
-    (append_assoc (document_head ++ objects ++ middle) transactions closing
-    ∙ append_assoc (document_head ++ objects) middle (transactions ++ closing)
-    ∙ append_assoc document_head objects (middle ++ (transactions ++ closing)))
-    ∙ version_key (objects ++ (codes "\n]" ++ last))
+    (append_assoc (head ++ objects ++ middle) transactions closing
+    ∙ append_assoc (head ++ objects) middle (transactions ++ closing)
+    ∙ append_assoc head objects (middle ++ (transactions ++ closing)))
+    ∙ version_key version (objects ++ (codes "\n]" ++ last))
     ∙ ap (λ ls. token Token.begin_object ∷ token (Token.string (codes "ordtx")) ∷ colon ∷ ls) (
-    lex-number (decimal LAST_VERSION) _ version_written refl
-    ∙ ap (λ ls. token (Token.number (decimal LAST_VERSION)) ∷ ls) (
+    lex-number (decimal version) _ (version_written version known) refl
+    ∙ ap (λ ls. token (Token.number (decimal version)) ∷ ls) (
     objects_key (objects ++ (codes "\n]" ++ last))
     ∙ ap (λ ls. comma ∷ token (Token.string (codes "objects")) ∷ colon ∷ token Token.begin_array ∷ ls) (
     lines_lexed (map object_text_of starts) (starts_json starts) last (starts_written starts ok)

@@ -14,18 +14,18 @@ use Rattle.spelling.proofs.DistinctTexts.{objects_differ}
 use Rattle.lang.specs.Reading.{reading, value_of}
 use Rattle.lang.proofs.FaultlessBatch.{faultless_is_batch}
 use Rattle.carry.specs.Carried.{first_unfit}
-use Rattle.carry.specs.Joined.{Named, added, first_clash, name_of, starts_into, value_of as start_value}
+use Rattle.carry.specs.Joined.{Named, added, first_clash, name_of, starts_into, value_of as start_value, version_into}
 use Rattle.carry.specs.Transactions.{joined_text}
-use Rattle.carry_laws.specs.Carrying.{object_names}
+use Rattle.carry_laws.specs.Carrying.{IsCarriedVersion, object_names}
 use Rattle.carry_laws.specs.Joined.{spelled_starts, starts_data}
-use Rattle.carry_laws.specs.Laws.{IsNextWith, JoinedReadLaw, MayBeJoined}
+use Rattle.carry_laws.specs.Laws.{IsNextWith, JoinedReadLaw, MayBeJoined, text_into}
 use Rattle.merging.specs.Renumbered.{number_in}
 use Rattle.carry_laws.proofs.Among.{Apart}
 use Rattle.carry_laws.proofs.CarriedEnd.{of_reading}
 use Rattle.merging.proofs.Growing.{Begins, begins_none, blocks_longer}
-use Rattle.rules.specs.declared.limits.TheConstants.{LAST_VERSION}
-use Rattle.carry_laws.proofs.JoinedDocument.{Read, few_starts, joined_of, joined_reads, next_of, parts_met, starts_with}
-use Rattle.carry_laws.proofs.JoinedLaws.{end_is_named, starts_are_named}
+use Rattle.rules.specs.Limits.{limits_of}
+use Rattle.carry_laws.proofs.JoinedDocument.{Read, declared, few_starts, joined_of, joined_reads, next_of, parts_met, starts_with}
+use Rattle.carry_laws.proofs.JoinedLaws.{end_is_named, into_known, starts_are_named}
 use Rattle.carry_laws.proofs.JoinedReads.{joined_value}
 use Rattle.carry_laws.proofs.JoinedSetting.{joined_differ, joined_names}
 use Rattle.carry_laws.proofs.JoinedSpelled.{starts_few, starts_later, starts_names}
@@ -57,16 +57,28 @@ reasons_sent old new = record {
   sent = λ text a b same here there. ap (number_of text) (sym same);
 }
 
-module _ (first : Named) (d : Data) (none : first_fault (placed d) ≡ None)
-    (size : length (document_in d).texts.objects ≡ length (document_in d).start)
-    (fit : first_unfit 0 0 (map start_value (starts_with first d)) ≡ None) (apart : AllByRecursion IsApartStart (starts_with first d))
-    (clash : first_clash 0 (document_in d).start (starts_with first d) ≡ None) (read : Read first d size clash) where
+module _ (version : ℕ) (carried : IsCarriedVersion version) (first : Named) (d : Data) (later : version_in d ≤ version)
+    (none : first_fault (placed d) ≡ None) (size : length (document_in d).texts.objects ≡ length (document_in d).start)
+    (fit : first_unfit version 0 0 (map start_value (starts_with first d)) ≡ None)
+    (apart : AllByRecursion IsApartStart (starts_with first d))
+    (clash : first_clash 0 (document_in d).start (starts_with first d) ≡ None)
+    (read : Read version carried first d later size clash) where
+  -- the version that is read of it
+  abbrev there : ℕ
+  there = version_in (joined_of version first d)
+
+  carried_there : IsCarriedVersion there
+  carried_there = subst IsCarriedVersion (declared version carried first d) carried
+
+  fit_there : first_unfit there 0 0 (map start_value (starts_with first d)) ≡ None
+  fit_there = subst (λ v. first_unfit v 0 0 (map start_value (starts_with first d)) ≡ None) (declared version carried first d) fit
+
   -- what the next document numbers, and what the document with the starts numbers
   next_items : Numbers
   next_items = (blocks_of (setting_in d) (starts_of (version_in d) no_numbers (objects_in d)).1 (transactions_in d)).1
 
   joined_items : Numbers
-  joined_items = (blocks_of (setting_in (joined_of first d)) (spelled_starts (starts_with first d)).1 (transactions_in d)).1
+  joined_items = (blocks_of (setting_in (joined_of version first d)) (spelled_starts there (starts_with first d)).1 (transactions_in d)).1
 
   -- the next document numbers few items
   next_few : length next_items.items ≤ 4294967295
@@ -84,41 +96,44 @@ module _ (first : Named) (d : Data) (none : first_fault (placed d) ≡ None)
   joined_few : length joined_items.items < 4294967295
   unfolding joined_items document_in parts_in
   joined_few =
-      let starts = starts_few (starts_with first d) fit apart in
-      let blocks = (blocks_longer (setting_in (joined_of first d)) (spelled_starts (starts_with first d)).1 (transactions_in d)).few in
-      let batch = faultless_is_batch (joined_of first d) read.faultless in
+      let starts = starts_few there carried_there (starts_with first d) fit_there apart in
+      let before = (spelled_starts there (starts_with first d)).1 in
+      let blocks = (blocks_longer (setting_in (joined_of version first d)) before (transactions_in d)).few in
+      let batch = faultless_is_batch (joined_of version first d) read.faultless in
       let operations = batch.few_operations in
       let nodes = batch.few_nodes in
       omega (arith, starts, blocks, operations, nodes)
 
   -- the one is the other with these starts
-  is_next : IsNextWith (starts_with first d) (document_in d) (number_in joined_items.items next_items.items)
-      (document_in (joined_of first d))
+  is_next : IsNextWith version (starts_with first d) (document_in d) (number_in joined_items.items next_items.items)
+      (document_in (joined_of version first d))
   unfolding next_items joined_items document_in parts_in
   is_next =
       let starts = starts_with first d in
       let ds = transactions_in d in
       let a = (starts_of (version_in d) no_numbers (objects_in d)).1 in
-      let b = (spelled_starts starts).1 in
+      let b = (spelled_starts there starts).1 in
       let old = next_items in
       let new = joined_items in
       let same = read.same b in
-      let there : Begins (blocks_of (setting_in d) b ds).1 new = subst (λ (p : _ × Numbers). Begins p.1 new) same (begins_none new) in
+      let begins : Begins (blocks_of (setting_in d) b ds).1 new = subst (λ (p : _ × Numbers). Begins p.1 new) same (begins_none new) in
       let none_before = starts_reasons (version_in d) no_numbers (objects_in d) in
-      let none_there = starts_reasons LAST_VERSION no_numbers (starts_data starts) in
+      let none_there = starts_reasons there no_numbers (starts_data starts) in
       let again = blocks_again (number_in new.items old.items) (λ reason. reason) Any Same old new (items_sent old.items new.items next_few)
-      (reasons_sent old.reasons new.reasons) (setting_in d) a b ds (tt, none_before ∙ sym none_there) (begins_none old) there in
+      (reasons_sent old.reasons new.reasons) (setting_in d) a b ds (tt, none_before ∙ sym none_there) (begins_none old) begins in
       let few = joined_few in
-      let grown = (blocks_longer (setting_in (joined_of first d)) b ds).begins in
+      let grown = (blocks_longer (setting_in (joined_of version first d)) b ds).begins in
       record {
+        is_of = sym (declared version carried first d);
         named = starts_names starts;
         places = (
           map name_of (added first (document_in d).texts.objects 0 first.values),
           starts_names starts ∙ joined_names first (next_of d) size,
         );
-        objects = starts_later starts fit apart (document_in (joined_of first d)).texts grown.items (omega (arith, few));
+        objects = starts_later there carried_there starts fit_there apart (document_in (joined_of version first d)).texts grown.items
+            (omega (arith, few));
         transactions = ap (λ p. p.0) same ∙ again.0;
-        have_texts = (faultless_is_batch (joined_of first d) read.faultless).named_transactions;
+        have_texts = (faultless_is_batch (joined_of version first d) read.faultless).named_transactions;
         item_texts = λ i below. number_back (get_or old.items i []) new.items few below;
         reason_texts = ap (λ p. p.1.reasons) same ∙ sym again.1.1;
       }
@@ -139,34 +154,40 @@ first_apart bytes document reads =
     subst Apart (sym (names_from document.texts 0 (final_state document.start document.transactions) (omega (arith, size)))) differ
 
 -- the same of the value of the next document
-joined_next : (first next : List ℕ) (document : Document) (d : Data) → reading first ≡ Ok document → value_of next ≡ Some d
-    → first_fault (placed d) ≡ None → MayBeJoined next (document_in d).start (starts_with (ends_of document) d)
-    → (joined : Document) × (items : ℕ → ℕ) × (reading (joined_text (starts_with (ends_of document) d) next) ≡ Ok joined)
-    × IsNextWith (starts_with (ends_of document) d) (document_in d) items joined
-joined_next first next document d reads value none may =
+joined_next : (version : ℕ) → IsCarriedVersion version → (first next : List ℕ) (document : Document) (d : Data)
+    → reading first ≡ Ok document → value_of next ≡ Some d → version_in d ≤ version → first_fault (placed d) ≡ None
+    → MayBeJoined version next (document_in d).start (starts_with (ends_of document) d)
+    → (joined : Document) × (items : ℕ → ℕ) × (reading (joined_text version (starts_with (ends_of document) d) next) ≡ Ok joined)
+    × IsNextWith version (starts_with (ends_of document) d) (document_in d) items joined
+joined_next version carried first next document d reads value later none may =
     let ends = ends_of document in
     let starts = starts_with ends d in
-    let j = joined_of ends d in
+    let j = joined_of version ends d in
     let one = end_is_named first document reads in
     let other = starts_are_named d none in
-    let ok = joined_can_start ends (next_of d) one other may.fit in
+    let ok = joined_can_start version ends (next_of d) one other may.fit in
     let apart = joined_apart ends (next_of d) one other in
     let differ = joined_differ ends (next_of d) other.size
     (distinct_apart (document_in d).texts.objects (objects_differ d none)) (first_apart first document reads) in
-    let read = joined_reads ends d other.size may.one_kind (parts_met d none) may.few may.fit ok apart differ in
-    let text = joined_text starts next in (
+    let read = joined_reads version carried ends d later other.size may.one_kind (parts_met d none) may.few may.fit ok apart differ in
+    let text = joined_text version starts next in
+    let short = subst (λ v. length text ≤ (limits_of v).bytes) (declared version carried ends d) may.short in (
       document_in j,
-      number_in (joined_items ends d none other.size may.fit apart may.one_kind read).items
-          (next_items ends d none other.size may.fit apart may.one_kind read).items,
-      reads_as text j (document_in j) may.short
-          (joined_value starts next (transactions_in d) ok (next_transactions next d value) may.utf8) read.faultless refl,
-      is_next ends d none other.size may.fit apart may.one_kind read,
+      number_in (joined_items version carried ends d later none other.size may.fit apart may.one_kind read).items
+          (next_items version carried ends d later none other.size may.fit apart may.one_kind read).items,
+      reads_as text j (document_in j) short
+          (joined_value version carried.1 starts next (transactions_in d) ok (next_transactions next d value) may.utf8) read.faultless refl,
+      is_next version carried ends d later none other.size may.fit apart may.one_kind read,
     )
 
 pub joined_is_next : JoinedReadLaw
+unfolding document_in
 joined_is_next first next document next_document reads next_reads may =
     let source = of_reading next next_document next_reads in
-    subst (λ (x : Document). MayBeJoined next x.start (starts_into document x)
-    → (joined : Document) × (items : ℕ → ℕ) × (reading (joined_text (starts_into document x) next) ≡ Ok joined)
-    × IsNextWith (starts_into document x) x items joined) source.is
-    (joined_next first next document source.value reads source.reads source.faultless) may
+    let known = into_known first next document next_document reads next_reads in
+    subst (λ (x : Document). IsCarriedVersion (version_into document x) → x.version ≤ version_into document x
+    → MayBeJoined (version_into document x) next x.start (starts_into document x)
+    → (joined : Document) × (items : ℕ → ℕ) × (reading (text_into document x next) ≡ Ok joined)
+    × IsNextWith (version_into document x) (starts_into document x) x items joined) source.is
+    (λ carried later. joined_next (version_into document (document_in source.value)) carried first next document source.value reads
+    source.reads later source.faultless) known.0 known.1 may

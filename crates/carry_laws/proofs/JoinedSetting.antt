@@ -1,10 +1,10 @@
 -- The objects of a next document with carried ones: their names are apart, and they have those of the next at their places.
 use Rattle.std.proofs.Common.{◌≡◌, ◌≢◌, ℕ, zero, suc, ◌+◌, ◌≤◌, ◌&&◌, ◌||◌, inl, inr, Bool, true, false, cond, List, [], ◌∷◌, ◌++◌}
 use Rattle.std.proofs.Common.{length, map, get_or, Option, None, Some, refl, sym, ap, subst, ◌∙◌, arith, length-append}
-use Rattle.std.specs.Prelude.{codes, nat_lt, option_and_then, option_map, slice_get, unwrap_or}
+use Rattle.std.specs.Prelude.{codes, nat_le, nat_lt, option_and_then, option_map, slice_get, unwrap_or}
 use Rattle.std.specs.List.{AllByRecursion, position_or_len}
 use Rattle.std.specs.Str.{bytes_eq}
-use Rattle.std.proofs.lemmas.Bool.{lt-ltb, ltb-true}
+use Rattle.std.proofs.lemmas.Bool.{le-leb, leb-false, leb-true, lt-ltb, ltb-true}
 use Rattle.std.proofs.lemmas.Slice.Eq.{bytes_eq-Decides}
 use Rattle.objects.specs.Entries.{State, kinds}
 use Rattle.objects.specs.Objects.{kind_of_value}
@@ -25,7 +25,8 @@ use Rattle.spelling.proofs.TableLemmas.{listed_text}
 use Rattle.lang.proofs.Bound.{found, within}
 use Rattle.carry.specs.Joined.{Named, StartOf, added, are_of_one_kind, ended, first_clash, joined, name_of, own, start_at, start_of}
 use Rattle.carry.specs.Joined.{value_of}
-use Rattle.carry_laws.specs.Carrying.{object_names}
+use Rattle.carry.specs.declared.document.TheConstants.{FIRST_CARRIED}
+use Rattle.carry_laws.specs.Carrying.{IsCarriedVersion, object_names}
 use Rattle.carry_laws.specs.Joined.{starts_data}
 use Rattle.carry_laws.proofs.Among.{Among, Apart, each_of, of_each}
 use Rattle.carry_laws.proofs.CarriedFaultless.{kind_back, kind_is}
@@ -33,6 +34,7 @@ use Rattle.carry_laws.proofs.NamedTexts.{names_from}
 use Rattle.merging.proofs.NumberedTexts.{first_listed, listed_at, listed_kept}
 use Rattle.carry_laws.proofs.LimitsSince.{limits_since}
 use Rattle.carry_laws.proofs.OtherSetting.{Declares}
+use Rattle.carry_laws.proofs.Versions.{each_version}
 
 -- ---- names
 
@@ -154,18 +156,20 @@ abbrev pub kind_of_start : StartOf → Kind
 kind_of_start start = kind_of_value start.value
 
 -- the kinds that the starts declare
-pub starts_kinds : (starts : List StartOf) → kinds_of LAST_VERSION (starts_data starts) ≡ map kind_of_start starts
-starts_kinds [] = refl
-starts_kinds (start ∷ starts) =
-    let one = kind_is start.names start.place start.value in
-    let rest = starts_kinds starts in
+pub starts_kinds : (version : ℕ) → IsCarriedVersion version → (starts : List StartOf)
+    → kinds_of version (starts_data starts) ≡ map kind_of_start starts
+starts_kinds version carried [] = refl
+starts_kinds version carried (start ∷ starts) =
+    let one = kind_is version carried start.names start.place start.value in
+    let rest = starts_kinds version carried starts in
     λ i. one i ∷ rest i
 
 -- values that are of one kind by its word
 one_kind : (v w : Value) → are_of_one_kind v w ≡ true → kind_of_value w ≡ kind_of_value v
 one_kind v w same =
     let words = (bytes_eq-Decides (kind_text (kind_of_value v)) (kind_text (kind_of_value w))).0 same in
-    let back = sym (kind_back (kind_of_value w)) ∙ ap (kind_of_text LAST_VERSION) (sym words) ∙ kind_back (kind_of_value v) in
+    let named = kind_back LAST_VERSION (omega arith, omega arith) in
+    let back = sym (named (kind_of_value w)) ∙ ap (kind_of_text LAST_VERSION) (sym words) ∙ named (kind_of_value v) in
     cc
 
 module _ (first next : Named) where
@@ -218,12 +222,12 @@ place_kept name table more listed =
 abbrev queue_verb : Bool → Bool → Bool → Option Verb
 queue_verb a b c = cond (a && true) (Some (OfItem Enq)) (cond (b && true) (Some (Alone Deq)) (cond c (Some (Alone Length)) None))
 
--- the verbs of a version are those of the last
-verbs_since : (version : ℕ) → 1 ≤ version → version ≤ LAST_VERSION → (k : Kind) (word : List ℕ) (v : Verb)
-    → verb_of_text version k word ≡ Some v → verb_of_text LAST_VERSION k word ≡ Some v
+-- the verbs of a version are those of the first that objects are carried into
+verbs_before : (version : ℕ) → 1 ≤ version → version ≤ FIRST_CARRIED → (k : Kind) (word : List ℕ) (v : Verb)
+    → verb_of_text version k word ≡ Some v → verb_of_text FIRST_CARRIED k word ≡ Some v
 unfolding verb_of_text
-verbs_since zero above below k word v is = absurd (omega arith)
-verbs_since (suc zero) above below kind.Queue word v is =
+verbs_before zero above below k word v is = absurd (omega arith)
+verbs_before (suc zero) above below kind.Queue word v is =
     by (bytes_eq (codes "enq") word) (bytes_eq (codes "deq") word) (bytes_eq (codes "length") word) is
   where
     by : (a b c : Bool) → queue_verb a b (c && false) ≡ Some v → queue_verb a b (c && true) ≡ Some v
@@ -231,31 +235,60 @@ verbs_since (suc zero) above below kind.Queue word v is =
     by false true c h = h
     by false false true h = cc
     by false false false h = cc
-verbs_since (suc zero) above below kind.Account word v is = is
-verbs_since (suc zero) above below kind.Counter word v is = is
-verbs_since (suc zero) above below kind.Set word v is = is
-verbs_since (suc zero) above below kind.Directory word v is = is
-verbs_since (suc zero) above below kind.Max word v is = is
-verbs_since (suc (suc zero)) above below k word v is = since_two k is
+verbs_before (suc zero) above below kind.Account word v is = is
+verbs_before (suc zero) above below kind.Counter word v is = is
+verbs_before (suc zero) above below kind.Set word v is = is
+verbs_before (suc zero) above below kind.Directory word v is = is
+verbs_before (suc zero) above below kind.Max word v is = is
+verbs_before (suc (suc zero)) above below k word v is = since_two k is
   where
-    since_two : (k : Kind) → verb_of_text 2 k word ≡ Some v → verb_of_text LAST_VERSION k word ≡ Some v
+    since_two : (k : Kind) → verb_of_text 2 k word ≡ Some v → verb_of_text FIRST_CARRIED k word ≡ Some v
     since_two kind.Account h = h
     since_two kind.Counter h = h
     since_two kind.Set h = h
     since_two kind.Queue h = h
     since_two kind.Directory h = h
     since_two kind.Max h = h
-verbs_since (suc (suc (suc zero))) above below k word v is = since_three k is
+verbs_before (suc (suc (suc zero))) above below k word v is = since_three k is
   where
-    since_three : (k : Kind) → verb_of_text 3 k word ≡ Some v → verb_of_text LAST_VERSION k word ≡ Some v
+    since_three : (k : Kind) → verb_of_text 3 k word ≡ Some v → verb_of_text FIRST_CARRIED k word ≡ Some v
     since_three kind.Account h = h
     since_three kind.Counter h = h
     since_three kind.Set h = h
     since_three kind.Queue h = h
     since_three kind.Directory h = h
     since_three kind.Max h = h
-verbs_since (suc (suc (suc (suc zero)))) above below k word v is = is
-verbs_since (suc (suc (suc (suc (suc n))))) above below k word v is = absurd (omega arith)
+verbs_before (suc (suc (suc (suc zero)))) above below k word v is = is
+verbs_before (suc (suc (suc (suc (suc n))))) above below k word v is = absurd (omega arith)
+
+-- these are those of the last
+last_verbs : (k : Kind) (word : List ℕ) → verb_of_text LAST_VERSION k word ≡ verb_of_text FIRST_CARRIED k word
+unfolding verb_of_text
+last_verbs kind.Account word = refl
+last_verbs kind.Counter word = refl
+last_verbs kind.Set word = refl
+last_verbs kind.Queue word = refl
+last_verbs kind.Directory word = refl
+last_verbs kind.Max word = refl
+
+-- and so of each that objects are carried into
+carried_verbs : (version : ℕ) → IsCarriedVersion version → (k : Kind) (word : List ℕ)
+    → verb_of_text version k word ≡ verb_of_text FIRST_CARRIED k word
+carried_verbs = each_version (λ v. (k : Kind) (word : List ℕ) → verb_of_text v k word ≡ verb_of_text FIRST_CARRIED k word)
+    (λ k word. refl) last_verbs
+
+-- so each version has the verbs of those before
+verbs_later : (old new : ℕ) → 1 ≤ old → old ≤ new → IsCarriedVersion new → (k : Kind) (word : List ℕ) (v : Verb)
+    → verb_of_text old k word ≡ Some v → verb_of_text new k word ≡ Some v
+verbs_later old new above later carried k word v is = by (nat_le old FIRST_CARRIED) refl
+  where
+    by : (b : Bool) → nat_le old FIRST_CARRIED ≡ b → verb_of_text new k word ≡ Some v
+    by true few = carried_verbs new carried k word ∙ verbs_before old above (leb-true old FIRST_CARRIED few) k word v is
+    by false many =
+        let known = carried.1 in
+        let first : IsCarriedVersion old =
+        (omega (arith, leb-false old FIRST_CARRIED many), omega (arith, known, later)) in
+        carried_verbs new carried k word ∙ sym (carried_verbs old first k word) ∙ is
 
 -- what is below a limit is below one that is no less
 more_below : (n few most : ℕ) → few ≤ most → nat_lt n few ≡ true → nat_lt n most ≡ true
@@ -274,14 +307,15 @@ kind_kept name names more ks others k is = by (place_of name names) refl is
         let listed = (listed_text name names n here).1 in
         ap (option_and_then (slice_get (ks ++ others))) (place_kept name names more listed ∙ here) ∙ get_first ks others n k there
 
--- a setting with more objects at its end, and of the last version
-pub declares_more : (old : Setting) (more : Table) (others : List Kind) → 1 ≤ old.version → old.version ≤ LAST_VERSION
-    → Declares old (record { version = LAST_VERSION; names = old.names ++ more; kinds = old.kinds ++ others })
-declares_more old more others above below =
-    let most = limits_since old.version below in
+-- a setting with more objects at its end, and of a later version
+pub declares_more : (old : Setting) (version : ℕ) (more : Table) (others : List Kind) → 1 ≤ old.version → old.version ≤ version
+    → IsCarriedVersion version → Declares old (record { version = version; names = old.names ++ more; kinds = old.kinds ++ others })
+declares_more old version more others above later carried =
+    let most = limits_since old.version version later in
+    let first = carried.0 in
     record {
-      verbs = verbs_since old.version above below;
-      reasons = λ known. refl;
+      verbs = verbs_later old.version version above later carried;
+      reasons = λ known. le-leb 3 version (omega (arith, first));
       operations = λ n under. more_below n _ _ most.operations under;
       nodes = λ n under. more_below n _ _ most.nodes under;
       listed = λ name listed. listed_kept name old.names more listed;

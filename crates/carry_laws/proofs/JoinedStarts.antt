@@ -132,17 +132,17 @@ pub joined_apart : (first next : Named) → AreAllNamed first.texts first.values
     → AllByRecursion IsApartStart (joined first next)
 joined_apart first next one other = each_joined IsApartStart first next (start_apart first one) (start_apart next other)
 
-can_start : (place entries : ℕ) (starts : List StartOf) → first_unfit place entries (map value_of starts) ≡ None
+can_start : (version place entries : ℕ) (starts : List StartOf) → first_unfit version place entries (map value_of starts) ≡ None
     → AllByRecursion IsNamedStart starts → AllByRecursion CanStart starts
-can_start place entries [] fit named = tt
-can_start place entries (start ∷ starts) fit named =
-    let fits = first_fits place entries start.value (map value_of starts) fit in (
+can_start version place entries [] fit named = tt
+can_start version place entries (start ∷ starts) fit named =
+    let fits = first_fits version place entries start.value (map value_of starts) fit in (
       (named.0.0, writable start.names start.value fits.small named.0.1),
-      can_start (place + 1) (entries + entries_in start.value) starts fits.rest named.1,
+      can_start version (place + 1) (entries + entries_in start.value) starts fits.rest named.1,
     )
 
-pub joined_can_start : (first next : Named) → AreAllNamed first.texts first.values → AreAllNamed next.texts next.values
-    → first_unfit 0 0 (map value_of (joined first next)) ≡ None → AllByRecursion CanStart (joined first next)
-joined_can_start first next one other fit =
-    can_start 0 0 (joined first next) fit
+pub joined_can_start : (version : ℕ) (first next : Named) → AreAllNamed first.texts first.values → AreAllNamed next.texts next.values
+    → first_unfit version 0 0 (map value_of (joined first next)) ≡ None → AllByRecursion CanStart (joined first next)
+joined_can_start version first next one other fit =
+    can_start version 0 0 (joined first next) fit
     (each_joined IsNamedStart first next (start_named first one) (start_named next other))

@@ -2,6 +2,7 @@ pub mod Lexemes
 pub mod Written
 pub mod NamesPlain
 pub mod Listed
+pub mod Versions
 pub mod CarriedJson
 pub mod CarriedUtf8
 pub mod CarriedReads

@@ -10,7 +10,6 @@ use Rattle.rules.specs.declared.rule.CountRule.TheVariants.{Entries}
 use Rattle.rules.specs.declared.rule.Rule.{Rule}
 use Rattle.spelling.specs.Demand.{Demand, and_then, broken_at, check, holds, limited, no_counts, one_more_start}
 use Rattle.rules.specs.Limits.{limits_of}
-use Rattle.rules.specs.declared.limits.TheConstants.{LAST_VERSION}
 use Rattle.spelling.specs.Scope.{Table, is_listed, with_text}
 
 abbrev type_of : {A : Type 0} → A → Type 0
@@ -20,34 +19,35 @@ type_of {A} a = A
 abbrev pub Counts : Type 0
 Counts = type_of no_counts
 
--- they are met, and count no more entries than this, and nothing else
-pub record Meet (k : ℕ) (ds : List Demand) : Type 0 where
-  pub met : (c : Counts) → c.starts + k ≤ (limits_of LAST_VERSION).entries
+-- they are met in a document of a version, and count no more entries than this, and nothing else
+pub record Meet (version k : ℕ) (ds : List Demand) : Type 0 where
+  pub met : (c : Counts) → c.starts + k ≤ (limits_of version).entries
       → (next : Counts) × (check c ds ≡ Ok next) × (next.starts ≤ c.starts + k) × (next.operations ≤ c.operations) × (next.nodes ≤ c.nodes)
 
-pub meet_none : Meet 0 []
-meet_none = record { met = λ c few. (c, refl, omega arith, omega arith, omega arith) }
+pub meet_none : (version : ℕ) → Meet version 0 []
+meet_none version = record { met = λ c few. (c, refl, omega arith, omega arith, omega arith) }
 
-pub meet_test : (k : ℕ) (b : Bool) (rule : Rule) (ds : List Demand) → b ≡ true → Meet k ds → Meet k (holds b rule ∷ ds)
-meet_test k b rule ds is rest = record {
+pub meet_test : (version k : ℕ) (b : Bool) (rule : Rule) (ds : List Demand) → b ≡ true → Meet version k ds
+    → Meet version k (holds b rule ∷ ds)
+meet_test version k b rule ds is rest = record {
   met = λ c few. let later = rest.met c few in
       let here = ap (λ t. and_then (cond t (Ok c) (Err (broken_at rule c))) (λ next. check next ds)) is in
       (later.0, here ∙ later.1, later.2, later.3, later.4);
 }
 
-pub meet_start : (k : ℕ) (ds : List Demand) → Meet k ds → Meet (suc k) (one_more_start LAST_VERSION ∷ ds)
-meet_start k ds rest = record {
+pub meet_start : (version k : ℕ) (ds : List Demand) → Meet version k ds → Meet version (suc k) (one_more_start version ∷ ds)
+meet_start version k ds rest = record {
   met = λ c few.
       let counted : Counts = record c { starts = c.starts + 1 } in
       let later = rest.met counted (omega arith) in
       let bound = later.2 in
-      let within : c.starts < (limits_of LAST_VERSION).entries = omega arith in
-      let here = ap (λ t. and_then (limited t (Entries LAST_VERSION) c counted) (λ next. check next ds)) (lt-ltb _ _ within) in
+      let within : c.starts < (limits_of version).entries = omega arith in
+      let here = ap (λ t. and_then (limited t (Entries version) c counted) (λ next. check next ds)) (lt-ltb _ _ within) in
       (later.0, here ∙ later.1, omega arith, later.3, later.4);
 }
 
-pub meet_fewer : (k l : ℕ) (ds : List Demand) → k ≤ l → Meet k ds → Meet l ds
-meet_fewer k l ds le meets = record {
+pub meet_fewer : (version k l : ℕ) (ds : List Demand) → k ≤ l → Meet version k ds → Meet version l ds
+meet_fewer version k l ds le meets = record {
   met = λ c few. let here = meets.met c (omega arith) in let bound = here.2 in (here.0, here.1, omega arith, here.3, here.4);
 }
 

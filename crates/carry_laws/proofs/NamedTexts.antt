@@ -77,7 +77,7 @@ has_text texts (v ∷ values) x named (inl has) = value_has_text texts v x named
 has_text texts (v ∷ values) x named (inr has) = has_text texts values x named.1 has
 
 pub named_objects_fit : NamedLaw
-named_objects_fit texts values objects items size named few fit =
+named_objects_fit version texts values objects items size named few fit =
     let same : object_names (names_of texts) 0 values ≡ texts.objects = names_from texts 0 values (omega arith) in
     let apart = distinct_apart texts.items items.1 in
     record {

@@ -18,14 +18,14 @@ use Rattle.words.specs.Words.{kind_text}
 use Rattle.batch.specs.Limits.{all_entries_in, entries_in}
 use Rattle.batch.specs.Names.{is_name}
 use Rattle.meaning.specs.declared.limits.TheConstants.{MAX_START}
-use Rattle.lang.specs.declared.document.TheConstants.{MAX_BYTES}
 use Rattle.rules.specs.Limits.{limits_of}
-use Rattle.rules.specs.declared.limits.TheConstants.{LAST_VERSION}
 use Rattle.carry.specs.Carried.{carried_text, document_head, first_unfit, item_text, list_text, object_text, object_texts, pair_text}
 use Rattle.carry.specs.Carried.{quoted, start_text}
+use Rattle.carry_laws.specs.Carrying.{IsCarriedVersion}
 use Rattle.carry_laws.proofs.Carriable.{first_fits}
 use Rattle.carry_laws.proofs.ItemsOf.{members_few}
 use Rattle.carry_laws.proofs.Listed.{AreNamedBoth, AreWritable, IsNamed, IsWritable}
+use Rattle.carry_laws.proofs.Versions.{enough_bytes}
 
 -- the bytes of all the texts, with two more for each
 abbrev total : List (List ℕ) → ℕ
@@ -124,30 +124,35 @@ module _ (names : Names) where
   objects_length n [] ok = omega arith
   objects_length n (v ∷ values) ok = omega (arith, objects_length (n + 1) values ok.2, object_length n v ok.0 ok.1)
 
-  pub all_few : (n entries : ℕ) (values : State) → entries ≤ (limits_of LAST_VERSION).entries → first_unfit n entries values ≡ None
-      → entries + all_entries_in values ≤ (limits_of LAST_VERSION).entries
-  all_few n entries [] few fit = omega arith
-  all_few n entries (v ∷ values) few fit =
-      let fits = first_fits n entries v values fit in
-      omega (arith, all_few (n + 1) (entries + entries_in v) values fits.few fits.rest)
+-- so many entries may start a document of the version
+pub all_few : (version n entries : ℕ) (values : State) → entries ≤ (limits_of version).entries → first_unfit version n entries values ≡ None
+    → entries + all_entries_in values ≤ (limits_of version).entries
+all_few version n entries [] few fit = omega (arith, few)
+all_few version n entries (v ∷ values) few fit =
+    let fits = first_fits version n entries v values fit in
+    omega (arith, all_few version (n + 1) (entries + entries_in v) values fits.few fits.rest)
 
-  pub carried_length : (values : State) → length values ≤ (limits_of LAST_VERSION).objects → first_unfit 0 0 values ≡ None
-      → AreWritable names 0 values
-      → length (carried_text names values) ≤ MAX_BYTES
-  carried_length values few fit ok =
-      let first = codes "{\"ordtx\": " in
-      let version = decimal LAST_VERSION in
-      let objects = joined (codes ",\n") (object_texts names 0 values) in
-      let tail = codes "\n],\n\"transactions\": [\n]}\n" in
-      let two : length (codes ",\n") ≤ 2 = omega arith in
-      omega (
-        arith,
-        joined_length (codes ",\n") (object_texts names 0 values) two,
-        objects_length 0 values ok,
-        all_few 0 0 values (omega arith) fit,
-        length-append (document_head ++ objects) tail,
-        length-append document_head objects,
-        length-append (first ++ version) (codes ",\n\"objects\": [\n"),
-        length-append first version,
-        number_length LAST_VERSION (omega arith),
-      )
+-- the text is not longer than a document of the version may be
+pub carried_length : (version : ℕ) → IsCarriedVersion version → (names : Names) (values : State)
+    → length values ≤ (limits_of version).objects → first_unfit version 0 0 values ≡ None → AreWritable names 0 values
+    → length (carried_text version names values) ≤ (limits_of version).bytes
+carried_length version carried names values few fit ok =
+    let first = codes "{\"ordtx\": " in
+    let digits = decimal version in
+    let objects = joined (codes ",\n") (object_texts names 0 values) in
+    let tail = codes "\n],\n\"transactions\": [\n]}\n" in
+    let two : length (codes ",\n") ≤ 2 = omega arith in
+    let last = carried.1 in
+    omega (
+      arith,
+      few,
+      enough_bytes version carried,
+      joined_length (codes ",\n") (object_texts names 0 values) two,
+      objects_length names 0 values ok,
+      all_few version 0 0 values (omega arith) fit,
+      length-append (document_head version ++ objects) tail,
+      length-append (document_head version) objects,
+      length-append (first ++ digits) (codes ",\n\"objects\": [\n"),
+      length-append first digits,
+      number_length version (omega (arith, last)),
+    )

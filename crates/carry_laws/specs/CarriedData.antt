@@ -10,7 +10,6 @@ use Rattle.objects.specs.declared.value.Value.{Value}
 use Rattle.objects.specs.declared.value.Value.TheVariants as value
 use Rattle.meaning.specs.Words.{Names, members}
 use Rattle.words.specs.Words.{kind_text}
-use Rattle.rules.specs.declared.limits.TheConstants.{LAST_VERSION}
 
 abbrev pub items_data : Names → List Item → Items
 items_data names [] = no_items
@@ -39,6 +38,6 @@ abbrev pub objects_data : Names → ℕ → State → Items
 objects_data names n [] = no_items
 objects_data names n (v ∷ values) = item (object_data names n v) (objects_data names (n + 1) values)
 
-abbrev pub carried_data : Names → State → Data
-carried_data names values = object (member (codes "objects") (array (objects_data names 0 values))
-    (member (codes "ordtx") (number (unsigned LAST_VERSION)) (member (codes "transactions") (array no_items) no_members)))
+abbrev pub carried_data : ℕ → Names → State → Data
+carried_data version names values = object (member (codes "objects") (array (objects_data names 0 values))
+    (member (codes "ordtx") (number (unsigned version)) (member (codes "transactions") (array no_items) no_members)))

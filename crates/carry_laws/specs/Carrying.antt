@@ -11,8 +11,13 @@ use Rattle.objects.specs.declared.value.Value.TheVariants as value
 use Rattle.meaning.specs.Words.{Names}
 use Rattle.batch.specs.Names.{AreNames, is_name}
 use Rattle.carry.specs.Carried.{first_unfit}
+use Rattle.carry.specs.declared.document.TheConstants.{FIRST_CARRIED}
 use Rattle.rules.specs.Limits.{limits_of}
 use Rattle.rules.specs.declared.limits.TheConstants.{LAST_VERSION}
+
+-- a version of documents that objects are carried into
+abbrev pub IsCarriedVersion : ℕ → Type 0
+IsCarriedVersion version = (FIRST_CARRIED ≤ version) × (version ≤ LAST_VERSION)
 
 -- a member, an item of the queue, or a key or what it is bound to
 abbrev pub HasItem : Value → Item → Type 0
@@ -30,10 +35,10 @@ abbrev pub object_names : Names → ℕ → State → List (List ℕ)
 object_names names n [] = []
 object_names names n (v ∷ values) = names.object n ∷ object_names names (n + 1) values
 
--- Objects that may start a document: few, none of them unfit, and what they name has a name of its own.
-pub record CanBeCarried (names : Names) (values : State) : Type 0 where
-  pub few : length values ≤ (limits_of LAST_VERSION).objects
-  pub fit : first_unfit 0 0 values ≡ None
+-- Objects that may start a document of a version: few, none of them unfit, and what they name has a name of its own.
+pub record CanBeCarried (version : ℕ) (names : Names) (values : State) : Type 0 where
+  pub few : length values ≤ (limits_of version).objects
+  pub fit : first_unfit version 0 0 values ≡ None
   pub objects_named : AreNames (object_names names 0 values)
   pub objects_apart : IsDistinct bytes_eq (object_names names 0 values)
   pub items_named : (x : Item) → SomeHasItem values x → is_name (names.item x) ≡ true

@@ -1,7 +1,8 @@
 //! Laws of the document of objects as they are.
 ghost use Rattle.carry_laws.specs.Laws.{CarriedEndLaw, CarriedLaw, JoinedLaw, JoinedReadLaw, JoinedStartsLaw, NamedLaw};
 
-/// What is printed of objects that can be carried over is read as a document that starts with them.
+/// What is printed of objects that can be carried over is read as a document of its version that starts
+/// with them.
 pub fn carried_objects_are_read()
     ensures { CarriedLaw }
 {}
@@ -19,7 +20,7 @@ pub fn carried_ends_are_read()
 {}
 
 /// What is printed of a next document, into which the objects at the end of a first are carried, is the
-/// value of the last version with these starts and the next document's own transactions.
+/// value of the later version of both, with these starts and the next document's own transactions.
 pub fn joined_documents_are_read()
     ensures { JoinedLaw }
 {}

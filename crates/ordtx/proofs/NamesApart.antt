@@ -5,10 +5,9 @@ use Rattle.std.specs.List.{IsDistinct}
 use Rattle.std.specs.Str.{bytes_eq}
 use Rattle.serde_json.specs.Data.{Data}
 use Rattle.faults.specs.Faults.{wrong_outside}
-use Rattle.lang.specs.declared.document.TheConstants.{MAX_BYTES}
 use Rattle.faults.specs.declared.fault.Wrong.TheVariants.{TooMany}
 use Rattle.spelling.proofs.DistinctTexts.{objects_differ}
-use Rattle.lang.specs.Reading.{Document, reading, spelled_by, value_of}
+use Rattle.lang.specs.Reading.{Document, most_bytes, reading, spelled_by, value_of}
 use Rattle.lang.proofs.SpelledLemmas.{spelled_faultless}
 
 abbrev AreApart : Document → Type 0
@@ -27,4 +26,4 @@ apart_of document false (Some d) e = apart_spelled document d e
 
 pub names_apart : (bytes : List ℕ) (document : Document) → reading bytes ≡ Ok document → IsDistinct bytes_eq document.texts.objects
 unfolding reading
-names_apart bytes document e = apart_of document (nat_lt MAX_BYTES (length bytes)) (value_of bytes) e
+names_apart bytes document e = apart_of document (nat_lt (most_bytes (value_of bytes)) (length bytes)) (value_of bytes) e

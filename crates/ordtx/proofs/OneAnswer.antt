@@ -11,8 +11,8 @@ use Rattle.meaning.specs.Running.{all_operations}
 use Rattle.meaning.specs.Texts.{report, plain_report, audit_report, check_text}
 use Rattle.meaning.proofs.Openings.{one_number, one_count}
 use Rattle.batch.specs.Names.{names_of}
-use Rattle.carry.specs.Carried.{carried_text, first_unfit}
-use Rattle.carry.specs.Joined.{StartOf, starts_into}
+use Rattle.carry.specs.Carried.{carried_text, carried_version, first_unfit}
+use Rattle.carry.specs.Joined.{StartOf, starts_into, version_into}
 use Rattle.carry.specs.Transactions.{joined_text}
 use Rattle.carry.specs.declared.document.Misfit.{Misfit}
 use Rattle.faults.specs.declared.fault.Wrong.{Wrong}
@@ -21,7 +21,7 @@ use Rattle.why.proofs.Determined.{determined}
 use Rattle.faults.specs.Faults.{wrong_outside}
 use Rattle.lang.specs.Reading.{Document, reading}
 use Rattle.faults.specs.declared.fault.Fault.{Fault}
-use Rattle.lang.specs.declared.document.TheConstants.{MAX_BYTES}
+use Rattle.rules.specs.Limits.{limits_of}
 use Rattle.ordtx.specs.Answers.{IsReportOf, IsAuditOf, IsPlainReportOf, IsCheckOf, IsFaultOf, IsCarriedOf, IsUnfitOf, IsCarryFaultOf}
 use Rattle.ordtx.specs.Answers.{end_of, unfit_wrong, IsShownOf, IsWhyOf, IsExplainedOf, Refusal, of_first, of_next, of_object, AreRead}
 use Rattle.ordtx.specs.Answers.{IsCarriedIntoOf, IsCarryIntoFaultOf, IsNextFaultOf, IsTooLongInto, IsUnfitInto, name_at}
@@ -98,7 +98,7 @@ one_plain bytes first second a b =
 pub one_carried : OneTextLaw IsCarriedOf
 one_carried bytes first second a b =
     let same : a.document ≡ b.document = documents_alike (reading bytes) a.document b.document a.reads b.reads in
-    a.is ∙ ap (λ e. carried_text (names_of e.texts) (end_of e)) same ∙ sym b.is
+    a.is ∙ ap (λ e. carried_text (carried_version e.version) (names_of e.texts) (end_of e)) same ∙ sym b.is
 
 pub one_check : OneTextLaw IsCheckOf
 one_check bytes first second a b =
@@ -134,11 +134,15 @@ some_alike o x y is also = cc
 none_or_some : {A : Type 0} (o : Option A) (x : A) → o ≡ None → o ≡ Some x → ⊥
 none_or_some o x is also = cc
 
+-- the first object at the end that can't start the document of it
+abbrev unfit_end : Document → Option Misfit
+unfit_end document = first_unfit (carried_version document.version) 0 0 (end_of document)
+
 one_unfit : (bytes : List ℕ) (fault other : Fault) (name second : List ℕ) → IsUnfitOf bytes fault name → IsUnfitOf bytes other second
     → of_object fault name ≡ of_object other second
 one_unfit bytes fault other name second a b =
     let same : b.document ≡ a.document = documents_alike (reading bytes) b.document a.document b.reads a.reads in
-    let found : first_unfit 0 0 (end_of a.document) ≡ Some b.misfit = ap (λ e. first_unfit 0 0 (end_of e)) (sym same) ∙ b.first in
+    let found : unfit_end a.document ≡ Some b.misfit = ap unfit_end (sym same) ∙ b.first in
     let misfit : a.misfit ≡ b.misfit = some_alike _ a.misfit b.misfit a.first found in
     ap₂ of_object (a.is ∙ ap (λ (m : Misfit). wrong_outside (unfit_wrong m.unfit)) misfit ∙ sym b.is)
     (a.named ∙ ap (λ (m : Misfit). (names_of a.document.texts).object m.place) misfit
@@ -158,7 +162,7 @@ carried_faultless bytes text (of_first fault) a b = read_no_fault (reading bytes
 carried_faultless bytes text (of_next fault) a b = b
 carried_faultless bytes text (of_object fault name) a b =
     let same : b.document ≡ a.document = documents_alike (reading bytes) b.document a.document b.reads a.reads in
-    none_or_some (first_unfit 0 0 (end_of b.document)) b.misfit (ap (λ e. first_unfit 0 0 (end_of e)) same ∙ a.fits) b.first
+    none_or_some (unfit_end b.document) b.misfit (ap unfit_end same ∙ a.fits) b.first
 
 -- ---- carrying into a next document
 
@@ -178,11 +182,20 @@ module _ (first next : List ℕ) where
   abbrev starts_at : Pair → List StartOf
   starts_at p = starts_into p.0 p.1
 
+  abbrev version_at : Pair → ℕ
+  version_at p = version_into p.0 p.1
+
   abbrev wrong_at : Pair → Option (Wrong × ℕ)
-  wrong_at p = wrong_start p.1.start (starts_at p)
+  wrong_at p = wrong_start (version_at p) p.1.start (starts_at p)
+
+  abbrev text_at : Pair → List ℕ
+  text_at p = joined_text (version_at p) (starts_at p) next
+
+  abbrev most_at : Pair → ℕ
+  most_at p = (limits_of (version_at p)).bytes
 
   pub one_into : (text other : List ℕ) → IsCarriedIntoOf first next text → IsCarriedIntoOf first next other → text ≡ other
-  one_into text other a b = a.is ∙ ap (λ p. joined_text (starts_at p) next) (both_alike a.both b.both) ∙ sym b.is
+  one_into text other a b = a.is ∙ ap text_at (both_alike a.both b.both) ∙ sym b.is
 
   unfit_and_fits : (fault : Fault) (name : List ℕ) → IsUnfitInto first next fault name → (both : AreRead first next)
       → wrong_at (pair_of both) ≡ None → ⊥
@@ -230,13 +243,13 @@ module _ (first next : List ℕ) where
   one_into_fault (of_object f name) (of_next g) a b = absurd (next_and_unfit g f name b a)
   one_into_fault (of_object f name) (of_object g second) a b = one_unfit_into f g name second a b
 
-  long_or_not : (n : ℕ) → MAX_BYTES < n → n ≤ MAX_BYTES → ⊥
-  long_or_not n long short = omega arith
+  long_or_not : (n most : ℕ) → most < n → n ≤ most → ⊥
+  long_or_not n most long short = omega arith
 
   pub into_faultless : (text : List ℕ) (refusal : Refusal) → IsCarriedIntoOf first next text → ¬ IsCarryIntoFaultOf first next refusal
   into_faultless text (of_first f) a b = first_is_read f a.both.document b a.both.reads
   into_faultless text (of_next f) a (inl b) = next_is_read f a.both.next_document b.refuses a.both.next_reads
   into_faultless text (of_next f) a (inr b) =
-      long_or_not _ b.long (subst (λ t. length t ≤ MAX_BYTES)
-      (a.is ∙ ap (λ p. joined_text (starts_at p) next) (both_alike a.both b.both)) a.short)
+      let short = subst (λ t. length t ≤ most_at (pair_of a.both)) a.is a.short in
+      long_or_not _ _ b.long (subst (λ p. length (text_at p) ≤ most_at p) (both_alike a.both b.both) short)
   into_faultless text (of_object f name) a b = unfit_and_fits f name b a.both a.fits

@@ -10,8 +10,8 @@ use Rattle.meaning.specs.Running.{all_operations}
 use Rattle.meaning.specs.Texts.{report, plain_report, audit_report, check_text, line}
 use Rattle.batch.specs.Names.{names_of}
 use Rattle.lang.specs.Reading.{Document, reading}
-use Rattle.carry.specs.Carried.{carried_text, first_unfit}
-use Rattle.carry.specs.Joined.{StartOf, first_clash, name_of, starts_into, value_of}
+use Rattle.carry.specs.Carried.{carried_text, carried_version, first_unfit}
+use Rattle.carry.specs.Joined.{StartOf, first_clash, name_of, starts_into, value_of, version_into}
 use Rattle.carry.specs.Transactions.{joined_text}
 use Rattle.carry.specs.declared.document.Misfit.{Misfit}
 use Rattle.carry.specs.declared.document.Unfit.{Unfit}
@@ -22,12 +22,10 @@ use Rattle.lang.specs.Found.{IsMistake}
 use Rattle.faults.specs.declared.fault.Wrong.{Wrong}
 use Rattle.faults.specs.declared.fault.Wrong.TheVariants as wrong
 use Rattle.faults.specs.declared.fault.Fault.{Fault}
-use Rattle.lang.specs.declared.document.TheConstants.{MAX_BYTES}
 use Rattle.lang.specs.declared.places.Place.{Place}
 use Rattle.lang.specs.declared.positions.Position.{Position}
 use Rattle.lang.specs.declared.places.Place.TheVariants.{Whole, Pointer, LineColumn}
 use Rattle.rules.specs.Limits.{limits_of}
-use Rattle.rules.specs.declared.limits.TheConstants.{LAST_VERSION}
 use Rattle.ordtx.specs.declared.carrying.Uncarried.{Uncarried}
 use Rattle.ordtx.specs.declared.location.Located.{Located}
 use Rattle.ordtx.specs.declared.location.Located.TheVariants.{Faultless, Faulty}
@@ -94,8 +92,8 @@ end_of document = final_state document.start document.transactions
 pub record IsCarriedOf (bytes text : List ℕ) : Type 0 where
   pub document : Document
   pub reads : reading bytes ≡ Ok document
-  pub fits : first_unfit 0 0 (end_of document) ≡ None
-  pub is : text ≡ carried_text (names_of document.texts) (end_of document)
+  pub fits : first_unfit (carried_version document.version) 0 0 (end_of document) ≡ None
+  pub is : text ≡ carried_text (carried_version document.version) (names_of document.texts) (end_of document)
 
 -- the first fault of what the bytes spell
 abbrev pub IsFaultOf : List ℕ → Fault → Type 0
@@ -112,7 +110,7 @@ pub record IsUnfitOf (bytes : List ℕ) (fault : Fault) (name : List ℕ) : Type
   pub document : Document
   pub reads : reading bytes ≡ Ok document
   pub misfit : Misfit
-  pub first : first_unfit 0 0 (end_of document) ≡ Some misfit
+  pub first : first_unfit (carried_version document.version) 0 0 (end_of document) ≡ Some misfit
   pub is : fault ≡ wrong_outside (unfit_wrong misfit.unfit)
   pub named : name ≡ (names_of document.texts).object misfit.place
 
@@ -142,12 +140,12 @@ abbrev pub clash_or : Option (Wrong × ℕ) → Option ℕ → Option (Wrong × 
 clash_or others None = others
 clash_or others (Some place) = Some (wrong.DuplicateObject, place)
 
--- What is wrong with starts for a document with these objects, and the place of it: an object of two kinds, or else one too many,
--- or else the first that can't start so.
-abbrev pub wrong_start : State → List StartOf → Option (Wrong × ℕ)
-wrong_start objects starts =
-    clash_or (if nat_lt (limits_of LAST_VERSION).objects (length starts) then Some (wrong.TooMany, (limits_of LAST_VERSION).objects)
-    else option_map (λ misfit. (unfit_wrong misfit.unfit, misfit.place)) (first_unfit 0 0 (map value_of starts)))
+-- What is wrong with starts for a document of a version with these objects, and the place of it: an object of two kinds, or else
+-- one too many, or else the first that can't start so.
+abbrev pub wrong_start : ℕ → State → List StartOf → Option (Wrong × ℕ)
+wrong_start version objects starts =
+    clash_or (if nat_lt (limits_of version).objects (length starts) then Some (wrong.TooMany, (limits_of version).objects)
+    else option_map (λ misfit. (unfit_wrong misfit.unfit, misfit.place)) (first_unfit version 0 0 (map value_of starts)))
     (first_clash 0 objects starts)
 
 abbrev pub name_at : List StartOf → ℕ → List ℕ
@@ -163,20 +161,31 @@ pub record AreRead (first next : List ℕ) : Type 0 where
 abbrev pub starts_of : {first next : List ℕ} → AreRead first next → List StartOf
 starts_of both = starts_into both.document both.next_document
 
+-- the version of the next document with these starts
+abbrev pub version_of : {first next : List ℕ} → AreRead first next → ℕ
+version_of both = version_into both.document both.next_document
+
+-- what is wrong with its starts
+abbrev pub wrong_of : {first next : List ℕ} → AreRead first next → Option (Wrong × ℕ)
+wrong_of both = wrong_start (version_of both) both.next_document.start (starts_of both)
+
+abbrev pub text_into : {first next : List ℕ} → AreRead first next → List ℕ
+text_into {first} {next} both = joined_text (version_of both) (starts_of both) next
+
 -- The first document's objects end as they may start the next document, and the text is the next document with these starts and
 -- its own transactions.
 pub record IsCarriedIntoOf (first next text : List ℕ) : Type 0 where
   pub both : AreRead first next
-  pub fits : wrong_start both.next_document.start (starts_of both) ≡ None
-  pub is : text ≡ joined_text (starts_of both) next
-  pub short : length text ≤ MAX_BYTES
+  pub fits : wrong_of both ≡ None
+  pub is : text ≡ text_into both
+  pub short : length text ≤ (limits_of (version_of both)).bytes
   pub utf8 : IsUtf8 text
 
 -- The text would be longer than a document may be.
 pub record IsTooLongInto (first next : List ℕ) (fault : Fault) : Type 0 where
   pub both : AreRead first next
-  pub fits : wrong_start both.next_document.start (starts_of both) ≡ None
-  pub long : MAX_BYTES < length (joined_text (starts_of both) next)
+  pub fits : wrong_of both ≡ None
+  pub long : (limits_of (version_of both)).bytes < length (text_into both)
   pub is : fault ≡ wrong_outside wrong.TooMany
 
 -- An object can't start the next document so. The fault is that of the first such object, and the name is its name.
@@ -184,7 +193,7 @@ pub record IsUnfitInto (first next : List ℕ) (fault : Fault) (name : List ℕ)
   pub both : AreRead first next
   pub wrong : Wrong
   pub place : ℕ
-  pub first_wrong : wrong_start both.next_document.start (starts_of both) ≡ Some (wrong, place)
+  pub first_wrong : wrong_of both ≡ Some (wrong, place)
   pub is : fault ≡ wrong_outside wrong
   pub named : name ≡ name_at (starts_of both) place
 

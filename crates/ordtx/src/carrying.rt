@@ -10,13 +10,13 @@ ghost use Rattle.ordtx.specs.Texts.{GivesCarried};
 use crate::texts::batch_of;
 use batch::Batch;
 use carry::{
-    NamedObjects, Start, Unfit, carried, carried_into, first_clash, first_misfit, first_unfit,
-    join, name_table, start_name,
+    NamedObjects, Start, Unfit, carried, carried_into, carried_version, first_clash, first_misfit,
+    first_unfit, join, name_table, start_name,
 };
-use lang::{Code, Fault, MAX_BYTES, Wrong, read};
+use lang::{Code, Fault, Wrong, read};
 use objects::{NoMemory, Objects};
 use report::object_name;
-use rules::{LAST_VERSION, Limits};
+use rules::Limits;
 use speculate::plain;
 use spelling::hashing::{NameHashing, Texts};
 use std::alloc::Global;
@@ -84,11 +84,12 @@ fn carried_of_batch(alloc: Global, batch: &Batch) -> Result<String, Uncarried>
     ensures code { IfErr result (λ refused. is_of_reading (fault_of refused).code ≡ true) }
 {
     let objects = plain(alloc, batch)?.objects;
-    if let Some(misfit) = first_unfit(&objects) {
+    let version = carried_version(batch.version);
+    if let Some(misfit) = first_unfit(version, &objects) {
         let name = object_name(&batch.names, misfit.place);
         return Err(object_refused(alloc, wrong_of(misfit.unfit), name));
     }
-    let text = carried(alloc, &batch.names, &objects)?;
+    let text = carried(alloc, version, &batch.names, &objects)?;
     Ok(text)
 }
 
@@ -178,30 +179,31 @@ fn carried_into_batch(
         objects: &next.objects,
     };
     let starts = join(alloc, ended, started, first_names, next_names)?;
-    if let Some((wrong, place)) = wrong_start(&next.objects, starts.as_slice()) {
+    let version = carried_version(first.version.max(next.version));
+    if let Some((wrong, place)) = wrong_start(version, &next.objects, starts.as_slice()) {
         return Err(object_refused(alloc, wrong, name_at(starts.as_slice(), place)));
     }
-    let text = carried_into(alloc, starts.as_slice(), bytes)?;
-    if text.len() > MAX_BYTES {
+    let text = carried_into(alloc, version, starts.as_slice(), bytes)?;
+    if text.len() > Limits::of(version).bytes {
         return Err(Uncarried::Next(Wrong::TooMany.outside()));
     }
     Ok(text)
 }
 
-// What is wrong with the starts of a document with these objects, and at which place.
-fn wrong_start(objects: &Objects, starts: &[Start<'_>]) -> Option<(Wrong, u32)>
+// What is wrong with the starts of a document of this version with these objects, and at which place.
+fn wrong_start(version: u8, objects: &Objects, starts: &[Start<'_>]) -> Option<(Wrong, u32)>
     requires objects { length objects.now < 2 ^ 32 }
     requires starts { length starts.now < 2 ^ 32 }
-    ensures { result ≡ wrong_start objects.now (map start_view starts.now) }
+    ensures { result ≡ wrong_start version objects.now (map start_view starts.now) }
 {
     if let Some(place) = first_clash(objects, starts) {
         return Some((Wrong::DuplicateObject, place));
     }
-    let most = Limits::of(LAST_VERSION).objects;
+    let most = Limits::of(version).objects;
     if starts.len() > most {
         return Some((Wrong::TooMany, most as u32));
     }
-    match first_misfit(starts) {
+    match first_misfit(version, starts) {
         Some(misfit) => Some((wrong_of(misfit.unfit), misfit.place)),
         None => None,
     }

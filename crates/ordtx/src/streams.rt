@@ -10,8 +10,9 @@ use crate::carrying::{Uncarried, carried_into_of, carried_of};
 use crate::location::{Located, location_of};
 use crate::texts::{audit_of, check_of, explanation_of, plain_report_of, report_of};
 use devices::{Sink, Source, read_input, write_text, write_texts};
-use lang::{Fault, MAX_BYTES};
+use lang::Fault;
 use rounds::Plan;
+use rules::MAX_BYTES;
 use speculate::Gate;
 use std::alloc::Global;
 use std::thread::Threads;
@@ -21,7 +22,7 @@ const MOST_READ: usize = MAX_BYTES + 1;
 
 /// Reads a document from the source, runs its transactions, and writes the report to the sink.
 ///
-/// The source is read to its end, but at most 67,108,865 bytes of it.
+/// The source is read to its end, but at most 536,870,913 bytes of it.
 ///
 /// The errors, and what each leaves:
 ///

@@ -14,8 +14,8 @@ returns-in-Some-unfit_after c =
     let there = at_place starts place c.in-Some.start.now (sym c.in-Some.ensures.lookup.0) (sym c.in-Some.ensures.lookup.1) in
     let here = slice_get-map value_of (map start_view starts) place
     ∙ ap (option_map value_of) (slice_get-map start_view starts place ∙ ap (option_map start_view) there) in
-    sym (unfit_here (map value_of (map start_view starts)) place c.in-Some.start.now.value.now here c.loop-place.entries
-    c.in-Some-unfit_after.unfit (sym c.unfit_after.ensures.unfit ∙ c.in-Some-unfit_after.is)) ∙ c.loop-place.invariant.1
+    sym (unfit_here (map value_of (map start_view starts)) place c.in-Some.start.now.value.now here c.args.version
+    c.loop-place.entries c.in-Some-unfit_after.unfit (sym c.unfit_after.ensures.unfit ∙ c.in-Some-unfit_after.is)) ∙ c.loop-place.invariant.1
 
 pub loop-place-preserved : goal.loop-place-preserved
 loop-place-preserved c =
@@ -24,12 +24,13 @@ loop-place-preserved c =
     let there = at_place starts place c.in-Some.start.now (sym c.in-Some.ensures.lookup.0) (sym c.in-Some.ensures.lookup.1) in
     let here = slice_get-map value_of (map start_view starts) place
     ∙ ap (option_map value_of) (slice_get-map start_view starts place ∙ ap (option_map start_view) there) in
-    let none : unfit_after c.loop-place.entries c.in-Some.start.now.value.now ≡ None =
+    let none : unfit_after c.args.version c.loop-place.entries c.in-Some.start.now.value.now ≡ None =
     sym c.unfit_after.ensures.unfit ∙ c.in_default-unfit_after.is in
     let few = c.unfit_after.ensures.few c.in_default-unfit_after.is in
     let same : c.entries_in-entries.result ≡ entries_in c.in-Some.start.now.value.now = c.entries_in-entries.ensures in
     rw same (
       few,
-      sym (fits_here (map value_of (map start_view starts)) place c.in-Some.start.now.value.now here c.loop-place.entries none)
+      sym (fits_here (map value_of (map start_view starts)) place c.in-Some.start.now.value.now here c.args.version
+          c.loop-place.entries none)
           ∙ c.loop-place.invariant.1,
     )

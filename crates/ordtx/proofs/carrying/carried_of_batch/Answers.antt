@@ -1,4 +1,4 @@
-use Rattle.std.proofs.Common.{◌∙◌, rules, ap}
+use Rattle.std.proofs.Common.{◌∙◌, rules, ap₂}
 use Rattle.batch.specs.Names.{names_of}
 use Rattle.carry.specs.Carried.{carried_text}
 use Rattle.lang.specs.Reading.{document_of}
@@ -9,5 +9,6 @@ returns-clause-text c = λ bytes reads. record {
   document = document_of c.args.batch.now;
   reads = reads;
   fits = search rules;
-  is = c.in_ok-text.ensures ∙ ap (carried_text (names_of c.args.batch.now.names)) c.in_ok-objects.ensures.objects;
+  is = c.in_ok-text.ensures ∙ ap₂ (λ v end. carried_text v (names_of c.args.batch.now.names) end) c.carried_version-version.ensures
+      c.in_ok-objects.ensures.objects;
 }
