@@ -38,7 +38,7 @@ def try_document(program, name, document):
     out = carried(program, name, document)
     parts = json.loads(out)
     program.compare(name, ["carry"], (parts["ordtx"], parts["transactions"], [(o["name"], o["kind"]) for o in parts["objects"]]),
-                    (4, [], [(o["name"], o["kind"]) for o in given["objects"]]))
+                    (max(4, given["ordtx"]), [], [(o["name"], o["kind"]) for o in given["objects"]]))
     program.expect(name + ", carried", ["check"], out, b"ok objects %d transactions 0 operations 0\n" % len(given["objects"]))
     program.compare(name + ", carried", ["serial"], (ends(program, name, out),), (ends(program, name, document),))
 
@@ -54,15 +54,15 @@ def try_days(program, name, document):
         program.compare("%s, cut after %d" % (name, count), ["carry"], (ends(program, name, second),), (whole,))
 
 
-def document_of(objects, transactions=()):
-    return json.dumps({"ordtx": 4, "objects": [{"name": name, "kind": kind, "start": start} for name, kind, start in objects],
+def document_of(objects, transactions=(), version=4):
+    return json.dumps({"ordtx": version, "objects": [{"name": name, "kind": kind, "start": start} for name, kind, start in objects],
                        "transactions": list(transactions)}).encode()
 
 
-def text_of(objects):
+def text_of(objects, version=4):
     """The text that carries these objects over."""
     lines = ['{"name": "%s", "kind": "%s", "start": %s}' % (name, kind, json.dumps(start)) for name, kind, start in objects]
-    return ('{"ordtx": 4,\n"objects": [\n%s\n],\n"transactions": [\n]}\n' % ",\n".join(lines)).encode()
+    return ('{"ordtx": %d,\n"objects": [\n%s\n],\n"transactions": [\n]}\n' % (version, ",\n".join(lines))).encode()
 
 
 def try_kinds(program):
@@ -99,11 +99,11 @@ def try_into(program, name, first, second, out, status=0, err=b""):
             program.expect(name, words, given, out, status, told)
 
 
-def joined_text(objects, transactions):
+def joined_text(objects, transactions, version=4):
     """The text of these objects with these transactions, each as JSON without a space."""
     lines = ['{"name": "%s", "kind": "%s", "start": %s}' % (name, kind, json.dumps(start)) for name, kind, start in objects]
-    return ('{"ordtx": 4,\n"objects": [\n%s\n],\n"transactions": [\n%s\n]}\n' % (
-        ",\n".join(lines), ",\n".join(json.dumps(block, separators=(",", ":")) for block in transactions))).encode()
+    return ('{"ordtx": %d,\n"objects": [\n%s\n],\n"transactions": [\n%s\n]}\n' % (
+        version, ",\n".join(lines), ",\n".join(json.dumps(block, separators=(",", ":")) for block in transactions))).encode()
 
 
 KINDS = (("account", 5, 7), ("counter", -3, 4), ("max", 9, 2), ("set", ["x", "y"], ["z"]), ("queue", ["y", "x", "y"], []),
@@ -158,6 +158,47 @@ def try_joined_faults(program):
     try_into(program, "as many objects as there may be", document_of(many[1:]), document_of(many), joined_text(many, []))
     try_into(program, "as many entries as there may be", document_of(full), document_of([("s", "set", ["x"])]),
              joined_text([("s", "set", ["x"])] + full, []))
+
+
+def try_versions(program):
+    """What is carried has the version of its own document, or 4 before that; a next document has the later one of both."""
+    account, more = [("a", "account", 1)], [("b", "account", 2)]
+    for version in range(1, 6):
+        carried_as = max(4, version)
+        program.expect("carried from version %d" % version, ["carry"], document_of(account, (), version), text_of(account, carried_as))
+        for later in range(1, 6):
+            try_into(program, "version %d into %d" % (version, later), document_of(account, (), version), document_of(more, (), later),
+                     joined_text(more + account, [], max(4, version, later)))
+    many, entries = [("o%d" % number, "account", 0) for number in range(1_001)], [("q", "queue", ["x"] * 100_001)]
+    for objects in many, entries:
+        program.expect("carried in version 5 alone", ["carry"], document_of(objects, (), 5), text_of(objects, 5))
+    for first, second in ((4, 5), (5, 4)):
+        halves = document_of(many[:600], (), first), document_of(many[600:], (), second)
+        try_into(program, "objects for version 5", *halves, joined_text(many[600:] + many[:600], [], 5))
+    try_into(program, "objects for version 5 in version 4", document_of(many[:600]), document_of(many[600:]), b"", 1,
+             b"ordtx: object 'o599' is one too many, or its entries are\nfault 12 transaction 0\n")
+
+
+def try_long(program):
+    """With 100,000 items before them, transactions of nearly 64 MiB are too long for version 4, and not for version 5."""
+    account, step = "a" * 32, '{"op":["%s","deposit",1000000000000]}' % ("a" * 32)
+    queue = [("q", "queue", ["i%030d" % number for number in range(100_000)])]
+    count = 67_000_000 // (len(step) + 1)
+    for version in (4, 5):
+        second = '{"ordtx":%d,"objects":[{"name":"%s","kind":"account","start":0}],"transactions":[[%s]]}' % (
+            version, account, ",".join([step] * count))
+        with tempfile.TemporaryDirectory() as folder:
+            path = pathlib.Path(folder, "next.json")
+            path.write_text(second)
+            out, status, err = program.run(["carry", "--into", str(path)], document_of(queue))
+        if version == 4:
+            wanted = ("ordtx: this fault is of '%s'\nfault 12 transaction 0\n" % path).encode()
+            program.compare("a long next document of version 4", ["carry", "--into"], (out, status, err), (b"", 1, wanted))
+        else:
+            program.compare("a long next document of version 5", ["carry", "--into"], (len(out) > 67_108_864, status, err), (True, 0, b""))
+            checked = program.run(["check"], out)
+            program.compare("a long next document of version 5, joined", ["check"], checked,
+                            (b"ok objects 2 transactions 1 operations %d\n" % count, 0, b""))
 
 
 def try_second_days(program, name, document):
@@ -217,3 +258,5 @@ def try_all(program):
     try_joined_kinds(program)
     try_spelled(program)
     try_joined_faults(program)
+    try_versions(program)
+    try_long(program)

@@ -98,6 +98,9 @@ REFUSED = (
     ("replay.py", b"1 POP\n2 PUSH \xc3\n", "2:8", NO_UTF_8),
 )
 
+# What a document has at most in the trials of limits, in place of the limits that there are.
+FEW = {"objects": 1_000, "transactions": 10_000, "steps": 100_000}
+
 # For each limit: a script with its options, the largest file that it takes, a line more, the column, and the limit.
 LIMITS = (
     ("objects", ("postings.py",), PAYMENTS + b"".join(b",a%d,5\n" % n for n in range(1_000)), b",b,5\n", 2),
@@ -166,11 +169,18 @@ def try_refused(program, folder):
 
 # Runs a script with other limits.
 LIMITED = """
-import runpy, sys, writing
-writing.LIMITS["operations"], writing.MOST_BYTES = map(int, sys.argv[1:3])
-del sys.argv[:3]
+import json, runpy, sys, writing
+limits = json.loads(sys.argv[1])
+writing.MOST_BYTES = limits.pop("bytes", writing.MOST_BYTES)
+writing.LIMITS.update(limits)
+del sys.argv[:2]
 runpy.run_path(sys.argv[0], run_name="__main__")
 """
+
+
+def limited(limits, *words):
+    """The words that run a script with these limits."""
+    return ["-c", LIMITED, json.dumps(limits), *words]
 
 
 def limit(what):
@@ -182,11 +192,12 @@ def limit(what):
 def try_limits(program):
     """The largest file gives a document that is taken. One line more is refused with its place."""
     for what, words, text, more, column in LIMITS:
+        words = limited(FEW, *words)
         out, status, err = made(words, text)
         program.compare("as many %s as there may be" % what, words, (None, status, err), (None, 0, ""))
         program.compare("as many %s as there may be" % what, ["check"], (program.run(["check"], out)[2],), (b"",))
         wanted = "standard input:%d:%d: more than %s %s in a document\n" % (
-            text.count(b"\n") + 1, column, limit({"steps": "ifs, "}.get(what, what)), what)
+            text.count(b"\n") + 1, column, format(FEW[what], ","), what)
         program.compare("more %s than there may be" % what, words, made(words, text + more), (b"", 1, wanted))
     for sample, script, *options in SAMPLES:
         given = (EXAMPLES / sample).read_bytes()
@@ -195,14 +206,14 @@ def try_limits(program):
         for operations, size, what in (
                 (count, len(document), None), (count - 1, len(document), "%d operations" % (count - 1)),
                 (count, len(document) - 1, "%s bytes" % format(len(document) - 1, ","))):
-            got = made(["-c", LIMITED, str(operations), str(size), script, *options], given)
+            got = made(limited({"operations": operations, "bytes": size}, script, *options), given)
             place = re.match(r"standard input:%d:\d+: " % given.count(b"\n"), got[2])
             wanted = (b"", 1, "%smore than %s in a document\n" % (place and place[0], what)) if what else (document, 0, "")
             program.compare("%s, at most %d operations and %d bytes" % (sample, operations, size), [], got, wanted)
-    text = (EXAMPLES / "writing.py").read_text().replace("_", "")
-    for what in ("bytes", "operations"):
-        number = limit(what)
-        program.compare("the limit of %s" % what, [], (number.replace(",", "") in text,), (True,))
+    shown = made(["-c", "import writing; print({**writing.LIMITS, 'bytes': writing.MOST_BYTES})"], b"")[0].decode()
+    wanted = {what: int(limit({"steps": "ifs, "}.get(what, what)).replace(",", ""))
+              for what in ("objects", "transactions", "operations", "steps", "bytes")}
+    program.compare("the limits of documents", [], (shown,), ("%s\n" % wanted,))
 
 
 def try_parts(program, folder):
@@ -210,7 +221,7 @@ def try_parts(program, folder):
     lines = [b"%d PUSH j%d\n" % (number, number % 7) for number in range(1, 25_001)]
     chunks = [b"".join(lines[first:first + 10_000]) for first in range(0, len(lines), 10_000)]
     prefix = pathlib.Path(folder, "log")
-    words = ["replay.py", "--parts", prefix]
+    words = limited(FEW, "replay.py", "--parts", prefix)
     names = ["%s-%d.json" % (prefix, number) for number in (1, 2, 3)]
     program.compare("a log with a fault", [], made(words, b"".join(lines) + b"x POP\n"),
                     (b"", 1, "standard input:25001:1: no whole number: 'x'\n"))

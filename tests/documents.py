@@ -132,6 +132,77 @@ def try_limits(program):
             program.expect_fault_everywhere("a name of 33 bytes", given, 3, 0)
 
 
+# For each limit of version 5: its name, how much it is, a document with so much, and what `check` prints of it but the count.
+LARGE = (
+    ("objects", 1_000_000, lambda count: document(['{"name":"o%d","kind":"counter","start":0}' % n for n in range(count)], [], 5),
+     b"ok objects %d transactions 0 operations 0\n"),
+    ("starting entries", 1_000_000, lambda count: document(
+        ['{"name":"q","kind":"queue","start":[%s]}' % ",".join(['"x"'] * count)], [], 5),
+     b"ok objects 1 transactions 0 operations 0\n"),
+    ("transactions", 1_000_000, lambda count: document([], ["[]"] * count, 5),
+     b"ok objects 0 transactions %d operations 0\n"),
+    ("operations", 9_000_000, lambda count: operations(count - 9, 9, version=5),
+     b"ok objects 1 transactions 2 operations %d\n"),
+    ("other nodes", 9_000_000, lambda count: document([], ["[%s]" % ",".join(['{"abort":true}'] * count)], 5),
+     b"ok objects 0 transactions 1 operations 0\n"),
+)
+
+
+def try_large_limits(program):
+    for name, most, made, printed in LARGE:
+        program.expect("%d %s" % (most, name), ["check"], made(most), printed % most if b"%d" in printed else printed)
+        transaction = {"operations": 2, "other nodes": 1}.get(name, 0)
+        program.expect_fault("%d %s" % (most + 1, name), ["check"], made(most + 1), 12, transaction)
+
+
+def padded(given, length):
+    """A document with spaces after it, so that it is so long."""
+    return given + b" " * (length - len(given))
+
+
+# Documents by their version, their bytes, and the fault of that many. Where there is no version, that many are judged as in
+# version 1, whatever else is wrong.
+LENGTHS = (
+    (document([], []), 67_108_864, None), (document([], []), 67_108_865, 12),
+    (document([], [], 4), 67_108_864, None), (document([], [], 4), 67_108_865, 12),
+    (document([], [], 5), 67_108_865, None), (document([], [], 5), 536_870_912, None), (document([], [], 5), 536_870_913, 12),
+    (document([], [], 6), 67_108_864, 2), (document([], [], 6), 67_108_865, 12),
+    (b'{"ordtx":5}', 67_108_865, 2), (b"[5]", 67_108_864, 2), (b"[5]", 67_108_865, 12), (b'{"ordtx":5', 67_108_865, 12),
+    (b'{"transactions":[],"objects":[],"ordtx":5}', 67_108_865, None),
+    (b'{"ordtx":5,"objects":[],"transactions":[],"ordtx":4}', 67_108_865, 12),
+    (b'{"ordtx":4,"objects":[],"transactions":[],"ordtx":5}', 67_108_865, None),
+    (document([], ["[7]"], 4), 67_108_865, 12), (document([], ["[7]"], 5), 67_108_865, 2),
+)
+
+
+def try_large(program):
+    """What takes much memory, one after the other."""
+    try_large_limits(program)
+    try_lengths(program)
+    try_long_with_workers(program)
+
+
+def try_long_with_workers(program):
+    """A document of more bytes than version 4 has, with spaces between its transactions, is read by threads, too."""
+    for version, fault in ((4, 12), (5, None)):
+        given = document([ACCOUNT], ["[%s]" % '{"op":["a","deposit",1]}' + " " * 18_000_000] * 4, version)
+        for words in (["run"], ["run", "--workers", "1"], ["serial"]):
+            out, status, err = program.run(words, given)
+            wanted = (b"", 1, b"fault 12 transaction 0\n") if fault else (None, 0, b"")
+            program.compare("72 MB of version %d" % version, words, (out, status, err), wanted)
+            if not fault:
+                program.compare("72 MB of version 5", words, (b"= a account 4\n" in out,), (True,))
+
+
+def try_lengths(program):
+    for given, length, fault in LENGTHS:
+        name, long = "%d bytes of %s" % (length, given.decode()), padded(given, length)
+        if fault is None:
+            program.expect(name, ["check"], long, b"ok objects 0 transactions 0 operations 0\n")
+        else:
+            program.expect_fault(name, ["check"], long, fault, 1 if b"[7]" in given and fault != 12 else 0)
+
+
 def try_bytes(program, whole):
     for length in range(len(whole)):
         program.expect_fault("a document's first %d bytes" % length, ["check"],
@@ -151,9 +222,7 @@ def try_bytes(program, whole):
     program.expect_fault_everywhere("a byte that is no text", b"\xff", 1, 0)
     program.expect_fault("64 MiB of spaces", ["check"], b" " * 67_108_864, 1, 0)
     program.expect_fault("a byte more", ["check"], b" " * 67_108_865, 12, 0)
-    padded = document([], [])
-    padded += b" " * (67_108_864 - len(padded))
-    program.expect("a document of 64 MiB", ["run"], padded, b"rounds 0\n")
+    program.expect("a document of 64 MiB", ["run"], padded(document([], []), 67_108_864), b"rounds 0\n")
 
 
 def try_withdrawals(program):

@@ -117,6 +117,25 @@ def try_workers(program, library):
                         (got[1], least <= started <= most, None), (0, True, None))
 
 
+def asked_by_rounds(program, library, accounts, name):
+    """For how many bytes a round on an account asks, beside a million."""
+    words, asked = ["run", "--workers", "1"], []
+    for count in (100, 200):
+        given = document(accounts, [block(op(name, "withdraw", 1))] * count, version=5)
+        got, _, _, more = preloaded.counted(library, 0, words, program.path, given)
+        program.compare("%d rounds on %s of a million" % (count, name), words, (got[1], got[2]), (0, b""))
+        asked.append(more)
+    return (asked[1] - asked[0]) // 100
+
+
+def try_last_of_many(program, library):
+    """A round takes hardly more memory for the last object than for the first, however many there are."""
+    accounts = ['{"name":"a%d","kind":"account","start":1000}' % i for i in range(1_000_000)]
+    first, last = (asked_by_rounds(program, library, accounts, name) for name in ("a0", "a999999"))
+    program.compare("bytes for a round on the first and the last of a million: %d, %d" % (first, last), ["run"],
+                    (last < first + 40_000,), (True,))
+
+
 def try_rendering(program, library):
     """Each worker renders a part of a long report. Nothing else starts a thread here, and a short report none."""
     deposit = op("a", "deposit", 1)
@@ -236,4 +255,5 @@ def try_all(program, library):
     try_reading_at_once(program, library)
     try_threads_of_nested(program, library)
     try_workers(program, library)
+    try_last_of_many(program, library)
     try_rendering(program, library)

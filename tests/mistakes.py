@@ -65,12 +65,12 @@ MISTAKES = (
      steps({"parallel": []})),
     ("Shape.Members", 2, steps({"parallel": [True]}), FIRST + "/parallel/0", "true is no object of JSON",
      steps({"parallel": [{"sub": []}]})),
-    ("Shape.Version", 2, {"objects": [], "transactions": []}, "", '"ordtx" is missing: this program reads the versions 1 to 4',
+    ("Shape.Version", 2, {"objects": [], "transactions": []}, "", '"ordtx" is missing: this program reads the versions 1 to 5',
      batch([], [])),
-    ("Shape.Version", 2, batch([], [], 5), "/ordtx", "the version is 5; this program reads 1 to 4", batch([], [])),
+    ("Shape.Version", 2, batch([], [], 6), "/ordtx", "the version is 6; this program reads 1 to 5", batch([], [])),
     ("Shape.Version", 2, batch([], [], "4"), "/ordtx", "the version is a text; write it without quotes", batch([], [])),
     ("Shape.Version", 2, batch([], [], 4.0), "/ordtx",
-     "the version is a number that is not written as a whole number of 64 bits; this program reads 1 to 4", batch([], [])),
+     "the version is a number that is not written as a whole number of 64 bits; this program reads 1 to 5", batch([], [])),
     ("Shape.Objects", 2, {"ordtx": 4, "transactions": []}, "", '"objects" is missing', batch([], [])),
     ("Shape.Objects", 2, batch({}, []), "/objects", '"objects" is an object, and has to be a list', batch([], [])),
     ("Shape.Transactions", 2, {"ordtx": 4, "objects": []}, "", '"transactions" is missing', batch([], [])),
@@ -78,6 +78,10 @@ MISTAKES = (
     ("Few.Objects", 12, objects(*[{**ACCOUNT, "name": "a%d" % i} for i in range(1_001)]), "/objects", "more than 1,000 objects",
      objects(*[{**ACCOUNT, "name": "a%d" % i} for i in range(1_000)])),
     ("Few.Transactions", 12, batch([], [[]] * 10_001), "/transactions", "more than 10,000 transactions", batch([], [[]] * 10_000)),
+    ("Few.Objects", 12, objects(*[{**ACCOUNT, "name": "a%d" % i} for i in range(1_001)]), "/objects", "more than 1,000 objects",
+     objects(*[{**ACCOUNT, "name": "a%d" % i} for i in range(1_001)], version=5)),
+    ("Few.Transactions", 12, batch([], [[]] * 1_000_001, 5), "/transactions", "more than 1,000,000 transactions",
+     batch([], [[]] * 1_000_000, 5)),
     ("Shape.ObjectName", 2, objects({"kind": "set", "start": []}), "/objects/0", '"name" is missing', objects(SET)),
     ("Shape.ObjectName", 2, objects({**SET, "name": 7}), "/objects/0", '"name" is 7' + TEXT, objects({**SET, "name": "7"})),
     ("Shape.ObjectKind", 2, objects({"name": "s", "start": []}), "/objects/0", '"kind" is missing', objects(SET)),
@@ -213,6 +217,8 @@ MISTAKES = (
 OTHERS = (
     ("Json", b'{"ordtx":4,', b"fault 1 transaction 0 at line 1 column 11\nthis cannot be read as JSON\n"),
     ("Few.Bytes", b" " * 67_108_865, b"fault 12 transaction 0 at\nthe document has more than 67,108,864 bytes\n"),
+    ("Few.Bytes", b'{"ordtx":4}' + b" " * 67_108_865, b"fault 12 transaction 0 at\nthe document has more than 67,108,864 bytes\n"),
+    ("Few.Bytes", b'{"ordtx":5}' + b" " * 536_870_912, b"fault 12 transaction 0 at\nthe document has more than 536,870,912 bytes\n"),
 )
 
 

@@ -17,11 +17,11 @@ def build(folder):
     return library
 
 
-def run(library, refused, words, path, document, together=False):
-    """What the run returns whose Nth request for memory is refused (0: none), how many requests it
-    made, and how many threads it started. Unless they run together, each ends before the next is started."""
+def counted(library, refused, words, path, document, together=False):
+    """What the run returns whose Nth request for memory is refused (0: none), how many requests it made, how many threads
+    it started, and for how many bytes it asked. Unless threads run together, each ends before the next is started."""
     with tempfile.TemporaryFile() as kept:
-        kept.write(bytes(16))
+        kept.write(bytes(24))
         kept.flush()
         environment = dict(os.environ, LD_PRELOAD=library,
                            REFUSE=str(refused), COUNT=str(kept.fileno()))
@@ -32,6 +32,11 @@ def run(library, refused, words, path, document, together=False):
                               pass_fds=(kept.fileno(),), env=environment,
                               timeout=60)
         kept.seek(0)
-        made, started = (int.from_bytes(kept.read(8), "little")
-                         for _ in range(2))
-    return (done.stdout, done.returncode, done.stderr), made, started
+        made, started, asked = (int.from_bytes(kept.read(8), "little")
+                                for _ in range(3))
+    return (done.stdout, done.returncode, done.stderr), made, started, asked
+
+
+def run(library, refused, words, path, document, together=False):
+    """The same without the bytes."""
+    return counted(library, refused, words, path, document, together)[:3]

@@ -100,7 +100,7 @@ class Writer:
 
 def whole(chance):
     """A document that `check` takes."""
-    version = chance.randrange(1, 5)
+    version = chance.randrange(1, 6)
     kinds = [kind for kind in KINDS if KINDS[kind][0] <= version]
     objects = []
     for number in range(chance.randrange(4)):

@@ -36,7 +36,7 @@ SHAPES = [
     ('{"ordtx":"1","objects":[],"transactions":[]}', (2, 0)),
     ('{"ordtx":1,"objects":{},"transactions":[]}', (2, 0)),
     ('{"ordtx":1,"objects":[],"transactions":{}}', (2, 0)),
-    ('{"ordtx":1,"objects":[],"transactions":[],"ordtx":5}', (2, 0)),
+    ('{"ordtx":1,"objects":[],"transactions":[],"ordtx":6}', (2, 0)),
     ('{"ordtx":5,"objects":[],"transactions":[],"ordtx":1}', None),
     ('{"ordtx":1,"objects":[],"transactions":[[7]],"transactions":[]}', None),
     ('{"ordtx":1,"objects":[],"transactions":[[]],"transactions":[[7]]}', (2, 1)),
@@ -150,8 +150,8 @@ def all_documents():
     """Each document with its fault."""
     yield from BYTES
     yield from SHAPES
-    for version in (0, 1, 2, 3, 4, 5, "1.0"):
-        yield document(version, "", ""), None if version in (1, 2, 3, 4) else (2, 0)
+    for version in (0, 1, 2, 3, 4, 5, 6, "1.0"):
+        yield document(version, "", ""), None if version in (1, 2, 3, 4, 5) else (2, 0)
     for objects, transactions, fault in ORDERS:
         yield document(1, objects, transactions), fault
         yield in_other_order(1, objects, transactions), fault

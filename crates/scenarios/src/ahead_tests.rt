@@ -1,7 +1,7 @@
 //! Tests that rounds look no further than they must: how many runs they make, and that runs of one
 //! block are made at once.
 use crate::documents::{batch_of, copies_of};
-use crate::{Counting, Meeting};
+use crate::{Counting, FIRST_DECISION, Meeting, SECOND_DECISION};
 use batch::Batch;
 use rounds::{Plan, execute_ahead};
 use speculate::Gate;
@@ -198,8 +198,8 @@ fn decisions_meet(rt: HostRuntime) {
         objects.as_str(),
         transactions,
         (2, 1),
-        (0, 10001),
-        (0, 10002),
+        FIRST_DECISION,
+        SECOND_DECISION,
     );
 }
 

@@ -5,10 +5,14 @@ ghost use Rattle.claims.specs.Views.{most_pieces, most_seats, fresh, is_over};
 ghost use Rattle.claims.specs.Seated.{IsSeatOf};
 
 use claims::{Board, Claim, NoMemory, Seat, Tally};
+use meaning::limits::MAX_TRANSACTIONS;
 use std::alloc::{AllocError, Global};
 use std::process::Abort;
 use std::test::Fail;
 use std::thread::{Threads, join};
+
+/// As many pieces as a board has at most.
+const PIECES: u32 = MAX_TRANSACTIONS as u32;
 
 // Claims a piece, and stops the test where the claim returns none.
 fn piece(rt: &impl Abort, board: &Board, seat: &mut Seat) -> u32
@@ -226,6 +230,11 @@ fn claim_by_two<R: Threads + Sync>(
     )
 }
 
+// A count of 0 for each piece. A function of its own, so that no proof goes through all counts.
+fn none_counted(alloc: Global, pieces: usize) -> Result<Vec<u8>, AllocError> {
+    Vec::from_elem(alloc, 0u8, pieces)
+}
+
 // Adds one for each piece to its count.
 fn count(rt: &impl Abort, counts: &mut Vec<u8>, pieces: &[u32]) {
     for k in pieces {
@@ -238,7 +247,7 @@ fn count(rt: &impl Abort, counts: &mut Vec<u8>, pieces: &[u32]) {
 #[test]
 fn four_threads_draw_each_piece_once(rt: HostRuntime) -> Result<(), Fail> {
     let alloc = rt.alloc();
-    let (board, mut seats) = Board::open(alloc, 10_000, 4)?;
+    let (board, mut seats) = Board::open(alloc, PIECES, 4)?;
     let (Some(d), Some(c), Some(b), Some(a)) = (seats.pop(), seats.pop(), seats.pop(), seats.pop())
     else {
         panic!(rt; "four seats")
@@ -266,12 +275,12 @@ fn four_threads_draw_each_piece_once(rt: HostRuntime) -> Result<(), Fail> {
     assert_eq!(rt;
         tally,
         Tally {
-            drawn: 10_000,
+            drawn: PIECES,
             stopped: false,
-            first: 10_000
+            first: PIECES
         }
     );
-    let mut counts = Vec::from_elem(alloc, 0u8, 10_000)?;
+    let mut counts = none_counted(alloc, PIECES as usize)?;
     for pieces in [&first, &second, &third, &fourth] {
         count(&rt, &mut counts, pieces);
     }

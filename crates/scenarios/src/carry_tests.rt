@@ -5,6 +5,9 @@ use objects::{Directory, Item, ItemSet, Queue, Value};
 use std::alloc::AllocGlobal;
 use std::process::Abort;
 
+/// The version of most documents.
+const VERSION: u8 = 4;
+
 const DOCUMENT: &str = "{\"ordtx\": 4,
 \"objects\": [
 {\"name\": \"a\", \"kind\": \"account\", \"start\": 5},
@@ -84,10 +87,11 @@ fn objects_of(rt: &(impl Abort + AllocGlobal)) -> Objects {
     objects
 }
 
-/// Stops the test where another is the first unfit. The objects are so few that each has a number.
-fn unfit_is(rt: &impl Abort, objects: &Objects, misfit: Option<Misfit>) {
+/// Stops the test where another is the first unfit for a document of this version. The objects are so
+/// few that each has a number.
+fn unfit_is(rt: &impl Abort, version: u8, objects: &Objects, misfit: Option<Misfit>) {
     assert!(rt; objects.len() <= MAX_OBJECTS);
-    assert_eq!(rt; first_unfit(objects), misfit);
+    assert_eq!(rt; first_unfit(version, objects), misfit);
 }
 
 /// Stops the test where the document that carries these few objects over is another.
@@ -95,7 +99,7 @@ fn carries(rt: &(impl Abort + AllocGlobal), objects: &Objects, document: &str) {
     assert!(rt; objects.len() <= MAX_OBJECTS);
     let named = texts(rt, &["a", "c", "s", "q", "d", "m", "none"]);
     let names = Names::new(named, texts(rt, &["x", "y"]), Vec::new(rt.alloc()));
-    let Ok(text) = carried(rt.alloc(), &names, objects) else {
+    let Ok(text) = carried(rt.alloc(), VERSION, &names, objects) else {
         panic!(rt; "no memory")
     };
     assert_eq!(rt; text.as_str(), document);
@@ -104,7 +108,7 @@ fn carries(rt: &(impl Abort + AllocGlobal), objects: &Objects, document: &str) {
 #[test]
 fn carries_each_kind(rt: HostRuntime) {
     let objects = objects_of(&rt);
-    unfit_is(&rt, &objects, None);
+    unfit_is(&rt, VERSION, &objects, None);
     carries(&rt, &objects, DOCUMENT);
 }
 
@@ -119,10 +123,10 @@ fn finds_the_first_unfit(rt: HostRuntime) {
     let mut objects = Objects::new(rt.alloc());
     push(&rt, &mut objects, Value::Account(1_000_000_000_000_000));
     push(&rt, &mut objects, Value::Counter(-1_000_000_000_000_000));
-    unfit_is(&rt, &objects, None);
+    unfit_is(&rt, VERSION, &objects, None);
     push(&rt, &mut objects, Value::Counter(-1_000_000_000_000_001));
     let unfit = Unfit::Start;
-    unfit_is(&rt, &objects, Some(Misfit { place: 2, unfit }));
+    unfit_is(&rt, VERSION, &objects, Some(Misfit { place: 2, unfit }));
 }
 
 /// Adds a queue of so many items.
@@ -138,9 +142,12 @@ fn push_queue(rt: &(impl Abort + AllocGlobal), objects: &mut Objects, length: u3
 fn counts_all_entries(rt: HostRuntime) {
     let mut objects = objects_of(&rt);
     push_queue(&rt, &mut objects, 99_993);
-    unfit_is(&rt, &objects, None);
+    unfit_is(&rt, VERSION, &objects, None);
     push_queue(&rt, &mut objects, 1);
     push(&rt, &mut objects, Value::Account(1_000_000_000_000_001));
     let unfit = Unfit::TooMany;
-    unfit_is(&rt, &objects, Some(Misfit { place: 8, unfit }));
+    unfit_is(&rt, VERSION, &objects, Some(Misfit { place: 8, unfit }));
+    // A document of version 5 may start with more.
+    let unfit = Unfit::Start;
+    unfit_is(&rt, 5, &objects, Some(Misfit { place: 9, unfit }));
 }

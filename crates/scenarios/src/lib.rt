@@ -11,7 +11,7 @@ mod tally;
 pub use child_counting::ChildCounting;
 pub use counting::Counting;
 pub use crowd::Crowd;
-pub use meeting::Meeting;
+pub use meeting::{FIRST_DECISION, Meeting, SECOND_DECISION};
 pub use tally::Tally;
 
 #[cfg(test)]

@@ -1,10 +1,17 @@
 //! A gate that holds one call until another comes.
+use meaning::limits::MAX_TRANSACTIONS;
 use speculate::{Gate, Progress, Run};
 use std::hint;
 use std::sync::atomic::{AtomicBool, Ordering};
 
 // How many turns a held call waits at most.
 const TURNS: u32 = 1 << 30;
+
+/// The call of `pass` as a worker begins to decide whether the first pending run is kept.
+pub const FIRST_DECISION: (u32, u32) = (0, MAX_TRANSACTIONS as u32 + 1);
+
+/// That of the second pending run.
+pub const SECOND_DECISION: (u32, u32) = (0, MAX_TRANSACTIONS as u32 + 2);
 
 /// Holds the call `held` of `pass` until the call `other` came, and reports whether they met. Each
 /// is a transaction and a child, as `pass` is given them.

@@ -1,7 +1,7 @@
 //! Tests of the passes of a round on two workers. Two of their calls meet, runs are made as often
 //! as they must be, and the first conflict is the same for any number of workers.
 use crate::documents::{batch_of, copies_of};
-use crate::{Counting, Meeting, Tally};
+use crate::{Counting, FIRST_DECISION, Meeting, SECOND_DECISION, Tally};
 use batch::{Record, Taken};
 use intentions::Entry;
 use objects::{AccountCall, AccountReply, Amount, Call, Reply};
@@ -66,7 +66,7 @@ fn two_checks_meet(rt: HostRuntime) {
 fn two_keeps_meet(rt: HostRuntime) {
     let transactions =
         "[{\"op\":[\"a\",\"withdraw\",30]}],[{\"op\":[\"a\",\"withdraw\",50]}],[{\"op\":[\"a\",\"withdraw\",10]}],[{\"op\":[\"b\",\"deposit\",1]}]";
-    meets(&rt, transactions, (0, 10001), (0, 10002));
+    meets(&rt, transactions, FIRST_DECISION, SECOND_DECISION);
 }
 
 #[test]
