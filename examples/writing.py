@@ -16,8 +16,8 @@ UUID = re.compile(r"[0-9a-f]{8}(?:-[0-9a-f]{4}){3}-[0-9a-f]{12}", re.I)
 OTHERS = re.compile(r"[^A-Za-z0-9_-]+")
 
 # What a document has at most; `steps` are those that are no operations, and children.
-LIMITS = {"objects": 1_000, "transactions": 10_000, "operations": 1_000_000, "steps": 100_000}
-MOST_BYTES, MOST_START, MOST_AMOUNT = 67_108_864, 10 ** 15, 10 ** 12
+LIMITS = {"objects": 1_000_000, "transactions": 1_000_000, "operations": 9_000_000, "steps": 9_000_000}
+MOST_BYTES, MOST_START, MOST_AMOUNT = 536_870_912, 10 ** 15, 10 ** 12
 
 
 class Names:
@@ -104,7 +104,7 @@ class Document:
     def text(self):
         """A line for each object and each transaction."""
         lists = [",\n  ".join(map(json.dumps, each)) for each in (self.objects.values(), self.transactions)]
-        return '{"ordtx": 4,\n "objects": [\n  %s],\n "transactions": [\n  %s]}\n' % tuple(lists)
+        return '{"ordtx": 5,\n "objects": [\n  %s],\n "transactions": [\n  %s]}\n' % tuple(lists)
 
 
 if __name__ == "__main__":
