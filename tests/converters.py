@@ -2,6 +2,7 @@
 
 import json
 import pathlib
+import random
 import re
 import subprocess
 import sys
@@ -243,6 +244,40 @@ def try_parts(program, folder):
     program.expect("a log without a line", ["check"], pathlib.Path(names[0]).read_bytes(), b"ok objects 5 transactions 0 operations 0\n")
 
 
+def ends(program, name, document):
+    """The numbers with which the objects of a document end."""
+    out, status, err = program.run(["serial"], document)
+    program.compare(name, ["serial"], (None, status, err), (None, 0, b""))
+    return {line.split()[1]: line.split()[3] for line in out.decode().splitlines() if line.startswith("= ")}
+
+
+def try_books(program):
+    """A journal of 2,500 accounts in two currencies, with 12,000 entries: more objects and transactions than version 4 has."""
+    chance, rows, sums = random.Random(5), [], {}
+    for number in range(12_000):
+        currency, amount = chance.choice(("EUR", "USD")), chance.randrange(1, 10_000)
+        for account, cents in ((number % 2_500, amount), (chance.randrange(2_500), -amount)):
+            rows.append("%d,a%d,%s,%s%d.%02d\n" % (
+                number + 1, account, currency, "-" * (cents < 0), abs(cents) // 100, abs(cents) % 100))
+            sums["a%d-%s" % (account, currency)] = sums.get("a%d-%s" % (account, currency), 0) + cents
+    document, status, err = made(["postings.py"], ENTRIES + "".join(rows).encode())
+    program.compare("books of %d objects" % len(sums), [], (None, status, err), (None, 0, ""))
+    program.compare("books of %d objects" % len(sums), [], (len(sums) > 1_000,), (True,))
+    program.compare("books of %d objects" % len(sums), [],
+                    (ends(program, "books", document),), ({name: str(sum) for name, sum in sums.items()},))
+    out, status, err = program.run(["run"], document)
+    program.compare("books, by rounds", ["run"], (out.splitlines()[-1], status, err), (b"rounds 1", 0, b""))
+
+
+def try_long_log(program):
+    """A log of 30,000 commands, which version 4 would cut into three."""
+    chance = random.Random(6)
+    log = "".join("%d SET k%d v%d\n" % (number, chance.randrange(1_700), chance.randrange(50)) for number in range(1, 30_001))
+    document, status, err = made(["replay.py"], log.encode())
+    program.compare("a log of 30,000 commands", [], (None, status, err), (None, 0, ""))
+    program.expect("a log of 30,000 commands", ["check"], document, b"ok objects 5 transactions 30000 operations 60000\n")
+
+
 def shown_names():
     section = (EXAMPLES / "README.md").read_text().split("## Names that don't fit")[1]
     return tuple(re.findall(r"^\| `(.+?)` \| `(.+?)` \|", section, re.M))
@@ -270,4 +305,6 @@ def try_all(program):
         try_refused(program, folder)
         try_limits(program)
         try_parts(program, folder)
+        try_books(program)
+        try_long_log(program)
         try_names(program)
