@@ -303,7 +303,7 @@ def try_wholes(program):
     """Faults of the whole document have no pointer, but for those of one of its members."""
     for number, value, way in (
             (2, [], []), (2, 7, []), (2, {}, []), (2, {"ordtx": 1, "objects": []}, []),
-            (2, {**batch([], []), "more": 1}, ["more"]), (2, batch([], [], 5), ["ordtx"]), (2, batch({}, []), ["objects"]),
+            (2, {**batch([], []), "more": 1}, ["more"]), (2, batch([], [], 6), ["ordtx"]), (2, batch({}, []), ["objects"]),
             (2, batch([], ""), ["transactions"]), (12, batch([ACCOUNT] * 1_001, []), ["objects"]),
             (12, batch([], [[]] * 10_001), ["transactions"])):
         expect_place(program, "fault %d of a whole document" % number, value, number, 0, way)
