@@ -1,5 +1,5 @@
 -- Where the parts of a tree can be run, so can theirs.
-use Rattle.std.proofs.Common.{◌≡◌, ℕ, ◌+◌, ◌<◌, ◌≤◌, Bool, List, [], ◌∷◌, ◌++◌, map, length, get_or, take, sym, ap, subst, ◌∙◌, arith}
+use Rattle.std.proofs.Common.{◌≡◌, ℕ, ◌+◌, ◌<◌, ◌≤◌, Bool, List, [], ◌∷◌, ◌++◌, map, length, get_or, take, Some, sym, ap, subst, ◌∙◌, arith}
 use Rattle.std.proofs.Common.{append_assoc, zero, suc, Box, Global}
 use Rattle.std.proofs.lemmas.List.{append-nil, get_or-map}
 use Rattle.std.proofs.lemmas.Option.{slice_get_within, get_or_from_slice_get}
@@ -7,7 +7,11 @@ use Rattle.objects.specs.declared.call.Call.{Call}
 use Rattle.objects.specs.declared.kind.Kind.{Kind}
 use Rattle.meaning.specs.declared.end.End.TheVariants.{Ended}
 use Rattle.meaning.specs.declared.held.Held.{Held}
+use Rattle.meaning.specs.declared.template.Refusal.{Refusal}
+use Rattle.meaning.specs.declared.template.Template.{Template}
 use Rattle.meaning.specs.declared.test.Test.{Test}
+use Rattle.meaning.specs.Filling.{fill}
+use Rattle.meaning.proofs.Fillings.{filled_law}
 use Rattle.objects.specs.Entries.{State, kinds}
 use Rattle.meaning.specs.Labels.{holds, holds_of, if_there}
 use Rattle.meaning.specs.Trees as meant
@@ -71,6 +75,11 @@ pub op-can : (step : Step) (object : ℕ) (call : Call) (labelled : Bool) (held 
 op-can step object call labelled held state is h =
     let here = can_as step (meant.Operation object call labelled) held state (ap step_view is ∙ step_view-Op object call labelled) h in
     perform state object call here.well_formed here.room
+
+pub fill_can : (object : ℕ) (template : Template) (labelled : Bool) (refusal : Refusal) (held : List Held) (state : State) (call : Call)
+    → CanStepHere (meant.Fill object template labelled refusal) held state → Some call ≡ fill held template → CanPerform state object call
+fill_can object template labelled refusal held state call h is =
+    perform state object call ((filled_law held template call (sym is)).1 (kinds state) object h.well_formed.0) h.room
 
 -- the label of an if
 bound : (step : Step) (label : ℕ) (t : Test) (then otherwise : Box Block Global) (held : List Held) (state : State)

@@ -6,15 +6,18 @@ use Rattle.objects.specs.Entries.{State, reply_at}
 use Rattle.meaning.specs.declared.end.End.{End}
 use Rattle.meaning.specs.declared.end.End.TheVariants.{Ended, Aborted}
 use Rattle.meaning.specs.declared.held.Held.{Held}
+use Rattle.meaning.specs.declared.template.Refusal.{Refusal}
+use Rattle.meaning.specs.declared.template.Template.{Template}
 use Rattle.meaning.specs.declared.test.Test.{Test}
-use Rattle.meaning.specs.Trees.{Block, NoStep, Steps, Step, Operation, If, Subaction, Abort, Parallel, Handlers, ForReason, Otherwise, GoOn}
-use Rattle.meaning.specs.Trees.{Pass, Children, NoChild, Child}
+use Rattle.meaning.specs.Filling.{fill}
+use Rattle.meaning.specs.Trees.{Block, NoStep, Steps, Step, Operation, Fill, If, Subaction, Abort, Parallel, Handlers, ForReason, Otherwise}
+use Rattle.meaning.specs.Trees.{GoOn, Pass, Children, NoChild, Child}
 use Rattle.meaning.specs.Labels.{holds}
 use Rattle.meaning.specs.Records.{Taken, Nothing, Took, TakenStep, TakenChild, Undone, TakenHandler, NoHandler, Handled}
 use Rattle.meaning.specs.Records.{TakenChildren, kept, kept_of_step, kept_of_child, kept_of_handler, kept_of_children}
 use Rattle.meaning.specs.Shown.{end_of, shown, shown_step, shown_child, shown_children}
-use Rattle.meaning.specs.OneThread.{Run, Ran, record_of, operate, choose, is_for, choose_handler, act, go_on, go_on_children}
-use Rattle.meaning.specs.OneThread.{one, one_step, one_handler, one_children}
+use Rattle.meaning.specs.OneThread.{Run, Ran, record_of, operate, operate_made, operate_filled, choose, is_for, choose_handler, act, go_on}
+use Rattle.meaning.specs.OneThread.{go_on_children, one, one_step, one_handler, one_children}
 use Rattle.meaning.specs.Batch.{net_of, shown_of}
 use Rattle.batch.specs.Taking.{first_of, taker}
 use Rattle.batch.specs.Left.{where_ended, left, left_by_step, left_by_child, left_by_children, or_no_step, taker_at, left_by_transaction}
@@ -46,6 +49,18 @@ operation_left : (object : ℕ) (call : Call) (labelled : Bool) (state : State) 
     → LeavesStep (Operation object call labelled) (operate object call labelled state reply)
 operation_left object call labelled state None = refl
 operation_left object call labelled state (Some reply) = refl
+
+-- so does one whose call is made when it is reached
+made_left : (object : ℕ) (template : Template) (labelled : Bool) (refusal : Refusal) (state : State) (call : Call)
+    (reply : Option Reply) → LeavesStep (Fill object template labelled refusal) (operate_made object call labelled refusal state reply)
+made_left object template labelled refusal state call None = refl
+made_left object template labelled refusal state call (Some reply) = refl
+
+filled_left : (object : ℕ) (template : Template) (labelled : Bool) (refusal : Refusal) (state : State) (call : Option Call)
+    → LeavesStep (Fill object template labelled refusal) (operate_filled object labelled refusal state call)
+filled_left object template labelled refusal state None = refl
+filled_left object template labelled refusal state (Some call) =
+    made_left object template labelled refusal state call (reply_at state object call)
 
 -- a branch leaves what it keeps
 choice_left : (label : ℕ) (t : Test) (then else : Block) (chosen : Bool) (then_runs else_runs : State → Run Taken) (state : State)
@@ -112,6 +127,7 @@ mutual
   -- a step does
   step_left : (step : Step) (labels : List Held) (state : State) → LeavesStep step (one_step step labels state)
   step_left (Operation object call labelled) labels state = operation_left object call labelled state (reply_at state object call)
+  step_left (Fill object template labelled refusal) labels state = filled_left object template labelled refusal state (fill labels template)
   step_left (If label test then else) labels state =
       choice_left label test then else (holds labels label test) (one then labels) (one else labels) state
       (block_left then labels state) (block_left else labels state)

@@ -1,6 +1,7 @@
 pub mod ViewLemmas
 pub mod SizeLemmas
 pub mod CountLemmas
+pub mod FillingLemmas
 pub mod CanRun
 pub mod Blocks
 pub mod Stepping

@@ -1,16 +1,16 @@
 -- No run meets what it can't do.
-use Rattle.std.proofs.Common.{List, [], ◌++◌, arith}
+use Rattle.std.proofs.Common.{List, [], ◌++◌, sym, arith}
 use Rattle.meaning.specs.declared.held.Held.{Held}
 use Rattle.objects.specs.Entries.{State}
-use Rattle.meaning.specs.Trees.{Block, NoStep, Steps, Step, Operation, If, Subaction, Abort, Parallel, Handlers, ForReason, Otherwise, GoOn}
-use Rattle.meaning.specs.Trees.{Pass, Children, NoChild, Child}
+use Rattle.meaning.specs.Trees.{Block, NoStep, Steps, Step, Operation, Fill, If, Subaction, Abort, Parallel, Handlers, ForReason, Otherwise}
+use Rattle.meaning.specs.Trees.{GoOn, Pass, Children, NoChild, Child}
 use Rattle.meaning.specs.OneThread.{labels_of, state_of, one_step}
 use Rattle.meaning.specs.Batch.{block_at, state_at}
-use Rattle.meaning.proofs.HeldLabels.{test}
+use Rattle.meaning.proofs.HeldLabels.{test, arguments}
 use Rattle.meaning.proofs.Keeping.{perform}
 use Rattle.batch.specs.Running.{CanRunHere, CanStepHere, CanHandleHere, CanRunAllHere, acted}
 use Rattle.batch.specs.Soundness.{IsSound, IsSoundStep, AreSoundHandlers, AreSound, SoundnessLaw, BatchSoundnessLaw}
-use Rattle.batch.proofs.CanRun.{can_step, can_run_rest, can_run_younger, transaction_can_run}
+use Rattle.batch.proofs.CanRun.{fill_can, can_step, can_run_rest, can_run_younger, transaction_can_run}
 
 mutual
   pub is_sound : (block : Block) (held : List Held) (state : State) → CanRunHere block held state → IsSound block held state
@@ -23,6 +23,10 @@ mutual
 
   is_sound_step : (step : Step) (held : List Held) (state : State) → CanStepHere step held state → IsSoundStep step held state
   is_sound_step (Operation object call labelled) held state h = perform state object call h.well_formed h.room
+  is_sound_step (Fill object template labelled refusal) held state h = (
+    arguments held h.labels template h.held_by h.well_formed.1,
+    λ call is. fill_can object template labelled refusal held state call h (sym is),
+  )
   is_sound_step (If label t then else) held state h = (
     test held h.labels label t h.held_by h.well_formed.0,
     is_sound then held state (record {

@@ -1,6 +1,6 @@
 -- What the steps of a block show, kind by kind.
-use Rattle.std.proofs.Common.{◌≡◌, ℕ, Bool, true, false, List, [], ◌∷◌, ◌++◌, get_or, refl, sym, ap, subst, ◌∙◌, Option, Some, Vec, Box}
-use Rattle.std.proofs.Common.{Global}
+use Rattle.std.proofs.Common.{◌≡◌, ℕ, Bool, true, false, List, [], ◌∷◌, ◌++◌, get_or, refl, sym, ap, subst, ◌∙◌, Option, Some, None, Vec}
+use Rattle.std.proofs.Common.{Box, Global}
 use Rattle.std.proofs.lemmas.List.{append-nil}
 use Rattle.objects.specs.declared.call.Call.{Call}
 use Rattle.objects.specs.declared.entry.Entry.{Entry}
@@ -9,7 +9,11 @@ use Rattle.meaning.specs.declared.end.End.{End}
 use Rattle.meaning.specs.declared.end.End.TheVariants.{Ended, Aborted}
 use Rattle.meaning.specs.declared.held.Held.{Held}
 use Rattle.meaning.specs.declared.held.Held.TheVariants.{Replied, Outcome}
+use Rattle.meaning.specs.declared.template.Refusal.{Refusal}
+use Rattle.meaning.specs.declared.template.Template.{Template}
 use Rattle.meaning.specs.declared.test.Test.{Test}
+use Rattle.meaning.specs.Filling.{end_after, fill, reason_for}
+use Rattle.meaning.specs.Trees as meant
 use Rattle.objects.specs.Entries.{reply_at}
 use Rattle.meaning.specs.Labels.{holds_of}
 use Rattle.meaning.specs.Shown.{ShownStep}
@@ -21,8 +25,9 @@ use Rattle.batch.specs.declared.tree.Step.{Step, Op, If, Sub, Abort, Parallel}
 use Rattle.batch.specs.declared.tree.Subaction.{Subaction}
 use Rattle.batch.specs.declared.record.Record.{Record}
 use Rattle.batch.specs.declared.record.Taken as taken
-use Rattle.batch.proofs.ViewLemmas.{taken_view-Op, taken_view-If, taken_view-Abort, taken_view-Parallel}
-use Rattle.batch.proofs.Stepping.{op-runs, if-runs, sub-runs, abort-runs, parallel-runs}
+use Rattle.batch.specs.declared.record.Made.{Made}
+use Rattle.batch.proofs.ViewLemmas.{taken_view-Op, taken_view-Filled, taken_view-If, taken_view-Abort, taken_view-Parallel}
+use Rattle.batch.proofs.Stepping.{op-runs, fill_runs, fill_aborts, if-runs, sub-runs, abort-runs, parallel-runs}
 use Rattle.batch.specs.Grounds.{Ground, IsGround}
 use Rattle.batch.specs.Shows.{ShowsRun, ShowsStep, ShowsTried, ShowsChildren}
 use Rattle.batch.specs.declared.tried.Tried as executed
@@ -39,6 +44,34 @@ module _ {V : Type 0} {g : Ground V} (on : IsGround g) where
       let run = op-runs step object call labelled held (g.state before) reply is replies in
       subst (λ r. ShowsStep g r (taken.Op reply) Ended held seen before now) run
       (record { tree = taken_view-Op reply; end = refl; labels = λ _. labels; took = took })
+
+  -- ---- operations whose calls are made when they are reached
+
+  pub fill-shows : (object : ℕ) (template : Template) (labelled : Bool) (refusal : Refusal) (held seen : List Held) (before now : V)
+      (call : Call) (reply : Reply) (made : Box Made Global)
+      → Some call ≡ fill held template → reply_at (g.state before) object call ≡ Some reply
+      → (let entry : Entry = record { object = object; call = call; reply = reply } in g.Took before (entry ∷ []) (entry ∷ []) now)
+      → seen ≡ held ++ label_if labelled (Replied reply) → made.value ≡ record { call = call; reply = reply }
+      → ShowsStep g (one_step (meant.Fill object template labelled refusal) held (g.state before)) (taken.Filled made)
+      (end_after refusal reply) held seen before now
+  fill-shows object template labelled refusal held seen before now call reply made is replies took labels boxes =
+      subst (λ r. ShowsStep g r (taken.Filled made) (end_after refusal reply) held seen before now)
+      (fill_runs object template labelled refusal held (g.state before) call reply is replies)
+      (record {
+        tree = taken_view-Filled made ∙ ap (λ m. ShownStep.Filled m.call m.reply) boxes;
+        end = refl;
+        labels = λ _. labels;
+        took = took;
+      })
+
+  pub fill_abort-shows : (object : ℕ) (template : Template) (labelled : Bool) (refusal : Refusal) (held : List Held) (before : V)
+      → None ≡ fill held template
+      → ShowsStep g (one_step (meant.Fill object template labelled refusal) held (g.state before)) taken.Abort
+      (Aborted (reason_for refusal)) held held before before
+  fill_abort-shows object template labelled refusal held before none =
+      subst (λ r. ShowsStep g r taken.Abort (Aborted (reason_for refusal)) held held before before)
+      (fill_aborts object template labelled refusal held (g.state before) none)
+      (record { tree = taken_view-Abort; end = refl; labels = λ _. sym (append-nil held); took = on.none before })
 
   -- ---- ifs
 

@@ -1,16 +1,20 @@
 -- What the steps of a block run to, kind by kind.
-use Rattle.std.proofs.Common.{◌≡◌, ℕ, Bool, List, [], get_or, refl, sym, ap, ◌∙◌, Option, Some, Vec, Box, Global}
+use Rattle.std.proofs.Common.{◌≡◌, ℕ, Bool, List, [], get_or, refl, sym, ap, ◌∙◌, Option, Some, None, Vec, Box, Global}
 use Rattle.objects.specs.declared.call.Call.{Call}
 use Rattle.objects.specs.declared.call.Reply.{Reply}
 use Rattle.meaning.specs.declared.end.End.TheVariants.{Ended, Aborted}
 use Rattle.meaning.specs.declared.held.Held.{Held}
 use Rattle.meaning.specs.declared.held.Held.TheVariants.{Replied}
+use Rattle.meaning.specs.declared.template.Refusal.{Refusal}
+use Rattle.meaning.specs.declared.template.Template.{Template}
 use Rattle.meaning.specs.declared.test.Test.{Test}
+use Rattle.meaning.specs.Filling.{end_after, fill, reason_for}
 use Rattle.objects.specs.Entries.{State, reply_at, after_call}
 use Rattle.meaning.specs.Labels.{holds, holds_of}
 use Rattle.meaning.specs.Trees as meant
-use Rattle.meaning.specs.Records.{Performed, Acted, InParallel, TakenStep}
-use Rattle.meaning.specs.OneThread.{Run, Ran, label_if, operate, choose, act, as_step, one, one_step, one_handler, one_children}
+use Rattle.meaning.specs.Records.{Performed, Filled, Acted, InParallel, TakenStep}
+use Rattle.meaning.specs.OneThread.{Run, Ran, label_if, operate, operate_made, operate_filled, choose, act, as_step, one, one_step}
+use Rattle.meaning.specs.OneThread.{one_handler, one_children}
 use Rattle.batch.specs.Views.{block_view, step_view, subaction_view, children_view}
 use Rattle.batch.specs.Running.{CanStepHere, acted}
 use Rattle.batch.specs.declared.tree.Block.{Block}
@@ -38,6 +42,22 @@ pub op-runs : (step : Step) (object : ℕ) (call : Call) (labelled : Bool) (held
 op-runs step object call labelled held state reply is replies =
     shows_as step (meant.Operation object call labelled) held state _ (ap step_view is ∙ step_view-Op object call labelled)
     (operation_runs object call labelled held state reply replies)
+
+-- a call is made of a template, and performed
+pub fill_runs : (object : ℕ) (template : Template) (labelled : Bool) (refusal : Refusal) (held : List Held) (state : State) (call : Call)
+    (reply : Reply) → Some call ≡ fill held template → reply_at state object call ≡ Some reply
+    → Ran (Filled (record { object = object; call = call; reply = reply })) (end_after refusal reply) (label_if labelled (Replied reply))
+    (after_call state object call) ≡ one_step (meant.Fill object template labelled refusal) held state
+unfolding one
+fill_runs object template labelled refusal held state call reply made is =
+    sym (ap (operate_made object call labelled refusal state) is) ∙ ap (operate_filled object labelled refusal state) made
+
+-- none can be made
+pub fill_aborts : (object : ℕ) (template : Template) (labelled : Bool) (refusal : Refusal) (held : List Held) (state : State)
+    → None ≡ fill held template
+    → Ran TakenStep.Abort (Aborted (reason_for refusal)) [] state ≡ one_step (meant.Fill object template labelled refusal) held state
+unfolding one
+fill_aborts object template labelled refusal held state none = ap (operate_filled object labelled refusal state) none
 
 if_runs : (label : ℕ) (t : Test) (then otherwise : meant.Block) (held : List Held) (state : State) (chosen : Bool)
     → holds held label t ≡ chosen

@@ -5,16 +5,18 @@ use Rattle.objects.specs.declared.call.Reply.{Reply}
 use Rattle.meaning.specs.declared.test.Test.{Test}
 use Rattle.meaning.specs.Trees.{Operation, If, Subaction as subaction_step, Abort as abort_step, Parallel as parallel_step, Otherwise, GoOn}
 use Rattle.meaning.specs.Trees.{Pass, for_reasons}
-use Rattle.meaning.specs.Shown.{Shown, AtEnd, ShownStep, Replied, Branched, InParallel, NoChild}
-use Rattle.batch.specs.Views.{block_view, step_view, handler_view, otherwise_view, subaction_view, steps_view, children_view, record_view}
-use Rattle.batch.specs.Views.{taken_view, tried_view, all_tried_view, before_end, shown_child, before_younger}
+use Rattle.meaning.specs.Shown.{Shown, AtEnd, ShownStep, Replied, Filled, Branched, InParallel, NoChild}
+use Rattle.batch.specs.Views.{block_view, step_view, filling_view, handler_view, otherwise_view, subaction_view, steps_view, children_view}
+use Rattle.batch.specs.Views.{record_view, taken_view, tried_view, all_tried_view, before_end, shown_child, before_younger}
 use Rattle.batch.specs.declared.tree.Block.{Block}
-use Rattle.batch.specs.declared.tree.Step.{Op, If as if_variant, Sub, Abort, Parallel, the_lemmas}
+use Rattle.batch.specs.declared.tree.Filling.{Filling}
+use Rattle.batch.specs.declared.tree.Step.{Op, Fill as fill_variant, If as if_variant, Sub, Abort, Parallel, the_lemmas}
 use Rattle.batch.specs.declared.tree.Subaction.{Subaction, out-Subaction}
 use Rattle.batch.specs.declared.tree.Handler.{Handler}
 use Rattle.batch.specs.declared.tree.Otherwise as otherwise
 use Rattle.batch.specs.declared.record.Record.{Record}
 use Rattle.batch.specs.declared.record.Taken as taken
+use Rattle.batch.specs.declared.record.Made.{Made}
 
 pub block_view-is : (block : Block) → block_view block ≡ steps_view block.steps.items
 block_view-is block = search (rules, the_lemmas)
@@ -24,6 +26,9 @@ handler_view-is handler = search (rules, the_lemmas)
 
 pub step_view-Op : (object : ℕ) (call : Call) (labelled : Bool) → step_view (Op object call labelled) ≡ Operation object call labelled
 step_view-Op object call labelled = search (rules, the_lemmas)
+
+pub step_view-Fill : (filling : Box Filling Global) → step_view (fill_variant filling) ≡ filling_view filling.value
+step_view-Fill filling = search (rules, the_lemmas)
 
 pub step_view-If : (label : ℕ) (test : Test) (then otherwise : Box Block Global) → step_view (if_variant label test then otherwise)
     ≡ If label test (block_view then.value) (block_view otherwise.value)
@@ -44,6 +49,9 @@ record_view-is done = search (rules, taken.the_lemmas)
 
 pub taken_view-Op : (reply : Reply) → taken_view (taken.Op reply) ≡ Replied reply
 taken_view-Op reply = search (rules, taken.the_lemmas)
+
+pub taken_view-Filled : (made : Box Made Global) → taken_view (taken.Filled made) ≡ Filled made.value.call made.value.reply
+taken_view-Filled made = search (rules, taken.the_lemmas)
 
 pub taken_view-If : (then : Bool) (branch : Box Record Global) → taken_view (taken.If then branch) ≡ Branched then
     (record_view branch.value)

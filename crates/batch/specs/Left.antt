@@ -3,9 +3,9 @@ use Rattle.std.specs.Prelude.{List, [], ◌∷◌, ◌++◌, true, false, Option
 use Rattle.objects.specs.declared.entry.Entry.{Entry}
 use Rattle.meaning.specs.declared.end.End.{End}
 use Rattle.meaning.specs.declared.end.End.TheVariants.{Ended, Aborted}
-use Rattle.meaning.specs.Trees.{Block, NoStep, Steps, Step, Operation, If, Subaction, Parallel, Handlers, Children, NoChild, Child}
-use Rattle.meaning.specs.Shown.{Shown, AtEnd, First, ShownStep, Replied, Branched, Acted, InParallel, ShownChild, Body, BodyAndHandler}
-use Rattle.meaning.specs.Shown.{ShownChildren, end_of}
+use Rattle.meaning.specs.Trees.{Block, NoStep, Steps, Step, Operation, Fill, If, Subaction, Parallel, Handlers, Children, NoChild, Child}
+use Rattle.meaning.specs.Shown.{Shown, AtEnd, First, ShownStep, Replied, Filled, Branched, Acted, InParallel, ShownChild, Body}
+use Rattle.meaning.specs.Shown.{BodyAndHandler, ShownChildren, end_of}
 use Rattle.batch.specs.Taking.{taker}
 
 -- these entries, or none where it aborted
@@ -31,6 +31,7 @@ abbrev mutual
 
   pub left_by_step : Step → ShownStep → List Entry
   left_by_step (Operation object call labelled) (Replied reply) = record { object = object; call = call; reply = reply } ∷ []
+  left_by_step (Fill object template labelled refusal) (Filled call reply) = record { object = object; call = call; reply = reply } ∷ []
   left_by_step (If label test then else) (Branched true branch) = left then branch
   left_by_step (If label test then else) (Branched false branch) = left else branch
   left_by_step (Subaction body handlers labelled) (Acted child) = left_by_child body handlers child

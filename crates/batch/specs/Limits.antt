@@ -6,8 +6,8 @@ use Rattle.objects.specs.declared.kind.Kind.{Kind}
 use Rattle.objects.specs.declared.value.Value.{Value}
 use Rattle.objects.specs.declared.value.Value.TheVariants as value
 use Rattle.objects.specs.Entries.{State, kinds}
-use Rattle.meaning.specs.Trees.{Block, NoStep, Steps, Step, Operation, If, Subaction, Abort, Parallel, Handlers, ForReason, Otherwise, GoOn}
-use Rattle.meaning.specs.Trees.{Pass, Children, NoChild, Child}
+use Rattle.meaning.specs.Trees.{Block, NoStep, Steps, Step, Operation, Fill, If, Subaction, Abort, Parallel, Handlers, ForReason, Otherwise}
+use Rattle.meaning.specs.Trees.{GoOn, Pass, Children, NoChild, Child}
 use Rattle.meaning.specs.WellFormed.{IsWellFormed, largest}
 use Rattle.meaning.specs.Running.{all_operations}
 use Rattle.batch.specs.Names.{AreNames, Texts}
@@ -23,6 +23,7 @@ abbrev mutual
 
   pub depth_of_step : Step → ℕ
   depth_of_step (Operation object call labelled) = 0
+  depth_of_step (Fill object template labelled refusal) = 0
   depth_of_step (If label test then else) = max (depth then) (depth else)
   depth_of_step (Subaction body handlers labelled) = max (depth body) (depth_of_handlers handlers)
   depth_of_step (Abort reason) = 0
@@ -46,6 +47,7 @@ abbrev mutual
 
   pub nodes_of_step : Step → ℕ
   nodes_of_step (Operation object call labelled) = 0
+  nodes_of_step (Fill object template labelled refusal) = 0
   nodes_of_step (If label test then else) = 1 + nodes then + nodes else
   nodes_of_step (Subaction body handlers labelled) = 1 + nodes body + nodes_of_handlers handlers
   nodes_of_step (Abort reason) = 1

@@ -9,10 +9,16 @@ use Rattle.objects.specs.declared.call.Call.{Call}
 use Rattle.objects.specs.declared.value.Value.{Value}
 use Rattle.objects.specs.declared.value.Value.TheVariants as value
 use Rattle.words.specs.Verbs.{ItemsAre, phrase_of}
+use Rattle.meaning.specs.declared.template.Argument.{Argument}
+use Rattle.meaning.specs.declared.template.Argument.TheVariants.{Is, From}
+use Rattle.meaning.specs.declared.template.Template.{Template}
+use Rattle.meaning.specs.declared.template.Template.TheVariants.{Given, OfPair}
+use Rattle.meaning.specs.declared.template.Refusal.{Refusal}
+use Rattle.meaning.specs.declared.template.Refusal.TheVariants.{GoesOn, Aborts}
 use Rattle.meaning.specs.declared.test.Test.{Test}
 use Rattle.meaning.specs.declared.test.Test.TheVariants.{IsItem}
-use Rattle.meaning.specs.Trees.{Block, NoStep, Steps, Step, Operation, If, Subaction, Abort, Parallel, Handlers, ForReason, Otherwise, GoOn}
-use Rattle.meaning.specs.Trees.{Pass, Children, NoChild, Child}
+use Rattle.meaning.specs.Trees.{Block, NoStep, Steps, Step, Operation, Fill, If, Subaction, Abort, Parallel, Handlers, ForReason, Otherwise}
+use Rattle.meaning.specs.Trees.{GoOn, Pass, Children, NoChild, Child}
 use Rattle.batch.specs.Names.{Texts}
 
 abbrev pub HasText : Texts → Item → Type 0
@@ -23,6 +29,19 @@ HasReason texts reason = reason < length texts.reasons
 
 abbrev pub IsNamedCall : Texts → Call → Type 0
 IsNamedCall texts c = ItemsAre (HasText texts) (phrase_of c)
+
+abbrev pub IsNamedArgument : Texts → Argument → Type 0
+IsNamedArgument texts (Is x) = HasText texts x
+IsNamedArgument texts (From label) = ⊤
+
+abbrev pub IsNamedTemplate : Texts → Template → Type 0
+IsNamedTemplate texts (Given call) = IsNamedCall texts call
+IsNamedTemplate texts (OfPair v key item) = IsNamedArgument texts key × IsNamedArgument texts item
+IsNamedTemplate texts template = ⊤
+
+abbrev pub IsNamedRefusal : Texts → Refusal → Type 0
+IsNamedRefusal texts GoesOn = ⊤
+IsNamedRefusal texts (Aborts reason) = ForSome reason (HasReason texts)
 
 abbrev pub IsNamedTest : Texts → Test → Type 0
 IsNamedTest texts (IsItem x) = HasText texts x
@@ -36,6 +55,7 @@ abbrev mutual
 
   pub IsNamedStep : Texts → Step → Type 0
   IsNamedStep texts (Operation object call labelled) = IsNamedCall texts call
+  IsNamedStep texts (Fill object template labelled refusal) = IsNamedTemplate texts template × IsNamedRefusal texts refusal
   IsNamedStep texts (If label test then else) = IsNamedTest texts test × IsNamed texts then × IsNamed texts else
   IsNamedStep texts (Subaction body handlers labelled) = IsNamed texts body × AreNamedHandlers texts handlers
   IsNamedStep texts (Abort reason) = ForSome reason (HasReason texts)

@@ -7,13 +7,19 @@ use Rattle.words.specs.declared.verb.Phrase.{Phrase}
 use Rattle.words.specs.declared.verb.Phrase.TheVariants.{OfAmount, OfItem, OfPair, Alone}
 use Rattle.objects.specs.declared.value.Value.{Value}
 use Rattle.objects.specs.declared.value.Value.TheVariants as value
+use Rattle.meaning.specs.declared.template.Argument.{Argument}
+use Rattle.meaning.specs.declared.template.Argument.TheVariants as argument
+use Rattle.meaning.specs.declared.template.Refusal.{Refusal}
+use Rattle.meaning.specs.declared.template.Refusal.TheVariants.{GoesOn, Aborts}
+use Rattle.meaning.specs.declared.template.Template.{Template}
+use Rattle.meaning.specs.declared.template.Template.TheVariants as template
 use Rattle.meaning.specs.declared.test.Test.{Test}
 use Rattle.meaning.specs.declared.test.Test.TheVariants.{Is, AtLeast, IsItem}
-use Rattle.meaning.specs.Trees.{Block, NoStep, Steps, Step, Operation, If, Subaction, Abort, Parallel, Handlers, ForReason, Otherwise, GoOn}
-use Rattle.meaning.specs.Trees.{Pass, Children, NoChild, Child}
+use Rattle.meaning.specs.Trees.{Block, NoStep, Steps, Step, Operation, Fill, If, Subaction, Abort, Parallel, Handlers, ForReason, Otherwise}
+use Rattle.meaning.specs.Trees.{GoOn, Pass, Children, NoChild, Child}
 use Rattle.batch.specs.Names.{Texts}
-use Rattle.batch.specs.Named.{HasText, IsNamedCall, IsNamedTest, IsNamed, IsNamedStep, AreNamedHandlers, AreNamed, AllNamed}
-use Rattle.batch.specs.Named.{IsNamedValue, AllNamedValues}
+use Rattle.batch.specs.Named.{HasText, IsNamedCall, IsNamedArgument, IsNamedTemplate, IsNamedRefusal, IsNamedTest, IsNamed, IsNamedStep}
+use Rattle.batch.specs.Named.{AreNamedHandlers, AreNamed, AllNamed, IsNamedValue, AllNamedValues}
 
 items-prop : (texts : Texts) (p : Phrase) → IsProp (ItemsAre (HasText texts) p)
 items-prop texts (OfAmount v a) = hlevel props
@@ -23,6 +29,24 @@ items-prop texts (Alone v) = hlevel props
 
 IsNamedCall-prop : (texts : Texts) (c : Call) → IsProp (IsNamedCall texts c)
 IsNamedCall-prop texts c = items-prop texts (phrase_of c)
+
+IsNamedArgument-prop : (texts : Texts) (a : Argument) → IsProp (IsNamedArgument texts a)
+IsNamedArgument-prop texts (argument.Is item) = hlevel props
+IsNamedArgument-prop texts (argument.From label) = hlevel props
+
+IsNamedTemplate-prop : (texts : Texts) (template : Template) → IsProp (IsNamedTemplate texts template)
+IsNamedTemplate-prop texts (template.Given call) = IsNamedCall-prop texts call
+IsNamedTemplate-prop texts (template.OfAmount v label) = hlevel props
+IsNamedTemplate-prop texts (template.OfItem v label) = hlevel props
+IsNamedTemplate-prop texts (template.OfPair v key item) = hlevel (
+  props,
+  IsNamedArgument-prop texts key,
+  IsNamedArgument-prop texts item,
+)
+
+IsNamedRefusal-prop : (texts : Texts) (refusal : Refusal) → IsProp (IsNamedRefusal texts refusal)
+IsNamedRefusal-prop texts GoesOn = hlevel props
+IsNamedRefusal-prop texts (Aborts reason) = hlevel props
 
 IsNamedTest-prop : (texts : Texts) (test : Test) → IsProp (IsNamedTest texts test)
 IsNamedTest-prop texts (Is word) = hlevel props
@@ -36,6 +60,11 @@ mutual
 
   IsNamedStep-prop : (texts : Texts) (step : Step) → IsProp (IsNamedStep texts step)
   IsNamedStep-prop texts (Operation object call labelled) = IsNamedCall-prop texts call
+  IsNamedStep-prop texts (Fill object template labelled refusal) = hlevel (
+    props,
+    IsNamedTemplate-prop texts template,
+    IsNamedRefusal-prop texts refusal,
+  )
   IsNamedStep-prop texts (If label test then else) = hlevel (
     props,
     IsNamedTest-prop texts test,

@@ -3,11 +3,13 @@ use Rattle.std.specs.Prelude.{◌≡◌, ◌<◌, ℕ, List, [], ◌++◌, lengt
 use Rattle.meaning.specs.declared.end.End.TheVariants.{Ended}
 use Rattle.meaning.specs.declared.held.Held.{Held}
 use Rattle.objects.specs.Entries.{State}
-use Rattle.meaning.specs.Trees.{Block, NoStep, Steps, Step, Operation, If, Subaction, Abort, Parallel, Handlers, ForReason, Otherwise, GoOn}
-use Rattle.meaning.specs.Trees.{Pass, Children, NoChild, Child}
+use Rattle.meaning.specs.Trees.{Block, NoStep, Steps, Step, Operation, Fill, If, Subaction, Abort, Parallel, Handlers, ForReason, Otherwise}
+use Rattle.meaning.specs.Trees.{GoOn, Pass, Children, NoChild, Child}
+use Rattle.std.specs.Option.{ForSome}
+use Rattle.meaning.specs.Filling.{fill}
 use Rattle.meaning.specs.OneThread.{outcome_of, labels_of, state_of, act, one, one_step, one_handler}
 use Rattle.meaning.specs.Batch.{block_at, state_at}
-use Rattle.meaning.specs.Running.{CanPerform, IsBound}
+use Rattle.meaning.specs.Running.{CanPerform, IsBound, AreArgumentsBound}
 use Rattle.batch.specs.Names.{Texts}
 use Rattle.batch.specs.Limits.{IsBatch}
 use Rattle.batch.specs.Running.{CanRunHere}
@@ -23,6 +25,8 @@ abbrev mutual
 
   pub IsSoundStep : Step → List Held → State → Type 0
   IsSoundStep (Operation object call labelled) held state = CanPerform state object call
+  IsSoundStep (Fill object template labelled refusal) held state =
+      AreArgumentsBound held template × ForSome (fill held template) (CanPerform state object)
   IsSoundStep (If label test then else) held state = IsBound held label test × IsSound then held state × IsSound else held state
   IsSoundStep (Subaction body handlers labelled) held state = IsSound body held state × AreSoundHandlers handlers held state
   IsSoundStep (Abort reason) held state = ⊤

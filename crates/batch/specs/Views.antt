@@ -1,11 +1,12 @@
 -- The trees of the meaning that a block and a record stand for.
 use Rattle.std.specs.Prelude.{ℕ, Bool, List, [], ◌∷◌, map, Option, Some, None, option_map, box_value}
 use Rattle.meaning.specs.Trees as meant
-use Rattle.meaning.specs.Trees.{NoStep, Steps, Operation, If, Abort, Parallel, Handlers, Otherwise, GoOn, Pass, for_reasons, Children}
+use Rattle.meaning.specs.Trees.{NoStep, Steps, Operation, Fill, If, Abort, Parallel, Handlers, Otherwise, GoOn, Pass, for_reasons, Children}
 use Rattle.meaning.specs.Trees.{NoChild, Child}
-use Rattle.meaning.specs.Shown.{Shown, AtEnd, First, ShownStep, Replied, Branched, Acted, InParallel, ShownChild, Body, BodyAndHandler}
-use Rattle.meaning.specs.Shown.{ShownChildren}
+use Rattle.meaning.specs.Shown.{Shown, AtEnd, First, ShownStep, Replied, Filled, Branched, Acted, InParallel, ShownChild, Body}
+use Rattle.meaning.specs.Shown.{BodyAndHandler, ShownChildren}
 use Rattle.batch.specs.declared.tree.Block.{Block, Block-F, fold-Block}
+use Rattle.batch.specs.declared.tree.Filling.{Filling}
 use Rattle.batch.specs.declared.tree.Step.{Step, Step-F, fold-Step}
 use Rattle.batch.specs.declared.tree.Subaction.{Subaction, Subaction-F, fold-Subaction}
 use Rattle.batch.specs.declared.tree.Handler.{Handler, Handler-F, fold-Handler}
@@ -28,9 +29,13 @@ abbrev pub children_of : List Tried → Children
 children_of [] = NoChild
 children_of (child ∷ younger) = Child child.body child.handlers child.labelled (children_of younger)
 
+abbrev pub filling_view : Filling → meant.Step
+filling_view filling = Fill filling.object filling.template filling.labelled filling.refusal
+
 -- one level, where each part inside is seen as its tree already
 abbrev pub step_layer : Step-F Handlers meant.Step meant.Block (ℕ × meant.Block) Tried → meant.Step
 step_layer (Step-F.Op object call labelled) = Operation object call labelled
+step_layer (Step-F.Fill filling) = filling_view filling.value
 step_layer (Step-F.If label test then otherwise) = If label test then.value otherwise.value
 step_layer (Step-F.Sub child) = meant.Subaction child.value.body child.value.handlers child.value.labelled
 step_layer (Step-F.Abort reason) = Abort reason
@@ -96,6 +101,7 @@ before_younger (child ∷ children) younger = ShownChildren.Child child (before_
 
 abbrev pub taken_layer : Taken-F ShownStep Shown → ShownStep
 taken_layer (Taken-F.Op reply) = Replied reply
+taken_layer (Taken-F.Filled made) = Filled made.value.call made.value.reply
 taken_layer (Taken-F.If then branch) = Branched then branch.value
 taken_layer (Taken-F.Sub body handler) = Acted (shown_child (body.value, option_map box_value handler))
 taken_layer Taken-F.Abort = ShownStep.Abort

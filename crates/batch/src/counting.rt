@@ -60,7 +60,7 @@ fn operations_in_step(step: &Step) -> u32
     ensures { result ≡ operations_of_step (step_view step.now) }
 {
     match step {
-        Step::Op { .. } => 1,
+        Step::Op { .. } | Step::Fill(_) => 1,
         Step::If {
             then,
             otherwise,

@@ -99,7 +99,7 @@ fn reaches(number: u64, least: i64) -> bool
 }
 
 // The item that a dequeue got or a lookup found.
-fn reply_item(reply: &Reply) -> Option<Item>
+pub(crate) fn reply_item(reply: &Reply) -> Option<Item>
     ensures { result ≡ reply_item reply.now }
 {
     match reply {

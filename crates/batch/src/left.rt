@@ -66,6 +66,9 @@ fn perform_step(
         (Step::Op { object, call, .. }, Taken::Op(_)) => {
             perform_on(values, first, *object, call)?;
         }
+        (Step::Fill(filling), Taken::Filled(made)) => {
+            perform_on(values, first, filling.object, &made.call)?;
+        }
         (
             Step::If {
                 then,

@@ -5,6 +5,7 @@
 mod answer;
 mod batch;
 mod counting;
+mod filling;
 mod handlers;
 mod labels;
 pub mod laws;
@@ -16,12 +17,13 @@ mod tried;
 
 pub use answer::{Outcome, Plain};
 pub use batch::Batch;
+pub use filling::{end_after, fill, reason_for};
 pub use handlers::{handler_for, taker, untaken};
 pub use labels::{add_label, test_holds};
 pub use left::perform_left;
 pub use meaning::{End, Test, Word};
 pub use names::{Names, is_name};
 pub use objects::{Call, Entry, Item, Kind, NoMemory, Objects, Reply, Value};
-pub use record::{Record, Taken};
-pub use tree::{Block, Handler, Otherwise, Step, Subaction};
+pub use record::{Made, Record, Taken};
+pub use tree::{Block, Filling, Handler, Otherwise, Step, Subaction};
 pub use tried::{Tried, handled};

@@ -1,6 +1,13 @@
 //! Records: what a run of a block did.
 use meaning::End;
-use objects::Reply;
+use objects::{Call, Reply};
+
+/// A call that was made from a template, and its reply.
+#[derive(Clone, Copy, Debug, Drop)]
+pub struct Made {
+    pub call: Call,
+    pub reply: Reply,
+}
 
 /// What a run of a block did.
 #[derive(Debug, Drop)]
@@ -18,6 +25,8 @@ pub struct Record {
 pub enum Taken {
     /// The reply of an operation.
     Op(Reply),
+    /// An operation whose call was made when it was reached.
+    Filled(Box<Made>),
     /// Whether the test held, and the branch that was run.
     If(bool, Box<Record>),
     /// A subaction: its body, and the handler where one ran.

@@ -1,5 +1,5 @@
 //! Transactions as trees of blocks and steps (nested transactions: Moss 1981).
-use meaning::Test;
+use meaning::{Refusal, Template, Test};
 use objects::Call;
 
 /// A list of steps, which are taken in order. A transaction is a block.
@@ -20,6 +20,8 @@ pub enum Step {
         call: Call,
         labelled: bool,
     },
+    /// One call whose arguments may come from labels, or whose refusal may abort the block.
+    Fill(Box<Filling>),
     /// Runs the branch that the test of a label picks.
     If {
         label: u32,
@@ -33,6 +35,17 @@ pub enum Step {
     Abort(Option<u32>),
     /// Subactions that may run at once. They mean the same as one after the other.
     Parallel(Vec<Subaction>),
+}
+
+/// One call on the object at this place, which is made when its step is reached. Where a label's reply
+/// has no argument for it the step aborts. Where the reply is a refusal it may: for the reason of
+/// `refusal`, if it has one. The label holds the reply.
+#[derive(Clone, Copy, Debug, Drop)]
+pub struct Filling {
+    pub object: u32,
+    pub template: Template,
+    pub labelled: bool,
+    pub refusal: Refusal,
 }
 
 /// A subaction, or a child of a parallel step. Its label holds its outcome.

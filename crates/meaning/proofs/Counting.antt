@@ -1,17 +1,19 @@
 -- A run has no more entries than its tree has operations.
-use Rattle.std.proofs.Common.{ℕ, ◌+◌, ◌≤◌, List, [], ◌++◌, length, length-append, Bool, true, false, Option, Some, None, arith}
+use Rattle.std.proofs.Common.{ℕ, ◌+◌, ◌≤◌, List, [], ◌++◌, length, length-append, Bool, true, false, Option, Some, None, sym, subst, arith}
 use Rattle.objects.specs.declared.entry.Entry.{Entry}
 use Rattle.objects.specs.declared.call.Call.{Call}
 use Rattle.objects.specs.declared.call.Reply.{Reply}
 use Rattle.meaning.specs.declared.end.End.TheVariants.{Ended, Aborted}
 use Rattle.objects.specs.Entries.{State, reply_at}
-use Rattle.meaning.specs.Trees.{Block, NoStep, Steps, Step, Operation, If, Subaction, Abort, Parallel, Handlers, ForReason, Otherwise, GoOn}
-use Rattle.meaning.specs.Trees.{Pass, Children, NoChild, Child}
+use Rattle.meaning.specs.Trees.{Block, NoStep, Steps, Step, Operation, Fill, If, Subaction, Abort, Parallel, Handlers, ForReason, Otherwise}
+use Rattle.meaning.specs.Trees.{GoOn, Pass, Children, NoChild, Child}
 use Rattle.meaning.specs.Labels.{holds}
+use Rattle.meaning.specs.Filling.{fill}
+use Rattle.meaning.specs.declared.template.Refusal.{Refusal}
 use Rattle.meaning.specs.declared.held.Held.{Held}
 use Rattle.meaning.specs.Records.{Taken, TakenStep, TakenChild, TakenHandler, TakenChildren, entries, entries_of_step, entries_of_child}
 use Rattle.meaning.specs.Records.{entries_of_handler, entries_of_children}
-use Rattle.meaning.specs.OneThread.{Run, Ran, record_of, operate, choose, is_for, choose_handler, act, go_on, go_on_children, one, one_step}
+use Rattle.meaning.specs.OneThread.{Run, Ran, record_of, operate, operate_made, operate_filled, choose, is_for, choose_handler, act, go_on, go_on_children, one, one_step}
 use Rattle.meaning.specs.OneThread.{one_handler, one_children}
 use Rattle.meaning.specs.WellFormed.{operations, operations_of_step, operations_of_handlers, operations_of_children}
 use Rattle.meaning.specs.Running.{EntriesCountLaw}
@@ -23,6 +25,16 @@ operation_count : (object : ℕ) (call : Call) (labelled : Bool) (state : State)
     → AtMost entries_of_step 1 (operate object call labelled state reply)
 operation_count object call labelled state None = omega arith
 operation_count object call labelled state (Some reply) = omega arith
+
+made_count : (object : ℕ) (call : Call) (labelled : Bool) (refusal : Refusal) (state : State) (reply : Option Reply)
+    → AtMost entries_of_step 1 (operate_made object call labelled refusal state reply)
+made_count object call labelled refusal state None = omega arith
+made_count object call labelled refusal state (Some reply) = omega arith
+
+filled_count : (object : ℕ) (labelled : Bool) (refusal : Refusal) (state : State) (call : Option Call)
+    → AtMost entries_of_step 1 (operate_filled object labelled refusal state call)
+filled_count object labelled refusal state None = omega arith
+filled_count object labelled refusal state (Some call) = made_count object call labelled refusal state (reply_at state object call)
 
 choice_count : (test : Bool) (then else : State → Run Taken) (state : State) (m n : ℕ) → AtMost entries m (then state)
     → AtMost entries n (else state) → AtMost entries_of_step (m + n) (choose test then else state)
@@ -71,6 +83,7 @@ mutual
   step_count : (step : Step) (labels : List Held) (state : State) → AtMost entries_of_step (operations_of_step step)
       (one_step step labels state)
   step_count (Operation object call labelled) labels state = operation_count object call labelled state (reply_at state object call)
+  step_count (Fill object template labelled refusal) labels state = filled_count object labelled refusal state (fill labels template)
   step_count (If label test then else) labels state =
       choice_count (holds labels label test) (one then labels) (one else labels) state _ _ (block_count then labels state)
       (block_count else labels state)

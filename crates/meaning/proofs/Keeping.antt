@@ -13,12 +13,14 @@ use Rattle.objects.specs.declared.call.Call.TheVariants as to
 use Rattle.objects.specs.declared.call.Reply.{Reply}
 use Rattle.meaning.specs.declared.end.End.TheVariants.{Ended, Aborted}
 use Rattle.objects.specs.Entries.{State, kinds, reply_at, after_call}
-use Rattle.meaning.specs.Trees.{Block, NoStep, Steps, Operation, If, Subaction, Abort, Parallel, ForReason, Otherwise, GoOn, Pass, NoChild}
+use Rattle.meaning.specs.Trees.{Block, NoStep, Steps, Operation, Fill, If, Subaction, Abort, Parallel, ForReason, Otherwise, GoOn, Pass, NoChild}
 use Rattle.meaning.specs.Trees.{Child}
 use Rattle.meaning.specs.Labels.{holds}
+use Rattle.meaning.specs.Filling.{fill}
+use Rattle.meaning.specs.declared.template.Refusal.{Refusal}
 use Rattle.meaning.specs.declared.held.Held.{Held}
 use Rattle.meaning.specs.Records.{Taken, TakenStep, TakenChild, TakenHandler, TakenChildren}
-use Rattle.meaning.specs.OneThread.{Run, Ran, state_of, operate, choose, is_for, choose_handler, act, go_on, go_on_children, one, one_step}
+use Rattle.meaning.specs.OneThread.{Run, Ran, state_of, operate, operate_made, operate_filled, choose, is_for, choose_handler, act, go_on, go_on_children, one, one_step}
 use Rattle.meaning.specs.OneThread.{one_handler, one_children}
 use Rattle.meaning.specs.Batch.{settled, block_at, state_at}
 use Rattle.meaning.specs.WellFormed.{CallFits, operations, size_of, largest, largest_amount, StateHasRoom}
@@ -101,6 +103,16 @@ operation_keeps : (object : ℕ) (call : Call) (labelled : Bool) (state : State)
 operation_keeps object call labelled state None = keeps_same state 1
 operation_keeps object call labelled state (Some reply) = call_keeps state object call
 
+made_keeps : (object : ℕ) (call : Call) (labelled : Bool) (refusal : Refusal) (state : State) (reply : Option Reply)
+    → KeepsKinds 1 state (state_of (operate_made object call labelled refusal state reply))
+made_keeps object call labelled refusal state None = keeps_same state 1
+made_keeps object call labelled refusal state (Some reply) = call_keeps state object call
+
+filled_keeps : (object : ℕ) (labelled : Bool) (refusal : Refusal) (state : State) (call : Option Call)
+    → KeepsKinds 1 state (state_of (operate_filled object labelled refusal state call))
+filled_keeps object labelled refusal state None = keeps_same state 1
+filled_keeps object labelled refusal state (Some call) = made_keeps object call labelled refusal state (reply_at state object call)
+
 choice_keeps : (test : Bool) (then else : State → Run Taken) (state : State) (m n : ℕ) → KeepsKinds m state (state_of (then state))
     → KeepsKinds n state (state_of (else state)) → KeepsKinds (m + n) state (state_of (choose test then else state))
 choice_keeps true then else state m n h k = keeps_weaker m (m + n) _ _ (omega arith) h
@@ -142,6 +154,7 @@ mutual
 
   pub step_keeps : StepKeepsLaw
   step_keeps (Operation object call labelled) labels state = operation_keeps object call labelled state (reply_at state object call)
+  step_keeps (Fill object template labelled refusal) labels state = filled_keeps object labelled refusal state (fill labels template)
   step_keeps (If label test then else) labels state =
       choice_keeps (holds labels label test) (one then labels) (one else labels) state _ _ (block_keeps then labels state)
       (block_keeps else labels state)

@@ -1,17 +1,19 @@
 -- What a run keeps leads from the state where it began to the state where it came.
-use Rattle.std.proofs.Common.{◌≡◌, ℕ, List, [], ◌∷◌, ◌++◌, Bool, true, false, Option, Some, None, refl, subst}
+use Rattle.std.proofs.Common.{◌≡◌, ℕ, List, [], ◌∷◌, ◌++◌, Bool, true, false, Option, Some, None, refl, sym, subst}
 use Rattle.objects.specs.declared.entry.Entry.{Entry}
 use Rattle.objects.specs.declared.call.Call.{Call}
 use Rattle.objects.specs.declared.call.Reply.{Reply}
 use Rattle.meaning.specs.declared.end.End.TheVariants.{Ended, Aborted}
 use Rattle.objects.specs.Entries.{State, reply_at, after_call, AreLegal, after}
-use Rattle.meaning.specs.Trees.{Block, NoStep, Steps, Step, Operation, If, Subaction, Abort, Parallel, Handlers, ForReason, Otherwise, GoOn}
-use Rattle.meaning.specs.Trees.{Pass, Children, NoChild, Child}
+use Rattle.meaning.specs.Trees.{Block, NoStep, Steps, Step, Operation, Fill, If, Subaction, Abort, Parallel, Handlers, ForReason, Otherwise}
+use Rattle.meaning.specs.Trees.{GoOn, Pass, Children, NoChild, Child}
 use Rattle.meaning.specs.Labels.{holds}
+use Rattle.meaning.specs.Filling.{fill}
+use Rattle.meaning.specs.declared.template.Refusal.{Refusal}
 use Rattle.meaning.specs.declared.held.Held.{Held}
 use Rattle.meaning.specs.Records.{Taken, TakenStep, TakenChild, TakenHandler, TakenChildren, kept, kept_of_step, kept_of_child}
 use Rattle.meaning.specs.Records.{kept_of_handler, kept_of_children}
-use Rattle.meaning.specs.OneThread.{Run, Ran, record_of, state_of, operate, choose, is_for, choose_handler, act, go_on, go_on_children, one}
+use Rattle.meaning.specs.OneThread.{Run, Ran, record_of, state_of, operate, operate_made, operate_filled, choose, is_for, choose_handler, act, go_on, go_on_children, one}
 use Rattle.meaning.specs.OneThread.{one_step, one_handler, one_children}
 use Rattle.meaning.specs.Laws.{NetLaw, ChildrenNetLaw}
 
@@ -36,6 +38,17 @@ operation_leads : (object : ℕ) (call : Call) (labelled : Bool) (state : State)
     → LeadsFrom kept_of_step state (operate object call labelled state reply)
 operation_leads object call labelled state None is = (tt, refl)
 operation_leads object call labelled state (Some reply) is = ((is, tt), refl)
+
+made_leads : (object : ℕ) (call : Call) (labelled : Bool) (refusal : Refusal) (state : State) (reply : Option Reply)
+    → reply_at state object call ≡ reply → LeadsFrom kept_of_step state (operate_made object call labelled refusal state reply)
+made_leads object call labelled refusal state None is = (tt, refl)
+made_leads object call labelled refusal state (Some reply) is = ((is, tt), refl)
+
+filled_leads : (object : ℕ) (labelled : Bool) (refusal : Refusal) (state : State) (call : Option Call)
+    → LeadsFrom kept_of_step state (operate_filled object labelled refusal state call)
+filled_leads object labelled refusal state None = (tt, refl)
+filled_leads object labelled refusal state (Some call) =
+    made_leads object call labelled refusal state (reply_at state object call) refl
 
 choice_leads : (test : Bool) (then else : State → Run Taken) (state : State) → LeadsFrom kept state (then state)
     → LeadsFrom kept state (else state) → LeadsFrom kept_of_step state (choose test then else state)
@@ -80,6 +93,7 @@ mutual
 
   pub step_leads : (step : Step) (labels : List Held) (state : State) → LeadsFrom kept_of_step state (one_step step labels state)
   step_leads (Operation object call labelled) labels state = operation_leads object call labelled state (reply_at state object call) refl
+  step_leads (Fill object template labelled refusal) labels state = filled_leads object labelled refusal state (fill labels template)
   step_leads (If label test then else) labels state = choice_leads (holds labels label test) (one then labels) (one else labels) state
       (block_leads then labels state) (block_leads else labels state)
   step_leads (Subaction body handlers labelled) labels state =

@@ -1,18 +1,20 @@
 -- A run moves past a list of entries with which each of its own commutes forward.
-use Rattle.std.proofs.Common.{◌≡◌, ℕ, List, [], ◌++◌, Bool, true, false, Option, Some, None, refl, ap, ◌∙◌}
+use Rattle.std.proofs.Common.{◌≡◌, ℕ, List, [], ◌++◌, Bool, true, false, Option, Some, None, refl, ap, subst, ◌∙◌}
 use Rattle.objects.specs.declared.entry.Entry.{Entry}
 use Rattle.objects.specs.declared.call.Call.{Call}
 use Rattle.objects.specs.declared.call.Reply.{Reply}
 use Rattle.meaning.specs.declared.end.End.TheVariants.{Ended, Aborted}
 use Rattle.objects.specs.Entries.{State, reply_at, AreLegal, after, AllCommute}
-use Rattle.meaning.specs.Trees.{Block, NoStep, Steps, Step, Operation, If, Subaction, Abort, Parallel, Handlers, ForReason, Otherwise, GoOn}
-use Rattle.meaning.specs.Trees.{Pass, Children, NoChild, Child}
+use Rattle.meaning.specs.Trees.{Block, NoStep, Steps, Step, Operation, Fill, If, Subaction, Abort, Parallel, Handlers, ForReason, Otherwise}
+use Rattle.meaning.specs.Trees.{GoOn, Pass, Children, NoChild, Child}
 use Rattle.meaning.specs.Labels.{holds}
+use Rattle.meaning.specs.Filling.{end_after, fill}
+use Rattle.meaning.specs.declared.template.Refusal.{Refusal}
 use Rattle.meaning.specs.declared.held.Held.{Held}
 use Rattle.meaning.specs.declared.held.Held.TheVariants.{Replied}
-use Rattle.meaning.specs.Records.{Taken, TakenStep, Performed, Acted, InParallel, TakenChild, TakenHandler, TakenChildren, entries}
+use Rattle.meaning.specs.Records.{Taken, TakenStep, Performed, Filled, Acted, InParallel, TakenChild, TakenHandler, TakenChildren, entries}
 use Rattle.meaning.specs.Records.{entries_of_step, entries_of_child, entries_of_handler, entries_of_children}
-use Rattle.meaning.specs.OneThread.{Run, Ran, record_of, outcome_of, state_of, label_if, operate, as_branch, choose, as_handler, is_for}
+use Rattle.meaning.specs.OneThread.{Run, Ran, record_of, outcome_of, state_of, label_if, operate, operate_made, operate_filled, as_branch, choose, as_handler, is_for}
 use Rattle.meaning.specs.OneThread.{choose_handler, after_abort, act, as_step, before_rest, go_on, before_younger, go_on_children, one}
 use Rattle.meaning.specs.OneThread.{one_step, one_handler, one_children}
 use Rattle.meaning.specs.Laws.{ShiftLaw, ChildrenShiftLaw, carried}
@@ -37,6 +39,27 @@ module _ (committed : List Entry) where
         ap (operate object call labelled (after state committed)) moved.legal.0
             ∙ ap (Ran (Performed p) Ended (label_if labelled (Replied reply))) moved.same,
       )
+
+  made_moves : (object : ℕ) (call : Call) (labelled : Bool) (refusal : Refusal) (state : State) → AreLegal state committed
+      → (reply : Option Reply) → reply_at state object call ≡ reply
+      → Moves entries_of_step (operate_made object call labelled refusal state reply)
+      (operate_made object call labelled refusal (after state committed) (reply_at (after state committed) object call))
+  made_moves object call labelled refusal state legal None is commute =
+      (legal, ap (operate_made object call labelled refusal (after state committed)) (misfit_after state committed object call is))
+  made_moves object call labelled refusal state legal (Some reply) is commute =
+      let p : Entry = record { object = object; call = call; reply = reply } in
+      let moved : Passes state p committed = past state p committed (is, tt) legal commute in (
+        moved.list_legal,
+        ap (operate_made object call labelled refusal (after state committed)) moved.legal.0
+            ∙ ap (Ran (Filled p) (end_after refusal reply) (label_if labelled (Replied reply))) moved.same,
+      )
+
+  filled_moves : (object : ℕ) (labelled : Bool) (refusal : Refusal) (state : State) (call : Option Call) → AreLegal state committed
+      → Moves entries_of_step (operate_filled object labelled refusal state call)
+      (operate_filled object labelled refusal (after state committed) call)
+  filled_moves object labelled refusal state None legal commute = (legal, refl)
+  filled_moves object labelled refusal state (Some call) legal commute =
+      made_moves object call labelled refusal state legal (reply_at state object call) refl commute
 
   branch_moves : (then : Bool) (here there : Run Taken) → Moves entries here there → Moves entries_of_step (as_branch then here)
       (as_branch then there)
@@ -110,6 +133,8 @@ module _ (committed : List Entry) where
         → Moves entries_of_step (one_step step labels state) (one_step step labels (after state committed))
     step_moves (Operation object call labelled) labels state legal commute = operation_moves object call labelled state legal
         (reply_at state object call) refl commute
+    step_moves (Fill object template labelled refusal) labels state legal commute = filled_moves object labelled refusal state
+        (fill labels template) legal commute
     step_moves (If label test then else) labels state legal commute =
         choice_moves (holds labels label test) (one then labels) (one else labels) state (block_moves then labels state legal)
         (block_moves else labels state legal) commute

@@ -5,13 +5,15 @@ use Rattle.objects.specs.declared.call.Reply.{Reply}
 use Rattle.meaning.specs.declared.end.End.{End}
 use Rattle.meaning.specs.declared.end.End.TheVariants.{Ended, Aborted}
 use Rattle.objects.specs.Entries.{State, reply_at, after_call}
-use Rattle.meaning.specs.Trees.{Block, NoStep, Steps, Step, Operation, If, Subaction, Abort, Parallel, Handlers, ForReason, Otherwise, GoOn}
-use Rattle.meaning.specs.Trees.{Pass, Children, NoChild, Child}
+use Rattle.meaning.specs.Trees.{Block, NoStep, Steps, Step, Operation, Fill, If, Subaction, Abort, Parallel, Handlers, ForReason, Otherwise}
+use Rattle.meaning.specs.Trees.{GoOn, Pass, Children, NoChild, Child}
 use Rattle.meaning.specs.Labels.{holds}
+use Rattle.meaning.specs.Filling.{end_after, fill, reason_for}
+use Rattle.meaning.specs.declared.template.Refusal.{Refusal}
 use Rattle.meaning.specs.declared.held.Held.{Held}
 use Rattle.meaning.specs.declared.held.Held.TheVariants.{Replied, Outcome}
-use Rattle.meaning.specs.Records.{Taken, Nothing, Took, TakenStep, Performed, Branched, Acted, InParallel, TakenChild, Committed, Undone}
-use Rattle.meaning.specs.Records.{TakenHandler, NoHandler, Handled, TakenChildren}
+use Rattle.meaning.specs.Records.{Taken, Nothing, Took, TakenStep, Performed, Filled, Branched, Acted, InParallel, TakenChild, Committed}
+use Rattle.meaning.specs.Records.{Undone, TakenHandler, NoHandler, Handled, TakenChildren}
 
 -- what was done: its record, how it ended, the labels that it adds, and the state that it leaves
 pub data Run (A : Type 0) : Type 0 where
@@ -39,6 +41,19 @@ operate object call labelled state None = Ran TakenStep.Abort (Aborted None) [] 
 operate object call labelled state (Some reply) =
     Ran (Performed (record { object = object; call = call; reply = reply })) Ended (label_if labelled (Replied reply))
     (after_call state object call)
+
+-- An operation whose call was made when it was reached: its record keeps the call, and a refusal may abort its block.
+abbrev pub operate_made : ℕ → Call → Bool → Refusal → State → Option Reply → Run TakenStep
+operate_made object call labelled refusal state None = Ran TakenStep.Abort (Aborted None) [] state
+operate_made object call labelled refusal state (Some reply) =
+    Ran (Filled (record { object = object; call = call; reply = reply })) (end_after refusal reply)
+    (label_if labelled (Replied reply)) (after_call state object call)
+
+-- where no call could be made, the step aborts
+abbrev pub operate_filled : ℕ → Bool → Refusal → State → Option Call → Run TakenStep
+operate_filled object labelled refusal state None = Ran TakenStep.Abort (Aborted (reason_for refusal)) [] state
+operate_filled object labelled refusal state (Some call) =
+    operate_made object call labelled refusal state (reply_at state object call)
 
 -- a branch that aborts makes its block abort; its labels are forgotten
 abbrev pub as_branch : Bool → Run Taken → Run TakenStep
@@ -97,6 +112,7 @@ unfoldable mutual
 
   pub one_step : Step → List Held → State → Run TakenStep
   one_step (Operation object call labelled) labels state = operate object call labelled state (reply_at state object call)
+  one_step (Fill object template labelled refusal) labels state = operate_filled object labelled refusal state (fill labels template)
   one_step (If label test then else) labels state = choose (holds labels label test) (one then labels) (one else labels) state
   one_step (Subaction body handlers labelled) labels state =
       as_step Acted (act labelled (one body labels state) (one_handler handlers labels) state)

@@ -1,8 +1,17 @@
 -- What the run of a well-formed block keeps, and why no call in it lacks room.
-use Rattle.std.specs.Prelude.{◌≡◌, ℕ, ◌+◌, ◌*◌, ◌≤◌, List, [], ◌∷◌, ◌++◌, length, take, Option, Some, IsTrue, IsSomeAnd, slice_get, ⊤}
+use Rattle.std.specs.Prelude.{◌≡◌, ℕ, ◌+◌, ◌*◌, ◌≤◌, Bool, List, [], ◌∷◌, ◌++◌, length, take, Option, Some, IsTrue, IsSomeAnd, slice_get, ⊤}
 use Rattle.objects.specs.Objects.{one_value, Fits, ObjectHasRoom}
 use Rattle.objects.specs.declared.value.Value.{Value}
+use Rattle.objects.specs.declared.kind.Kind.{Kind}
+use Rattle.objects.specs.declared.call.Reply.{Reply}
 use Rattle.objects.specs.declared.call.Call.{Call}
+use Rattle.words.specs.Verbs.{has_item, has_number, verb_of}
+use Rattle.words.specs.declared.verb.Verb.{Verb}
+use Rattle.meaning.specs.declared.template.Argument.{Argument}
+use Rattle.meaning.specs.declared.template.Argument.TheVariants as argument
+use Rattle.meaning.specs.declared.template.Template.{Template}
+use Rattle.meaning.specs.declared.template.Template.TheVariants.{Given, OfAmount, OfItem, OfPair}
+use Rattle.meaning.specs.Filling.{fill, template_verb}
 use Rattle.meaning.specs.declared.end.End.TheVariants.{Ended}
 use Rattle.meaning.specs.declared.test.Test.{Test}
 use Rattle.objects.specs.declared.entry.Entry.{Entry}
@@ -13,7 +22,7 @@ use Rattle.meaning.specs.declared.held.Held.{Held}
 use Rattle.meaning.specs.declared.held.Held.TheVariants.{Replied, Outcome}
 use Rattle.meaning.specs.OneThread.{record_of, outcome_of, labels_of, state_of, one, one_step, one_handler, one_children}
 use Rattle.meaning.specs.Batch.{state_at}
-use Rattle.meaning.specs.WellFormed.{Label, OfCall, OfSubaction, CallFits, test_fits, added_by, added_by_children, operations}
+use Rattle.meaning.specs.WellFormed.{Label, OfVerb, OfSubaction, CallFits, VerbFits, label_has, ArgumentsFit, test_fits, added_by, added_by_children, operations}
 use Rattle.meaning.specs.WellFormed.{operations_of_step, operations_of_handlers, operations_of_children, largest, largest_amount}
 use Rattle.meaning.specs.WellFormed.{StateHasRoom}
 use Rattle.meaning.specs.declared.limits.TheConstants.{MAX_OPERATIONS, MAX_START}
@@ -34,6 +43,14 @@ PerformLaw =
     → CallFits (kinds state) object call
     → StateHasRoom state 1
     → CanPerform state object call
+
+-- A call that is made from a template is of its verb, so it fits where the template does.
+abbrev pub FilledLaw : Type 0
+FilledLaw =
+    (held : List Held) (template : Template) (call : Call)
+    → fill held template ≡ Some call
+    → (verb_of call ≡ template_verb template)
+    × ((ks : List Kind) (object : ℕ) → VerbFits ks object (template_verb template) → CallFits ks object call)
 
 -- A state that some operations led to has room for the others.
 abbrev pub LimitLaw : Type 0
@@ -81,9 +98,16 @@ abbrev pub BatchKeepsLaw : Type 0
 BatchKeepsLaw = (start : State) (batch : List Block) (b : ℕ) → b ≤ length batch → KeepsKinds (all_operations (take b batch)) start
     (state_at start batch b)
 
+-- a call of the verb has this reply at some value
+pub record IsReplyTo (v : Verb) (reply : Reply) : Type 0 where
+  pub call : Call
+  pub is_of : verb_of call ≡ v
+  pub value : Value
+  pub is : one_value.reply value call ≡ Some reply
+
 -- what a label of this kind can hold
 abbrev pub IsHeldBy : Held → Label → Type 0
-IsHeldBy (Replied reply) (OfCall call) = (value : Value) × (one_value.reply value call ≡ Some reply)
+IsHeldBy (Replied reply) (OfVerb v) = IsReplyTo v reply
 IsHeldBy (Outcome outcome) OfSubaction = ⊤
 IsHeldBy held label = ⊥
 
@@ -113,13 +137,28 @@ MoreLabelsLaw =
     → AreHeldBy more added
     → AreHeldBy (held ++ more) (labels ++ added)
 
--- A test in a well-formed block finds its label bound, and fits what it holds.
-pub record IsBound (held : List Held) (label : ℕ) (test : Test) : Type 0 where
+-- The label is bound, and this is true of what it is of.
+pub record IsBoundTo (held : List Held) (label : ℕ) (test : Label → Bool) : Type 0 where
   pub found : Held
   pub is : slice_get held label ≡ Some found
   pub of : Label
   pub held_by : IsHeldBy found of
-  pub fits : IsTrue (test_fits test of)
+  pub fits : IsTrue (test of)
+
+-- A test in a well-formed block finds its label bound, and fits what it holds.
+abbrev pub IsBound : List Held → ℕ → Test → Type 0
+IsBound held label test = IsBoundTo held label (test_fits test)
+
+-- So does each argument that comes from a label.
+abbrev pub IsArgumentBound : List Held → Argument → Type 0
+IsArgumentBound held (argument.Is item) = ⊤
+IsArgumentBound held (argument.From label) = IsBoundTo held label (label_has has_item)
+
+abbrev pub AreArgumentsBound : List Held → Template → Type 0
+AreArgumentsBound held (Given call) = ⊤
+AreArgumentsBound held (OfAmount v label) = IsBoundTo held label (label_has has_number)
+AreArgumentsBound held (OfItem v label) = IsBoundTo held label (label_has has_item)
+AreArgumentsBound held (OfPair v key item) = IsArgumentBound held key × IsArgumentBound held item
 
 abbrev pub TestLaw : Type 0
 TestLaw =
@@ -127,3 +166,10 @@ TestLaw =
     → AreHeldBy held labels
     → IsSomeAnd (slice_get labels label) (λ seen. IsTrue (test_fits test seen))
     → IsBound held label test
+
+abbrev pub ArgumentsLaw : Type 0
+ArgumentsLaw =
+    (held : List Held) (labels : List Label) (template : Template)
+    → AreHeldBy held labels
+    → ArgumentsFit labels template
+    → AreArgumentsBound held template

@@ -5,9 +5,11 @@ mod end;
 mod held;
 pub mod laws;
 pub mod limits;
+mod template;
 mod test;
 
 pub use end::End;
 pub use held::Held;
+pub use template::{Argument, Refusal, Template};
 pub use test::Test;
 pub use words::Word;

@@ -2,7 +2,15 @@
 use Rattle.faults.specs.declared.fault.Wrong.{Wrong}
 use Rattle.faults.specs.declared.fault.Wrong.TheVariants as wrong
 use Rattle.rules.specs.declared.rule.Rule.{Rule}
+use Rattle.rules.specs.declared.rule.SourceRule.{SourceRule}
+use Rattle.rules.specs.declared.rule.SourceRule.TheVariants as source
 use Rattle.rules.specs.declared.rule.Rule.TheVariants as rule
+
+abbrev pub wrong_of_source : SourceRule → Wrong
+wrong_of_source source.Label = wrong.Argument
+wrong_of_source source.Seen = wrong.UnknownLabel
+wrong_of_source (source.Number subject) = wrong.Condition
+wrong_of_source (source.Item subject) = wrong.Condition
 
 abbrev pub wrong_of : Rule → Wrong
 wrong_of rule.Json = wrong.NotJson
@@ -12,6 +20,7 @@ wrong_of rule.NewObject = wrong.DuplicateObject
 wrong_of rule.KnownObject = wrong.UnknownObject
 wrong_of (rule.KnownOperation version kind) = wrong.UnknownOperation
 wrong_of (rule.Argument argument) = wrong.Argument
+wrong_of (rule.Source place one) = wrong_of_source one
 wrong_of rule.SeenLabel = wrong.UnknownLabel
 wrong_of rule.NewLabel = wrong.DuplicateLabel
 wrong_of (rule.Condition condition) = wrong.Condition

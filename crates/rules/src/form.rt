@@ -8,6 +8,8 @@ pub enum Form {
     Document,
     Object,
     Operation,
+    /// An argument that a label gives.
+    Source,
     If,
     Subaction,
     Abort,
@@ -22,7 +24,8 @@ impl Form {
         match self {
             Form::Document => &["ordtx", "objects", "transactions"],
             Form::Object => &["name", "kind", "start"],
-            Form::Operation => &["op", "as"],
+            Form::Operation => &["op", "as", "else"],
+            Form::Source => &["from"],
             Form::If => &["if", "is", "atleast", "item", "then", "else"],
             Form::Subaction => &["sub", "handler", "handlers", "as"],
             Form::Abort => &["abort"],

@@ -14,6 +14,6 @@ pub use failure::Failure;
 pub use form::Form;
 pub use limits::{LAST_VERSION, Limits, MAX_BYTES};
 pub use rule::{
-    ArgumentRule, ConditionRule, CountRule, NameRule, Place, Rule, ShapeRule, StartRule,
+    ArgumentRule, ConditionRule, CountRule, NameRule, Place, Rule, ShapeRule, SourceRule, StartRule,
 };
 pub use subject::{Subject, fits_item, fits_number, fits_word};

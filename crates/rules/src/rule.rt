@@ -1,6 +1,6 @@
 //! The rules on the parts of a document.
 ghost use Rattle.std.specs.Prelude.{◌≡◌};
-ghost use Rattle.rules.specs.Rules.{wrong_of};
+ghost use Rattle.rules.specs.Rules.{wrong_of, wrong_of_source};
 
 use crate::form::Form;
 use crate::subject::Subject;
@@ -43,6 +43,8 @@ pub enum ShapeRule {
     OperationObject,
     /// The word of an operation is a text.
     OperationWord,
+    /// `else` of an operation is `true` or a text, where the version has it.
+    Else(u8),
     /// An `if` has just one test.
     Test,
     /// `if` is a text.
@@ -80,6 +82,8 @@ pub enum NameRule {
     Handlers,
     /// The reason of an abort.
     Reason,
+    /// The reason of an operation's `else`.
+    Else,
 }
 
 /// What is asked of the arguments of an operation.
@@ -91,6 +95,19 @@ pub enum ArgumentRule {
     Amount,
     /// It is a text.
     Item(Place),
+}
+
+/// What is asked of an argument that a label gives.
+#[derive(Clone, Copy, Drop)]
+pub enum SourceRule {
+    /// It has the member `from` alone, which is a text.
+    Label,
+    /// The label is seen.
+    Seen,
+    /// What the label is of is a number.
+    Number(Subject),
+    /// What the label is of can have an item.
+    Item(Subject),
 }
 
 /// What is asked of the test of an `if`.
@@ -158,6 +175,8 @@ pub enum Rule {
     KnownOperation(u8, Option<Kind>),
     /// An argument is what the operation takes.
     Argument(ArgumentRule),
+    /// The argument at a place, which a label gives, is as it has to be.
+    Source(Place, SourceRule),
     /// The label is seen.
     SeenLabel,
     /// The label is neither seen nor an earlier sibling's.
@@ -170,6 +189,19 @@ pub enum Rule {
     Few(CountRule),
     /// An object can start so.
     Start(StartRule),
+}
+
+impl SourceRule {
+    /// What is wrong with a document where the rule isn't kept.
+    fn wrong(self) -> Wrong
+        ensures { result ≡ wrong_of_source self }
+    {
+        match self {
+            SourceRule::Label => Wrong::Argument,
+            SourceRule::Seen => Wrong::UnknownLabel,
+            SourceRule::Number(_) | SourceRule::Item(_) => Wrong::Condition,
+        }
+    }
 }
 
 impl Rule {
@@ -185,6 +217,7 @@ impl Rule {
             Rule::KnownObject => Wrong::UnknownObject,
             Rule::KnownOperation(_, _) => Wrong::UnknownOperation,
             Rule::Argument(_) => Wrong::Argument,
+            Rule::Source(_, source) => source.wrong(),
             Rule::SeenLabel => Wrong::UnknownLabel,
             Rule::NewLabel => Wrong::DuplicateLabel,
             Rule::Condition(_) => Wrong::Condition,

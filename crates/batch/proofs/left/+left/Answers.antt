@@ -6,7 +6,7 @@ use Rattle.batch.specs.declared.tree.Step.{size-Step}
 use Rattle.batch.specs.declared.tree.Subaction.{size-Subaction}
 use Rattle.batch.specs.Views.{block_view, subaction_view}
 use Rattle.batch.proofs.SizeLemmas.{among-most, steps-are_smaller, children-are_smaller}
-use Rattle.batch.proofs.ViewLemmas.{step_view-Op, step_view-Parallel, taken_view-Op, taken_view-Parallel}
+use Rattle.batch.proofs.ViewLemmas.{step_view-Op, step_view-Fill, step_view-Parallel, taken_view-Op, taken_view-Filled, taken_view-Parallel}
 use Rattle.batch.proofs.LeftParts.{are_left-start, are_left-can, are_left-more, are_left-end}
 use Rattle.batch.proofs.LeftRest.{steps_left-start, steps_left-more, steps_left-no_step, steps_left-end, children_left-start}
 use Rattle.batch.proofs.LeftRest.{children_left-more, children_left-no_child, children_left-end, transaction_left-ended}
@@ -117,6 +117,16 @@ perform_step-perform_on-requires-clause-fits t c =
 pub perform_step-perform_on-requires-clause-room : goal.perform_step-perform_on-requires-clause-room
 perform_step-perform_on-requires-clause-room t c =
     can-room c.args.first c.args.values.now _ [] (rw (c.in-Op-Op.is-0, c.in-Op-Op.is-1, step_view-Op, taken_view-Op) at c.requires)
+
+pub perform_step-perform_on-requires-in-Fill-Filled-clause-fits : goal.perform_step-perform_on-requires-in-Fill-Filled-clause-fits
+perform_step-perform_on-requires-in-Fill-Filled-clause-fits t c =
+    rw (c.deref.ensures, c.deref-in-Fill-Filled.ensures) (can-fits c.args.first c.args.values.now _ []
+    (rw (c.in-Fill-Filled.is-0, c.in-Fill-Filled.is-1, step_view-Fill, taken_view-Filled) at c.requires))
+
+pub perform_step-perform_on-requires-in-Fill-Filled-clause-room : goal.perform_step-perform_on-requires-in-Fill-Filled-clause-room
+perform_step-perform_on-requires-in-Fill-Filled-clause-room t c =
+    rw (c.deref.ensures, c.deref-in-Fill-Filled.ensures) (can-room c.args.first c.args.values.now _ []
+    (rw (c.in-Fill-Filled.is-0, c.in-Fill-Filled.is-1, step_view-Fill, taken_view-Filled) at c.requires))
 
 pub perform_step-perform_children-requires : goal.perform_step-perform_children-requires
 perform_step-perform_children-requires t c =
