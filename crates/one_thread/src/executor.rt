@@ -1,15 +1,15 @@
 //! Running a block on one thread, depth first, on objects that are changed in place.
 ghost use Rattle.std.specs.Prelude.{◌≡◌, [], IfOk, OnOk};
 ghost use Rattle.meaning.specs.OneThread.{one, one_step, one_children, one_handler};
-ghost use Rattle.batch.specs.Views.{block_view, steps_view, step_view, subaction_view, children_view};
+ghost use Rattle.batch.specs.Views.{block_view, filling_view, steps_view, step_view, subaction_view, children_view};
 ghost use Rattle.batch.specs.Running.{CanRunHere, CanStepHere, CanTryHere, CanRunAllHere, CanHandleHere, StillSeen, acted};
 ghost use Rattle.batch.specs.Shows.{ShowsRun, ShowsStep, ShowsTried, ShowsHandler, ShowsChildren};
 ghost use Rattle.one_thread.specs.Running.{in_place};
 
 use crate::workspace::Workspace;
 use batch::{
-    Block, NoMemory, Record, Step, Subaction, Taken, Tried, add_label, handled, taker, test_holds,
-    untaken,
+    Block, Filling, Made, NoMemory, Record, Step, Subaction, Taken, Tried, add_label, end_after,
+    fill, handled, reason_for, taker, test_holds, untaken,
 };
 use meaning::{End, Held};
 use std::alloc::Global;
@@ -87,6 +87,7 @@ fn run_step(
             add_label(labels, *labelled, Held::Replied(reply))?;
             Ok((Taken::Op(reply), End::Ended))
         }
+        Step::Fill(filling) => run_filled(alloc, filling, labels, workspace),
         Step::If {
             label,
             test,
@@ -112,6 +113,29 @@ fn run_step(
             labels.append(&mut outcomes)?;
             Ok((Taken::Parallel(tried), end))
         }
+    }
+}
+
+// Makes a call and performs it. Where none can be made, aborts; where it is refused, may.
+fn run_filled(
+    alloc: Global,
+    filling: &Filling,
+    labels: &mut Vec<Held>,
+    workspace: &mut Workspace,
+) -> Result<(Taken, End), NoMemory>
+    requires { CanStepHere (filling_view filling.now) labels.old.items workspace.old.state }
+    ensures shows { IfOk result
+        (λ r. ShowsStep in_place (one_step (filling_view filling.now) labels.old.items workspace.old.state) r.0 r.1 labels.old.items labels.new.items workspace.old workspace.new) }
+    ensures labels { OnOk result (StillSeen labels.old.items labels.new.items) }
+{
+    match fill(&filling.template, labels) {
+        Some(call) => {
+            let reply = workspace.perform(filling.object, &call)?;
+            add_label(labels, filling.labelled, Held::Replied(reply))?;
+            let made = Box::new(alloc, Made { call, reply })?;
+            Ok((Taken::Filled(made), end_after(filling.refusal, &reply)))
+        }
+        None => Ok((Taken::Abort, End::Aborted(reason_for(filling.refusal)))),
     }
 }
 

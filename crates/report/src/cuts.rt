@@ -214,7 +214,7 @@ fn lines_in(record: &Record, levels: usize) -> usize {
 #[cycle(lines)]
 fn lines_of(taken: &Taken, levels: usize) -> usize {
     match taken {
-        Taken::Op(_) => 1,
+        Taken::Op(_) | Taken::Filled(_) => 1,
         Taken::If(_, branch) => lines_in(branch, levels).saturating_add(1),
         Taken::Sub(body, handler) => {
             let handled = match handler {
@@ -257,7 +257,7 @@ pub(crate) fn least_lines(record: &Record) -> usize {
     let mut lines = record.taken.len().saturating_add(1);
     for taken in &record.taken {
         lines = lines.saturating_add(match taken {
-            Taken::Op(_) | Taken::Abort => 0,
+            Taken::Op(_) | Taken::Filled(_) | Taken::Abort => 0,
             Taken::If(_, branch) => branch.taken.len(),
             Taken::Sub(body, _) => body.taken.len(),
             Taken::Parallel(children) => least_lines_of(children),

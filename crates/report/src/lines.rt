@@ -1,14 +1,14 @@
 //! The lines of a record.
 ghost use Rattle.std.specs.Prelude.{◌≡◌, ◌++◌, IfOk, OnOk, codes, option_copied, string_bytes};
 ghost use Rattle.meaning.specs.Words.{reply_text};
-ghost use Rattle.meaning.specs.Texts.{line, part, reason_text, outcome_text, choice_text, operation_line, steps_text, step_text, child_text, children_text};
+ghost use Rattle.meaning.specs.Texts.{abort_line, line, part, refusal_text, outcome_text, choice_text, operation_line, steps_text, step_text, child_text, children_text};
 ghost use Rattle.batch.specs.Names.{names_of};
 ghost use Rattle.batch.specs.Views.{block_view, record_view, step_view, taken_view, subaction_view, tried_view, children_view, all_tried_view};
 
 use crate::calls::{write_call, write_natural, write_reply};
 use crate::names::{object_name, reason_name};
 use crate::paths::{branch_path, handler_place, longer_path, part_path, reason_of};
-use batch::{Block, Names, Record, Step, Subaction, Taken};
+use batch::{Block, Names, Record, Step, Subaction, Taken, end_after, reason_for};
 use meaning::End;
 use objects::{
     AccountReply, Call, CounterReply, DirectoryReply, MaxReply, NoMemory, QueueReply, Reply,
@@ -51,9 +51,19 @@ pub(crate) fn write_step(
 ) -> Result<(), NoMemory>
     ensures { OnOk result (string_bytes out.new ≡ string_bytes out.old ++ step_text (names_of names.now) (part path.now number) (step_view step.now) (taken_view taken.now)) }
 {
+    if let (Step::Op { object, call, .. }, Taken::Op(reply)) = (step, taken) {
+        return write_operation(out, names, path, number, *object, call, reply);
+    }
+    let own_path = part_path(alloc, path, number)?;
+    let own = own_path.as_str();
     match (step, taken) {
-        (Step::Op { object, call, .. }, Taken::Op(reply)) => {
-            write_operation(out, names, path, number, *object, call, reply)
+        (Step::Fill(filling), Taken::Filled(made)) => {
+            let reply = &made.reply;
+            write_operation(out, names, path, number, filling.object, &made.call, reply)?;
+            write_refusal(out, names, own, end_after(filling.refusal, reply))
+        }
+        (Step::Fill(filling), Taken::Abort) => {
+            write_abort(out, names, own, reason_for(filling.refusal))
         }
         (
             Step::If {
@@ -63,31 +73,17 @@ pub(crate) fn write_step(
             },
             Taken::If(holds, record),
         ) => {
-            let path = part_path(alloc, path, number)?;
-            write_choice(out, path.as_str(), *holds)?;
+            write_choice(out, own, *holds)?;
             let branch = if *holds { then } else { otherwise };
-            let branch_path = branch_path(alloc, path.as_str(), *holds)?;
+            let branch_path = branch_path(alloc, own, *holds)?;
             write_block(alloc, out, names, branch_path.as_str(), branch, record)
         }
         (Step::Sub(child), Taken::Sub(body, handler)) => {
-            let path = part_path(alloc, path, number)?;
-            write_child(
-                alloc,
-                out,
-                names,
-                path.as_str(),
-                child,
-                body,
-                handler.as_deref(),
-            )
+            write_child(alloc, out, names, own, child, body, handler.as_deref())
         }
-        (Step::Abort(reason), Taken::Abort) => {
-            let path = part_path(alloc, path, number)?;
-            write_abort(out, names, path.as_str(), *reason)
-        }
+        (Step::Abort(reason), Taken::Abort) => write_abort(out, names, own, *reason),
         (Step::Parallel(children), Taken::Parallel(tried)) => {
-            let path = part_path(alloc, path, number)?;
-            write_children(alloc, out, names, path.as_str(), children, tried)
+            write_children(alloc, out, names, own, children, tried)
         }
         _ => Ok(()),
     }
@@ -148,6 +144,17 @@ fn write_children(
         )?;
     }
     Ok(())
+}
+
+// Writes the line of an abort, where a call that ended so aborts its block.
+fn write_refusal(out: &mut String, names: &Names, path: &str, end: End) -> Result<(), NoMemory>
+    ensures { OnOk result (string_bytes out.new
+        ≡ string_bytes out.old ++ refusal_text (names_of names.now) path.now end) }
+{
+    match end {
+        End::Ended => Ok(()),
+        End::Aborted(reason) => write_abort(out, names, path, reason),
+    }
 }
 
 // Writes the line of an operation, which is the step of this number (from 1) below a path.
@@ -228,7 +235,7 @@ fn write_abort(
     path: &str,
     reason: Option<u32>,
 ) -> Result<(), NoMemory>
-    ensures { OnOk result (string_bytes out.new ≡ string_bytes out.old ++ line (codes "A " ++ path.now ++ reason_text (names_of names.now) reason)) }
+    ensures { OnOk result (string_bytes out.new ≡ string_bytes out.old ++ abort_line (names_of names.now) path.now reason) }
 {
     match reason {
         Some(reason) => {

@@ -14,7 +14,7 @@ use Rattle.speculate.specs.declared.speculated.Run.{Run}
 use Rattle.rounds.specs.declared.pending_run.PendingRun.{PendingRun}
 use Rattle.batch.specs.Views.{record_view}
 use Rattle.batch.specs.declared.batch.Batch.{Batch}
-use Rattle.rounds.specs.declared.make.Made.{Made}
+use Rattle.rounds.specs.declared.make.NumberedRun.{NumberedRun}
 use Rattle.claims.specs.Views.{bit, times}
 use Rattle.rounds.specs.PendingRuns.{AreSumsOf, IsPendingOf, IsListed, listed_net, numbers_of}
 use Rattle.rounds.specs.PendingRuns.{IsMade, AreMade}
@@ -30,11 +30,11 @@ use Rattle.workers.specs.Working.{AreGivenOnce}
 use Rattle.workers.proofs.Once.{each_given, sum_given_once}
 
 -- the numbers of two lists of runs
-pub times_numbers : (i : ℕ) (xs ys : List Made) → times i (numbers_of (xs ++ ys)) ≡ times i (numbers_of xs) + times i (numbers_of ys)
-times_numbers i xs ys = ap (times i) (map-append (λ (m : Made). m.number) xs ys) ∙ times-append i (numbers_of xs) (numbers_of ys)
+pub times_numbers : (i : ℕ) (xs ys : List NumberedRun) → times i (numbers_of (xs ++ ys)) ≡ times i (numbers_of xs) + times i (numbers_of ys)
+times_numbers i xs ys = ap (times i) (map-append (λ (m : NumberedRun). m.number) xs ys) ∙ times-append i (numbers_of xs) (numbers_of ys)
 
 -- one run more
-pub made_more : (batch : Batch) (state : State) (numbers : List ℕ) (i : ℕ) (m : Made) (made more : List Made)
+pub made_more : (batch : Batch) (state : State) (numbers : List ℕ) (i : ℕ) (m : NumberedRun) (made more : List NumberedRun)
     → i < length numbers → m.number ≡ get_or numbers i 0 → more ≡ made ++ m ∷ [] → AreMade batch state (take i numbers) made
     → IsMade batch state m → AreMade batch state (take (i + 1) numbers) more
 made_more batch state numbers i m made more lt is pushed so_far here = record {
@@ -50,14 +50,14 @@ made_more batch state numbers i m made more lt is pushed so_far here = record {
 
 -- runs that were made and added to a list, and a desk that is ready for the next
 pub record IsGroupSoFar (batch : Batch) (state : State) (numbers : List ℕ) (desk : Desk)
-    (before all : List Made) : Type 0 where
+    (before all : List NumberedRun) : Type 0 where
   pub ready : IsDeskOn state desk
-  pub own : List Made
+  pub own : List NumberedRun
   pub is : all ≡ before ++ own
   pub all_made : AreMade batch state numbers own
 
 -- none is made yet
-pub none_made : (batch : Batch) (state : State) (numbers : List ℕ) (desk : Desk) (before : List Made)
+pub none_made : (batch : Batch) (state : State) (numbers : List ℕ) (desk : Desk) (before : List NumberedRun)
     → IsDeskOn state desk → IsGroupSoFar batch state (take 0 numbers) desk before before
 none_made batch state numbers desk before ready = record {
   ready = ready;
@@ -78,21 +78,21 @@ times_chunks i size count numbers some are =
     ∙ times_sum i (slice_chunk numbers size k)) some (size_of ∙ are) ∙ sym (times_sum i numbers))
 
 -- the groups' runs, each group once, are a run for each of the numbers
-pub all_groups : (batch : Batch) (state : State) (numbers : List ℕ) (cut count : ℕ) (made : List Made) → 0 < cut
+pub all_groups : (batch : Batch) (state : State) (numbers : List ℕ) (cut count : ℕ) (made : List NumberedRun) → 0 < cut
     → count ≡ div_ceil (length numbers) cut → AreGivenOnce (λ k. AreMade batch state (slice_chunk numbers cut k)) count made
     → AreMade batch state numbers made
 all_groups batch state numbers cut count made some are given =
-    let IsGroup : ℕ → List Made → Type 0 = λ k. AreMade batch state (slice_chunk numbers cut k) in record {
+    let IsGroup : ℕ → List NumberedRun → Type 0 = λ k. AreMade batch state (slice_chunk numbers cut k) in record {
       each = each_given IsGroup (IsMade batch state) (λ k own here. here.each) given.order made given.given;
       dealt = λ i. sum_given_once IsGroup (λ ms. times i (numbers_of ms)) refl (times_numbers i) (λ k. times i (slice_chunk numbers cut k))
           (λ k own here. here.dealt i) count made given ∙ times_chunks i cut count numbers some are;
     }
 
-front : (P : Made → Type 0) (x : Made) (xs : List Made) → P x → All P xs → All P (x ∷ xs)
+front : (P : NumberedRun → Type 0) (x : NumberedRun) (xs : List NumberedRun) → P x → All P xs → All P (x ∷ xs)
 front P x xs here rest zero d lt = here
 front P x xs here rest (suc k) d lt = rest k d (omega arith)
 
-pub all_front : (P : Made → Type 0) (xs : List Made) (y : Made) → All P (xs ++ y ∷ []) → All P xs × P y
+pub all_front : (P : NumberedRun → Type 0) (xs : List NumberedRun) (y : NumberedRun) → All P (xs ++ y ∷ []) → All P xs × P y
 all_front P [] y all = (λ k d lt. absurd (omega arith), all 0 y (omega arith))
 all_front P (x ∷ xs) y all =
     let rest = all_front P xs y (λ k d lt. all (suc k) d (omega arith)) in

@@ -4,8 +4,8 @@ use Rattle.std.proofs.lemmas.List.{nil_from_length}
 use Rattle.objects.specs.declared.entry.Entry.{Entry}
 use Rattle.meaning.specs.declared.end.End.{End}
 use Rattle.meaning.specs.declared.end.End.TheVariants.{Ended, Aborted}
-use Rattle.meaning.specs.Records.{Taken, Nothing, Took, TakenStep, Performed, Branched, Acted, InParallel, TakenChild, Committed, Undone}
-use Rattle.meaning.specs.Records.{TakenHandler, NoHandler, Handled, TakenChildren, NoChild, Child, entries, entries_of_step}
+use Rattle.meaning.specs.Records.{Taken, Nothing, Took, TakenStep, Performed, Filled, Branched, Acted, InParallel, TakenChild, Committed}
+use Rattle.meaning.specs.Records.{Undone, TakenHandler, NoHandler, Handled, TakenChildren, NoChild, Child, entries, entries_of_step}
 use Rattle.meaning.specs.Records.{entries_of_child, entries_of_handler, entries_of_children, kept, kept_of_step, kept_of_child}
 use Rattle.meaning.specs.Records.{kept_of_handler, kept_of_children, net}
 use Rattle.speculate.proofs.Room.{kept-le, kept_of_step-le, kept_of_child-le, kept_of_handler-le, kept_of_children-le}
@@ -28,6 +28,7 @@ mutual
 
   step_whole : (step : TakenStep) → length (entries_of_step step) ≤ length (kept_of_step step) → kept_of_step step ≡ entries_of_step step
   step_whole (Performed entry) all = refl
+  step_whole (Filled entry) all = refl
   step_whole (Branched then branch outcome) all = kept_whole branch all
   step_whole (Acted subaction) all = child_whole subaction all
   step_whole TakenStep.Abort all = refl

@@ -10,7 +10,7 @@ use Rattle.std.specs.List.{All}
 use Rattle.claims.specs.Views.{times}
 use Rattle.claims.proofs.Lists.{times-append}
 use Rattle.rounds.proofs.Times.{times_none, times_read}
-use Rattle.rounds.specs.declared.make.Made.{Made}
+use Rattle.rounds.specs.declared.make.NumberedRun.{NumberedRun}
 use native.Mathlib.Decide.{ℕ_discrete}
 use Rattle.objects.specs.Entries.{State}
 use Rattle.batch.specs.declared.batch.Batch.{Batch}
@@ -132,17 +132,17 @@ all_times P (x ∷ xs) i all some = elim (ℕ_discrete x i) [
 ]
 
 -- what holds of the numbers that were asked for holds of those of the runs that were made
-pub all_asked : (P : ℕ → Type 0) (numbers : List ℕ) (made : List Made) → All P numbers
-    → ((i : ℕ) → times i (numbers_of made) ≡ times i numbers) → All (λ (m : Made). P m.number) made
+pub all_asked : (P : ℕ → Type 0) (numbers : List ℕ) (made : List NumberedRun) → All P numbers
+    → ((i : ℕ) → times i (numbers_of made) ≡ times i numbers) → All (λ (m : NumberedRun). P m.number) made
 all_asked P numbers made all dealt k d lt =
     let number = (get_or made k d).number in
-    let read : get_or (numbers_of made) k d.number ≡ number = get_or-map (λ (m : Made). m.number) made k d d.number lt in
+    let read : get_or (numbers_of made) k d.number ≡ number = get_or-map (λ (m : NumberedRun). m.number) made k d d.number lt in
     let some : 0 < times number (numbers_of made) = subst (λ n. 0 < times n (numbers_of made)) read
-    (times_read (numbers_of made) k d.number (omega (arith, lt, length-map made (λ (m : Made). m.number)))) in
+    (times_read (numbers_of made) k d.number (omega (arith, lt, length-map made (λ (m : NumberedRun). m.number)))) in
     all_times P numbers number all (omega (arith, some, dealt number))
 
 -- a run is left where its number is
-pub some_made : (i : ℕ) (made : List Made) → 0 < times i (numbers_of made) → 0 < length made
+pub some_made : (i : ℕ) (made : List NumberedRun) → 0 < times i (numbers_of made) → 0 < length made
 some_made i [] some = absurd (omega arith)
 some_made i (m ∷ made) some = omega arith
 

@@ -20,7 +20,7 @@ use Rattle.rounds.specs.declared.pending_run.Net.{Net}
 use Rattle.rounds.specs.declared.pending_run.Net.TheVariants.{Summed, Listed, Recorded}
 use Rattle.meaning.specs.Trees.{Block}
 use Rattle.batch.specs.Left.{left_by_transaction}
-use Rattle.rounds.specs.declared.make.Made.{Made}
+use Rattle.rounds.specs.declared.make.NumberedRun.{NumberedRun}
 use Rattle.speculate.specs.declared.speculated.Run.{Run}
 use Rattle.batch.specs.Views.{record_view}
 use Rattle.batch.specs.declared.batch.Batch.{Batch}
@@ -85,21 +85,21 @@ pub record AreSummed (runs : List Run) (pending : List PendingRun) : Type 0 wher
   pub each : (i : ℕ) (d : PendingRun) (r : Run) → i < length runs
       → AreSumsOf (slice_index_or pending i d).sums (slice_index_or runs i r).entries.items (slice_index_or runs i r).net.items
 
-abbrev pub numbers_of : List Made → List ℕ
+abbrev pub numbers_of : List NumberedRun → List ℕ
 numbers_of = map (λ m. m.number)
 
 -- a run of its number on this state
-abbrev pub IsMade : Batch → State → Made → Type 0
+abbrev pub IsMade : Batch → State → NumberedRun → Type 0
 IsMade batch state made = IsPendingOf (meaning batch made.number state) made.run.value
 
 -- a run for each of the numbers, in any order, made on this state
-pub record AreMade (batch : Batch) (state : State) (numbers : List ℕ) (made : List Made) : Type 0 where
+pub record AreMade (batch : Batch) (state : State) (numbers : List ℕ) (made : List NumberedRun) : Type 0 where
   pub each : All (IsMade batch state) made
   pub dealt : (i : ℕ) → times i (numbers_of made) ≡ times i numbers
 
 -- a run for each of the numbers was added to a list, in any order, made on this state
-abbrev pub AreAdded : Batch → State → List ℕ → List Made → List Made → Type 0
-AreAdded batch state numbers before after = (own : List Made) × (after ≡ before ++ own) × AreMade batch state numbers own
+abbrev pub AreAdded : Batch → State → List ℕ → List NumberedRun → List NumberedRun → Type 0
+AreAdded batch state numbers before after = (own : List NumberedRun) × (after ≡ before ++ own) × AreMade batch state numbers own
 
 -- what each run leaves is in its span; they are of the blocks from this number on
 abbrev pub AreSpanned : List Block → ℕ → List PendingRun → Type 0

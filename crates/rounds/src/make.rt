@@ -22,7 +22,7 @@ use workers::{Bench, give_all};
 /// A run of the transaction with this number, counted from 0. It is in a box, since a worker hands it
 /// on twice.
 #[derive(Drop)]
-pub(crate) struct Made {
+pub(crate) struct NumberedRun {
     pub(crate) number: usize,
     pub(crate) run: Box<PendingRun>,
 }
@@ -36,7 +36,7 @@ fn make_group<R: Threads + Sync, G: Gate>(
     width: u32,
     gate: &G,
     desk: &mut Desk<'_>,
-    all: &mut Vec<Made>,
+    all: &mut Vec<NumberedRun>,
 ) -> Result<(), NoMemory>
     requires few { length batch.now.transactions.items ≤ MAX_TRANSACTIONS }
     requires within { All (λ n. CanBeMade batch.now desk.old.view.snapshot n) group.now }
@@ -51,7 +51,7 @@ fn make_group<R: Threads + Sync, G: Gate>(
         let mut run = PendingRun::empty(alloc);
         desk.make(threads, alloc, batch, number, width, gate, &mut run)?;
         let run = Box::new(alloc, run)?;
-        all.push(Made { number, run })?;
+        all.push(NumberedRun { number, run })?;
     }
     Ok(())
 }
@@ -103,7 +103,7 @@ pub(crate) fn make_all<R: Threads + Sync, G: Gate>(
     batch: &Batch,
     objects: &Objects,
     numbers: &[usize],
-) -> Result<Vec<Made>, NoMemory>
+) -> Result<Vec<NumberedRun>, NoMemory>
     requires few { length numbers.now ≤ MAX_TRANSACTIONS }
     requires few_blocks { length batch.now.transactions.items ≤ MAX_TRANSACTIONS }
     requires within { All (λ n. CanBeMade batch.now objects.now n) numbers.now }
@@ -125,8 +125,8 @@ pub(crate) fn make_all<R: Threads + Sync, G: Gate>(
         alloc,
         numbers.len().div_ceil(cut) as u32,
         workers,
-        &|piece: u32, bench: Bench<Box<Desk<'_>>, Made>| -> Result<
-            Bench<Box<Desk<'_>>, Made>,
+        &|piece: u32, bench: Bench<Box<Desk<'_>>, NumberedRun>| -> Result<
+            Bench<Box<Desk<'_>>, NumberedRun>,
             NoMemory,
         >
             requires { (cut ≤ MAX_CUT) × (piece * cut < length numbers.now) × (1 ≤ width) × (width ≤ MAX_WORKERS) × (kinds objects.now ≡ kinds batch.now.objects) × (length batch.now.transactions.items ≤ MAX_TRANSACTIONS) × All (λ n. CanBeMade batch.now objects.now n) numbers.now × IfSome bench.desk (λ desk. IsDeskOn objects.now desk.value) }

@@ -15,7 +15,7 @@ ghost use Rattle.plan.specs.declared.plan.TheConstants.{MAX_WORKERS};
 use crate::check::stands_past;
 use crate::crew::{Crew, checkers, makers};
 use crate::desk::Desk;
-use crate::make::{Made, make_all};
+use crate::make::{NumberedRun, make_all};
 use crate::pending_run::PendingRun;
 use batch::Batch;
 use intentions::Committed;
@@ -139,12 +139,12 @@ impl Window {
     }
 
     // Puts a run into the place of its number.
-    fn put(&mut self, made: Made)
+    fn put(&mut self, made: NumberedRun)
         requires { (made.number < length self.old.runs.items) × (made.number < length self.old.valid.items) }
         ensures runs { self.new.runs.items ≡ set self.old.runs.items made.number made.run.value }
         ensures valid { self.new.valid.items ≡ set self.old.valid.items made.number true }
     {
-        let Made { number, run } = made;
+        let NumberedRun { number, run } = made;
         self.runs[number] = Box::into_inner(run);
         self.valid[number] = true;
     }

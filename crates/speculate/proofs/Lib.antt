@@ -1,6 +1,7 @@
 pub mod Absorbed
 pub mod Bodies
 pub mod Choices
+pub mod Crossing
 pub mod Measures
 pub mod InView
 pub mod Room

@@ -9,8 +9,8 @@ use Rattle.meaning.specs.declared.end.End.TheVariants.{Ended, Aborted}
 use Rattle.meaning.specs.declared.held.Held.{Held}
 use Rattle.objects.specs.Entries.{State, kinds, reply_at, after_call, AreLegal}
 use Rattle.meaning.specs.Trees.{Block}
-use Rattle.meaning.specs.Records.{Taken, Nothing, Took, TakenStep, Performed, Branched, Acted, InParallel, TakenChild, Committed, Undone}
-use Rattle.meaning.specs.Records.{TakenHandler, NoHandler, Handled, TakenChildren, NoChild, Child, entries, entries_of_step}
+use Rattle.meaning.specs.Records.{Taken, Nothing, Took, TakenStep, Performed, Filled, Branched, Acted, InParallel, TakenChild, Committed}
+use Rattle.meaning.specs.Records.{Undone, TakenHandler, NoHandler, Handled, TakenChildren, NoChild, Child, entries, entries_of_step}
 use Rattle.meaning.specs.Records.{entries_of_child, entries_of_handler, entries_of_children, kept, kept_of_step, kept_of_child}
 use Rattle.meaning.specs.Records.{kept_of_handler, kept_of_children, net}
 use Rattle.meaning.specs.OneThread.{Run, Ran, record_of, outcome_of, act, one, one_handler}
@@ -60,6 +60,7 @@ mutual
 
   pub kept_of_step-le : (step : TakenStep) → length (kept_of_step step) ≤ length (entries_of_step step)
   kept_of_step-le (Performed entry) = omega arith
+  kept_of_step-le (Filled entry) = omega arith
   kept_of_step-le (Branched then branch outcome) = kept-le branch
   kept_of_step-le (Acted subaction) = kept_of_child-le subaction
   kept_of_step-le TakenStep.Abort = omega arith

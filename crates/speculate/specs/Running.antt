@@ -11,7 +11,7 @@ in_view = record {
   Took = λ before entries kept now. now ≡ absorbed before entries kept;
 }
 
--- the step is not an operation
+-- the step is no operation whose call is given
 abbrev pub IsNoOperation : Step → Type 0
 IsNoOperation (Operation object call labelled) = ⊥
 IsNoOperation step = ⊤

@@ -16,7 +16,7 @@ use crate::ahead::{Ahead, Fork, Shared, both_halves, list_since};
 use crate::gate::Gate;
 use crate::reached::Reached;
 use crate::spare::{Spare, boxed, list_of, make_room, put_at, record_of, spare_at};
-use crate::step::{branch_of, forget, perform, undo};
+use crate::step::{branch_of, forget, perform, perform_filled, undo};
 use batch::{Block, Record, Step, Subaction, Taken, Tried, handled, test_holds};
 use intentions::{Committed, NoMemory, View};
 use meaning::{End, Held};
@@ -99,9 +99,9 @@ fn run_steps<T: Threads + Sync, G: Gate>(
     Ok(record_of(taken, steps.len(), End::Ended))
 }
 
-// Runs a step that is no operation, and returns how the block goes on. Its labels are added to those
-// that are seen. What is at its place of the list is spare: a step with blocks takes the boxes that
-// are there.
+// Runs a step other than an operation whose call is given, and returns how the block goes on. Its
+// labels are added to those that are seen. What is at its place of the list is spare: a step with
+// blocks takes the boxes that are there.
 #[cycle(run)]
 fn run_other_step<T: Threads + Sync, G: Gate>(
     making: &Making<'_, T, G>,
@@ -122,6 +122,7 @@ fn run_other_step<T: Threads + Sync, G: Gate>(
 {
     match step {
         Step::Op { .. } => unreachable!(),
+        Step::Fill(filling) => perform_filled(making.shared.alloc, filling, labels, view),
         Step::If {
             label,
             test,

@@ -39,7 +39,7 @@ impl Spare {
                 body: Some(body),
                 handler,
             },
-            Taken::Op(_) | Taken::Abort | Taken::Parallel(_) => Spare::none(),
+            Taken::Op(_) | Taken::Filled(_) | Taken::Abort | Taken::Parallel(_) => Spare::none(),
         }
     }
 

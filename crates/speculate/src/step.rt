@@ -1,18 +1,25 @@
 //! What a step does beside running blocks: its operation, the choice of a branch, the end of an aborted
 //! body, and of a block's labels.
-ghost use Rattle.std.specs.Prelude.{◌≡◌, ◌++◌, ◌<◌, true, false, length, take, IfOk, IfErr, Some, None};
+ghost use Rattle.std.specs.Prelude.{◌≡◌, ◌++◌, ◌<◌, true, false, length, take, IfOk, IfErr, OnOk, Some, None};
 ghost use Rattle.objects.specs.Objects.{objects, Fits, ObjectHasRoom};
-ghost use Rattle.meaning.specs.OneThread.{label_if};
+ghost use Rattle.meaning.specs.OneThread.{label_if, one_step};
+ghost use Rattle.batch.specs.Running.{CanStepHere, StillSeen};
+ghost use Rattle.batch.specs.Shows.{ShowsStep};
+ghost use Rattle.speculate.specs.Running.{in_view};
 ghost use Rattle.meaning.specs.declared.held.Held.TheVariants.{Replied};
 ghost use Rattle.intentions.specs.Levels.{shown_values, with_entry, aborted};
-ghost use Rattle.batch.specs.Views.{block_view, subaction_view};
+ghost use Rattle.batch.specs.Views.{block_view, filling_view, subaction_view};
 ghost use Rattle.batch.specs.Taking.{taker, untaken};
 ghost use Rattle.batch.specs.declared.tree.Block.{size-Block};
 ghost use Rattle.batch.specs.declared.tree.Subaction.{size-Subaction};
 
-use batch::{Block, Call, Reply, Subaction, add_label, taker, untaken};
+use batch::{
+    Block, Call, Filling, Made, Reply, Subaction, Taken, add_label, end_after, fill, reason_for,
+    taker, untaken,
+};
 use intentions::{NoMemory, View};
 use meaning::{End, Held};
+use std::alloc::Global;
 
 /// Performs a call. Its label holds the reply.
 pub(crate) fn perform(
@@ -31,6 +38,29 @@ pub(crate) fn perform(
     let reply = view.perform(object, call)?;
     add_label(labels, labelled, Held::Replied(reply))?;
     Ok(reply)
+}
+
+/// Makes a call and performs it. Its label holds the reply. Where no call can be made, the step
+/// aborts; where the call is refused, it may.
+pub(crate) fn perform_filled(
+    alloc: Global,
+    filling: &Filling,
+    labels: &mut Vec<Held>,
+    view: &mut View<'_>,
+) -> Result<(Taken, End), NoMemory>
+    requires { CanStepHere (filling_view filling.now) labels.old.items (shown_values view.old) }
+    ensures shows { IfOk result
+        (λ r. ShowsStep in_view (one_step (filling_view filling.now) labels.old.items (shown_values view.old)) r.0 r.1 labels.old.items labels.new.items view.old view.new) }
+    ensures labels { OnOk result (StillSeen labels.old.items labels.new.items) }
+{
+    match fill(&filling.template, labels) {
+        Some(call) => {
+            let reply = perform(filling.object, &call, filling.labelled, labels, view)?;
+            let made = Box::new(alloc, Made { call, reply })?;
+            Ok((Taken::Filled(made), end_after(filling.refusal, &reply)))
+        }
+        None => Ok((Taken::Abort, End::Aborted(reason_for(filling.refusal)))),
+    }
 }
 
 /// Forgets the labels after the first `seen`.

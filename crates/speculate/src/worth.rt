@@ -65,7 +65,7 @@ fn operations_in(block: &Block) -> u64 {
 #[cycle(count)]
 fn operations_in_step(step: &Step) -> u64 {
     match step {
-        Step::Op { .. } => 1,
+        Step::Op { .. } | Step::Fill(_) => 1,
         Step::If {
             then,
             otherwise,

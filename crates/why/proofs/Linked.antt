@@ -15,16 +15,19 @@ use Rattle.meaning.specs.declared.end.End.TheVariants.{Ended, Aborted}
 use Rattle.meaning.specs.declared.held.Held.{Held}
 use Rattle.meaning.specs.declared.test.Test.{Test}
 use Rattle.meaning.specs.Labels.{holds}
+use Rattle.meaning.specs.Filling.{fill}
+use Rattle.meaning.specs.declared.template.Refusal.{Refusal}
+use Rattle.meaning.specs.declared.template.Template.{Template}
 use Rattle.meaning.specs.Trees as tree
-use Rattle.meaning.specs.Trees.{Block, NoStep, Steps, Step, Operation, If, Subaction, Parallel, Handlers, ForReason, Otherwise, GoOn, Pass}
-use Rattle.meaning.specs.Trees.{Children}
+use Rattle.meaning.specs.Trees.{Block, NoStep, Steps, Step, Operation, Fill, If, Subaction, Parallel, Handlers, ForReason, Otherwise}
+use Rattle.meaning.specs.Trees.{GoOn, Pass, Children}
 use Rattle.meaning.specs.Records as taken
 use Rattle.meaning.specs.Records.{Taken, Nothing, Took, TakenStep, TakenChild, TakenHandler, TakenChildren, entries, entries_of_step}
 use Rattle.meaning.specs.Records.{entries_of_child, entries_of_handler, entries_of_children, kept, kept_of_step, kept_of_child}
 use Rattle.meaning.specs.Records.{kept_of_handler, kept_of_children, net}
 use Rattle.meaning.specs.Shown.{AtEnd, ShownChildren, shown, shown_step, shown_child, shown_children, end_of}
-use Rattle.meaning.specs.OneThread.{Run, Ran, record_of, outcome_of, operate, choose, is_for, choose_handler, act, go_on, go_on_children}
-use Rattle.meaning.specs.OneThread.{one, one_step, one_handler, one_children}
+use Rattle.meaning.specs.OneThread.{Run, Ran, record_of, outcome_of, operate, operate_made, operate_filled, choose, is_for, choose_handler}
+use Rattle.meaning.specs.OneThread.{act, go_on, go_on_children, one, one_step, one_handler, one_children}
 use Rattle.meaning.specs.Batch.{block_at, state_at, alone, net_of, run_nets}
 use Rattle.meaning.specs.Words.{Names}
 use Rattle.meaning.specs.Texts.{part, branch_path, handler_path, handler_block, pick, reason_of}
@@ -136,6 +139,20 @@ module _ (names : Names) where
   operation_placed path stays object call labelled state (Some reply) =
       one_placed path stays (record { object = object; call = call; reply = reply })
 
+  made_placed : (path : List ℕ) (stays : Bool) (object : ℕ) (template : Template) (labelled : Bool) (refusal : Refusal) (state : State)
+      (call : Call) (reply : Option Reply)
+      → StepPlaced path stays (Fill object template labelled refusal) (operate_made object call labelled refusal state reply)
+  made_placed path stays object template labelled refusal state call None = none stays
+  made_placed path stays object template labelled refusal state call (Some reply) =
+      one_placed path stays (record { object = object; call = call; reply = reply })
+
+  filled_placed : (path : List ℕ) (stays : Bool) (object : ℕ) (template : Template) (labelled : Bool) (refusal : Refusal) (state : State)
+      (call : Option Call)
+      → StepPlaced path stays (Fill object template labelled refusal) (operate_filled object labelled refusal state call)
+  filled_placed path stays object template labelled refusal state None = none stays
+  filled_placed path stays object template labelled refusal state (Some call) =
+      made_placed path stays object template labelled refusal state call (reply_at state object call)
+
   choice_placed : (path : List ℕ) (stays : Bool) (label : ℕ) (test : Test) (first second : Block) (chosen : Bool)
       (then else : State → Run Taken) (state : State) → BlockPlaced (branch_path path true) 1 stays first (then state)
       → BlockPlaced (branch_path path false) 1 stays second (else state)
@@ -219,6 +236,8 @@ module _ (names : Names) where
         → StepPlaced path stays step (one_step step labels state)
     step_placed path stays (Operation object call labelled) labels state =
         operation_placed path stays object call labelled state (reply_at state object call)
+    step_placed path stays (Fill object template labelled refusal) labels state =
+        filled_placed path stays object template labelled refusal state (fill labels template)
     step_placed path stays (If label test then else) labels state =
         choice_placed path stays label test then else (holds labels label test) (one then labels) (one else labels) state
         (block_placed (branch_path path true) 1 stays then labels state) (block_placed (branch_path path false) 1 stays else labels state)

@@ -6,9 +6,9 @@ use Rattle.objects.specs.Entries.{State, CommuteForward, CommutesWith}
 use Rattle.objects.specs.declared.entry.Entry.{Entry}
 use Rattle.meaning.specs.declared.end.End.{End}
 use Rattle.meaning.specs.declared.end.End.TheVariants.{Ended, Aborted}
-use Rattle.meaning.specs.Trees.{Block, NoStep, Steps, Step, Operation, If, Subaction, Parallel, Handlers, Children}
-use Rattle.meaning.specs.Shown.{Shown, AtEnd, First, ShownStep, Replied, Branched, Acted, InParallel, ShownChild, Body, BodyAndHandler}
-use Rattle.meaning.specs.Shown.{ShownChildren, end_of}
+use Rattle.meaning.specs.Trees.{Block, NoStep, Steps, Step, Operation, Fill, If, Subaction, Parallel, Handlers, Children}
+use Rattle.meaning.specs.Shown.{Shown, AtEnd, First, ShownStep, Replied, Filled, Branched, Acted, InParallel, ShownChild, Body}
+use Rattle.meaning.specs.Shown.{BodyAndHandler, ShownChildren, end_of}
 use Rattle.meaning.specs.OneThread.{outcome_of}
 use Rattle.meaning.specs.Batch.{block_at, shown_of, alone, nets}
 use Rattle.meaning.specs.Rounds.{IsNextOpening}
@@ -35,6 +35,8 @@ abbrev mutual
 
   pub placed_step : Names → List ℕ → Bool → Step → ShownStep → List Placed
   placed_step names path left (Operation object call labelled) (Replied reply) =
+      record { path = path; entry = record { object = object; call = call; reply = reply }; left = left } ∷ []
+  placed_step names path left (Fill object template labelled refusal) (Filled call reply) =
       record { path = path; entry = record { object = object; call = call; reply = reply }; left = left } ∷ []
   placed_step names path left (If label test then else) (Branched chosen branch) =
       placed names (branch_path path chosen) 1 left (branch_of chosen then else) branch

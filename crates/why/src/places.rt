@@ -76,6 +76,10 @@ fn place_step(
         (Step::Op { object, call, .. }, Taken::Op(reply)) => {
             place_operation(alloc, places, path, left, *object, call, reply)
         }
+        (Step::Fill(filling), Taken::Filled(made)) => {
+            let object = filling.object;
+            place_operation(alloc, places, path, left, object, &made.call, &made.reply)
+        }
         (
             Step::If {
                 then,

@@ -56,11 +56,11 @@ run_step-returns-in_ok-new-in-If-clause-shows t c =
       | run_step-then-holds w ↦ if-shows_then ground c.args.step.now c.in-If.label c.in-If.test c.in-If.then c.in-If.otherwise
           c.args.labels.now.items _ c.args.workspace.now _ c.index.result.now c.test_holds-holds.result _ _ c.in-If.is c.requires
           c.index.ensures c.test_holds-holds.ensures w.if-holds.true
-          (rw (c.deref.ensures, w.branch'-is) at ran.ensures.shows) ran.ensures.labels c.in_ok-new-in-If.ensures.ok
+          (rw (c.deref-in-If.ensures, w.branch'-is) at ran.ensures.shows) ran.ensures.labels c.in_ok-new-in-If.ensures.ok
       | run_step-else-holds w ↦ if-shows_else ground c.args.step.now c.in-If.label c.in-If.test c.in-If.then c.in-If.otherwise
           c.args.labels.now.items _ c.args.workspace.now _ c.index.result.now c.test_holds-holds.result _ _ c.in-If.is c.requires
           c.index.ensures c.test_holds-holds.ensures w.if-holds.false
-          (rw (c.deref.ensures, w.branch'-is) at ran.ensures.shows) ran.ensures.labels c.in_ok-new-in-If.ensures.ok
+          (rw (c.deref-in-If.ensures, w.branch'-is) at ran.ensures.shows) ran.ensures.labels c.in_ok-new-in-If.ensures.ok
     ]
 
 pub run_step-returns-in_ok-into_taken-in-Sub-clause-shows : goal.run_step-returns-in_ok-into_taken-in-Sub-clause-shows

@@ -55,10 +55,9 @@ pub write_children-returns : goal.write_children-returns
 write_children-returns t c =
     sym (append-nil _) ∙ rw (rest_children_text-end _ _ _ _ _ c.loop-index-test.false) at c.loop-index.invariant
 
-pub write_step-returns-in_ok-path-in-Parallel-Parallel : goal.write_step-returns-in_ok-path-in-Parallel-Parallel
-write_step-returns-in_ok-path-in-Parallel-Parallel t c =
-    let path : c.as_str-in-Parallel-Parallel.result.now ≡ part c.args.path.now c.args.number =
-    c.as_str-in-Parallel-Parallel.ensures.value ∙ c.in_ok-path-in-Parallel-Parallel.ensures in
+pub write_step-returns-in-Parallel-Parallel : goal.write_step-returns-in-Parallel-Parallel
+write_step-returns-in-Parallel-Parallel t c =
+    let path : c.as_str-own.result.now ≡ part c.args.path.now c.args.number = c.as_str-own.ensures.value ∙ c.in_ok-own_path.ensures in
     rw (c.in-Parallel-Parallel.is-0, c.in-Parallel-Parallel.is-1, step_view-Parallel, taken_view-Parallel)
     (rw (c.deref-in-Parallel-Parallel.ensures.value, c.deref-in-Parallel-Parallel-2.ensures.value, path) at c.write_children.ensures)
 

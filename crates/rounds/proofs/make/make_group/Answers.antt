@@ -2,7 +2,7 @@ use Rattle.std.proofs.Common.{◌≡◌, get_or, refl, sym, ap, ◌∙◌, subst
 use Rattle.intentions.specs.Levels.{Intentions as View}
 use Rattle.rounds.specs.Views.{meaning}
 use Rattle.rounds.specs.PendingRuns.{IsMade, IsPendingOf}
-use Rattle.rounds.specs.declared.make.Made.{Made}
+use Rattle.rounds.specs.declared.make.NumberedRun.{NumberedRun}
 use Rattle.rounds.proofs.Making.{none_made, made_more}
 use Rattle.rounds.proofs.make.make_group.Goals as goal
 
@@ -17,7 +17,7 @@ loop-number-preserved g c =
     let state = c.args.desk.now.view.snapshot in
     let number = get_or c.args.group.now c.loop-number.number-index 0 in
     let shown : c.loop-number.desk.view.snapshot ≡ state = ap (λ (v : View). v.snapshot) so_far.ready.opened in
-    let made : Made = record { number = number; run = c.in_ok-run.run' } in
+    let made : NumberedRun = record { number = number; run = c.in_ok-run.run' } in
     let is_made : IsMade batch state made = subst (IsPendingOf (meaning batch number state)) (sym c.in_ok-run.ensures.ok)
     (subst (λ s. IsPendingOf (meaning batch number s) c.make.new.pending) shown c.in_ok-make.ensures.made) in
     record {

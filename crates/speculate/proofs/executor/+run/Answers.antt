@@ -13,9 +13,10 @@ use Rattle.batch.proofs.Blocks.{block_shows, labels_left}
 use Rattle.batch.proofs.CanRun.{op-can, if-bound, still_same, still_then}
 use Rattle.batch.proofs.StepShows.{op-shows, sub-shows, abort-shows, parallel-shows}
 use Rattle.batch.proofs.PartTried.{part_tried-start, part_tried-can_try, part_tried-more, part_tried-aborted, part_tried-ended}
-use Rattle.speculate.proofs.Siblings.{ran_alone, range-all, next_before, net_is_legal, net_has_room, kept_shows, kept_listed}
-use Rattle.speculate.proofs.Siblings.{added_listed, each_can_try, one_more, one_longer}
-use Rattle.speculate.proofs.Siblings.{joined_halves, to_middle, left-start, left-more}
+use Rattle.speculate.proofs.Siblings.{ran_alone, range-all, next_before, net_is_legal, net_has_room, kept_shows, kept_listed, added_listed}
+use Rattle.speculate.proofs.Siblings.{each_can_try, one_more, one_longer, joined_halves, to_middle, left-start, left-more}
+use denote.Param.Send.{sendable}
+use Rattle.speculate.proofs.Crossing.{runs_cross}
 use Rattle.speculate.proofs.Choices.{branch_can_run, branch_is_smaller, branch_shows}
 use Rattle.std.specs.List.{slice_range}
 use Rattle.speculate.specs.Ahead.{AreRunAhead}
@@ -80,8 +81,8 @@ run_other_step-index-requires g t c = let below = if-bound c.args.step.now c.in-
 
 pub run_other_step-run_block-requires : goal.run_other_step-run_block-requires
 run_other_step-run_block-requires g t c κs lives =
-    let first = λ (h : c.test_holds-holds.result ≡ true). c.branch_of-branch.ensures.first h ∙ c.deref.ensures in
-    let other = λ (h : c.test_holds-holds.result ≡ false). c.branch_of-branch.ensures.other h ∙ c.deref-in-If.ensures in
+    let first = λ (h : c.test_holds-holds.result ≡ true). c.branch_of-branch.ensures.first h ∙ c.deref-in-If.ensures in
+    let other = λ (h : c.test_holds-holds.result ≡ false). c.branch_of-branch.ensures.other h ∙ c.deref-in-If-2.ensures in
     let smaller = branch_is_smaller c.args.step.now c.in-If.label c.in-If.test c.in-If.then c.in-If.otherwise c.test_holds-holds.result
     c.branch_of-branch.result.now c.in-If.is first other in
     let can = branch_can_run c.args.step.now c.in-If.label c.in-If.test c.in-If.then c.in-If.otherwise c.args.labels.now.items
@@ -90,8 +91,8 @@ run_other_step-run_block-requires g t c κs lives =
 
 pub run_other_step-returns-in_ok-boxed-in-If-clause-shows : goal.run_other_step-returns-in_ok-boxed-in-If-clause-shows
 run_other_step-returns-in_ok-boxed-in-If-clause-shows g t c =
-    let first = λ (h : c.test_holds-holds.result ≡ true). c.branch_of-branch.ensures.first h ∙ c.deref.ensures in
-    let other = λ (h : c.test_holds-holds.result ≡ false). c.branch_of-branch.ensures.other h ∙ c.deref-in-If.ensures in
+    let first = λ (h : c.test_holds-holds.result ≡ true). c.branch_of-branch.ensures.first h ∙ c.deref-in-If.ensures in
+    let other = λ (h : c.test_holds-holds.result ≡ false). c.branch_of-branch.ensures.other h ∙ c.deref-in-If-2.ensures in
     let ran = c.in_ok-record-in-If in
     branch_shows c.args.step.now c.in-If.label c.in-If.test c.in-If.then c.in-If.otherwise c.args.labels.now.items
     c.run_block.new.labels.items c.args.view.now c.run_block.new.view c.index.result.now c.test_holds-holds.result
@@ -156,6 +157,9 @@ run_subaction-returns-in-Err-clause-shows g t c =
     c.in-Err.ensures.end refl refl refl
 
 -- ---- children that are run ahead
+
+pub run_ahead-join-front-requires-send-A : goal.run_ahead-join-front-requires-send-A
+run_ahead-join-front-requires-send-A g t c κs lives = search (sendable, runs_cross) depth 20
 
 pub run_ahead-returns-clause-all : goal.run_ahead-returns-clause-all
 run_ahead-returns-clause-all g t c =

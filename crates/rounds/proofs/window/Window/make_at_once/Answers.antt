@@ -9,7 +9,7 @@ use Rattle.claims.specs.Views.{times}
 use Rattle.rounds.specs.Passes.{CanBeMade}
 use Rattle.rounds.specs.PendingRuns.{IsMade, numbers_of}
 use Rattle.rounds.specs.Windows.{IsValid}
-use Rattle.rounds.specs.declared.make.Made.{Made}
+use Rattle.rounds.specs.declared.make.NumberedRun.{NumberedRun}
 use Rattle.rounds.proofs.Room.{made_at}
 use Rattle.rounds.proofs.Times.{times_none, times_read}
 use Rattle.rounds.proofs.Making.{all_front, times_numbers}
@@ -48,7 +48,7 @@ putting-init g c =
 pub put-requires : goal.put-requires
 put-requires g c =
     let so_far = c.putting.invariant in
-    let Inside : Made → Type 0 = λ m. (c.args.opened ≤ m.number) × (m.number < length c.args.self.now.runs.items) in
+    let Inside : NumberedRun → Type 0 = λ m. (c.args.opened ≤ m.number) × (m.number < length c.args.self.now.runs.items) in
     let popped = all_front Inside c.pop.new.self.items c.in-Some.next (subst (All Inside) c.in-Some.ensures.items so_far.places) in
     let below = popped.1.1 in
     let all = so_far.all in
@@ -65,7 +65,7 @@ putting-preserved g c =
     let next = c.in-Some.next in
     let rest = c.pop.new.self.items in
     let so_far = c.putting.invariant in
-    let Inside : Made → Type 0 = λ m. (opened ≤ m.number) × (m.number < length first.runs.items) in
+    let Inside : NumberedRun → Type 0 = λ m. (opened ≤ m.number) × (m.number < length first.runs.items) in
     let popped = all_front Inside rest next (subst (All Inside) c.in-Some.ensures.items so_far.places) in
     let made = all_front (IsMade batch state) rest next (subst (All (IsMade batch state)) c.in-Some.ensures.items so_far.left) in
     let below = popped.1.1 in

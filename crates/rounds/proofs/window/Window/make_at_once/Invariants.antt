@@ -3,7 +3,7 @@ use Rattle.std.specs.List.{All}
 use Rattle.claims.specs.Views.{times}
 use Rattle.rounds.specs.PendingRuns.{IsMade, numbers_of}
 use Rattle.rounds.specs.Windows.{IsValid, IsWindowAt, HasGrown}
-use Rattle.rounds.specs.declared.make.Made.{Made}
+use Rattle.rounds.specs.declared.make.NumberedRun.{NumberedRun}
 use Rattle.rounds.proofs.window.Window.make_at_once.Given as goal
 
 abbrev pub invariant-putting : goal.invariant-putting
@@ -12,7 +12,7 @@ invariant-putting g l = record {
   grown : HasGrown l.opened l.initial.self l.self;
   all : length l.self.runs.items ≡ length l.initial.self.runs.items;
   left : All (IsMade l.batch l.objects) l.made.items;
-  places : All (λ (m : Made). (l.opened ≤ m.number) × (m.number < length l.initial.self.runs.items)) l.made.items;
+  places : All (λ (m : NumberedRun). (l.opened ≤ m.number) × (m.number < length l.initial.self.runs.items)) l.made.items;
   put : (i : ℕ) → 0 < times i l.numbers → IsValid l.self i ⊎ (0 < times i (numbers_of l.made.items));
 }
 
