@@ -316,6 +316,7 @@ declares_more old version more others above later carried =
     record {
       verbs = verbs_later old.version version above later carried;
       reasons = λ known. le-leb 3 version (omega (arith, first));
+      fills = λ known. le-leb 5 version (omega (arith, leb-true 5 old.version known, later));
       operations = λ n under. more_below n _ _ most.operations under;
       nodes = λ n under. more_below n _ _ most.nodes under;
       listed = λ name listed. listed_kept name old.names more listed;

@@ -1,23 +1,35 @@
 -- Transactions that are read with more objects, and in a later version, are the same.
 use Rattle.std.proofs.Common.{◌≡◌, ℕ, zero, suc, ◌+◌, ◌≤◌, ◌&&◌, ◌||◌, Bool, true, false, not, cond, List, [], ◌∷◌, ◌++◌, Option, None}
 use Rattle.std.proofs.Common.{Some, Ok}
-use Rattle.std.proofs.Common.{Err, refl, sym, ap, subst, ◌∙◌, arith}
+use Rattle.std.proofs.Common.{Err, refl, sym, ap, ap₂, subst, ◌∙◌, arith}
 use Rattle.std.specs.Prelude.{codes, is_some, nat_le, nat_lt, option_and_then, unwrap_or, ⊤}
 use Rattle.std.proofs.lemmas.Bool.{lt-ltb, ltb-true}
-use Rattle.serde_json.specs.Data.{Data, Items, no_items, item, Members, no_members, member}
-use Rattle.serde_json.specs.Find.{as_array, as_bool, as_object, as_str, get}
+use Rattle.serde_json.specs.Data.{Data, string as a_text, number as a_number, Items, no_items, item, Members, no_members, member}
+use Rattle.serde_json.specs.Find.{at, as_array, as_bool, as_object, as_str, get}
 use Rattle.objects.specs.declared.kind.Kind.{Kind}
 use Rattle.batch.specs.Names.{is_name}
 use Rattle.batch.specs.Views.{children_of, steps_of}
-use Rattle.meaning.specs.Trees.{If, Operation, Parallel}
+use Rattle.meaning.specs.Trees.{If, Parallel}
+use Rattle.meaning.specs.Amounts.{amount_of}
+use Rattle.meaning.specs.WellFormed.{largest_amount}
+use Rattle.meaning.specs.declared.template.Argument.{Argument}
+use Rattle.meaning.specs.declared.template.Argument.TheVariants as argument
+use Rattle.meaning.specs.declared.template.Template.TheVariants as template
+use Rattle.meaning.specs.declared.template.Template.TheVariants.{Given}
 use Rattle.rules.specs.declared.rule.CountRule.TheVariants.{Nodes, Operations}
-use Rattle.rules.specs.declared.rule.NameRule.TheVariants.{Handlers}
+use Rattle.rules.specs.declared.rule.ArgumentRule.TheVariants as argument_rule
+use Rattle.rules.specs.declared.rule.NameRule.TheVariants as names
+use Rattle.rules.specs.declared.rule.Place.{Place}
+use Rattle.rules.specs.declared.rule.Place.TheVariants.{Third, Fourth}
+use Rattle.rules.specs.declared.rule.SourceRule.TheVariants as source
+use Rattle.rules.specs.Subjects.{fits_item, fits_number}
 use Rattle.rules.specs.declared.rule.Rule.{Rule}
 use Rattle.rules.specs.declared.rule.Rule.TheVariants.{Depth, KnownObject, KnownOperation, Name, Shape}
+use Rattle.rules.specs.declared.rule.Rule.TheVariants as rule
 use Rattle.rules.specs.declared.rule.ShapeRule.TheVariants as shape
-use Rattle.words.specs.Verbs.{verb_of_text}
+use Rattle.words.specs.Verbs.{amount_call, verb_of_text}
 use Rattle.words.specs.declared.verb.Verb.{Verb}
-use Rattle.words.specs.declared.verb.Verb.TheVariants.{Alone}
+use Rattle.words.specs.declared.verb.Verb.TheVariants.{OfAmount, OfItem, OfPair, Alone}
 use Rattle.words.specs.declared.verb.LoneVerb.TheVariants.{Balance}
 use Rattle.meaning.specs.declared.limits.TheConstants.{MAX_DEPTH}
 use Rattle.rules.specs.declared.subject.Subject.TheVariants.{Outcome, Reply}
@@ -27,16 +39,19 @@ use Rattle.spelling.specs.declared.steps.Sort.TheVariants.{Parallel as a_paralle
 use Rattle.spelling.specs.Demand.{Demand, and_then, broken_at, check, holds, in_transaction, limited, one_more_node}
 use Rattle.spelling.specs.Demand.{one_more_operation, one_more_start}
 use Rattle.rules.specs.Limits.{limits_of}
-use Rattle.spelling.specs.Look.{has}
+use Rattle.spelling.specs.Look.{has, whole, within}
 use Rattle.spelling.specs.Scope.{Numbers, Scope, Setting, is_listed, kind_named, label_number, number_of, place_of, with_label}
-use Rattle.spelling.specs.Scope.{with_reason}
-use Rattle.spelling.specs.Asked.{abort_asked, abort_shape_asked, arguments_asked, call_named, children_in, handlers_are_members}
+use Rattle.spelling.specs.Scope.{with_item, with_reason}
+use Rattle.spelling.specs.Asked.{abort_asked, abort_shape_asked, amount_asked, amount_item, argument_asked, arguments_asked, call_named}
+use Rattle.spelling.specs.Asked.{children_in, else_reason, handlers_are_members, has_count, has_fills, index_of, is_else, is_source}
+use Rattle.spelling.specs.Asked.{item_asked, name_item, reason_asked, source_asked}
 use Rattle.spelling.specs.Asked.{handlers_in}
 use Rattle.spelling.specs.Asked.{if_label, if_shape_asked, is_abort, label_asked, label_in, object_of, operation_asked}
 use Rattle.spelling.specs.Asked.{operation_shape_asked}
 use Rattle.spelling.specs.Asked.{or_no_items, parallel_shape_asked, part, scope_after, scope_after_by, seen_asked, sort_of}
 use Rattle.spelling.specs.Asked.{sub_shape_asked, subject_of, target_asked, test_asked, verb_at, verb_in}
-use Rattle.spelling.specs.Spelled.{Spelling, block_of, block_of_if, blocks_of, call_of, children_spelled, handlers_spelled, if_of}
+use Rattle.spelling.specs.Spelled.{Spelling, block_of, block_of_if, blocks_of, children_spelled, handlers_spelled, if_of, item_of}
+use Rattle.spelling.specs.Spelled.{item_template, operation_step, pair_template, refusal_of, source_of, template_of}
 use Rattle.spelling.specs.Spelled.{members_of}
 use Rattle.spelling.specs.Spelled.{operation_of, or_no_step, or_zero, parallel_of, spelled_map, step_of, step_of_by, steps_spelled, sub_of}
 use Rattle.spelling.specs.Spelled.{sub_step, target_of, test_of, tried}
@@ -45,7 +60,7 @@ use Rattle.spelling.proofs.Demands.{Asks, array_asked, block_asked, block_asked_
 use Rattle.spelling.proofs.Demands.{members_asked, parallel_asked, step_asked, step_asked_by, steps_asked, sub_asked, transaction_asked}
 use Rattle.spelling.proofs.Demands.{transactions_asked}
 use Rattle.spelling.proofs.MetLemmas.{What, count}
-use Rattle.lang.proofs.Faultless.{arguments_count, if_shape_counts, label_counts, operation_shape_counts, parallel_shape_counts}
+use Rattle.lang.proofs.Faultless.{if_shape_counts, label_counts, parallel_shape_counts}
 use Rattle.lang.proofs.Faultless.{reason_counts}
 use Rattle.lang.proofs.Faultless.{seen_counts, test_counts}
 use Rattle.carry_laws.proofs.Meeting.{Counts}
@@ -54,6 +69,7 @@ use Rattle.carry_laws.proofs.Meeting.{Counts}
 pub record Declares (old new : Setting) : Type 0 where
   pub verbs : (k : Kind) (word : List ℕ) (v : Verb) → verb_of_text old.version k word ≡ Some v → verb_of_text new.version k word ≡ Some v
   pub reasons : nat_le 3 old.version ≡ true → nat_le 3 new.version ≡ true
+  pub fills : has_fills old.version ≡ true → has_fills new.version ≡ true
   pub operations : (n : ℕ) → nat_lt n (limits_of old.version).operations ≡ true → nat_lt n (limits_of new.version).operations ≡ true
   pub nodes : (n : ℕ) → nat_lt n (limits_of old.version).nodes ≡ true → nat_lt n (limits_of new.version).nodes ≡ true
   pub listed : (name : List ℕ) → is_listed name old.names ≡ true → is_listed name new.names ≡ true
@@ -174,6 +190,44 @@ kept_test true b rule later so = record {
 }
 kept_test false b rule later so = record { kept = λ c d next fewer met. cc }
 
+-- ---- arguments that labels give
+
+-- what is a text, or an amount, is no object of JSON
+text_no_object : (o : Option Data) → is_some (option_and_then as_str o) ≡ true → is_some (option_and_then as_object o) ≡ false
+text_no_object None met = cc
+text_no_object (Some (a_text s)) met = refl
+text_no_object (Some d) met = cc
+
+amount_no_object : (o : Option Data) → is_some (option_and_then (within 1 largest_amount) (option_and_then whole o)) ≡ true
+    → is_some (option_and_then as_object o) ≡ false
+amount_no_object None met = cc
+amount_no_object (Some (a_number n)) met = refl
+amount_no_object (Some d) met = cc
+
+first_is : (b : Bool) (r : Rule) (ds : List Demand) (c next : Counts) → check c (holds b r ∷ ds) ≡ Ok next → b ≡ true
+first_is true r ds c next met = refl
+first_is false r ds c next met = cc
+
+-- One of two lists, by whether an argument is an object and the version has such arguments. Where it has none, the list that is
+-- met says that the argument is no object.
+kept_choice : (is_object old_has new_has : Bool) (source given : List Demand) → (old_has ≡ true → new_has ≡ true)
+    → count What.starts source ≡ 0 → count What.starts given ≡ 0
+    → ((c next : Counts) → check c given ≡ Ok next → is_object ≡ false)
+    → Kept (cond (is_object && old_has) source given) (cond (is_object && new_has) source given)
+    ((is_object && new_has) ≡ (is_object && old_has))
+kept_choice true true true source given later none also no_object = kept_same source _ none refl
+kept_choice true true false source given later none also no_object = let it = later refl in cc
+kept_choice true false new_has source given later none also no_object =
+    record { kept = λ c d next fewer met. let no = no_object c next met in cc }
+kept_choice false old_has new_has source given later none also no_object = kept_same given _ also refl
+
+-- what may be left out may be so in a later version, too
+or_later : (a b old_has new_has : Bool) → (old_has ≡ true → new_has ≡ true) → (a || (old_has && b)) ≡ true → (a || (new_has && b)) ≡ true
+or_later true b old_has new_has later known = refl
+or_later false true true new_has later known = ap (λ t. t && true) (later refl)
+or_later false false true new_has later known = cc
+or_later false b false new_has later known = cc
+
 -- ---- the rows that differ
 
 module _ (old new : Setting) (declares : Declares old new) where
@@ -255,47 +309,115 @@ module _ (old new : Setting) (declares : Declares old new) where
       (kept_test A _ KnownObject KnownObject (declares.listed object))
       (kept_test B _ by_old by_new (λ known. ap is_some (verb_kept object call known) ∙ known)))
 
+  operation_shape_kept : (d : Data) → Kept (operation_shape_asked old.version d) (operation_shape_asked new.version d) ⊤
+  unfolding operation_shape_asked
+  operation_shape_kept d =
+      let by_old = Shape (shape.Else old.version) in
+      let by_new = Shape (shape.Else new.version) in
+      let given = part (codes "else") d in
+      kept_so _ _ _ ⊤ (λ _. tt) (kept_before (_ ∷ _ ∷ _ ∷ _ ∷ []) (holds (is_else old.version d) by_old ∷ [])
+      (holds (is_else new.version d) by_new ∷ []) _ refl (kept_test (is_else old.version d) _ by_old by_new
+      (or_later (not (has (codes "else") d)) (unwrap_or (as_bool given) false || is_some (as_str given)) (has_fills old.version)
+      (has_fills new.version) declares.fills)))
+
+  -- the same arguments are given by labels
+  amount_kept : (scope : Scope) (op : Data) → Kept (amount_asked old.version scope op) (amount_asked new.version scope op)
+      (is_source new.version 2 op ≡ is_source old.version 2 op)
+  unfolding amount_asked source_asked
+  amount_kept scope op =
+      kept_choice (is_some (option_and_then as_object (at 2 op))) (has_fills old.version) (has_fills new.version)
+      (source_asked scope fits_number source.Number Third op) (holds (is_some (amount_item 2 op)) (rule.Argument argument_rule.Amount) ∷ [])
+      declares.fills refl refl (λ c next met. amount_no_object (at 2 op) (first_is _ _ [] c next met))
+
+  argument_kept : (scope : Scope) (place : Place) (op : Data)
+      → Kept (argument_asked old.version scope place op) (argument_asked new.version scope place op)
+      (is_source new.version (index_of place) op ≡ is_source old.version (index_of place) op)
+  unfolding argument_asked source_asked item_asked
+  argument_kept scope place op =
+      kept_choice (is_some (option_and_then as_object (at (index_of place) op))) (has_fills old.version) (has_fills new.version)
+      (source_asked scope fits_item source.Item place op) (item_asked place op) declares.fills refl refl
+      (λ c next met. text_no_object (at (index_of place) op)
+      (first_is _ _ (holds (is_name (name_item (index_of place) op)) (Name (names.Argument place)) ∷ []) c next met))
+
+  -- the same call is spelled
+  abbrev SameCall : Scope → Verb → Data → Type 0
+  SameCall scope v op = (numbers : Numbers) → template_of new.version scope v numbers op ≡ template_of old.version scope v numbers op
+
+  argument_at : Scope → ℕ → Data → Bool → Numbers → Argument × Numbers
+  argument_at scope i op given numbers =
+      cond given (argument.From (source_of scope i op), numbers)
+      (argument.Is (item_of (name_item i op) numbers), with_item (name_item i op) numbers)
+
+  arguments_kept : (scope : Scope) (v : Verb) (op : Data)
+      → Kept (arguments_asked old.version scope v op) (arguments_asked new.version scope v op) (SameCall scope v op)
+  unfolding arguments_asked template_of argument_at
+  arguments_kept scope (OfAmount v) op =
+      let shape = holds (has_count 3 op) (rule.Argument (argument_rule.Count (OfAmount v))) ∷ [] in
+      kept_so _ _ _ (SameCall scope (OfAmount v) op) (λ same numbers.
+      ap (λ b. (cond b (template.OfAmount v (source_of scope 2 op)) (Given (amount_call v (amount_of (or_zero (amount_item 2 op))))), numbers))
+      same)
+      (kept_before shape (amount_asked old.version scope op) (amount_asked new.version scope op) _ refl (amount_kept scope op))
+  arguments_kept scope (OfItem v) op =
+      let shape = holds (has_count 3 op) (rule.Argument (argument_rule.Count (OfItem v))) ∷ [] in
+      kept_so _ _ _ (SameCall scope (OfItem v) op)
+      (λ same numbers. ap (λ b. spelled_map (item_template v) (argument_at scope 2 op b numbers)) same)
+      (kept_before shape (argument_asked old.version scope Third op) (argument_asked new.version scope Third op) _ refl
+      (argument_kept scope Third op))
+  arguments_kept scope (OfPair v) op =
+      let shape = holds (has_count 4 op) (rule.Argument (argument_rule.Count (OfPair v))) ∷ [] in
+      let A = argument_asked old.version scope Third op in
+      let A' = argument_asked new.version scope Third op in
+      let B = argument_asked old.version scope Fourth op in
+      let B' = argument_asked new.version scope Fourth op in
+      kept_so _ _ _ (SameCall scope (OfPair v) op)
+      (λ both numbers. ap₂ (λ b c. let key = argument_at scope 2 op b numbers in
+      spelled_map (pair_template v key.0) (argument_at scope 3 op c key.1)) both.0 both.1)
+      (kept_before shape (A ++ B) (A' ++ B') _ refl
+      (kept_on A A' B B' _ _ (argument_kept scope Third op) (argument_kept scope Fourth op)))
+  arguments_kept scope (Alone v) op = kept_same _ _ refl (λ numbers. refl)
+
+  -- the operation is the same
+  abbrev SameOperation : Scope → Data → Type 0
+  SameOperation scope op = SameTarget op × SameCall scope (verb_in old op) op
+
   operation_kept : (scope : Scope) (d : Data)
-      → Kept (operation_asked old scope d) (operation_asked new scope d) (SameTarget (part (codes "op") d))
+      → Kept (operation_asked old scope d) (operation_asked new scope d) (SameOperation scope (part (codes "op") d))
   unfolding operation_asked
   operation_kept scope d =
       let op = part (codes "op") d in
-      let A = operation_shape_asked d in
+      let A = operation_shape_asked old.version d in
+      let A' = operation_shape_asked new.version d in
       let B = one_more_operation old.version ∷ [] in
       let B' = one_more_operation new.version ∷ [] in
       let C = target_asked old (object_of op) (call_named op) in
       let C' = target_asked new (object_of op) (call_named op) in
-      let D = arguments_asked (verb_in old op) op in
-      let D' = arguments_asked (verb_in new op) op in
-      let E = label_asked scope [] (label_in d) in
-      let head = kept_on (A ++ B) (A ++ B') C C' ⊤ (SameTarget op)
-      (kept_before A B B' ⊤ (operation_shape_counts What.starts d) one_more) (target_kept op) in
-      let rest = λ (same : ⊤ × SameTarget op). subst (λ v. Kept D (arguments_asked v op) ⊤) (sym same.1.0)
-      (kept_same D ⊤ (arguments_count What.starts (verb_in old op) op) tt) in
-      kept_after (A ++ B ++ C ++ D) (A ++ B' ++ C' ++ D') E (SameTarget op) (label_counts What.starts scope [] (label_in d))
-      (kept_so (A ++ B ++ C ++ D) (A ++ B' ++ C' ++ D') ((⊤ × SameTarget op) × ⊤) (SameTarget op) (λ known. known.0.1)
-      (kept_then (A ++ B ++ C) (A ++ B' ++ C') D D' (⊤ × SameTarget op) ⊤ head rest))
+      let D = arguments_asked old.version scope (verb_in old op) op in
+      let D' = arguments_asked new.version scope (verb_in new op) op in
+      let E = reason_asked names.Else (else_reason d) in
+      let F = label_asked scope [] (label_in d) in
+      let call = SameCall scope (verb_in old op) op in
+      let head = kept_on (A ++ B) (A' ++ B') C C' (⊤ × ⊤) (SameTarget op)
+      (kept_on A A' B B' ⊤ ⊤ (operation_shape_kept d) one_more) (target_kept op) in
+      let rest = λ (same : (⊤ × ⊤) × SameTarget op). subst (λ v. Kept D (arguments_asked new.version scope v op) call) (sym same.1.0)
+      (arguments_kept scope (verb_in old op) op) in
+      let four = kept_so (A ++ B ++ C ++ D) (A' ++ B' ++ C' ++ D') (((⊤ × ⊤) × SameTarget op) × call) (SameOperation scope op)
+      (λ known. (known.0.1, known.1))
+      (kept_then (A ++ B ++ C) (A' ++ B' ++ C') D D' ((⊤ × ⊤) × SameTarget op) call head rest) in
+      kept_after (A ++ B ++ C ++ D ++ E) (A' ++ B' ++ C' ++ D' ++ E) F (SameOperation scope op) (label_counts What.starts scope [] (label_in d))
+      (kept_after (A ++ B ++ C ++ D) (A' ++ B' ++ C' ++ D') E (SameOperation scope op)
+      (reason_counts What.starts names.Else (else_reason d)) four)
 
-  operation_same : (numbers : Numbers) (d : Data) → SameTarget (part (codes "op") d)
-      → operation_of new numbers d ≡ operation_of old numbers d
+  operation_same : (scope : Scope) (numbers : Numbers) (d : Data) → SameOperation scope (part (codes "op") d)
+      → operation_of new scope numbers d ≡ operation_of old scope numbers d
   unfolding operation_of
-  operation_same numbers d same =
+  operation_same scope numbers d same =
       let op = part (codes "op") d in
-      λ i. spelled_map (λ call. Operation (same.1 i) call (is_some (label_in d))) (call_of (same.0 i) numbers op)
+      let made = ap (λ v. template_of new.version scope v numbers op) same.0.0 ∙ same.1 numbers in
+      ap₂ (λ object call. spelled_map (operation_step object call.0 (is_some (label_in d))) (refusal_of call.1 d)) same.0.1 made
 
   -- reasons, and handlers by reason, are in the other version, too
-  later_reasons : (a b : Bool) → (nat_le 3 old.version && b) ≡ true → (a || (nat_le 3 new.version && b)) ≡ true
-  later_reasons a b known = by a (nat_le 3 old.version) b declares.reasons known
-    where
-      by : (a o b : Bool) → (o ≡ true → nat_le 3 new.version ≡ true) → (o && b) ≡ true → (a || (nat_le 3 new.version && b)) ≡ true
-      by true o b later known = refl
-      by false true true later known = ap (λ t. t && true) (later refl)
-      by false true false later known = cc
-      by false false b later known = cc
-
   or_reasons : (a b : Bool) → (a || (nat_le 3 old.version && b)) ≡ true → (a || (nat_le 3 new.version && b)) ≡ true
-  or_reasons true b known = refl
-  or_reasons false b known = later_reasons false b known
+  or_reasons a b known = or_later a b (nat_le 3 old.version) (nat_le 3 new.version) declares.reasons known
 
   sub_shape_kept : (d : Data) → Kept (sub_shape_asked old.version d) (sub_shape_asked new.version d) ⊤
   unfolding sub_shape_asked
@@ -316,7 +438,7 @@ module _ (old new : Setting) (declares : Declares old new) where
       let later = holds (is_abort new.version asked) by_new ∷ [] in
       let node = one_more_node old.version ∷ [] in
       let node' = one_more_node new.version ∷ [] in
-      kept_after (_ ∷ test ++ node) (_ ∷ later ++ node') _ ⊤ (reason_counts What.starts (as_str asked))
+      kept_after (_ ∷ test ++ node) (_ ∷ later ++ node') _ ⊤ (reason_counts What.starts names.Reason (as_str asked))
       (kept_before (_ ∷ []) (test ++ node) (later ++ node') ⊤ refl
       (kept_so (test ++ node) (later ++ node') _ ⊤ (λ _. tt) (kept_on test later node node' _ ⊤
       (kept_test (is_abort old.version asked) _ by_old by_new
@@ -364,7 +486,7 @@ module _ (old new : Setting) (declares : Declares old new) where
         ((numbers : Numbers) → members_of new_block scope numbers ds ≡ members_of old_block scope numbers ds)
     members_kept scope no_members = kept_same [] _ refl (λ numbers. refl)
     members_kept scope (member reason d ds) =
-        let A = holds (is_name reason) (Name Handlers) ∷ [] in
+        let A = holds (is_name reason) (Name names.Handlers) ∷ [] in
         let E = old_asks scope d in
         let E' = new_asks scope d in
         let F = members_asked old_asks scope ds in
@@ -449,8 +571,8 @@ module _ (old new : Setting) (declares : Declares old new) where
     step_kept : (sort : Option Sort) (scope : Scope) (d : Data)
         → Kept (step_asked_by sort old_asks old scope d) (step_asked_by sort new_asks new scope d) (SameStep sort scope d)
     step_kept None scope d = kept_same (holds false (Shape shape.Sort) ∷ []) _ refl (λ numbers. refl, refl)
-    step_kept (Some an_operation) scope d = kept_so _ _ (SameTarget (part (codes "op") d)) _
-        (λ same. (λ numbers. operation_same numbers d same, ap (λ v. with_label (label_in d) (Reply v) scope) same.0))
+    step_kept (Some an_operation) scope d = kept_so _ _ (SameOperation scope (part (codes "op") d)) _
+        (λ same. (λ numbers. operation_same scope numbers d same, ap (λ v. with_label (label_in d) (Reply v) scope) same.0.0))
         (operation_kept scope d)
     step_kept (Some an_if) scope d = kept_so _ _ _ _ (λ same. (same, refl)) (if_kept scope d)
     step_kept (Some a_sub) scope d =

@@ -1,4 +1,4 @@
--- Calls that fit, and labels that are bound.
+-- Operations that fit, and labels that are bound.
 use Rattle.std.proofs.Common.{◌≡◌, ℕ, zero, suc, ◌+◌, ◌≤◌, ◌<◌, Bool, true, false, cond, not, ◌||◌, List, [], ◌∷◌, length, map, Option}
 use Rattle.std.proofs.Common.{None, Some, refl, sym, ap, subst, ◌∙◌, arith}
 use Rattle.std.specs.Prelude.{is_some, unwrap_or, option_and_then, slice_get, IsTrue, IsSomeAnd}
@@ -13,7 +13,30 @@ use Rattle.objects.specs.declared.kind.Kind.{Kind}
 use Rattle.objects.specs.Objects.{kind_of_call}
 use Rattle.meaning.specs.declared.test.Test.{Test}
 use Rattle.meaning.specs.declared.test.Test.TheVariants.{Is, AtLeast, IsItem}
-use Rattle.meaning.specs.WellFormed.{Label, OfCall, OfSubaction, CallFits, test_fits}
+use Rattle.meaning.specs.WellFormed.{Label, OfVerb, OfSubaction, CallFits, VerbFits, ArgumentFits, ArgumentsFit, IsSeenWith, IsWellFormedStep}
+use Rattle.meaning.specs.WellFormed.{added_by, added_if, kind_of_verb, label_has, operations_of_step, test_fits}
+use Rattle.meaning.specs.Amounts.{amount_of}
+use Rattle.meaning.specs.Filling.{template_verb}
+use Rattle.meaning.specs.declared.template.Argument.{Argument}
+use Rattle.meaning.specs.declared.template.Argument.TheVariants as argument
+use Rattle.meaning.specs.declared.template.Refusal.{Refusal}
+use Rattle.meaning.specs.declared.template.Refusal.TheVariants.{GoesOn, Aborts}
+use Rattle.meaning.specs.declared.template.Template.{Template}
+use Rattle.meaning.specs.declared.template.Template.TheVariants as template
+use Rattle.meaning.proofs.Fillings.{filled_law}
+use Rattle.atoms.specs.declared.amount.Amount.{Amount}
+use Rattle.atoms.specs.declared.item.Item.{Item}
+use Rattle.objects.specs.declared.call.Call.{Call}
+use Rattle.batch.specs.Limits.{depth_of_step, nodes_of_step}
+use Rattle.rules.specs.declared.rule.Place.{Place}
+use Rattle.rules.specs.declared.rule.Place.TheVariants.{Third, Fourth}
+use Rattle.rules.specs.declared.rule.SourceRule.{SourceRule}
+use Rattle.rules.specs.declared.rule.SourceRule.TheVariants.{Number, Item as HasItem}
+use Rattle.words.specs.declared.verb.AmountVerb.{AmountVerb}
+use Rattle.words.specs.declared.verb.ItemVerb.{ItemVerb}
+use Rattle.words.specs.declared.verb.PairVerb.{PairVerb}
+use Rattle.spelling.specs.Demand.{Demand}
+use Rattle.spelling.specs.Look.{or_empty}
 use Rattle.words.specs.declared.verb.LoneVerb.TheVariants.{Balance}
 use Rattle.words.specs.declared.verb.Verb.{Verb}
 use Rattle.words.specs.declared.verb.Verb.TheVariants.{OfAmount, OfItem, OfPair, Alone}
@@ -21,11 +44,12 @@ use Rattle.rules.specs.declared.subject.Subject.{Subject}
 use Rattle.rules.specs.declared.subject.Subject.TheVariants.{Reply, Outcome}
 use Rattle.spelling.specs.Scope.{Numbers, Scope, Setting, Table, is_listed, kind_named, label_number, named, place_of}
 use Rattle.rules.specs.Subjects.{fits_item, fits_number, fits_word}
-use Rattle.words.specs.Verbs.{phrase_verb, verb_of, verb_of_text}
+use Rattle.words.specs.Verbs.{amount_call, has_item, has_number, phrase_verb, verb_of, verb_of_text}
 use Rattle.words.proofs.Verbs.{HasKind, amount_phrase, item_phrase, lone_phrase, named_has, pair_phrase}
-use Rattle.spelling.specs.Asked.{object_of, call_named, verb_at, verb_in, target_asked}
-use Rattle.spelling.specs.Spelled.{call_of, or_zero, target_of}
-use Rattle.spelling.proofs.MetLemmas.{AllMet}
+use Rattle.spelling.specs.Asked.{amount_asked, argument_asked, arguments_asked, call_named, index_of, is_source, object_of, source_asked}
+use Rattle.spelling.specs.Asked.{source_label, subject_of, target_asked, verb_at, verb_in}
+use Rattle.spelling.specs.Spelled.{argument_of, item_template, operation_step, or_zero, pair_template, source_of, target_of, template_of}
+use Rattle.spelling.proofs.MetLemmas.{AllMet, first_met, rest_met}
 use Rattle.merging.proofs.NumberedTexts.{fit_same}
 
 -- ---- places
@@ -55,27 +79,54 @@ pub some_of : {A : Type 0} (o : Option A) → is_some o ≡ true → (x : A) × 
 some_of (Some x) h = (x, refl)
 some_of None h = cc
 
--- ---- calls
+-- ---- operations
 
-pub verb_is : (v : Verb) (numbers : Numbers) (op : Data) → verb_of (call_of v numbers op).0 ≡ v
-unfolding call_of
-verb_is (OfAmount v) numbers op = ap phrase_verb (amount_phrase v _)
-verb_is (OfItem v) numbers op = ap phrase_verb (item_phrase v _)
-verb_is (OfPair v) numbers op = ap phrase_verb (pair_phrase v _ _)
-verb_is (Alone v) numbers op = ap phrase_verb (lone_phrase v)
+item_template_verb : (v : ItemVerb) (x : Argument) → template_verb (item_template v x) ≡ OfItem v
+item_template_verb v (argument.Is x) = ap phrase_verb (item_phrase v x)
+item_template_verb v (argument.From label) = refl
 
-kind_is : (k : Kind) (v : Verb) (numbers : Numbers) (op : Data) → HasKind k v → kind_of_call (call_of v numbers op).0 ≡ k
-unfolding call_of
-kind_is k (OfAmount v) numbers op has = has _
-kind_is k (OfItem v) numbers op has = has _
-kind_is k (OfPair v) numbers op has = has _ _
-kind_is k (Alone v) numbers op has = has
+pair_template_verb : (v : PairVerb) (k x : Argument) → template_verb (pair_template v k x) ≡ OfPair v
+pair_template_verb v (argument.Is k) (argument.Is x) = ap phrase_verb (pair_phrase v k x)
+pair_template_verb v (argument.Is k) (argument.From label) = refl
+pair_template_verb v (argument.From label) x = refl
 
-pub call_fits : (setting : Setting) (numbers : Numbers) (op : Data) → length setting.names ≡ length setting.kinds
+amount_template_verb : (v : AmountVerb) (source : Bool) (label : ℕ) (a : Amount)
+    → template_verb (cond source (template.OfAmount v label) (template.Given (amount_call v a))) ≡ OfAmount v
+amount_template_verb v true label a = refl
+amount_template_verb v false label a = ap phrase_verb (amount_phrase v a)
+
+-- what is spelled of a verb is of it
+pub verb_is : (version : ℕ) (scope : Scope) (v : Verb) (numbers : Numbers) (op : Data)
+    → template_verb (template_of version scope v numbers op).0 ≡ v
+unfolding template_of
+verb_is version scope (OfAmount v) numbers op = amount_template_verb v (is_source version 2 op) _ _
+verb_is version scope (OfItem v) numbers op = item_template_verb v (argument_of version scope 2 numbers op).0
+verb_is version scope (OfPair v) numbers op =
+    let key = argument_of version scope 2 numbers op in
+    pair_template_verb v key.0 (argument_of version scope 3 key.1 op).0
+verb_is version scope (Alone v) numbers op = ap phrase_verb (lone_phrase v)
+
+-- a given call fits where its verb does
+given_fits : (ks : List Kind) (object : ℕ) (c : Call) → VerbFits ks object (verb_of c) → CallFits ks object c
+given_fits ks object c fits = (filled_law [] (template.Given c) c refl).1 ks object fits
+
+-- the kind of a verb whose calls are of a kind
+kind_is : (k : Kind) (c : Call) (v : Verb) → verb_of c ≡ v → kind_of_call c ≡ k → kind_of_verb v ≡ k
+kind_is k c v is kind =
+    let same : kind_of_verb (verb_of c) ≡ kind_of_call c = let one = given_fits (kind_of_verb (verb_of c) ∷ []) 0 c refl in cc in
+    ap kind_of_verb (sym is) ∙ same ∙ kind
+
+verb_kind : (k : Kind) (v : Verb) → HasKind k v → kind_of_verb v ≡ k
+verb_kind k (OfAmount v) has = kind_is k _ _ (ap phrase_verb (amount_phrase v (amount_of 1))) (has (amount_of 1))
+verb_kind k (OfItem v) has = let x : Item = record { 0 = 0 } in kind_is k _ _ (ap phrase_verb (item_phrase v x)) (has x)
+verb_kind k (OfPair v) has = let x : Item = record { 0 = 0 } in kind_is k _ _ (ap phrase_verb (pair_phrase v x x)) (has x x)
+verb_kind k (Alone v) has = kind_is k _ _ (ap phrase_verb (lone_phrase v)) has
+
+pub verb_fits : (setting : Setting) (op : Data) → length setting.names ≡ length setting.kinds
     → AllMet (target_asked setting (object_of op) (call_named op))
-    → CallFits setting.kinds (target_of setting (object_of op)) (call_of (verb_in setting op) numbers op).0
+    → VerbFits setting.kinds (target_of setting (object_of op)) (verb_in setting op)
 unfolding target_asked
-call_fits setting numbers op paired met =
+verb_fits setting op paired met =
     let object = object_of op in
     let i = position_or_len (bytes_eq object) setting.names in
     let place = found object setting.names met.0 in
@@ -87,12 +138,32 @@ call_fits setting numbers op paired met =
     let is_verb : verb_in setting op ≡ v.0 = ap (λ o. unwrap_or o (Alone Balance)) v.1 in
     let target : target_of setting object ≡ i = ap or_zero place in
     rw (target, is_verb)
-    (k.1 ∙ ap (λ x. Some x) (sym (kind_is k.0 v.0 numbers op (named_has setting.version k.0 (call_named op) v.0 at_kind))))
+    (k.1 ∙ ap (λ x. Some x) (sym (verb_kind k.0 v.0 (named_has setting.version k.0 (call_named op) v.0 at_kind))))
+
+-- the step fits where its verb and its arguments do
+pub step_fits : (ks : List Kind) (object : ℕ) (t : Template) (labelled : Bool) (refusal : Refusal) (labels : List Label)
+    → VerbFits ks object (template_verb t) → ArgumentsFit labels t → IsWellFormedStep (operation_step object t labelled refusal) labels ks
+step_fits ks object (template.Given call) labelled GoesOn labels fits arguments = given_fits ks object call fits
+step_fits ks object (template.Given call) labelled (Aborts reason) labels fits arguments = (fits, tt)
+step_fits ks object (template.OfAmount v label) labelled refusal labels fits arguments = (fits, arguments)
+step_fits ks object (template.OfItem v label) labelled refusal labels fits arguments = (fits, arguments)
+step_fits ks object (template.OfPair v key x) labelled refusal labels fits arguments = (fits, arguments)
+
+-- what the step counts as, and the label that it adds
+pub step_adds : (object : ℕ) (t : Template) (labelled : Bool) (refusal : Refusal)
+    → let step = operation_step object t labelled refusal in
+    (added_by step ≡ added_if labelled (OfVerb (template_verb t))) × (operations_of_step step ≡ 1) × (nodes_of_step step ≡ 0)
+    × (depth_of_step step ≡ 0)
+step_adds object (template.Given call) labelled GoesOn = (refl, refl, refl, refl)
+step_adds object (template.Given call) labelled (Aborts reason) = (refl, refl, refl, refl)
+step_adds object (template.OfAmount v label) labelled refusal = (refl, refl, refl, refl)
+step_adds object (template.OfItem v label) labelled refusal = (refl, refl, refl, refl)
+step_adds object (template.OfPair v key x) labelled refusal = (refl, refl, refl, refl)
 
 -- ---- labels
 
 unfoldable pub subject_of_label : Label → Subject
-subject_of_label (OfCall c) = Reply (verb_of c)
+subject_of_label (OfVerb v) = Reply v
 subject_of_label OfSubaction = Outcome
 
 abbrev pub subjects : Scope → List Subject
@@ -109,9 +180,9 @@ fits (IsItem i) subject = fits_item subject
 
 test_fits_label : (test : Test) (label : Label) → test_fits test label ≡ fits test (subject_of_label label)
 unfolding subject_of_label
-test_fits_label (Is w) (OfCall c) = refl
-test_fits_label (AtLeast n) (OfCall c) = refl
-test_fits_label (IsItem i) (OfCall c) = refl
+test_fits_label (Is w) (OfVerb v) = refl
+test_fits_label (AtLeast n) (OfVerb v) = refl
+test_fits_label (IsItem i) (OfVerb v) = refl
 test_fits_label (Is w) OfSubaction = refl
 test_fits_label (AtLeast n) OfSubaction = refl
 test_fits_label (IsItem i) OfSubaction = refl
@@ -138,16 +209,84 @@ of_label [] i subject e = cc
 of_label (label ∷ labels) zero subject e = (label, refl, cc)
 of_label (label ∷ labels) (suc i) subject e = of_label labels i subject e
 
--- a label that is seen is bound, where few are
-pub bound : (name : List ℕ) (scope : Scope) (labels : List Label) (test : Test) (subject : Subject) → AreSeen scope labels
-    → length scope < 4294967295 → named name scope ≡ Some subject → fits test subject ≡ true
-    → IsSomeAnd (slice_get labels (label_number name scope)) (λ seen. IsTrue (test_fits test seen))
-bound name scope labels test subject seen few is fitting =
+-- a label that is seen is bound to what is true of it, where few are seen
+bound_to : (name : List ℕ) (scope : Scope) (labels : List Label) (test : Label → Bool) (of : Subject → Bool) (subject : Subject)
+    → ((label : Label) → test label ≡ of (subject_of_label label)) → AreSeen scope labels
+    → length scope < 4294967295 → named name scope ≡ Some subject → of subject ≡ true
+    → IsSomeAnd (slice_get labels (label_number name scope)) (λ seen. IsTrue (test seen))
+bound_to name scope labels test of subject same seen few is fitting =
     let i = position_or_len (bytes_eq name) (keys_of scope) in
     let here = named_at name scope subject is in
     let short : i < length scope = subst (λ n. i < n) (length-map scope (λ label. label.1))
     (slice_get_within (subjects scope) i subject here) in
     let label = of_label labels i subject (ap (λ xs. slice_get xs i) (sym seen) ∙ here) in
     let number : label_number name scope ≡ i = fit_same i (omega arith) in
-    let fits_here : test_fits test label.0 ≡ true = test_fits_label test label.0 ∙ ap (fits test) label.2 ∙ fitting in
+    let fits_here : test label.0 ≡ true = same label.0 ∙ ap of label.2 ∙ fitting in
     rw (number, label.1) fits_here
+
+pub bound : (name : List ℕ) (scope : Scope) (labels : List Label) (test : Test) (subject : Subject) → AreSeen scope labels
+    → length scope < 4294967295 → named name scope ≡ Some subject → fits test subject ≡ true
+    → IsSomeAnd (slice_get labels (label_number name scope)) (λ seen. IsTrue (test_fits test seen))
+bound name scope labels test subject seen few is fitting =
+    bound_to name scope labels (test_fits test) (fits test) subject (test_fits_label test) seen few is fitting
+
+-- ---- arguments that labels give
+
+-- the labels that a scope names, and that they are few
+module _ (scope : Scope) (labels : List Label) (seen : AreSeen scope labels) (few : length scope < 4294967295) where
+  source_fits : (has : Verb → Bool) (of : Subject → Bool) (rule : Subject → SourceRule) (place : Place) (op : Data)
+      → ((label : Label) → label_has has label ≡ of (subject_of_label label)) → AllMet (source_asked scope of rule place op)
+      → IsSeenWith has labels (source_of scope (index_of place) op)
+  unfolding source_asked
+  source_fits has of rule place op same met =
+      let name = or_empty (source_label (index_of place) op) in
+      let subject = some_of (named name scope) met.1.0 in
+      let is : subject_of name scope ≡ subject.0 = ap (λ o. unwrap_or o Outcome) subject.1 in
+      bound_to name scope labels (label_has has) of subject.0 same seen few subject.1 (sym (ap of is) ∙ met.1.1.0)
+
+  has_number_of : (label : Label) → label_has has_number label ≡ fits_number (subject_of_label label)
+  unfolding subject_of_label
+  has_number_of (OfVerb v) = refl
+  has_number_of OfSubaction = refl
+
+  has_item_of : (label : Label) → label_has has_item label ≡ fits_item (subject_of_label label)
+  unfolding subject_of_label
+  has_item_of (OfVerb v) = refl
+  has_item_of OfSubaction = refl
+
+  amount_fits : (v : AmountVerb) (op : Data) (source : Bool) (ds : List Demand) (call : Call)
+      → AllMet (cond source (source_asked scope fits_number Number Third op) ds)
+      → ArgumentsFit labels (cond source (template.OfAmount v (source_of scope 2 op)) (template.Given call))
+  amount_fits v op true ds call met = source_fits has_number fits_number Number Third op has_number_of met
+  amount_fits v op false ds call met = tt
+
+  argument_fits : (place : Place) (op : Data) (source : Bool) (ds : List Demand) (x : Item) (before after : Numbers)
+      → AllMet (cond source (source_asked scope fits_item HasItem place op) ds)
+      → ArgumentFits labels
+      (cond {A = Argument × Numbers} source (argument.From (source_of scope (index_of place) op), before) (argument.Is x, after)).0
+  argument_fits place op true ds x before after met = source_fits has_item fits_item HasItem place op has_item_of met
+  argument_fits place op false ds x before after met = tt
+
+  item_fits : (v : ItemVerb) (x : Argument) → ArgumentFits labels x → ArgumentsFit labels (item_template v x)
+  item_fits v (argument.Is x) fits_here = tt
+  item_fits v (argument.From label) fits_here = fits_here
+
+  pair_fits : (v : PairVerb) (k x : Argument) → ArgumentFits labels k → ArgumentFits labels x → ArgumentsFit labels (pair_template v k x)
+  pair_fits v (argument.Is k) (argument.Is x) key other = tt
+  pair_fits v (argument.Is k) (argument.From label) key other = (key, other)
+  pair_fits v (argument.From label) x key other = (key, other)
+
+  pub arguments_fit : (version : ℕ) (v : Verb) (numbers : Numbers) (op : Data) → AllMet (arguments_asked version scope v op)
+      → ArgumentsFit labels (template_of version scope v numbers op).0
+  unfolding arguments_asked amount_asked argument_asked template_of
+  arguments_fit version (OfAmount v) numbers op met = amount_fits v op (is_source version 2 op) _ _ met.1
+  arguments_fit version (OfItem v) numbers op met =
+      item_fits v (argument_of version scope 2 numbers op).0 (argument_fits Third op (is_source version 2 op) _ _ _ _ met.1)
+  arguments_fit version (OfPair v) numbers op met =
+      let key = argument_of version scope 2 numbers op in
+      let asked_first = argument_asked version scope Third op in
+      let asked_second = argument_asked version scope Fourth op in
+      pair_fits v key.0 (argument_of version scope 3 key.1 op).0
+      (argument_fits Third op (is_source version 2 op) _ _ _ _ (first_met asked_first asked_second met.1))
+      (argument_fits Fourth op (is_source version 3 op) _ _ _ _ (rest_met asked_first asked_second met.1))
+  arguments_fit version (Alone v) numbers op met = tt

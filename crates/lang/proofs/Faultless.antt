@@ -12,7 +12,16 @@ use Rattle.words.specs.declared.word.Word.{Word}
 use Rattle.meaning.specs.Trees as tree
 use Rattle.meaning.specs.Trees.{Handlers, Children, for_reasons, handlers_of}
 use Rattle.meaning.specs.WellFormed as well
-use Rattle.meaning.specs.WellFormed.{Label, OfCall, OfSubaction, IsWellFormed, IsWellFormedStep, AreWellFormed, AreWellFormedHandlers}
+use Rattle.meaning.specs.Filling.{template_verb}
+use Rattle.rules.specs.Subjects.{fits_item, fits_number}
+use Rattle.rules.specs.declared.rule.ArgumentRule.TheVariants.{Amount}
+use Rattle.rules.specs.declared.rule.NameRule.{NameRule}
+use Rattle.rules.specs.declared.rule.NameRule.TheVariants as names
+use Rattle.rules.specs.declared.rule.Place.{Place}
+use Rattle.rules.specs.declared.rule.Place.TheVariants.{Third, Fourth}
+use Rattle.rules.specs.declared.rule.Rule.TheVariants.{Argument}
+use Rattle.rules.specs.declared.rule.SourceRule.TheVariants.{Number, Item as HasItem}
+use Rattle.meaning.specs.WellFormed.{Label, OfVerb, OfSubaction, VerbFits, IsWellFormed, IsWellFormedStep, AreWellFormed, AreWellFormedHandlers}
 use Rattle.meaning.specs.WellFormed.{added_by, added_if, added_by_children}
 use Rattle.batch.specs.Limits as limits
 use Rattle.batch.specs.Views.{Tried, steps_of, children_of}
@@ -28,8 +37,9 @@ use Rattle.rules.specs.Subjects.{fits_word}
 use Rattle.words.specs.Words.{word_of_text}
 use Rattle.spelling.specs.Asked
 use Rattle.spelling.specs.Asked.{part, label_in, object_of, call_named, verb_in, target_asked, operation_asked, operation_shape_asked}
-use Rattle.spelling.specs.Asked.{arguments_asked, amount_asked, item_asked, label_asked}
-use Rattle.spelling.specs.Spelled.{call_of, operation_of}
+use Rattle.spelling.specs.Asked.{argument_asked, arguments_asked, amount_asked, amount_item, else_reason, index_of, is_source, item_asked}
+use Rattle.spelling.specs.Asked.{label_asked, source_asked}
+use Rattle.spelling.specs.Spelled.{operation_of, refusal_of, target_of, template_of}
 use Rattle.spelling.proofs.MetLemmas.{AllMet, What, count, count-append, first_met, rest_met}
 use Rattle.spelling.proofs.LabelLemmas.{is_named-append}
 use Rattle.std.proofs.lemmas.List.{append-nil, map-append, length-append}
@@ -45,7 +55,8 @@ use Rattle.spelling.specs.Asked.{scope_after, scope_after_by, seen_asked, sort_o
 use Rattle.spelling.specs.Asked.{sub_shape_asked, subject_of, test_asked, tested_word}
 use Rattle.spelling.specs.Spelled.{abort_of, block_of, block_of_if, children_spelled, handlers_spelled, if_of, member_of, members_of}
 use Rattle.spelling.specs.Spelled.{or_no_step, parallel_of, step_of, step_of_by, steps_spelled, sub_of, test_of}
-use Rattle.lang.proofs.Bound.{AreSeen, bound, call_fits, fits, some_of, subject_of_label, subjects, verb_is}
+use Rattle.lang.proofs.Bound.{AreSeen, arguments_fit, bound, fits, some_of, step_adds, step_fits, subject_of_label, subjects, verb_fits}
+use Rattle.lang.proofs.Bound.{verb_is}
 use Rattle.spelling.proofs.Demands.{array_asked, block_asked, block_asked_if, children_asked, handlers_asked, if_asked, member_asked}
 use Rattle.spelling.proofs.Demands.{members_asked, parallel_asked, step_asked, step_asked_by, steps_asked, sub_asked}
 
@@ -133,29 +144,44 @@ unfolding label_asked
 label_counts x scope earlier None = refl
 label_counts x scope earlier (Some name) = refl
 
-pub operation_shape_counts : (x : What) (d : Data) → count x (operation_shape_asked d) ≡ 0
+pub operation_shape_counts : (x : What) (version : ℕ) (d : Data) → count x (operation_shape_asked version d) ≡ 0
 unfolding operation_shape_asked
-operation_shape_counts x d = refl
+operation_shape_counts x version d = refl
 
 target_counts : (x : What) (setting : Setting) (object call : List ℕ) → count x (target_asked setting object call) ≡ 0
 unfolding target_asked
 target_counts x setting object call = refl
 
-pub arguments_count : (x : What) (v : Verb) (op : Data) → count x (arguments_asked v op) ≡ 0
-unfolding arguments_asked amount_asked item_asked
-arguments_count x (OfAmount v) op = refl
-arguments_count x (OfItem v) op = refl
-arguments_count x (OfPair v) op = refl
-arguments_count x (Alone v) op = refl
+one_of_two : (x : What) (b : Bool) (A B : List Demand) → count x A ≡ 0 → count x B ≡ 0 → count x (cond b A B) ≡ 0
+one_of_two x true A B p q = p
+one_of_two x false A B p q = q
+
+argument_counts : (x : What) (version : ℕ) (scope : Scope) (place : Place) (op : Data) → count x (argument_asked version scope place op) ≡ 0
+unfolding argument_asked source_asked item_asked
+argument_counts x version scope place op =
+    one_of_two x (is_source version (index_of place) op) (source_asked scope fits_item HasItem place op) (item_asked place op) refl refl
+
+pub arguments_count : (x : What) (version : ℕ) (scope : Scope) (v : Verb) (op : Data) → count x (arguments_asked version scope v op) ≡ 0
+unfolding arguments_asked amount_asked source_asked
+arguments_count x version scope (OfAmount v) op =
+    let none = one_of_two x (is_source version 2 op) (source_asked scope fits_number Number Third op)
+    (holds (is_some (amount_item 2 op)) (Argument Amount) ∷ []) refl refl in
+    omega (arith, none)
+arguments_count x version scope (OfItem v) op = omega (arith, argument_counts x version scope Third op)
+arguments_count x version scope (OfPair v) op =
+    let A = argument_asked version scope Third op in
+    let B = argument_asked version scope Fourth op in
+    omega (arith, count-append x A B, argument_counts x version scope Third op, argument_counts x version scope Fourth op)
+arguments_count x version scope (Alone v) op = refl
 
 pub parallel_shape_counts : (x : What) (d : Data) → count x (parallel_shape_asked d) ≡ 0
 unfolding parallel_shape_asked
 parallel_shape_counts x d = refl
 
-pub reason_counts : (x : What) (o : Option (List ℕ)) → count x (reason_asked o) ≡ 0
+pub reason_counts : (x : What) (which : NameRule) (o : Option (List ℕ)) → count x (reason_asked which o) ≡ 0
 unfolding reason_asked
-reason_counts x None = refl
-reason_counts x (Some reason) = refl
+reason_counts x which None = refl
+reason_counts x which (Some reason) = refl
 
 -- ---- labels after a step
 
@@ -544,39 +570,52 @@ module _ (setting : Setting) (paired : length setting.names ≡ length setting.k
 
     -- ---- any step
 
-    operation_good : (scope : Scope) (numbers : Numbers) (d : Data) (labels : List Label) → AllMet (operation_asked setting scope d)
-        → GoodStep setting.kinds (operation_of setting numbers d).0 labels n (count What.operations (operation_asked setting scope d))
+    operation_good : (scope : Scope) (numbers : Numbers) (d : Data) (labels : List Label) → AreSeen scope labels
+        → length scope < most_labels → AllMet (operation_asked setting scope d)
+        → GoodStep setting.kinds (operation_of setting scope numbers d).0 labels n (count What.operations (operation_asked setting scope d))
         (count What.nodes (operation_asked setting scope d))
     unfolding operation_asked operation_of
-    operation_good scope numbers d labels met =
+    operation_good scope numbers d labels seen few met =
         let op = part (codes "op") d in
-        let A = operation_shape_asked d in
+        let verb = verb_in setting op in
+        let A = operation_shape_asked setting.version d in
         let B = one_more_operation setting.version ∷ [] in
         let C = target_asked setting (object_of op) (call_named op) in
-        let D = arguments_asked (verb_in setting op) op in
-        let E = label_asked scope [] (label_in d) in
-        let metC = rest_met (A ++ B) C (first_met (A ++ B ++ C) D (first_met (A ++ B ++ C ++ D) E met)) in
+        let D = arguments_asked setting.version scope verb op in
+        let E = reason_asked names.Else (else_reason d) in
+        let F = label_asked scope [] (label_in d) in
+        let metD = first_met (A ++ B ++ C ++ D) E (first_met (A ++ B ++ C ++ D ++ E) F met) in
+        let metC = rest_met (A ++ B) C (first_met (A ++ B ++ C) D metD) in
+        let made = template_of setting.version scope verb numbers op in
+        let object = target_of setting (object_of op) in
+        let refusal = (refusal_of made.1 d).0 in
+        let is = step_adds object made.0 (is_some (label_in d)) refusal in
+        let is_verb = verb_is setting.version scope verb numbers op in
         record {
-          fits = call_fits setting numbers op paired metC;
+          fits = step_fits setting.kinds object made.0 (is_some (label_in d)) refusal labels
+              (subst (VerbFits setting.kinds object) (sym is_verb) (verb_fits setting op paired metC))
+              (arguments_fit scope labels seen (omega (arith, few)) setting.version verb numbers op (rest_met (A ++ B ++ C) D metD));
           operations_are = omega (
             arith,
-            count_five What.operations A B C D E,
-            operation_shape_counts What.operations d,
+            is.1,
+            count_six What.operations A B C D E F,
+            operation_shape_counts What.operations setting.version d,
             target_counts What.operations setting (object_of op) (call_named op),
-            arguments_count What.operations (verb_in setting op) op,
+            arguments_count What.operations setting.version scope verb op,
+            reason_counts What.operations names.Else (else_reason d),
             label_counts What.operations scope [] (label_in d),
           );
           nodes_are = omega (
             arith,
-            count_five What.nodes A B C D E,
-            operation_shape_counts What.nodes d,
-            target_counts What.nodes setting
-                (object_of op) (call_named op),
-            arguments_count What.nodes (verb_in setting op) op,
-            label_counts What.nodes scope []
-                (label_in d),
+            is.2,
+            count_six What.nodes A B C D E F,
+            operation_shape_counts What.nodes setting.version d,
+            target_counts What.nodes setting (object_of op) (call_named op),
+            arguments_count What.nodes setting.version scope verb op,
+            reason_counts What.nodes names.Else (else_reason d),
+            label_counts What.nodes scope [] (label_in d),
           );
-          shallow = omega arith;
+          shallow = omega (arith, is.3);
         }
 
     abort_good : (scope : Scope) (numbers : Numbers) (d : Data) (labels : List Label)
@@ -585,11 +624,11 @@ module _ (setting : Setting) (paired : length setting.names ≡ length setting.k
     unfolding abort_asked abort_shape_asked abort_of
     abort_good scope numbers d labels =
         let A = abort_shape_asked setting.version d in
-        let B = reason_asked (as_str (part (codes "abort") d)) in
+        let B = reason_asked names.Reason (as_str (part (codes "abort") d)) in
         record {
           fits = tt;
-          operations_are = omega (arith, count-append What.operations A B, reason_counts What.operations (as_str (part (codes "abort") d)));
-          nodes_are = omega (arith, count-append What.nodes A B, reason_counts What.nodes (as_str (part (codes "abort") d)));
+          operations_are = omega (arith, count-append What.operations A B, reason_counts What.operations names.Reason (as_str (part (codes "abort") d)));
+          nodes_are = omega (arith, count-append What.nodes A B, reason_counts What.nodes names.Reason (as_str (part (codes "abort") d)));
           shallow = omega arith;
         }
 
@@ -636,21 +675,25 @@ module _ (setting : Setting) (paired : length setting.names ≡ length setting.k
     operation_labels : (scope : Scope) (numbers : Numbers) (d : Data) (labels : List Label) → AreSeen scope labels
         → AllMet (operation_asked setting scope d)
         → AreSeen (with_label (label_in d) (Reply (verb_in setting (part (codes "op") d))) scope)
-        (labels ++ added_by (operation_of setting numbers d).0)
+        (labels ++ added_by (operation_of setting scope numbers d).0)
         × (length (with_label (label_in d) (Reply (verb_in setting (part (codes "op") d))) scope) ≤ length scope + counted
         (operation_asked setting scope d))
     unfolding operation_asked operation_of subject_of_label
     operation_labels scope numbers d labels seen met =
         let op = part (codes "op") d in
         let verb = verb_in setting op in
-        let A = operation_shape_asked d in
+        let A = operation_shape_asked setting.version d in
         let B = one_more_operation setting.version ∷ [] in
         let C = target_asked setting (object_of op) (call_named op) in
-        let D = arguments_asked verb op in
-        let E = label_asked scope [] (label_in d) in (
-          label_seen scope [] labels (label_in d) (Reply verb) (OfCall (call_of verb numbers op).0)
-              (ap (λ v. Reply v) (verb_is verb numbers op)) (rest_met (A ++ B ++ C ++ D) E met) seen,
-          omega (arith, grows_by (label_in d) (Reply verb) scope, count_five What.operations A B C D E),
+        let D = arguments_asked setting.version scope verb op in
+        let E = reason_asked names.Else (else_reason d) in
+        let F = label_asked scope [] (label_in d) in
+        let made = template_of setting.version scope verb numbers op in
+        let is = step_adds (target_of setting (object_of op)) made.0 (is_some (label_in d)) (refusal_of made.1 d).0 in (
+          subst (λ more. AreSeen (with_label (label_in d) (Reply verb) scope) (labels ++ more)) (sym is.0)
+              (label_seen scope [] labels (label_in d) (Reply verb) (OfVerb (template_verb made.0))
+              (ap (λ v. Reply v) (verb_is setting.version scope verb numbers op)) (rest_met (A ++ B ++ C ++ D ++ E) F met) seen),
+          omega (arith, grows_by (label_in d) (Reply verb) scope, count_six What.operations A B C D E F),
         )
 
     nothing_added : (scope : Scope) (labels : List Label) → AreSeen scope labels → AreSeen scope (labels ++ [])
@@ -679,7 +722,7 @@ module _ (setting : Setting) (paired : length setting.names ≡ length setting.k
     by_sort None scope numbers d labels seen few met = cc
     by_sort (Some an_operation) scope numbers d labels seen few met =
         let behind = operation_labels scope numbers d labels seen met in
-        (operation_good scope numbers d labels met, behind.0, behind.1)
+        (operation_good scope numbers d labels seen (omega (arith, few)) met, behind.0, behind.1)
     by_sort (Some an_if) scope numbers d labels seen few met =
         (if_good scope numbers d labels seen few met, if_adds_none scope numbers d labels seen, omega arith)
     by_sort (Some a_sub) scope numbers d labels seen few met =

@@ -7,13 +7,20 @@ use Rattle.objects.specs.declared.value.Value.TheVariants as value
 use Rattle.words.specs.Verbs.{ItemsAre, phrase_of}
 use Rattle.words.specs.declared.verb.Phrase.{Phrase}
 use Rattle.words.specs.declared.verb.Phrase.TheVariants.{OfAmount, OfItem, OfPair, Alone}
+use Rattle.meaning.specs.declared.template.Argument.{Argument}
+use Rattle.meaning.specs.declared.template.Argument.TheVariants as argument
+use Rattle.meaning.specs.declared.template.Refusal.{Refusal}
+use Rattle.meaning.specs.declared.template.Refusal.TheVariants.{GoesOn, Aborts}
+use Rattle.meaning.specs.declared.template.Template.{Template}
+use Rattle.meaning.specs.declared.template.Template.TheVariants as template
 use Rattle.meaning.specs.declared.test.Test.{Test}
 use Rattle.meaning.specs.declared.test.Test.TheVariants.{Is, AtLeast, IsItem}
 use Rattle.meaning.specs.Trees as tree
-use Rattle.meaning.specs.Trees.{NoStep, Steps, Step, Operation, If, Subaction, Abort, Parallel, Handlers, ForReason, Otherwise, GoOn, Pass}
-use Rattle.meaning.specs.Trees.{Children, NoChild, Child}
+use Rattle.meaning.specs.Trees.{NoStep, Steps, Step, Operation, Fill, If, Subaction, Abort, Parallel, Handlers, ForReason, Otherwise}
+use Rattle.meaning.specs.Trees.{GoOn, Pass, Children, NoChild, Child}
 use Rattle.batch.specs.Names.{Texts}
-use Rattle.batch.specs.Named.{HasText, HasReason, IsNamedCall, IsNamedTest, IsNamed, IsNamedStep, AreNamed, AllNamed}
+use Rattle.batch.specs.Named.{HasText, HasReason, IsNamedCall, IsNamedArgument, IsNamedRefusal, IsNamedTemplate, IsNamedTest, IsNamed}
+use Rattle.batch.specs.Named.{IsNamedStep, AreNamed, AllNamed}
 use Rattle.batch.specs.Named.{AreNamedHandlers, IsNamedValue, AllNamedValues}
 
 module _ (texts more : Texts) (items : length texts.items ≤ length more.items) (reasons : length texts.reasons ≤ length more.reasons) where
@@ -32,6 +39,20 @@ module _ (texts more : Texts) (items : length texts.items ≤ length more.items)
   call_later : (c : Call) → IsNamedCall texts c → IsNamedCall more c
   call_later c named = phrase_later (phrase_of c) named
 
+  pub argument_later : (a : Argument) → IsNamedArgument texts a → IsNamedArgument more a
+  argument_later (argument.Is x) named = item_later x named
+  argument_later (argument.From label) named = tt
+
+  pub template_later : (t : Template) → IsNamedTemplate texts t → IsNamedTemplate more t
+  template_later (template.Given call) named = call_later call named
+  template_later (template.OfAmount v label) named = tt
+  template_later (template.OfItem v label) named = tt
+  template_later (template.OfPair v key x) named = (argument_later key named.0, argument_later x named.1)
+
+  refusal_later : (r : Refusal) → IsNamedRefusal texts r → IsNamedRefusal more r
+  refusal_later GoesOn named = tt
+  refusal_later (Aborts reason) named = λ r is. reason_later r (named r is)
+
   pub test_later : (test : Test) → IsNamedTest texts test → IsNamedTest more test
   test_later (Is word) named = tt
   test_later (AtLeast number) named = tt
@@ -44,6 +65,7 @@ module _ (texts more : Texts) (items : length texts.items ≤ length more.items)
 
     pub step_later : (step : Step) → IsNamedStep texts step → IsNamedStep more step
     step_later (Operation object call labelled) named = call_later call named
+    step_later (Fill object template labelled refusal) named = (template_later template named.0, refusal_later refusal named.1)
     step_later (If label test then else) named = (test_later test named.0, block_later then named.1, block_later else named.2)
     step_later (Subaction body handlers labelled) named = (block_later body named.0, handlers_later handlers named.1)
     step_later (Abort reason) named = λ r is. reason_later r (named r is)

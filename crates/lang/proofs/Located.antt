@@ -1,11 +1,10 @@
 -- What is said of a document's first fault.
-use Rattle.std.proofs.Common.{◌≡◌, ℕ, ◌<◌, ◌≤◌, Option, None, Some, Result, Ok, Err, List, length, inl, inr, subst, sym, ap, ◌∙◌}
+use Rattle.std.proofs.Common.{◌≡◌, ℕ, ◌<◌, ◌≤◌, None, Some, Result, Ok, Err, List, length, inl, inr, subst, sym, ap, ◌∙◌}
 use Rattle.serde_json.specs.Data.{Data, null}
 use Rattle.faults.specs.declared.fault.Fault.{Fault}
 use Rattle.rules.specs.Failures.{fault_of}
 use Rattle.rules.specs.Limits.{limits_of}
 use Rattle.rules.specs.declared.limits.TheConstants.{MAX_BYTES}
-use Rattle.rules.specs.declared.limits.Limits.{Limits}
 use Rattle.rules.specs.declared.rule.CountRule.TheVariants.{Bytes}
 use Rattle.rules.specs.declared.rule.Rule.TheVariants.{Few}
 use Rattle.mistakes.specs.Words.{IsSaid}

@@ -1,17 +1,23 @@
 -- What a document spells has its texts: each item and reason that a transaction names.
 use Rattle.std.proofs.Common.{◌≡◌, ◌<◌, ◌+◌, ℕ, zero, suc, Bool, true, false, cond, List, [], ◌∷◌, ◌++◌, length, Option, None, Some, subst}
 use Rattle.std.proofs.Common.{arith, sym}
-use Rattle.std.specs.Prelude.{codes, ⊤}
+use Rattle.std.specs.Prelude.{codes, is_some, ⊤}
 use Rattle.std.specs.Option.{ForSome}
 use Rattle.serde_json.specs.Data.{Data, Items, no_items, item, Members, no_members, member}
 use Rattle.serde_json.specs.Find.{get, as_array, as_str}
 use Rattle.atoms.specs.declared.item.Item.{Item}
+use Rattle.meaning.specs.declared.template.Argument.{Argument}
+use Rattle.meaning.specs.declared.template.Argument.TheVariants as argument
+use Rattle.meaning.specs.declared.template.Refusal.{Refusal}
+use Rattle.meaning.specs.declared.template.Refusal.TheVariants.{GoesOn, Aborts}
+use Rattle.meaning.specs.declared.template.Template.{Template}
+use Rattle.meaning.specs.declared.template.Template.TheVariants as template
 use Rattle.meaning.specs.declared.test.Test.{Test}
 use Rattle.meaning.specs.Trees as tree
 use Rattle.meaning.specs.Trees.{Handlers, for_reasons, handlers_of}
 use Rattle.batch.specs.Names.{Texts, is_name}
-use Rattle.batch.specs.Named.{AllNamed, AreNamed, AreNamedHandlers, HasReason, HasText, IsNamed, IsNamedCall}
-use Rattle.batch.specs.Named.{IsNamedStep, IsNamedTest}
+use Rattle.batch.specs.Named.{AllNamed, AreNamed, AreNamedHandlers, HasReason, HasText, IsNamed, IsNamedArgument, IsNamedCall}
+use Rattle.batch.specs.Named.{IsNamedRefusal, IsNamedStep, IsNamedTemplate, IsNamedTest}
 use Rattle.batch.specs.Views.{Tried, children_of, steps_of}
 use Rattle.spelling.specs.declared.steps.Sort.{Sort}
 use Rattle.spelling.specs.declared.steps.Sort.TheVariants.{Operation as an_operation, If as an_if, Sub as a_sub, Abort as an_abort}
@@ -24,29 +30,34 @@ use Rattle.rules.specs.declared.subject.Subject.{Subject}
 use Rattle.rules.specs.declared.subject.Subject.TheVariants.{Outcome}
 use Rattle.words.specs.declared.verb.Verb.{Verb}
 use Rattle.words.specs.declared.verb.Verb.TheVariants.{OfAmount, OfItem, OfPair, Alone}
+use Rattle.rules.specs.declared.rule.Place.{Place}
 use Rattle.rules.specs.declared.rule.Place.TheVariants.{Third, Fourth}
+use Rattle.rules.specs.declared.rule.SourceRule.TheVariants.{Item as HasItem}
+use Rattle.rules.specs.Subjects.{fits_item}
 use Rattle.rules.specs.declared.rule.ArgumentRule.TheVariants.{Count}
+use Rattle.rules.specs.declared.rule.NameRule.{NameRule}
 use Rattle.rules.specs.declared.rule.NameRule.TheVariants as names
-use Rattle.rules.specs.declared.rule.Rule.TheVariants.{Argument, Name}
-use Rattle.spelling.specs.Amounts.{amount_of}
+use Rattle.rules.specs.declared.rule.Rule.TheVariants as rule
+use Rattle.meaning.specs.Amounts.{amount_of}
 use Rattle.meaning.specs.declared.limits.TheConstants.{MAX_DEPTH}
 use Rattle.spelling.specs.Demand.{Demand, holds, in_transaction, one_more_node, one_more_operation}
 use Rattle.spelling.specs.Look.{has, or_empty, text_member}
 use Rattle.spelling.specs.Scope.{Numbers, Scope, Setting, number_of, with_item, with_label, with_reason}
 use Rattle.words.specs.Verbs.{ItemsAre, amount_call, item_call, lone_call, pair_call}
 use Rattle.words.proofs.Verbs.{amount_phrase, item_phrase, lone_phrase, pair_phrase}
-use Rattle.spelling.specs.Asked.{abort_asked, abort_shape_asked, amount_item, arguments_asked}
+use Rattle.spelling.specs.Asked.{abort_asked, abort_shape_asked, amount_item, argument_asked, arguments_asked}
 use Rattle.spelling.specs.Asked.{call_named, children_in, handlers_in, has_count, holds_item, holds_number}
 use Rattle.spelling.specs.Asked.{holds_word, if_label, if_shape_asked, item_asked, label_asked, label_in}
 use Rattle.spelling.specs.Asked.{name_item, object_of, operation_asked, operation_shape_asked, or_no_items}
 use Rattle.spelling.specs.Asked.{parallel_shape_asked, part, reason_asked, scope_after, seen_asked, sort_of}
 use Rattle.spelling.specs.Asked.{sub_shape_asked, subject_of, target_asked, test_asked}
-use Rattle.spelling.specs.Asked.{verb_in}
-use Rattle.spelling.specs.Spelled.{abort_of, block_of, block_of_if, blocks_of, call_of, children_spelled, handlers_spelled, if_of, item_of}
-use Rattle.spelling.specs.Spelled.{members_of, operation_of, or_no_step, or_zero, parallel_of, reason_of, step_of}
+use Rattle.spelling.specs.Asked.{else_reason, index_of, is_source, source_asked, verb_in}
+use Rattle.spelling.specs.Spelled.{abort_of, argument_of, block_of, block_of_if, blocks_of, children_spelled, handlers_spelled, if_of}
+use Rattle.spelling.specs.Spelled.{item_of, item_template, members_of, operation_of, operation_step, or_no_step, or_zero, pair_template}
+use Rattle.spelling.specs.Spelled.{parallel_of, reason_of, refusal_of, source_of, spelled_map, step_of, target_of, template_of}
 use Rattle.spelling.specs.Spelled.{step_of_by, steps_spelled}
 use Rattle.spelling.specs.Spelled.{sub_of, test_of}
-use Rattle.lang.proofs.Later.{block_later, handlers_later, step_later, test_later}
+use Rattle.lang.proofs.Later.{argument_later, block_later, handlers_later, step_later, template_later, test_later}
 use Rattle.merging.proofs.NumberedTexts.{number_below}
 use Rattle.lang.proofs.Tables.{Grows, Numbered, grows_before, grows_behind, grows_item, grows_none, grows_on, grows_reason}
 use Rattle.lang.proofs.Tables.{texts_in}
@@ -54,7 +65,7 @@ use Rattle.spelling.proofs.Demands.{array_asked, block_asked, block_asked_if, ch
 use Rattle.spelling.proofs.Demands.{members_asked, parallel_asked, step_asked, step_asked_by, steps_asked, sub_asked, transaction_asked}
 use Rattle.spelling.proofs.Demands.{transactions_asked}
 
--- ---- calls
+-- ---- given calls
 
 item_call_named : (texts : Texts) (v : ItemVerb) (x : Item) → HasText texts x → IsNamedCall texts (item_call v x)
 item_call_named texts v x named = subst (ItemsAre (HasText texts)) (sym (item_phrase v x)) named
@@ -68,45 +79,121 @@ amount_call_named texts v n = subst (ItemsAre (HasText texts)) (sym (amount_phra
 lone_call_named : (texts : Texts) (v : LoneVerb) → IsNamedCall texts (lone_call v)
 lone_call_named texts v = subst (ItemsAre (HasText texts)) (sym (lone_phrase v)) tt
 
-call_numbered : (v : Verb) (numbers : Numbers) (op : Data) → Numbered IsNamedCall numbers (call_of v numbers op) (arguments_asked v op)
-unfolding call_of arguments_asked item_asked
-call_numbered (OfAmount v) numbers op = record {
-  named = amount_call_named (texts_in numbers) v (or_zero (amount_item 2 op));
-  grows =
-      grows_none numbers _;
-}
-call_numbered (OfItem v) numbers op = record {
-  named = item_call_named (texts_in (with_item (name_item 2 op) numbers)) v (item_of (name_item 2 op) numbers)
-      (number_below (name_item 2 op) numbers.items);
-  grows = grows_item (name_item 2 op) numbers _ (λ met. met.1.1.0);
-}
-call_numbered (OfPair v) numbers op =
-    let after = with_item (name_item 2 op) numbers in
-    let last = with_item (name_item 3 op) after in
-    let shape = holds (has_count 4 op) (Argument (Count (OfPair v))) ∷ [] in
-    let first = grows_item (name_item 2 op) numbers (item_asked Third op) (λ met. met.1.0) in
-    let second = grows_item (name_item 3 op) after (item_asked Fourth op) (λ met. met.1.0) in
-    let key : HasText (texts_in after) (item_of (name_item 2 op) numbers) = number_below (name_item 2 op) numbers.items in
-    record {
-      named = pair_call_named (texts_in last) v (item_of (name_item 2 op) numbers) (item_of (name_item 3 op) after)
-          (omega (arith, second.items, key)) (number_below (name_item 3 op) after.items);
-      grows = grows_behind numbers last shape (item_asked Third op ++ item_asked Fourth op)
-          (grows_on numbers after last (item_asked Third op) (item_asked Fourth op) first second);
+-- ---- arguments
+
+argument_numbered : (version : ℕ) (scope : Scope) (place : Place) (numbers : Numbers) (op : Data)
+    → Numbered IsNamedArgument numbers (argument_of version scope (index_of place) numbers op) (argument_asked version scope place op)
+unfolding argument_asked item_asked
+argument_numbered version scope place numbers op = by (is_source version (index_of place) op)
+  where
+    by : (source : Bool) → Numbered IsNamedArgument numbers
+        (cond source (argument.From (source_of scope (index_of place) op), numbers)
+        (argument.Is (item_of (name_item (index_of place) op) numbers), with_item (name_item (index_of place) op) numbers))
+        (cond source (source_asked scope fits_item HasItem place op) (item_asked place op))
+    by true = record { named = tt; grows = grows_none numbers _ }
+    by false = record {
+      named = number_below (name_item (index_of place) op) numbers.items;
+      grows = grows_item (name_item (index_of place) op) numbers (item_asked place op) (λ met. met.1.0);
     }
-call_numbered (Alone v) numbers op = record { named = lone_call_named (texts_in numbers) v; grows = grows_none numbers _ }
+
+item_template_named : (texts : Texts) (v : ItemVerb) (x : Argument) → IsNamedArgument texts x → IsNamedTemplate texts (item_template v x)
+item_template_named texts v (argument.Is x) named = item_call_named texts v x named
+item_template_named texts v (argument.From label) named = tt
+
+pair_template_named : (texts : Texts) (v : PairVerb) (k x : Argument) → IsNamedArgument texts k → IsNamedArgument texts x
+    → IsNamedTemplate texts (pair_template v k x)
+pair_template_named texts v (argument.Is k) (argument.Is x) key named = pair_call_named texts v k x key named
+pair_template_named texts v (argument.Is k) (argument.From label) key named = (key, named)
+pair_template_named texts v (argument.From label) x key named = (key, named)
+
+amount_template_named : (texts : Texts) (v : AmountVerb) (source : Bool) (label n : ℕ)
+    → IsNamedTemplate texts (cond source (template.OfAmount v label) (template.Given (amount_call v (amount_of n))))
+amount_template_named texts v true label n = tt
+amount_template_named texts v false label n = amount_call_named texts v n
+
+template_numbered : (version : ℕ) (scope : Scope) (v : Verb) (numbers : Numbers) (op : Data)
+    → Numbered IsNamedTemplate numbers (template_of version scope v numbers op) (arguments_asked version scope v op)
+unfolding template_of arguments_asked
+template_numbered version scope (OfAmount v) numbers op = record {
+  named = amount_template_named (texts_in numbers) v (is_source version 2 op) (source_of scope 2 op) (or_zero (amount_item 2 op));
+  grows = grows_none numbers _;
+}
+template_numbered version scope (OfItem v) numbers op =
+    let shape = holds (has_count 3 op) (rule.Argument (Count (OfItem v))) ∷ [] in
+    let x = argument_numbered version scope Third numbers op in
+    let read = argument_of version scope 2 numbers op in
+    record {
+      named = item_template_named (texts_in read.1) v read.0 x.named;
+      grows = grows_behind numbers read.1 shape (argument_asked version scope Third op) x.grows;
+    }
+template_numbered version scope (OfPair v) numbers op =
+    let shape = holds (has_count 4 op) (rule.Argument (Count (OfPair v))) ∷ [] in
+    let A = argument_asked version scope Third op in
+    let B = argument_asked version scope Fourth op in
+    let key = argument_of version scope 2 numbers op in
+    let read = argument_of version scope 3 key.1 op in
+    let first = argument_numbered version scope Third numbers op in
+    let second = argument_numbered version scope Fourth key.1 op in
+    let key_named = argument_later (texts_in key.1) (texts_in read.1) second.grows.items second.grows.reasons key.0 first.named in
+    record {
+      named = pair_template_named (texts_in read.1) v key.0 read.0 key_named second.named;
+      grows = grows_behind numbers read.1 shape (A ++ B) (grows_on numbers key.1 read.1 A B first.grows second.grows);
+    }
+template_numbered version scope (Alone v) numbers op =
+    record { named = lone_call_named (texts_in numbers) v; grows = grows_none numbers _ }
+
+-- ---- operations
+
+reason_numbered : (which : NameRule) (numbers : Numbers) (o : Option (List ℕ))
+    → Numbered (λ texts reason. ForSome reason (HasReason texts)) numbers (reason_of numbers o) (reason_asked which o)
+unfolding reason_of reason_asked
+reason_numbered which numbers None = record { named = λ r is. absurd cc; grows = grows_none numbers _ }
+reason_numbered which numbers (Some reason) = record {
+  named = λ r is. let same : number_of reason numbers.reasons ≡ r = cc in subst (λ n. n < length (with_reason reason numbers).reasons) same
+      (number_below reason numbers.reasons);
+  grows = grows_reason reason numbers _ (λ met. met.0);
+}
+
+refusal_numbered : (numbers : Numbers) (d : Data)
+    → Numbered IsNamedRefusal numbers (refusal_of numbers d) (reason_asked names.Else (else_reason d))
+unfolding refusal_of
+refusal_numbered numbers d = by (has (codes "else") d)
+  where
+    by : (b : Bool) → Numbered IsNamedRefusal numbers
+        (cond b (spelled_map Aborts (reason_of numbers (else_reason d))) (GoesOn, numbers)) (reason_asked names.Else (else_reason d))
+    by true = let reason = reason_numbered names.Else numbers (else_reason d) in record { named = reason.named; grows = reason.grows }
+    by false = record { named = tt; grows = grows_none numbers _ }
+
+step_named : (texts : Texts) (object : ℕ) (t : Template) (labelled : Bool) (refusal : Refusal) → IsNamedTemplate texts t
+    → IsNamedRefusal texts refusal → IsNamedStep texts (operation_step object t labelled refusal)
+step_named texts object (template.Given call) labelled GoesOn named also = named
+step_named texts object (template.Given call) labelled (Aborts reason) named also = (named, also)
+step_named texts object (template.OfAmount v label) labelled refusal named also = (named, also)
+step_named texts object (template.OfItem v label) labelled refusal named also = (named, also)
+step_named texts object (template.OfPair v key x) labelled refusal named also = (named, also)
 
 operation_numbered : (setting : Setting) (scope : Scope) (numbers : Numbers) (d : Data)
-    → Numbered IsNamedStep numbers (operation_of setting numbers d) (operation_asked setting scope d)
+    → Numbered IsNamedStep numbers (operation_of setting scope numbers d) (operation_asked setting scope d)
 unfolding operation_of operation_asked
 operation_numbered setting scope numbers d =
     let op = part (codes "op") d in
-    let A = operation_shape_asked d in
+    let A = operation_shape_asked setting.version d in
     let B = one_more_operation setting.version ∷ [] in
     let C = target_asked setting (object_of op) (call_named op) in
-    let D = arguments_asked (verb_in setting op) op in
-    let E = label_asked scope [] (label_in d) in
-    let call = call_numbered (verb_in setting op) numbers op in
-    record { named = call.named; grows = grows_before _ _ (A ++ B ++ C ++ D) E (grows_behind _ _ (A ++ B ++ C) D call.grows) }
+    let D = arguments_asked setting.version scope (verb_in setting op) op in
+    let E = reason_asked names.Else (else_reason d) in
+    let F = label_asked scope [] (label_in d) in
+    let made = template_of setting.version scope (verb_in setting op) numbers op in
+    let last = refusal_of made.1 d in
+    let call = template_numbered setting.version scope (verb_in setting op) numbers op in
+    let refusal = refusal_numbered made.1 d in
+    let call_named_still = template_later (texts_in made.1) (texts_in last.1) refusal.grows.items refusal.grows.reasons made.0 call.named in
+    record {
+      named = step_named (texts_in last.1) (target_of setting (object_of op)) made.0 (is_some (label_in d)) last.0 call_named_still
+          refusal.named;
+      grows = grows_before _ _ (A ++ B ++ C ++ D ++ E) F
+          (grows_on numbers made.1 last.1 (A ++ B ++ C ++ D) E (grows_behind _ _ (A ++ B ++ C) D call.grows) refusal.grows);
+    }
 
 -- ---- tests and aborts
 
@@ -129,20 +216,10 @@ test_numbered subject numbers d =
     (record { named = tt; grows = grows_none numbers _ })
     (record { named = number_below text numbers.items; grows = grows_item text numbers (holds_item subject d) (λ met. met.1.1.0) })
 
-reason_numbered : (numbers : Numbers) (o : Option (List ℕ)) → Numbered (λ texts reason. ForSome reason (HasReason texts)) numbers
-    (reason_of numbers o) (reason_asked o)
-unfolding reason_of reason_asked
-reason_numbered numbers None = record { named = λ r is. absurd cc; grows = grows_none numbers _ }
-reason_numbered numbers (Some reason) = record {
-  named = λ r is. let same : number_of reason numbers.reasons ≡ r = cc in subst (λ n. n < length (with_reason reason numbers).reasons) same
-      (number_below reason numbers.reasons);
-  grows = grows_reason reason numbers _ (λ met. met.0);
-}
-
 abort_numbered : (version : ℕ) (numbers : Numbers) (d : Data) → Numbered IsNamedStep numbers (abort_of numbers d) (abort_asked version d)
 unfolding abort_of abort_asked
 abort_numbered version numbers d =
-    let reason = reason_numbered numbers (as_str (part (codes "abort") d)) in
+    let reason = reason_numbered names.Reason numbers (as_str (part (codes "abort") d)) in
     record { named = reason.named; grows = grows_behind _ _ (abort_shape_asked version d) _ reason.grows }
 
 -- ---- the steps that hold blocks
@@ -241,7 +318,7 @@ module _ (setting : Setting) (asks : Scope → Data → List Demand) (block : Sc
       let rest = members_numbered scope here.1 ds in
       let last = (members_of block scope here.1 ds).1 in
       let named : HasReason (texts_in begun) (number_of reason numbers.reasons) = number_below reason numbers.reasons in
-      let one = grows_on numbers begun here.1 (holds (is_name reason) (Name names.Handlers) ∷ []) (asks scope d)
+      let one = grows_on numbers begun here.1 (holds (is_name reason) (rule.Name names.Handlers) ∷ []) (asks scope d)
       (grows_reason reason numbers _ (λ met. met.0)) first.grows in
       record {
         named = (

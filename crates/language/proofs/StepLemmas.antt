@@ -4,7 +4,6 @@ use Rattle.std.proofs.Common.{◌≡◌, ℕ, zero, suc, ◌+◌, refl, List, []
 use Rattle.serde_json.specs.Data.{Data, Items, no_items, item, Members, no_members, member}
 use Rattle.serde_json.specs.Find.{as_array, as_str, get}
 use Rattle.batch.specs.Names.{is_name}
-use Rattle.rules.specs.declared.rule.Rule.{Rule}
 use Rattle.rules.specs.declared.rule.NameRule.TheVariants.{Handlers, Reason}
 use Rattle.rules.specs.declared.rule.Rule.TheVariants.{Name}
 use Rattle.rules.specs.Forms.{member_names}
@@ -22,15 +21,15 @@ use Rattle.spelling.specs.Look.{has, has_only, list_member, text_member, whole_m
 use Rattle.spelling.specs.Places.{Places, block_placed, block_placed_if, children_placed, handlers_placed, here, if_placed, itself}
 use Rattle.spelling.specs.Places.{member_named, members_placed, nothing, parallel_placed, seek, step_placed, step_placed_by, steps_placed}
 use Rattle.spelling.specs.Places.{sub_placed}
-use Rattle.spelling.specs.Scope.{Scope, Setting, named, number_of, with_label, with_labels, with_reason}
+use Rattle.spelling.specs.Scope.{Scope, Setting, named, with_label, with_labels, with_reason}
 use Rattle.spelling.specs.Spelled.{Spelling, abort_of, block_of, block_of_if, children_spelled, handlers_spelled, if_of, members_of}
-use Rattle.spelling.specs.Spelled.{parallel_of, reason_of, step_of, step_of_by, steps_spelled, sub_of, test_of}
+use Rattle.spelling.specs.Spelled.{parallel_of, step_of, step_of_by, steps_spelled, sub_of, test_of}
 use Rattle.rules.specs.Subjects.{fits_item, fits_number}
 use Rattle.language.specs.Document.{BlockReader, abort_in, block_in, handlers_by_reason, if_in, parallel_in, step_by}
 use Rattle.language.specs.Document.{step_in, sub_in, test_in}
 use Rattle.language.specs.Reading.{Seen, each, if_there, reason_in}
 use Rattle.language.proofs.Joined.{after_is, answer, asks_is, by_test, check_is, counted_is, each_is, inside_is, left_by, needs_is, seen_of}
-use Rattle.language.proofs.OperationLemmas.{label_is, operation_reads}
+use Rattle.language.proofs.OperationLemmas.{label_is, operation_reads, reason_is, reason_reads}
 
 -- the test of an `if`
 test_reads : (subject : Subject) (d : Data) (seen : Seen) → test_in subject d seen
@@ -48,20 +47,6 @@ test_reads subject d seen =
     needs_is (text_member (codes "item") d) _ (λ no. rw no) (λ x there. rw there (
     asks_is (is_name x) _ (λ no. rw no) (λ is. rw is)))))))))
 
--- the number of a reason
-reason_is : (rule : Rule) (reason : List ℕ) (seen : Seen) → reason_in rule reason seen
-    ≡ answer (here (check seen.counts (holds (is_name reason) rule ∷ []))) (number_of reason seen.numbers.reasons)
-    (with_reason reason seen.numbers)
-reason_is rule reason seen = asks_is (is_name reason) _ (λ no. rw no) (λ is. rw is)
-
--- the reason of an abort
-reason_reads : (o : Option (List ℕ)) (seen : Seen) → if_there (reason_in (Name Reason)) o seen
-    ≡ answer (here (check seen.counts (reason_asked o))) (reason_of seen.numbers o).0 (reason_of seen.numbers o).1
-unfolding reason_asked reason_of
-reason_reads None seen = refl
-reason_reads (Some reason) seen = check_is (reason_in (Name Reason) reason) _ (check seen.counts (holds (is_name reason) (Name Reason) ∷ []))
-    (reason_is (Name Reason) reason seen) (λ e failed. rw failed) (λ c met. rw met)
-
 -- an abort, and the labels after it
 abort_reads : (version : ℕ) (scope : Scope) (d : Data) (seen : Seen) → abort_in version scope d seen
     ≡ answer (seek seen.counts (itself (abort_asked version d) nothing)) ((abort_of seen.numbers d).0, scope) (abort_of seen.numbers d).1
@@ -71,7 +56,8 @@ abort_reads version scope d seen =
     asks_is (has_only (member_names form.Abort) d) _ (λ no. rw no) (λ is. rw is (
     asks_is (is_abort version (part (codes "abort") d)) _ (λ no. rw no) (λ is. rw is (
     counted_is (one_more_node version) _ seen (λ e over. rw over) (λ c within. rw within (
-    check_is (if_there (reason_in (Name Reason)) reason) _ (check c (reason_asked reason)) (reason_reads reason (seen_of c seen.numbers))
+    check_is (if_there (reason_in (Name Reason)) reason) _ (check c (reason_asked Reason reason))
+    (reason_reads Reason reason (seen_of c seen.numbers))
     (λ e failed. rw failed) (λ c met. rw met)))))))
 
 -- the label of a subaction, among no others and then after these

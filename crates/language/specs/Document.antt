@@ -1,25 +1,31 @@
 -- What a document spells, part by part, in the order in which faults are found.
 use Rattle.std.specs.FinSet as finite_set
 use Rattle.std.specs.FinMap as finite_map
-use Rattle.std.specs.Prelude.{ℕ, zero, suc, ◌+◌, ◌++◌, ◌||◌, not, List, [], ◌∷◌, codes, Option, Some, None, is_some, nat_le}
+use Rattle.std.specs.Prelude.{ℕ, Bool, zero, suc, ◌+◌, ◌++◌, ◌||◌, not, List, [], ◌∷◌, codes, Option, Some, None, is_some, nat_le}
 use Rattle.std.specs.Prelude.{Result, Ok, option_and_then, slice_get, unwrap_or, if◌then◌else◌}
 use Rattle.serde_json.specs.Data.{Data, Members, no_members, member}
 use Rattle.serde_json.specs.Events.{items_len}
 use Rattle.serde_json.specs.Find.{get, as_array, as_str}
 use Rattle.atoms.specs.declared.item.Item.{Item}
-use Rattle.objects.specs.declared.call.Call.{Call}
 use Rattle.objects.specs.declared.kind.Kind.{Kind}
 use Rattle.objects.specs.declared.kind.Kind.TheVariants as kind
 use Rattle.objects.specs.declared.value.Value.{Value}
 use Rattle.objects.specs.declared.value.Value.TheVariants as value
 use Rattle.objects.specs.Entries.{kinds}
-use Rattle.words.specs.Verbs.{amount_call, item_call, lone_call, pair_call, verb_of_text}
+use Rattle.words.specs.Verbs.{amount_call, lone_call, verb_of_text}
 use Rattle.words.specs.declared.verb.Verb.{Verb}
 use Rattle.words.specs.declared.verb.Verb.TheVariants.{OfAmount, OfItem, OfPair, Alone}
 use Rattle.meaning.specs.declared.limits.TheConstants.{MAX_DEPTH}
+use Rattle.meaning.specs.declared.template.Argument.{Argument}
+use Rattle.meaning.specs.declared.template.Argument.TheVariants as argument
+use Rattle.meaning.specs.declared.template.Refusal.{Refusal}
+use Rattle.meaning.specs.declared.template.Refusal.TheVariants.{GoesOn, Aborts}
+use Rattle.meaning.specs.declared.template.Template.{Template}
+use Rattle.meaning.specs.declared.template.Template.TheVariants as template
+use Rattle.meaning.specs.declared.template.Template.TheVariants.{Given}
 use Rattle.meaning.specs.declared.test.Test.{Test}
 use Rattle.meaning.specs.declared.test.Test.TheVariants.{Is, AtLeast, IsItem}
-use Rattle.meaning.specs.Trees.{Block, NoStep, Step, Operation, If, Subaction, Abort, Parallel}
+use Rattle.meaning.specs.Trees.{Block, NoStep, Step, If, Subaction, Abort, Parallel}
 use Rattle.batch.specs.Names.{Texts, is_name}
 use Rattle.batch.specs.Views.{Tried, children_of, steps_of}
 use Rattle.rules.specs.Forms.{member_names}
@@ -27,7 +33,9 @@ use Rattle.rules.specs.declared.form.Form.TheVariants as form
 use Rattle.rules.specs.declared.rule.Place.{Place}
 use Rattle.rules.specs.declared.rule.Place.TheVariants.{Third, Fourth}
 use Rattle.rules.specs.declared.rule.Rule.TheVariants as rule
-use Rattle.rules.specs.declared.rule.ArgumentRule.TheVariants as argument
+use Rattle.rules.specs.declared.rule.ArgumentRule.TheVariants as argument_rule
+use Rattle.rules.specs.declared.rule.SourceRule.{SourceRule}
+use Rattle.rules.specs.declared.rule.SourceRule.TheVariants as source
 use Rattle.rules.specs.declared.rule.ConditionRule.TheVariants as condition
 use Rattle.rules.specs.declared.rule.CountRule.TheVariants as counted
 use Rattle.rules.specs.declared.rule.NameRule.TheVariants as named
@@ -38,16 +46,17 @@ use Rattle.spelling.specs.declared.steps.Sort.TheVariants.{Operation as an_opera
 use Rattle.spelling.specs.declared.steps.Sort.TheVariants.{Parallel as a_parallel}
 use Rattle.rules.specs.declared.subject.Subject.{Subject}
 use Rattle.rules.specs.declared.subject.Subject.TheVariants.{Reply, Outcome}
-use Rattle.spelling.specs.Amounts.{amount_of}
-use Rattle.spelling.specs.Asked.{amount_item, handlers_are_members, handlers_in, has_count, has_one_test, index_of, is_abort, label_in}
-use Rattle.spelling.specs.Asked.{label_is_text, number_start, object_kind, part, signed_start, sort_of, tested_word, version_of}
+use Rattle.meaning.specs.Amounts.{amount_of}
+use Rattle.spelling.specs.Asked.{amount_item, else_reason, handlers_are_members, handlers_in, has_count, has_one_test, index_of, is_abort}
+use Rattle.spelling.specs.Asked.{is_else, is_source, label_in, label_is_text, number_start, object_kind, part, signed_start, sort_of}
+use Rattle.spelling.specs.Asked.{source_label, tested_word, version_of}
 use Rattle.spelling.specs.Demand.{in_transaction, one_more_node, one_more_operation, one_more_start}
 use Rattle.rules.specs.Limits.{limits_of}
 use Rattle.spelling.specs.Look.{has, has_only, list_member, text_item, text_member, whole_member}
 use Rattle.spelling.specs.Places.{Found, member_named}
 use Rattle.spelling.specs.Scope.{Scope, Setting, Table, is_listed, is_named, label_number, named, place_of}
 use Rattle.spelling.specs.Scope.{with_label, with_labels, with_text}
-use Rattle.spelling.specs.Spelled.{Document, bind_all, put_all, tried}
+use Rattle.spelling.specs.Spelled.{Document, bind_all, item_template, operation_step, pair_template, put_all, tried}
 use Rattle.rules.specs.Subjects.{fits_item, fits_number}
 use Rattle.language.specs.Reading.{Reading, after, asks, breaks, counted, each, if_there, inside, item_named}
 use Rattle.language.specs.Reading.{needs, needs_item, nothing_seen, reason_in, spells, then_read}
@@ -56,19 +65,43 @@ use Rattle.language.specs.Reading.{needs, needs_item, nothing_seen, reason_in, s
 
 -- the item at a place of an operation's array
 abbrev pub item_argument : {A : Type 0} → Place → Data → (Item → Reading A) → Reading A
-item_argument place op = needs_item (text_item (index_of place) op) (rule.Argument (argument.Item place)) (rule.Name (named.Argument place))
+item_argument place op =
+    needs_item (text_item (index_of place) op) (rule.Argument (argument_rule.Item place)) (rule.Name (named.Argument place))
+
+-- the label that gives an argument: it is seen, and what it is of fits, by this rule
+abbrev pub source_argument : {A : Type 0} → Scope → (Subject → Bool) → (Subject → SourceRule) → Place → Data
+    → (ℕ → Reading A) → Reading A
+source_argument scope fits fit place op rest =
+    needs (source_label (index_of place) op) (rule.Source place source.Label) (λ name.
+    needs (named name scope) (rule.Source place source.Seen) (λ subject.
+    asks (fits subject) (rule.Source place (fit subject)) (
+    rest (label_number name scope))))
+
+-- an item, or the label that gives one
+abbrev pub argument_in : {A : Type 0} → ℕ → Scope → Place → Data → (Argument → Reading A) → Reading A
+argument_in version scope place op rest =
+    if is_source version (index_of place) op then source_argument scope fits_item source.Item place op (λ label. rest (argument.From label))
+    else item_argument place op (λ x. rest (argument.Is x))
 
 -- a call of a verb, with the arguments in an operation's array
-abbrev pub call_in : Verb → Data → Reading Call
-call_in (OfAmount v) op = asks (has_count 3 op) (rule.Argument (argument.Count (OfAmount v))) (
-    needs (amount_item 2 op) (rule.Argument argument.Amount) (λ n. spells (amount_call v (amount_of n))))
-call_in (OfItem v) op = asks (has_count 3 op) (rule.Argument (argument.Count (OfItem v))) (
-    item_argument Third op (λ x. spells (item_call v x)))
-call_in (OfPair v) op = asks (has_count 4 op) (rule.Argument (argument.Count (OfPair v))) (
-    item_argument Third op (λ x.
-    item_argument Fourth op (λ y.
-    spells (pair_call v x y))))
-call_in (Alone v) op = asks (has_count 2 op) (rule.Argument (argument.Count (Alone v))) (spells (lone_call v))
+abbrev pub call_in : ℕ → Scope → Verb → Data → Reading Template
+call_in version scope (OfAmount v) op = asks (has_count 3 op) (rule.Argument (argument_rule.Count (OfAmount v))) (
+    if is_source version 2 op
+    then source_argument scope fits_number source.Number Third op (λ label. spells (template.OfAmount v label))
+    else needs (amount_item 2 op) (rule.Argument argument_rule.Amount) (λ n. spells (Given (amount_call v (amount_of n)))))
+call_in version scope (OfItem v) op = asks (has_count 3 op) (rule.Argument (argument_rule.Count (OfItem v))) (
+    argument_in version scope Third op (λ x. spells (item_template v x)))
+call_in version scope (OfPair v) op = asks (has_count 4 op) (rule.Argument (argument_rule.Count (OfPair v))) (
+    argument_in version scope Third op (λ key.
+    argument_in version scope Fourth op (λ x.
+    spells (pair_template v key x))))
+call_in version scope (Alone v) op = asks (has_count 2 op) (rule.Argument (argument_rule.Count (Alone v))) (spells (Given (lone_call v)))
+
+-- what the operation's refusal does
+abbrev pub refusal_in : Data → Reading Refusal
+refusal_in d =
+    if has (codes "else") d then after (if_there (reason_in (rule.Name named.Else)) (else_reason d)) (λ reason. spells (Aborts reason))
+    else spells GoesOn
 
 -- a label, if there is one: a name that is neither seen nor an earlier sibling's
 abbrev pub new_label : {A : Type 0} → Scope → Scope → Option (List ℕ) → Reading A → Reading A
@@ -86,13 +119,15 @@ operation_in setting scope d =
     needs (text_item 0 op) (rule.Shape shape.OperationObject) (λ object.
     needs (text_item 1 op) (rule.Shape shape.OperationWord) (λ word.
     asks (label_is_text d) (rule.Shape shape.Label) (
+    asks (is_else setting.version d) (rule.Shape (shape.Else setting.version)) (
     counted (one_more_operation setting.version) (
     needs (place_of object setting.names) rule.KnownObject (λ place.
     let kind = slice_get setting.kinds place in
     needs (option_and_then (λ k. verb_of_text setting.version k word) kind) (rule.KnownOperation setting.version kind) (λ verb.
-    after (call_in verb op) (λ call.
+    after (call_in setting.version scope verb op) (λ template.
+    after (refusal_in d) (λ refusal.
     new_label scope [] (label_in d) (
-    spells (Operation place call (is_some (label_in d)), with_label (label_in d) (Reply verb) scope))))))))))
+    spells (operation_step place template (is_some (label_in d)) refusal, with_label (label_in d) (Reply verb) scope))))))))))))
 
 -- ---- the other steps
 

@@ -1,8 +1,15 @@
 -- Tables of texts only grow at their ends, by no more texts than a transaction has operations and nodes.
-use Rattle.std.proofs.Common.{◌≡◌, ℕ, zero, suc, ◌+◌, ◌*◌, ◌≤◌, Bool, true, false, cond, List, [], ◌∷◌, length, Option, None, Some, arith}
-use Rattle.std.specs.Prelude.{codes}
+use Rattle.std.proofs.Common.{◌≡◌, ℕ, zero, suc, ◌+◌, ◌*◌, ◌≤◌, Bool, true, false, cond, List, [], ◌∷◌, length, Option, None, Some}
+use Rattle.std.proofs.Common.{refl, arith}
+use Rattle.std.specs.Prelude.{codes, is_some}
 use Rattle.serde_json.specs.Data.{Data, Items, no_items, item, Members, no_members, member}
 use Rattle.serde_json.specs.Find.{as_array, as_str, get}
+use Rattle.meaning.specs.declared.template.Argument.{Argument}
+use Rattle.meaning.specs.declared.template.Argument.TheVariants as argument
+use Rattle.meaning.specs.declared.template.Refusal.{Refusal}
+use Rattle.meaning.specs.declared.template.Refusal.TheVariants.{GoesOn, Aborts}
+use Rattle.meaning.specs.declared.template.Template.{Template}
+use Rattle.meaning.specs.declared.template.Template.TheVariants as template
 use Rattle.meaning.specs.declared.test.Test.{Test}
 use Rattle.meaning.specs.Trees.{Block, Step, Handlers, Children, for_reasons, handlers_of}
 use Rattle.meaning.specs.WellFormed.{operations, operations_of_children, operations_of_handlers, operations_of_step}
@@ -16,12 +23,12 @@ use Rattle.rules.specs.declared.subject.Subject.{Subject}
 use Rattle.spelling.specs.declared.steps.Sort.{Sort}
 use Rattle.spelling.specs.declared.steps.Sort.TheVariants.{Operation as an_operation, If as an_if, Sub as a_sub, Abort as an_abort}
 use Rattle.spelling.specs.declared.steps.Sort.TheVariants.{Parallel as a_parallel}
-use Rattle.spelling.specs.Asked.{children_in, handlers_in, if_label, name_item, or_no_items, part, scope_after, sort_of, subject_of}
-use Rattle.spelling.specs.Asked.{verb_in}
+use Rattle.spelling.specs.Asked.{children_in, else_reason, handlers_in, if_label, is_source, label_in, name_item, object_of, or_no_items}
+use Rattle.spelling.specs.Asked.{part, scope_after, sort_of, subject_of, verb_in}
 use Rattle.spelling.specs.Look.{has, or_empty, text_member}
 use Rattle.spelling.specs.Scope.{Numbers, Scope, Setting, with_item, with_reason}
-use Rattle.spelling.specs.Spelled.{abort_of, block_of, block_of_if, blocks_of, call_of, children_spelled, handlers_spelled, if_of}
-use Rattle.spelling.specs.Spelled.{members_of}
+use Rattle.spelling.specs.Spelled.{abort_of, argument_of, block_of, block_of_if, blocks_of, children_spelled, handlers_spelled, if_of}
+use Rattle.spelling.specs.Spelled.{item_of, members_of, operation_step, refusal_of, source_of, spelled_map, target_of, template_of}
 use Rattle.spelling.specs.Spelled.{Spelling, operation_of, or_no_step, parallel_of, reason_of, step_of, step_of_by, steps_spelled, sub_of}
 use Rattle.spelling.specs.Spelled.{test_of}
 use Rattle.merging.proofs.NumberedTexts.{Grows, grows_both, grows_none, grows_text, one_more}
@@ -119,21 +126,63 @@ else_weighs : (o : Option Block) → weight (or_no_step o) ≡ weight_if o
 else_weighs None = omega arith
 else_weighs (Some block) = omega arith
 
--- ---- calls, tests and aborts
+-- ---- operations, tests and aborts
 
-pub call_longer : (v : Verb) (numbers : Numbers) (op : Data) → Longer 2 numbers (call_of v numbers op).1
-unfolding call_of
-call_longer (OfAmount v) numbers op = longer_none 2 numbers
-call_longer (OfItem v) numbers op = longer_within 1 2 numbers _ (omega arith) (longer_item (name_item 2 op) numbers)
-call_longer (OfPair v) numbers op =
-    let after = with_item (name_item 2 op) numbers in
-    longer_on 1 1 2 numbers after _ (omega arith) (longer_item (name_item 2 op) numbers) (longer_item (name_item 3 op) after)
-call_longer (Alone v) numbers op = longer_none 2 numbers
+reason_longer : (numbers : Numbers) (o : Option (List ℕ)) → Longer 0 numbers (reason_of numbers o).1
+unfolding reason_of
+reason_longer numbers None = longer_none 0 numbers
+reason_longer numbers (Some reason) = longer_reason reason numbers
 
-pub operation_longer : (setting : Setting) (numbers : Numbers) (d : Data)
-    → Longer (step_weight (operation_of setting numbers d).0) numbers (operation_of setting numbers d).1
+pub argument_longer : (version : ℕ) (scope : Scope) (i : ℕ) (numbers : Numbers) (op : Data)
+    → Longer 1 numbers (argument_of version scope i numbers op).1
+argument_longer version scope i numbers op = by (is_source version i op)
+  where
+    read : Bool → Argument × Numbers
+    read b = cond b (argument.From (source_of scope i op), numbers)
+        (argument.Is (item_of (name_item i op) numbers), with_item (name_item i op) numbers)
+
+    by : (b : Bool) → Longer 1 numbers (read b).1
+    by true = longer_none 1 numbers
+    by false = longer_item (name_item i op) numbers
+
+template_longer : (version : ℕ) (scope : Scope) (v : Verb) (numbers : Numbers) (op : Data)
+    → Longer 2 numbers (template_of version scope v numbers op).1
+unfolding template_of
+template_longer version scope (OfAmount v) numbers op = longer_none 2 numbers
+template_longer version scope (OfItem v) numbers op =
+    longer_within 1 2 numbers _ (omega arith) (argument_longer version scope 2 numbers op)
+template_longer version scope (OfPair v) numbers op =
+    let key = argument_of version scope 2 numbers op in
+    longer_on 1 1 2 numbers key.1 _ (omega arith) (argument_longer version scope 2 numbers op) (argument_longer version scope 3 key.1 op)
+template_longer version scope (Alone v) numbers op = longer_none 2 numbers
+
+pub refusal_longer : (numbers : Numbers) (d : Data) → Longer 0 numbers (refusal_of numbers d).1
+unfolding refusal_of
+refusal_longer numbers d = by (has (codes "else") d)
+  where
+    by : (b : Bool) → Longer 0 numbers (cond b (spelled_map Aborts (reason_of numbers (else_reason d))) (GoesOn, numbers)).1
+    by true = reason_longer numbers (else_reason d)
+    by false = longer_none 0 numbers
+
+-- an operation weighs two, for its items
+operation_weighs : (object : ℕ) (call : Template) (labelled : Bool) (refusal : Refusal)
+    → step_weight (operation_step object call labelled refusal) ≡ 2
+operation_weighs object (template.Given call) labelled GoesOn = refl
+operation_weighs object (template.Given call) labelled (Aborts reason) = refl
+operation_weighs object (template.OfAmount v label) labelled refusal = refl
+operation_weighs object (template.OfItem v label) labelled refusal = refl
+operation_weighs object (template.OfPair v key x) labelled refusal = refl
+
+pub operation_longer : (setting : Setting) (scope : Scope) (numbers : Numbers) (d : Data)
+    → Longer (step_weight (operation_of setting scope numbers d).0) numbers (operation_of setting scope numbers d).1
 unfolding operation_of
-operation_longer setting numbers d = let op = part (codes "op") d in call_longer (verb_in setting op) numbers op
+operation_longer setting scope numbers d =
+    let op = part (codes "op") d in
+    let made = template_of setting.version scope (verb_in setting op) numbers op in
+    let refused = refusal_of made.1 d in
+    let weighs = operation_weighs (target_of setting (object_of op)) made.0 (is_some (label_in d)) refused.0 in
+    longer_on 2 0 _ numbers made.1 refused.1 (omega (arith, weighs))
+    (template_longer setting.version scope (verb_in setting op) numbers op) (refusal_longer made.1 d)
 
 -- one of three tests
 one_of_three : (a b : Bool) (numbers : Numbers) (x y z : Test × Numbers) → Longer 1 numbers x.1 → Longer 1 numbers y.1
@@ -146,11 +195,6 @@ pub test_longer : (subject : Subject) (numbers : Numbers) (d : Data) → Longer 
 unfolding test_of
 test_longer subject numbers d = one_of_three (has (codes "is") d) (has (codes "atleast") d) numbers _ _ _ (longer_none 1 numbers)
     (longer_none 1 numbers) (longer_item (or_empty (text_member (codes "item") d)) numbers)
-
-reason_longer : (numbers : Numbers) (o : Option (List ℕ)) → Longer 0 numbers (reason_of numbers o).1
-unfolding reason_of
-reason_longer numbers None = longer_none 0 numbers
-reason_longer numbers (Some reason) = longer_reason reason numbers
 
 pub abort_longer : (numbers : Numbers) (d : Data) → Longer (step_weight (abort_of numbers d).0) numbers (abort_of numbers d).1
 unfolding abort_of
@@ -235,7 +279,7 @@ module _ (block : Spelling)
     pub step_longer : (sort : Option Sort) (setting : Setting) (scope : Scope) (numbers : Numbers) (d : Data)
         → Longer (step_weight (step_of_by sort block setting scope numbers d).0) numbers (step_of_by sort block setting scope numbers d).1
     step_longer None setting scope numbers d = longer_none 1 numbers
-    step_longer (Some an_operation) setting scope numbers d = operation_longer setting numbers d
+    step_longer (Some an_operation) setting scope numbers d = operation_longer setting scope numbers d
     step_longer (Some an_if) setting scope numbers d = if_longer scope numbers d
     step_longer (Some a_sub) setting scope numbers d =
         longer_within (tried_weight (sub_of block scope numbers d).0) _ numbers _ (omega arith) (sub_longer scope numbers d)

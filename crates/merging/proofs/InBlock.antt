@@ -1,11 +1,18 @@
 -- What a block asks: tests, and what is counted in a document of its version. No start is counted, and no transaction begins.
-use Rattle.std.specs.Prelude.{codes, false, ⊤}
+use Rattle.std.specs.Prelude.{codes, false, is_some, ⊤}
 use Rattle.std.proofs.Common.{◌≡◌, ℕ, zero, suc, Bool, true, cond, List, [], ◌∷◌, ◌++◌, Option, None, Some, refl}
 use Rattle.serde_json.specs.Data.{Data, Items, no_items, item, Members, no_members, member}
 use Rattle.serde_json.specs.Find.{as_array, as_str, get}
 use Rattle.batch.specs.Names.{is_name}
-use Rattle.rules.specs.declared.rule.NameRule.TheVariants.{Handlers}
-use Rattle.rules.specs.declared.rule.Rule.TheVariants.{Depth, Name}
+use Rattle.rules.specs.Subjects.{fits_item, fits_number}
+use Rattle.rules.specs.declared.rule.ArgumentRule.TheVariants as argument
+use Rattle.rules.specs.declared.rule.NameRule.{NameRule}
+use Rattle.rules.specs.declared.rule.NameRule.TheVariants.{Else, Handlers, Reason}
+use Rattle.rules.specs.declared.rule.Place.{Place}
+use Rattle.rules.specs.declared.rule.Place.TheVariants.{Third, Fourth}
+use Rattle.rules.specs.declared.rule.Rule.TheVariants.{Argument, Depth, Name}
+use Rattle.rules.specs.declared.rule.SourceRule.{SourceRule}
+use Rattle.rules.specs.declared.rule.SourceRule.TheVariants as source
 use Rattle.words.specs.declared.verb.Verb.{Verb}
 use Rattle.words.specs.declared.verb.Verb.TheVariants.{OfAmount, OfItem, OfPair, Alone}
 use Rattle.rules.specs.declared.subject.Subject.{Subject}
@@ -16,7 +23,8 @@ use Rattle.spelling.specs.declared.steps.Sort.TheVariants.{Parallel as a_paralle
 use Rattle.spelling.specs.Demand.{Demand, holds, in_transaction, one_more_node, one_more_operation, one_more_start}
 use Rattle.spelling.specs.Look.{has}
 use Rattle.spelling.specs.Scope.{Scope, Setting, with_label}
-use Rattle.spelling.specs.Asked.{abort_asked, abort_shape_asked, amount_asked, arguments_asked, call_named, children_in, handlers_in}
+use Rattle.spelling.specs.Asked.{abort_asked, abort_shape_asked, amount_asked, amount_item, argument_asked, arguments_asked, call_named}
+use Rattle.spelling.specs.Asked.{children_in, else_reason, handlers_in, index_of, is_source, source_asked}
 use Rattle.spelling.specs.Asked.{holds_item, holds_number, holds_word, if_label, if_shape_asked, item_asked, label_asked, label_in}
 use Rattle.spelling.specs.Asked.{object_of, operation_asked, operation_shape_asked, parallel_shape_asked, part, reason_asked, scope_after}
 use Rattle.spelling.specs.Asked.{seen_asked, sort_of, sub_shape_asked, subject_of, target_asked, test_asked, verb_in}
@@ -72,34 +80,58 @@ module _ (version : ℕ) where
   label_is_in scope earlier None = tt
   label_is_in scope earlier (Some name) = tt
 
-  operation_shape_in : (d : Data) → InBlock version (operation_shape_asked d)
+  operation_shape_in : (known : ℕ) (d : Data) → InBlock version (operation_shape_asked known d)
   unfolding operation_shape_asked
-  operation_shape_in d = tt
+  operation_shape_in known d = tt
 
   target_in : (setting : Setting) (object call : List ℕ) → InBlock version (target_asked setting object call)
   unfolding target_asked
   target_in setting object call = tt
 
-  arguments_in : (v : Verb) (op : Data) → InBlock version (arguments_asked v op)
-  unfolding arguments_asked amount_asked item_asked
-  arguments_in (OfAmount v) op = tt
-  arguments_in (OfItem v) op = tt
-  arguments_in (OfPair v) op = tt
-  arguments_in (Alone v) op = tt
+  one_of_two : (b : Bool) (A B : List Demand) → InBlock version A → InBlock version B → InBlock version (cond b A B)
+  one_of_two true A B first second = first
+  one_of_two false A B first second = second
+
+  source_in : (scope : Scope) (fits : Subject → Bool) (fit : Subject → SourceRule) (place : Place) (op : Data)
+      → InBlock version (source_asked scope fits fit place op)
+  unfolding source_asked
+  source_in scope fits fit place op = tt
+
+  item_in : (place : Place) (op : Data) → InBlock version (item_asked place op)
+  unfolding item_asked
+  item_in place op = tt
+
+  amount_in : (known : ℕ) (scope : Scope) (op : Data) → InBlock version (amount_asked known scope op)
+  unfolding amount_asked
+  amount_in known scope op = one_of_two (is_source known 2 op) (source_asked scope fits_number source.Number Third op)
+      (holds (is_some (amount_item 2 op)) (Argument argument.Amount) ∷ []) (source_in scope fits_number source.Number Third op) tt
+
+  argument_in : (known : ℕ) (scope : Scope) (place : Place) (op : Data) → InBlock version (argument_asked known scope place op)
+  unfolding argument_asked
+  argument_in known scope place op = one_of_two (is_source known (index_of place) op) (source_asked scope fits_item source.Item place op)
+      (item_asked place op) (source_in scope fits_item source.Item place op) (item_in place op)
+
+  arguments_in : (known : ℕ) (scope : Scope) (v : Verb) (op : Data) → InBlock version (arguments_asked known scope v op)
+  unfolding arguments_asked
+  arguments_in known scope (OfAmount v) op = amount_in known scope op
+  arguments_in known scope (OfItem v) op = argument_in known scope Third op
+  arguments_in known scope (OfPair v) op = both_in (argument_asked known scope Third op) (argument_asked known scope Fourth op)
+      (argument_in known scope Third op) (argument_in known scope Fourth op)
+  arguments_in known scope (Alone v) op = tt
 
   parallel_shape_in : (d : Data) → InBlock version (parallel_shape_asked d)
   unfolding parallel_shape_asked
   parallel_shape_in d = tt
 
-  reason_in : (o : Option (List ℕ)) → InBlock version (reason_asked o)
+  reason_in : (which : NameRule) (o : Option (List ℕ)) → InBlock version (reason_asked which o)
   unfolding reason_asked
-  reason_in None = tt
-  reason_in (Some reason) = tt
+  reason_in which None = tt
+  reason_in which (Some reason) = tt
 
   abort_in : (d : Data) → InBlock version (abort_asked version d)
   unfolding abort_asked abort_shape_asked
-  abort_in d = both_in (abort_shape_asked version d) (reason_asked (as_str (part (codes "abort") d))) (refl, tt)
-      (reason_in (as_str (part (codes "abort") d)))
+  abort_in d = both_in (abort_shape_asked version d) (reason_asked Reason (as_str (part (codes "abort") d))) (refl, tt)
+      (reason_in Reason (as_str (part (codes "abort") d)))
 
 -- an operation counts one in a document of its version
 operation_in : (setting : Setting) (scope : Scope) (d : Data) → InBlock setting.version (operation_asked setting scope d)
@@ -107,16 +139,19 @@ unfolding operation_asked
 operation_in setting scope d =
     let op = part (codes "op") d in
     let version = setting.version in
-    let A = operation_shape_asked d in
+    let A = operation_shape_asked version d in
     let B = one_more_operation version ∷ [] in
     let C = target_asked setting (object_of op) (call_named op) in
-    let D = arguments_asked (verb_in setting op) op in
-    let E = label_asked scope [] (label_in d) in
-    both_in version (A ++ B ++ C ++ D) E
+    let D = arguments_asked version scope (verb_in setting op) op in
+    let E = reason_asked Else (else_reason d) in
+    let F = label_asked scope [] (label_in d) in
+    both_in version (A ++ B ++ C ++ D ++ E) F
+    (both_in version (A ++ B ++ C ++ D) E
     (both_in version (A ++ B ++ C) D
-    (both_in version (A ++ B) C (both_in version A B (operation_shape_in version d) (refl, tt))
+    (both_in version (A ++ B) C (both_in version A B (operation_shape_in version version d) (refl, tt))
     (target_in version setting (object_of op) (call_named op)))
-    (arguments_in version (verb_in setting op) op))
+    (arguments_in version version scope (verb_in setting op) op))
+    (reason_in version Else (else_reason d)))
     (label_is_in version scope [] (label_in d))
 
 -- ---- the steps that hold blocks

@@ -5,13 +5,16 @@ use Rattle.meaning.specs.Trees as meant
 use Rattle.meaning.specs.Trees.{Block, Steps, Step, If, Handlers, ForReason, Child}
 use Rattle.meaning.specs.Trees.{for_reasons}
 use Rattle.batch.specs.Views.{Tried, block_view, children_of, handler_view, otherwise_view, step_view, steps_of, subaction_view}
+use Rattle.batch.specs.Views.{filling_view}
 use Rattle.std.specs.declared.alloc.Global.{Global}
 use Rattle.std.specs.declared.boxed.Box.{Box}
 use Rattle.std.specs.declared.vec.Vec.{Vec}
 use Rattle.batch.specs.declared.tree.Block as declared_block
-use Rattle.batch.specs.declared.tree.Step.{If as an_if, Sub, Parallel as a_parallel}
+use Rattle.batch.specs.declared.tree.Filling.{Filling}
+use Rattle.batch.specs.declared.tree.Step.{Fill, If as an_if, Sub, Parallel as a_parallel}
 use Rattle.batch.specs.declared.tree.Subaction.{Subaction, out-Subaction}
-use Rattle.batch.proofs.ViewLemmas.{subaction_view-body, subaction_view-handlers, subaction_view-labelled, step_view-If, step_view-Sub, step_view-Parallel}
+use Rattle.batch.proofs.ViewLemmas.{subaction_view-body, subaction_view-handlers, subaction_view-labelled, step_view-Fill, step_view-If}
+use Rattle.batch.proofs.ViewLemmas.{step_view-Sub, step_view-Parallel}
 use Rattle.merging.specs.Renumbered.{renumbered, renumbered_children, renumbered_handlers, renumbered_member, renumbered_step, renumbered_test, renumbered_tried}
 
 module _ (items reasons : ℕ → ℕ) where
@@ -49,6 +52,11 @@ module _ (items reasons : ℕ → ℕ) where
       ∙ ap (renumbered_handlers items reasons) (sym (subaction_view-handlers old)) in
       let labels = subaction_view-labelled new ∙ labelled ∙ sym (subaction_view-labelled old) in
       (λ i. record { body = bodies i; handlers = handlers i; labelled = labels i })
+
+  -- an operation whose call is made when it is reached
+  pub fill_again : (old new : Box Filling Global) → filling_view new.value ≡ renumbered_step items reasons (filling_view old.value)
+      → step_view (Fill new) ≡ renumbered_step items reasons (step_view (Fill old))
+  fill_again old new is = step_view-Fill new ∙ is ∙ ap (renumbered_step items reasons) (sym (step_view-Fill old))
 
   -- an `if` whose test and branches are renumbered
   pub if_again : (label : ℕ) (test sent : Test) (then otherwise first second : Box declared_block.Block Global)

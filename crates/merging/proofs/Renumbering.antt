@@ -4,14 +4,25 @@ use Rattle.std.proofs.Common.{sym, ap, ◌∙◌}
 use Rattle.std.specs.Prelude.{codes, is_some, option_map}
 use Rattle.serde_json.specs.Data.{Data, Items, no_items, item, Members, no_members, member}
 use Rattle.serde_json.specs.Find.{as_array, as_str, get}
+use Rattle.atoms.specs.declared.amount.Amount.{Amount}
 use Rattle.atoms.specs.declared.item.Item.{Item}
+use Rattle.meaning.specs.Amounts.{amount_of}
+use Rattle.meaning.specs.declared.template.Argument.{Argument}
+use Rattle.meaning.specs.declared.template.Argument.TheVariants as argument
+use Rattle.meaning.specs.declared.template.Refusal.{Refusal}
+use Rattle.meaning.specs.declared.template.Refusal.TheVariants.{GoesOn, Aborts}
+use Rattle.meaning.specs.declared.template.Template.{Template}
+use Rattle.meaning.specs.declared.template.Template.TheVariants as template
 use Rattle.meaning.specs.declared.test.Test.{Test}
 use Rattle.meaning.specs.declared.test.Test.TheVariants.{IsItem}
-use Rattle.meaning.specs.Trees.{Block, Operation, If, Abort, Parallel, Handlers, Otherwise}
+use Rattle.meaning.specs.Trees.{Block, If, Abort, Parallel, Handlers, Otherwise}
 use Rattle.meaning.specs.Trees.{handlers_of}
 use Rattle.batch.specs.Views.{Tried, children_of, steps_of}
-use Rattle.words.specs.Verbs.{item_call, pair_call}
+use Rattle.words.specs.Verbs.{amount_call}
 use Rattle.words.proofs.Verbs.{amount_phrase, item_phrase, lone_phrase, pair_phrase}
+use Rattle.words.specs.declared.verb.AmountVerb.{AmountVerb}
+use Rattle.words.specs.declared.verb.ItemVerb.{ItemVerb}
+use Rattle.words.specs.declared.verb.PairVerb.{PairVerb}
 use Rattle.words.specs.declared.verb.Verb.{Verb}
 use Rattle.words.specs.declared.verb.Verb.TheVariants.{OfAmount, OfItem, OfPair, Alone}
 use Rattle.meaning.specs.declared.limits.TheConstants.{MAX_DEPTH}
@@ -19,22 +30,21 @@ use Rattle.rules.specs.declared.subject.Subject.{Subject}
 use Rattle.spelling.specs.declared.steps.Sort.{Sort}
 use Rattle.spelling.specs.declared.steps.Sort.TheVariants.{Operation as an_operation, If as an_if, Sub as a_sub, Abort as an_abort}
 use Rattle.spelling.specs.declared.steps.Sort.TheVariants.{Parallel as a_parallel}
-use Rattle.spelling.specs.Asked.{children_in, handlers_in, if_label, label_in, name_item, object_of, or_no_items, part, scope_after}
-use Rattle.spelling.specs.Asked.{sort_of}
-use Rattle.spelling.specs.Asked.{subject_of, verb_in}
+use Rattle.spelling.specs.Asked.{amount_item, children_in, else_reason, handlers_in, if_label, is_source, label_in, name_item, object_of}
+use Rattle.spelling.specs.Asked.{or_no_items, part, scope_after, sort_of, subject_of, verb_in}
 use Rattle.spelling.specs.Look.{has, or_empty, text_member}
 use Rattle.spelling.specs.Scope.{Numbers, Scope, Setting, Table, label_number, number_of, with_item, with_reason, with_text}
-use Rattle.spelling.specs.Spelled.{Spelling, abort_of, block_of, block_of_if, blocks_of, call_of, children_spelled, handlers_spelled, if_of}
-use Rattle.spelling.specs.Spelled.{item_of, members_of, operation_of, or_no_step, parallel_of, reason_of, step_of, step_of_by}
-use Rattle.spelling.specs.Spelled.{steps_spelled, sub_of, sub_step, target_of, test_of}
+use Rattle.spelling.specs.Spelled.{Spelling, abort_of, argument_of, block_of, block_of_if, blocks_of, children_spelled, handlers_spelled}
+use Rattle.spelling.specs.Spelled.{if_of, item_of, item_template, members_of, operation_of, operation_step, or_no_step, or_zero}
+use Rattle.spelling.specs.Spelled.{pair_template, parallel_of, reason_of, refusal_of, source_of, spelled_map, step_of, step_of_by}
+use Rattle.spelling.specs.Spelled.{steps_spelled, sub_of, sub_step, target_of, template_of, test_of}
 use Rattle.merging.specs.declared.tables.TheConstants.{MOST_TEXTS}
 use Rattle.merging.specs.Renumbered.{renumbered_member, renumbered_tried}
-use Rattle.merging.specs.Renumbered.{number_in, numbered_item, renumbered, renumbered_call, renumbered_handlers}
-use Rattle.merging.specs.Renumbered.{renumbered_step}
-use Rattle.merging.specs.Renumbered.{renumbered_test, said_with}
+use Rattle.merging.specs.Renumbered.{number_in, numbered_item, renumbered, renumbered_argument, renumbered_handlers}
+use Rattle.merging.specs.Renumbered.{renumbered_refusal, renumbered_step, renumbered_template, renumbered_test, said_with}
 use Rattle.merging.proofs.RenumberedBlocks.{children_again, members_again, steps_again}
-use Rattle.merging.proofs.Growing.{Begins, begins_both, block_if_longer, block_longer, blocks_longer, children_longer}
-use Rattle.merging.proofs.Growing.{Longer, handlers_longer, longer_item, members_longer, steps_longer, weight}
+use Rattle.merging.proofs.Growing.{Begins, argument_longer, begins_both, block_if_longer, block_longer, blocks_longer, children_longer}
+use Rattle.merging.proofs.Growing.{Longer, handlers_longer, members_longer, refusal_longer, steps_longer, weight}
 use Rattle.merging.proofs.NumberedTexts.{Grows, number_later, text_later}
 
 -- a text's number is sent to its number
@@ -77,37 +87,105 @@ module _ (items reasons : ℕ → ℕ) (BesideItems BesideReasons : Table → Ta
       → number_of text b.reasons ≡ reasons (number_of text a.reasons)
   reason_again text a b beside here there = reasons_sent.sent text a.reasons b.reasons beside.1 here.reasons there.reasons
 
-  -- ---- calls, tests and aborts
+  -- ---- templates, from arguments that were renumbered
 
-  call_again : (v : Verb) (a b : Numbers) (op : Data) → Again (renumbered_call items) a b (call_of v a op) (call_of v b op)
-  unfolding call_of
-  call_again (OfAmount v) a b op beside here there = (sym (ap (said_with items) (amount_phrase v _)), beside)
-  call_again (OfItem v) a b op beside here there =
-      let text = name_item 2 op in (
-        ap (item_call v) (item_again text a b beside here there) ∙ sym (ap (said_with items) (item_phrase v (item_of text a))),
-        beside_item text a b beside,
-      )
-  call_again (OfPair v) a b op beside here there =
-      let key = name_item 2 op in
-      let text = name_item 3 op in
-      let after = with_item key a in
-      let then = with_item key b in
-      let later = beside_item key a b beside in
-      let first = item_again key a b beside (begins_both after (with_item text after) old (longer_item text after).begins here)
-      (begins_both then (with_item text then) new (longer_item text then).begins there) in
-      let second = item_again text after then later here there in (
-        (λ i. pair_call v (first i) (second i)) ∙ sym (ap (said_with items) (pair_phrase v (item_of key a) (item_of text after))),
-        beside_item text after then later,
-      )
-  call_again (Alone v) a b op beside here there = (sym (ap (said_with items) (lone_phrase v)), beside)
+  amount_again : (p : Bool) (v : AmountVerb) (label : ℕ) (n : Amount)
+      → cond p (template.OfAmount v label) (template.Given (amount_call v n))
+      ≡ renumbered_template items (cond p (template.OfAmount v label) (template.Given (amount_call v n)))
+  amount_again true v label n = refl
+  amount_again false v label n = ap (λ c. template.Given c) (sym (ap (said_with items) (amount_phrase v n)))
 
-  operation_again : (setting : Setting) (a b : Numbers) (d : Data)
-      → Again (renumbered_step items reasons) a b (operation_of setting a d) (operation_of setting b d)
+  item_template_again : (v : ItemVerb) (x : Argument)
+      → item_template v (renumbered_argument items x) ≡ renumbered_template items (item_template v x)
+  item_template_again v (argument.Is x) = ap (λ c. template.Given c) (sym (ap (said_with items) (item_phrase v x)))
+  item_template_again v (argument.From label) = refl
+
+  pair_template_again : (v : PairVerb) (key x : Argument)
+      → pair_template v (renumbered_argument items key) (renumbered_argument items x)
+      ≡ renumbered_template items (pair_template v key x)
+  pair_template_again v (argument.Is key) (argument.Is x) = ap (λ c. template.Given c) (sym (ap (said_with items) (pair_phrase v key x)))
+  pair_template_again v (argument.Is key) (argument.From label) = refl
+  pair_template_again v (argument.From label) x = refl
+
+  operation_step_again : (object : ℕ) (call : Template) (labelled : Bool) (refusal : Refusal)
+      → operation_step object (renumbered_template items call) labelled (renumbered_refusal reasons refusal)
+      ≡ renumbered_step items reasons (operation_step object call labelled refusal)
+  operation_step_again object (template.Given call) labelled GoesOn = refl
+  operation_step_again object (template.Given call) labelled (Aborts reason) = refl
+  operation_step_again object (template.OfAmount v label) labelled refusal = refl
+  operation_step_again object (template.OfItem v label) labelled refusal = refl
+  operation_step_again object (template.OfPair v key x) labelled refusal = refl
+
+  -- ---- operations, tests and aborts
+
+  argument_again : (version : ℕ) (scope : Scope) (k : ℕ) (a b : Numbers) (op : Data)
+      → Again (renumbered_argument items) a b (argument_of version scope k a op) (argument_of version scope k b op)
+  argument_again version scope k a b op = by (is_source version k op)
+    where
+      text : List ℕ
+      text = name_item k op
+
+      read : Bool → Numbers → Argument × Numbers
+      read p numbers = cond p (argument.From (source_of scope k op), numbers) (argument.Is (item_of text numbers), with_item text numbers)
+
+      by : (p : Bool) → Again (renumbered_argument items) a b (read p a) (read p b)
+      by true beside here there = (refl, beside)
+      by false beside here there = (ap (λ x. argument.Is x) (item_again text a b beside here there), beside_item text a b beside)
+
+  template_again : (version : ℕ) (scope : Scope) (v : Verb) (a b : Numbers) (op : Data)
+      → Again (renumbered_template items) a b (template_of version scope v a op) (template_of version scope v b op)
+  unfolding template_of
+  template_again version scope (OfAmount v) a b op beside here there =
+      (amount_again (is_source version 2 op) v (source_of scope 2 op) (amount_of (or_zero (amount_item 2 op))), beside)
+  template_again version scope (OfItem v) a b op beside here there =
+      let x = argument_again version scope 2 a b op beside here there in
+      (ap (item_template v) x.0 ∙ item_template_again v (argument_of version scope 2 a op).0, x.1)
+  template_again version scope (OfPair v) a b op beside here there =
+      let ka = argument_of version scope 2 a op in
+      let kb = argument_of version scope 2 b op in
+      let xa = argument_of version scope 3 ka.1 op in
+      let xb = argument_of version scope 3 kb.1 op in
+      let key = argument_again version scope 2 a b op beside
+      (begins_both ka.1 xa.1 old (argument_longer version scope 3 ka.1 op).begins here)
+      (begins_both kb.1 xb.1 new (argument_longer version scope 3 kb.1 op).begins there) in
+      let x = argument_again version scope 3 ka.1 kb.1 op key.1 here there in
+      ((λ i. pair_template v (key.0 i) (x.0 i)) ∙ pair_template_again v ka.0 xa.0, x.1)
+  template_again version scope (Alone v) a b op beside here there =
+      (ap (λ c. template.Given c) (sym (ap (said_with items) (lone_phrase v))), beside)
+
+  reason_of_again : (o : Option (List ℕ)) (a b : Numbers) → Again (option_map reasons) a b (reason_of a o) (reason_of b o)
+  unfolding reason_of
+  reason_of_again None a b beside here there = (refl, beside)
+  reason_of_again (Some reason) a b beside here there =
+      (ap (λ n. Some n) (reason_again reason a b beside here there), beside_reason reason a b beside)
+
+  refusal_again : (a b : Numbers) (d : Data) → Again (renumbered_refusal reasons) a b (refusal_of a d) (refusal_of b d)
+  unfolding refusal_of
+  refusal_again a b d = by (has (codes "else") d)
+    where
+      read : Bool → Numbers → Refusal × Numbers
+      read p numbers = cond p (spelled_map Aborts (reason_of numbers (else_reason d))) (GoesOn, numbers)
+
+      by : (p : Bool) → Again (renumbered_refusal reasons) a b (read p a) (read p b)
+      by true beside here there = let reason = reason_of_again (else_reason d) a b beside here there in (ap Aborts reason.0, reason.1)
+      by false beside here there = (refl, beside)
+
+  operation_again : (setting : Setting) (scope : Scope) (a b : Numbers) (d : Data)
+      → Again (renumbered_step items reasons) a b (operation_of setting scope a d) (operation_of setting scope b d)
   unfolding operation_of
-  operation_again setting a b d beside here there =
+  operation_again setting scope a b d beside here there =
       let op = part (codes "op") d in
-      let call = call_again (verb_in setting op) a b op beside here there in
-      (ap (λ c. Operation (target_of setting (object_of op)) c (is_some (label_in d))) call.0, call.1)
+      let v = verb_in setting op in
+      let object = target_of setting (object_of op) in
+      let labelled = is_some (label_in d) in
+      let ma = template_of setting.version scope v a op in
+      let mb = template_of setting.version scope v b op in
+      let ra = refusal_of ma.1 d in
+      let rb = refusal_of mb.1 d in
+      let made = template_again setting.version scope v a b op beside
+      (begins_both ma.1 ra.1 old (refusal_longer ma.1 d).begins here) (begins_both mb.1 rb.1 new (refusal_longer mb.1 d).begins there) in
+      let refused = refusal_again ma.1 mb.1 d made.1 here there in
+      ((λ i. operation_step object (made.0 i) labelled (refused.0 i)) ∙ operation_step_again object ma.0 labelled ra.0, refused.1)
 
   -- one of three tests
   one_of_three : (p q : Bool) (a b : Numbers) (x y z x' y' z' : Test × Numbers) → Again (renumbered_test items) a b x x'
@@ -127,14 +205,9 @@ module _ (items reasons : ℕ → ℕ) (BesideItems BesideReasons : Table → Ta
       (λ beside here there. (ap (λ x. IsItem x) (item_again text a b beside here there), beside_item text a b beside))
 
   abort_again : (a b : Numbers) (d : Data) → Again (renumbered_step items reasons) a b (abort_of a d) (abort_of b d)
-  unfolding abort_of reason_of
-  abort_again a b d = by (as_str (part (codes "abort") d))
-    where
-      by : (o : Option (List ℕ)) → Again (λ step. renumbered_step items reasons step) a b (Abort (reason_of a o).0, (reason_of a o).1)
-          (Abort (reason_of b o).0, (reason_of b o).1)
-      by None beside here there = (refl, beside)
-      by (Some reason) beside here there =
-          (ap (λ n. Abort (Some n)) (reason_again reason a b beside here there), beside_reason reason a b beside)
+  unfolding abort_of
+  abort_again a b d beside here there =
+      let reason = reason_of_again (as_str (part (codes "abort") d)) a b beside here there in (ap Abort reason.0, reason.1)
 
   -- ---- the steps that hold blocks
 
@@ -266,7 +339,7 @@ module _ (items reasons : ℕ → ℕ) (BesideItems BesideReasons : Table → Ta
     step_spelled : (sort : Option Sort) (setting : Setting) (scope : Scope) (a b : Numbers) (d : Data)
         → Again (renumbered_step items reasons) a b (step_of_by sort block setting scope a d) (step_of_by sort block setting scope b d)
     step_spelled None setting scope a b d beside here there = (refl, beside)
-    step_spelled (Some an_operation) setting scope a b d beside here there = operation_again setting a b d beside here there
+    step_spelled (Some an_operation) setting scope a b d beside here there = operation_again setting scope a b d beside here there
     step_spelled (Some an_if) setting scope a b d beside here there = if_spelled scope a b d beside here there
     step_spelled (Some a_sub) setting scope a b d beside here there =
         let it = sub_spelled scope a b d beside here there in (ap sub_step it.0, it.1)

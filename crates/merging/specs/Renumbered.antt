@@ -6,9 +6,15 @@ use Rattle.spelling.specs.Scope.{Table, number_of, with_text}
 use Rattle.words.specs.Verbs.{amount_call, item_call, lone_call, pair_call, phrase_of}
 use Rattle.words.specs.declared.verb.Phrase.{Phrase}
 use Rattle.words.specs.declared.verb.Phrase.TheVariants as phrase
+use Rattle.meaning.specs.declared.template.Argument.{Argument}
+use Rattle.meaning.specs.declared.template.Argument.TheVariants as argument
+use Rattle.meaning.specs.declared.template.Refusal.{Refusal}
+use Rattle.meaning.specs.declared.template.Refusal.TheVariants.{GoesOn, Aborts}
+use Rattle.meaning.specs.declared.template.Template.{Template}
+use Rattle.meaning.specs.declared.template.Template.TheVariants.{Given, OfAmount, OfItem, OfPair}
 use Rattle.meaning.specs.declared.test.Test.{Test}
 use Rattle.meaning.specs.declared.test.Test.TheVariants.{IsItem}
-use Rattle.meaning.specs.Trees.{Block, NoStep, Steps, Step, Operation, If, Subaction, Abort, Parallel, Handlers, ForReason, Otherwise}
+use Rattle.meaning.specs.Trees.{Block, NoStep, Steps, Step, Operation, Fill, If, Subaction, Abort, Parallel, Handlers, ForReason, Otherwise}
 use Rattle.meaning.specs.Trees.{GoOn, Pass, Children, NoChild, Child}
 use Rattle.batch.specs.Views.{Tried}
 
@@ -38,6 +44,22 @@ abbrev pub renumbered_test : (ℕ → ℕ) → Test → Test
 renumbered_test items (IsItem x) = IsItem (numbered_item items x)
 renumbered_test items test = test
 
+abbrev pub renumbered_argument : (ℕ → ℕ) → Argument → Argument
+renumbered_argument items (argument.Is x) = argument.Is (numbered_item items x)
+renumbered_argument items (argument.From label) = argument.From label
+
+-- the template, with the items of these numbers
+abbrev pub renumbered_template : (ℕ → ℕ) → Template → Template
+renumbered_template items (Given call) = Given (renumbered_call items call)
+renumbered_template items (OfAmount v label) = OfAmount v label
+renumbered_template items (OfItem v label) = OfItem v label
+renumbered_template items (OfPair v key x) = OfPair v (renumbered_argument items key) (renumbered_argument items x)
+
+-- what a refusal does, with the reason of this number
+abbrev pub renumbered_refusal : (ℕ → ℕ) → Refusal → Refusal
+renumbered_refusal reasons GoesOn = GoesOn
+renumbered_refusal reasons (Aborts reason) = Aborts (option_map reasons reason)
+
 abbrev mutual
   -- the same block, where each item and each reason has another number
   pub renumbered : (ℕ → ℕ) → (ℕ → ℕ) → Block → Block
@@ -46,6 +68,8 @@ abbrev mutual
 
   pub renumbered_step : (ℕ → ℕ) → (ℕ → ℕ) → Step → Step
   renumbered_step items reasons (Operation object call labelled) = Operation object (renumbered_call items call) labelled
+  renumbered_step items reasons (Fill object template labelled refusal) =
+      Fill object (renumbered_template items template) labelled (renumbered_refusal reasons refusal)
   renumbered_step items reasons (If label test then else) =
       If label (renumbered_test items test) (renumbered items reasons then) (renumbered items reasons else)
   renumbered_step items reasons (Subaction body handlers labelled) =

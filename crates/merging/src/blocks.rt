@@ -1,9 +1,10 @@
 //! Gives the items and the reasons of a block other numbers.
 ghost use Rattle.std.specs.Prelude.{◌≡◌, [], map, option_map, true};
-ghost use Rattle.batch.specs.Views.{block_view, handler_view, otherwise_view, step_view, subaction_view};
-ghost use Rattle.merging.specs.Renumbered.{new_number, numbered_item, renumbered, renumbered_call, renumbered_handlers, renumbered_member, renumbered_step, renumbered_test, renumbered_tried};
+ghost use Rattle.batch.specs.Views.{block_view, filling_view, handler_view, otherwise_view, step_view, subaction_view};
+ghost use Rattle.merging.specs.Renumbered.{new_number, numbered_item, renumbered, renumbered_argument, renumbered_call, renumbered_handlers, renumbered_member, renumbered_refusal, renumbered_step, renumbered_template, renumbered_test, renumbered_tried};
 
-use batch::{Block, Call, Handler, Item, Otherwise, Step, Subaction, Test};
+use batch::{Block, Call, Filling, Handler, Item, Otherwise, Step, Subaction, Test};
+use meaning::{Argument, Refusal, Template};
 use std::mem::replace;
 use words::{Phrase, phrase_of};
 
@@ -69,6 +70,45 @@ fn renumbered_reason(numbers: &NewNumbers, reason: Option<u32>) -> Option<u32>
     }
 }
 
+fn renumbered_argument(numbers: &NewNumbers, argument: Argument) -> Argument
+    ensures { result ≡ renumbered_argument (new_number numbers.now.items.items) argument }
+{
+    match argument {
+        Argument::Is(item) => Argument::Is(new_item(numbers, item)),
+        Argument::From(_) => argument,
+    }
+}
+
+fn renumbered_template(numbers: &NewNumbers, template: Template) -> Template
+    ensures { result ≡ renumbered_template (new_number numbers.now.items.items) template }
+{
+    match template {
+        Template::Given(call) => Template::Given(renumbered_call(numbers, call)),
+        Template::OfAmount(..) | Template::OfItem(..) => template,
+        Template::OfPair(verb, key, item) => {
+            let key = renumbered_argument(numbers, key);
+            Template::OfPair(verb, key, renumbered_argument(numbers, item))
+        }
+    }
+}
+
+fn renumbered_refusal(numbers: &NewNumbers, refusal: Refusal) -> Refusal
+    ensures { result ≡ renumbered_refusal (new_number numbers.now.reasons.items) refusal }
+{
+    match refusal {
+        Refusal::GoesOn => Refusal::GoesOn,
+        Refusal::Aborts(reason) => Refusal::Aborts(renumbered_reason(numbers, reason)),
+    }
+}
+
+fn renumber_filling(numbers: &NewNumbers, filling: &mut Filling)
+    ensures { filling_view filling.new ≡ renumbered_step (new_number numbers.now.items.items)
+        (new_number numbers.now.reasons.items) (filling_view filling.old) }
+{
+    filling.template = renumbered_template(numbers, filling.template);
+    filling.refusal = renumbered_refusal(numbers, filling.refusal);
+}
+
 /// Gives each item and each reason in the block its new number.
 #[cycle(renumber)]
 pub fn renumber_block(numbers: &NewNumbers, block: &mut Block)
@@ -104,6 +144,10 @@ fn renumber_step(numbers: &NewNumbers, step: &mut Step)
             call: renumbered_call(numbers, call),
             labelled,
         },
+        Step::Fill(mut filling) => {
+            renumber_filling(numbers, &mut filling);
+            Step::Fill(filling)
+        }
         Step::If {
             label,
             test,

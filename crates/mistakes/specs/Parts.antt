@@ -22,6 +22,10 @@ abbrev pub index_of : Place → ℕ
 index_of Third = 2
 index_of Fourth = 3
 
+-- the member `from` of an item of the list
+abbrev pub source : Place → Data → Option Data
+source place d = option_and_then (get (codes "from")) (operand (index_of place) d)
+
 abbrev pub is_among : List ℕ → List (List ℕ) → Bool
 is_among text names = list_any (λ name. bytes_eq text name) names
 

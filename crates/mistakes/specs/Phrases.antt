@@ -38,6 +38,7 @@ abbrev pub form_text : Form → List ℕ
 form_text form.Document = codes "a document"
 form_text form.Object = codes "an object"
 form_text form.Operation = codes "an operation"
+form_text form.Source = codes "an argument from a label"
 form_text form.If = codes "an if"
 form_text form.Subaction = codes "a subaction"
 form_text form.Abort = codes "an abort"
@@ -54,3 +55,13 @@ a_kind kind.Max = codes "a maximum register"
 abbrev pub subject_text : Subject → List ℕ
 subject_text (Reply v) = codes "the reply of \"" ++ verb_text v ++ codes "\""
 subject_text Outcome = codes "the outcome of a subaction"
+
+abbrev pub no_number : Subject → List ℕ
+no_number subject = subject_text subject ++ codes " is no number"
+
+abbrev pub no_item : Subject → List ℕ
+no_item subject = subject_text subject ++ codes " has no item"
+
+-- what is shown is the text of a label
+abbrev pub no_label : List ℕ → List ℕ
+no_label text = codes "no label " ++ text ++ codes " is seen here"

@@ -1,13 +1,14 @@
 -- Where in a part the value is that is wrong.
-use Rattle.std.specs.Prelude.{ℕ, ◌==◌, List, [], ◌∷◌, ◌++◌, codes, Option, Some, None, if◌then◌else◌, flat_map}
+use Rattle.std.specs.Prelude.{ℕ, ◌==◌, List, [], ◌∷◌, ◌++◌, codes, Option, Some, None, is_some, if◌then◌else◌, decimal, flat_map}
 use Rattle.json.specs.Print.{escape}
 use Rattle.serde_json.specs.Data.{Data}
+use Rattle.rules.specs.declared.rule.Place.{Place}
 use Rattle.rules.specs.declared.rule.Rule.{Rule}
 use Rattle.rules.specs.declared.rule.CountRule.TheVariants as counted
 use Rattle.rules.specs.declared.rule.NameRule.TheVariants as named
 use Rattle.rules.specs.declared.rule.Rule.TheVariants as rule
 use Rattle.rules.specs.declared.rule.ShapeRule.TheVariants as shape
-use Rattle.mistakes.specs.Parts.{has, unknown_member, unnamed_reason}
+use Rattle.mistakes.specs.Parts.{has, index_of, operand, unknown_member, unnamed_reason}
 
 -- the text with another in place of a byte
 abbrev pub replaced : ℕ → List ℕ → List ℕ → List ℕ
@@ -25,6 +26,10 @@ pointer_to (Some name) = codes "/" ++ token_of name
 abbrev pub pointer_if : List ℕ → Data → List ℕ
 pointer_if name d = if has name d then codes "/" ++ name else []
 
+-- the item of the list of an operation, where it is there
+abbrev pub pointer_operand : Place → Data → List ℕ
+pointer_operand place d = if is_some (operand (index_of place) d) then codes "/op/" ++ decimal (index_of place) else []
+
 abbrev pub place_within : Rule → Data → List ℕ
 place_within (rule.Shape (shape.Members form)) d = pointer_to (unknown_member form d)
 place_within (rule.Shape shape.Version) d = pointer_if (codes "ordtx") d
@@ -32,6 +37,9 @@ place_within (rule.Shape shape.Objects) d = pointer_if (codes "objects") d
 place_within (rule.Shape shape.Transactions) d = pointer_if (codes "transactions") d
 place_within (rule.Few (counted.Objects version)) d = pointer_if (codes "objects") d
 place_within (rule.Few (counted.Transactions version)) d = pointer_if (codes "transactions") d
+place_within (rule.Shape (shape.Else version)) d = pointer_if (codes "else") d
+place_within (rule.Source place one) d = pointer_operand place d
 place_within rule.SeenLabel d = pointer_if (codes "if") d
 place_within (rule.Name named.Handlers) d = pointer_to (unnamed_reason d)
+place_within (rule.Name named.Else) d = pointer_if (codes "else") d
 place_within r d = []

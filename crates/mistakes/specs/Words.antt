@@ -18,8 +18,11 @@ use Rattle.rules.specs.declared.rule.CountRule.{CountRule}
 use Rattle.rules.specs.declared.rule.CountRule.TheVariants as counted
 use Rattle.rules.specs.declared.rule.NameRule.{NameRule}
 use Rattle.rules.specs.declared.rule.NameRule.TheVariants as named
+use Rattle.rules.specs.declared.rule.Place.{Place}
 use Rattle.rules.specs.declared.rule.ShapeRule.{ShapeRule}
 use Rattle.rules.specs.declared.rule.ShapeRule.TheVariants as shape
+use Rattle.rules.specs.declared.rule.SourceRule.{SourceRule}
+use Rattle.rules.specs.declared.rule.SourceRule.TheVariants as source
 use Rattle.rules.specs.declared.rule.StartRule.{StartRule}
 use Rattle.rules.specs.declared.rule.StartRule.TheVariants as start
 use Rattle.rules.specs.declared.rule.Rule.TheVariants as rule
@@ -30,9 +33,10 @@ use Rattle.words.specs.declared.verb.Verb.{Verb}
 use Rattle.words.specs.declared.verb.Verb.TheVariants.{OfAmount, OfItem, OfPair, Alone}
 use Rattle.words.specs.Verbs.{verb_of_text, verb_text}
 use Rattle.words.specs.Words.{kind_of_text}
-use Rattle.mistakes.specs.declared.steps.TheConstants.{REASONS_SINCE}
-use Rattle.mistakes.specs.Parts.{has_sort, index_of, is_list, is_text, operand, unknown_member, unnamed_reason}
-use Rattle.mistakes.specs.Phrases.{a_kind, form_text, missing, more_than, no_name, subject_text, too_new, wanting, wanting_at}
+use Rattle.mistakes.specs.declared.steps.TheConstants.{ELSE_SINCE, REASONS_SINCE}
+use Rattle.mistakes.specs.Parts.{has_sort, index_of, is_list, is_text, operand, source as source_in, unknown_member, unnamed_reason}
+use Rattle.mistakes.specs.Phrases.{a_kind, form_text, missing, more_than, no_item, no_label, no_name, no_number, too_new, wanting}
+use Rattle.mistakes.specs.Phrases.{wanting_at}
 use Rattle.mistakes.specs.Shown.{grouped, shown, shown_in}
 
 -- ---- the document and objects
@@ -122,20 +126,25 @@ word_said subject d =
     else wanting (codes "is") (codes "a text") d
 
 -- a member or a reason that the document is too early for
-abbrev pub too_early : List ℕ → ℕ → List ℕ
-too_early what version =
-    what ++ codes " is of version " ++ decimal REASONS_SINCE ++ codes " on, and this document is of version " ++ decimal version
+abbrev pub too_early : List ℕ → ℕ → ℕ → List ℕ
+too_early what since version =
+    what ++ codes " is of version " ++ decimal since ++ codes " on, and this document is of version " ++ decimal version
 
 unfoldable pub handlers_said : ℕ → Data → List ℕ
 handlers_said version d =
     if nat_le REASONS_SINCE version then wanting (codes "handlers") (codes "an object of JSON") d
-    else too_early (codes "\"handlers\"") version
+    else too_early (codes "\"handlers\"") REASONS_SINCE version
 
 unfoldable pub abort_said : ℕ → Data → List ℕ
 abort_said version d =
     if nat_le REASONS_SINCE version then wanting (codes "abort") (codes "true or a reason") d
-    else if is_text (get (codes "abort") d) then too_early (codes "a reason") version
+    else if is_text (get (codes "abort") d) then too_early (codes "a reason") REASONS_SINCE version
     else wanting (codes "abort") (codes "true") d
+
+unfoldable pub else_said : ℕ → Data → List ℕ
+else_said version d =
+    if nat_le ELSE_SINCE version then wanting (codes "else") (codes "true or a reason") d
+    else too_early (codes "\"else\"") ELSE_SINCE version
 
 -- ---- the table, by what is wrong
 
@@ -152,6 +161,7 @@ shape_words shape.Sort d = sort_said d
 shape_words shape.Label d = wanting (codes "as") (codes "a text") d
 shape_words shape.OperationObject d = operand_said (codes "object") 0 d
 shape_words shape.OperationWord d = operand_said (codes "operation") 1 d
+shape_words (shape.Else version) d = else_said version d
 shape_words shape.Test d = codes "an \"if\" has just one of \"is\", \"atleast\" and \"item\""
 shape_words shape.TestedLabel d = wanting (codes "if") (codes "a text") d
 shape_words shape.Then d = missing (codes "then")
@@ -170,17 +180,24 @@ name_words (named.Argument place) d = no_name (shown_in (operand (index_of place
 name_words named.TestedItem d = no_name (shown_in (get (codes "item") d))
 name_words named.Handlers d = no_name (shown_in (option_map string (unnamed_reason d)))
 name_words named.Reason d = no_name (shown_in (get (codes "abort") d))
+name_words named.Else d = no_name (shown_in (get (codes "else") d))
 
 abbrev pub argument_words : ArgumentRule → Data → List ℕ
 argument_words (argument.Count v) d = codes "\"" ++ verb_text v ++ codes "\" takes " ++ taken v
 argument_words argument.Amount d = amount_said (operand 2 d)
 argument_words (argument.Item place) d = shown_in (operand (index_of place) d) ++ codes " is no text: items are written in quotes"
 
+abbrev pub source_words : Place → SourceRule → Data → List ℕ
+source_words place source.Label d = codes "an argument that a label gives is written {\"from\": \"LABEL\"}"
+source_words place source.Seen d = no_label (shown_in (source_in place d))
+source_words place (source.Number subject) d = no_number subject
+source_words place (source.Item subject) d = no_item subject
+
 abbrev pub condition_words : ConditionRule → Data → List ℕ
 condition_words (condition.Word subject) d = word_said subject d
-condition_words (condition.Number subject) d = subject_text subject ++ codes " is no number"
+condition_words (condition.Number subject) d = no_number subject
 condition_words condition.AtLeast d = wanting (codes "atleast") (codes "a whole number from -2^63 to 2^63 - 1") d
-condition_words (condition.HasItem subject) d = subject_text subject ++ codes " has no item"
+condition_words (condition.HasItem subject) d = no_item subject
 condition_words condition.TestedItem d = wanting (codes "item") (codes "a text") d
 
 abbrev pub count_words : CountRule → Data → List ℕ
@@ -212,7 +229,8 @@ said rule.NewLabel d = codes "the label " ++ shown_in (get (codes "as") d) ++ co
 said rule.KnownObject d = codes "no object has the name " ++ shown_in (operand 0 d)
 said (rule.KnownOperation version k) d = operation_said version k (operand 1 d)
 said (rule.Argument one) d = argument_words one d
-said rule.SeenLabel d = codes "no label " ++ shown_in (get (codes "if") d) ++ codes " is seen here"
+said (rule.Source place one) d = source_words place one d
+said rule.SeenLabel d = no_label (shown_in (get (codes "if") d))
 said (rule.Condition one) d = condition_words one d
 
 -- ---- a hint at a name that may be meant

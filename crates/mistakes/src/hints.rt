@@ -2,9 +2,9 @@
 ghost use Rattle.std.specs.Prelude.{◌≡◌, ◌++◌, ℕ, List, OnOk, string_bytes};
 ghost use Rattle.mistakes.specs.Words.{IsHint};
 
-use crate::parts::{has_sort, operand, unknown_member};
+use crate::parts::{has_sort, index_of, operand, unknown_member};
 use objects::Kind;
-use rules::{Rule, ShapeRule};
+use rules::{Form, Rule, ShapeRule, SourceRule};
 use serde_json::Value;
 use std::alloc::{AllocError, Global};
 use strsim::levenshtein;
@@ -43,10 +43,10 @@ pub(crate) fn write_hint(
 
 fn meant(alloc: Global, rule: Rule, part: &Value) -> Result<Option<&'static str>, AllocError> {
     match rule {
-        Rule::Shape(ShapeRule::Members(form)) => match unknown_member(form, part) {
-            Some(text) => nearest(alloc, text, form.members()),
-            None => Ok(None),
-        },
+        Rule::Shape(ShapeRule::Members(form)) => nearest_member(alloc, form, Some(part)),
+        Rule::Source(place, SourceRule::Label) => {
+            nearest_member(alloc, Form::Source, operand(part, index_of(place)))
+        }
         Rule::Shape(ShapeRule::Sort) if !has_sort(part) => match first_member(part) {
             Some(text) => nearest(alloc, text, &SORTS),
             None => Ok(None),
@@ -65,6 +65,18 @@ fn meant(alloc: Global, rule: Rule, part: &Value) -> Result<Option<&'static str>
             }
         }
         _ => Ok(None),
+    }
+}
+
+// The member of the form that the first other one of an object may mean.
+fn nearest_member(
+    alloc: Global,
+    form: Form,
+    found: Option<&Value>,
+) -> Result<Option<&'static str>, AllocError> {
+    match found.and_then(|value| unknown_member(form, value)) {
+        Some(text) => nearest(alloc, text, form.members()),
+        None => Ok(None),
     }
 }
 

@@ -1,7 +1,7 @@
 //! The table of rules: what is said where each isn't kept.
 ghost use Rattle.std.specs.Prelude.{◌≡◌, ◌++◌, IfOk, OnOk, string_bytes};
 ghost use Rattle.serde_json.specs.View.{view};
-ghost use Rattle.mistakes.specs.Words.{IsSaid, argument_words, condition_words, count_words, name_words, said, shape_words, start_words};
+ghost use Rattle.mistakes.specs.Words.{IsSaid, argument_words, condition_words, count_words, name_words, said, shape_words, source_words, start_words};
 
 use crate::conditions::write_word;
 use crate::declarations::{
@@ -9,13 +9,17 @@ use crate::declarations::{
 };
 use crate::hints::write_hint;
 use crate::operations::{write_amount, write_arguments, write_operand, write_operation};
-use crate::parts::{index_of, operand};
+use crate::parts::{index_of, operand, source};
 use crate::phrases::{
-    write_around, write_missing, write_more_than, write_subject, write_unnamed, write_wanting,
+    write_around, write_missing, write_more_than, write_no_item, write_no_label, write_no_number,
+    write_unnamed, write_wanting,
 };
-use crate::steps::{write_abort, write_handlers, write_sort};
+use crate::steps::{write_abort, write_else, write_handlers, write_sort};
 use meaning::limits::MAX_DEPTH;
-use rules::{ArgumentRule, ConditionRule, CountRule, Limits, NameRule, Rule, ShapeRule, StartRule};
+use rules::{
+    ArgumentRule, ConditionRule, CountRule, Limits, NameRule, Place, Rule, ShapeRule, SourceRule,
+    StartRule,
+};
 use serde_json::Value;
 use std::alloc::{AllocError, Global};
 
@@ -55,6 +59,7 @@ fn write_shape_rule(
         ShapeRule::Label => write_wanting(alloc, out, "as", "a text", part)?,
         ShapeRule::OperationObject => write_operand(alloc, out, "object", 0, part)?,
         ShapeRule::OperationWord => write_operand(alloc, out, "operation", 1, part)?,
+        ShapeRule::Else(version) => write_else(alloc, out, version, part)?,
         ShapeRule::Test => {
             out.push_str("an \"if\" has just one of \"is\", \"atleast\" and \"item\"")?;
         }
@@ -87,6 +92,7 @@ fn write_name_rule(
         NameRule::TestedItem => write_unnamed(alloc, out, part.get("item"))?,
         NameRule::Handlers => write_handlers_named(alloc, out, part)?,
         NameRule::Reason => write_unnamed(alloc, out, part.get("abort"))?,
+        NameRule::Else => write_unnamed(alloc, out, part.get("else"))?,
     }
     Ok(())
 }
@@ -110,6 +116,27 @@ fn write_argument_rule(
     Ok(())
 }
 
+fn write_source_rule(
+    alloc: Global,
+    out: &mut String,
+    place: Place,
+    rule: SourceRule,
+    part: &Value,
+) -> Result<(), AllocError>
+    ensures { OnOk result (string_bytes out.new ≡ string_bytes out.old
+        ++ source_words place rule (view part.now)) }
+{
+    match rule {
+        SourceRule::Label => {
+            out.push_str("an argument that a label gives is written {\"from\": \"LABEL\"}")?;
+        }
+        SourceRule::Seen => write_no_label(alloc, out, source(part, place))?,
+        SourceRule::Number(subject) => write_no_number(out, subject)?,
+        SourceRule::Item(subject) => write_no_item(out, subject)?,
+    }
+    Ok(())
+}
+
 fn write_condition_rule(
     alloc: Global,
     out: &mut String,
@@ -121,7 +148,7 @@ fn write_condition_rule(
 {
     match rule {
         ConditionRule::Word(subject) => write_word(alloc, out, subject, part)?,
-        ConditionRule::Number(subject) => write_subject(out, subject, " is no number")?,
+        ConditionRule::Number(subject) => write_no_number(out, subject)?,
         ConditionRule::AtLeast => write_wanting(
             alloc,
             out,
@@ -129,7 +156,7 @@ fn write_condition_rule(
             "a whole number from -2^63 to 2^63 - 1",
             part,
         )?,
-        ConditionRule::HasItem(subject) => write_subject(out, subject, " has no item")?,
+        ConditionRule::HasItem(subject) => write_no_item(out, subject)?,
         ConditionRule::TestedItem => write_wanting(alloc, out, "item", "a text", part)?,
     }
     Ok(())
@@ -229,9 +256,8 @@ fn write_said(alloc: Global, out: &mut String, rule: Rule, part: &Value) -> Resu
             write_operation(alloc, out, version, kind, operand(part, 1))?;
         }
         Rule::Argument(rule) => write_argument_rule(alloc, out, rule, part)?,
-        Rule::SeenLabel => {
-            write_around(alloc, out, "no label ", part.get("if"), " is seen here")?;
-        }
+        Rule::Source(place, rule) => write_source_rule(alloc, out, place, rule, part)?,
+        Rule::SeenLabel => write_no_label(alloc, out, part.get("if"))?,
         Rule::Condition(rule) => write_condition_rule(alloc, out, rule, part)?,
     }
     Ok(())

@@ -1,7 +1,7 @@
 //! What rules are asked of, in the part that they are asked of.
 ghost use Rattle.std.specs.Prelude.{◌≡◌, map, option_map};
 ghost use Rattle.serde_json.specs.View.{view};
-ghost use Rattle.mistakes.specs.Parts.{has_sort, index_of, is_among, is_list, is_text, operand, unknown_member, unnamed_reason};
+ghost use Rattle.mistakes.specs.Parts.{has_sort, index_of, is_among, is_list, is_text, operand, source, unknown_member, unnamed_reason};
 
 use batch::is_name;
 use rules::{Form, Place};
@@ -22,6 +22,13 @@ pub(crate) fn index_of(place: Place) -> usize
         Place::Third => 2,
         Place::Fourth => 3,
     }
+}
+
+/// The member `from` of an item of the list.
+pub(crate) fn source(part: &Value, place: Place) -> Option<&Value>
+    ensures { option_map (λ value. view value.now) result ≡ source place (view part.now) }
+{
+    operand(part, index_of(place))?.get("from")
 }
 
 fn is_among(text: &str, names: &[&str]) -> bool

@@ -3,7 +3,7 @@
 
 ghost use Rattle.std.specs.Prelude.{◌≡◌, ◌++◌, OnOk, option_map, string_bytes};
 ghost use Rattle.serde_json.specs.View.{view};
-ghost use Rattle.mistakes.specs.Phrases.{a_kind, form_text, missing, more_than, no_name, subject_text, too_new, wanting, wanting_at};
+ghost use Rattle.mistakes.specs.Phrases.{a_kind, form_text, missing, more_than, no_item, no_label, no_name, no_number, subject_text, too_new, wanting, wanting_at};
 ghost use Rattle.mistakes.specs.Shown.{shown, shown_in};
 
 use crate::shown::{shown, shown_in, write_grouped};
@@ -134,6 +134,7 @@ pub(crate) fn form_text(form: Form) -> &'static str
         Form::Document => "a document",
         Form::Object => "an object",
         Form::Operation => "an operation",
+        Form::Source => "an argument from a label",
         Form::If => "an if",
         Form::Subaction => "a subaction",
         Form::Abort => "an abort",
@@ -155,12 +156,34 @@ pub(crate) fn a_kind(kind: Kind) -> &'static str
     }
 }
 
-/// Writes what a label is of, and what follows.
-pub(crate) fn write_subject(
+/// Writes that no label of the text that a value is can be seen.
+pub(crate) fn write_no_label(
+    alloc: Global,
     out: &mut String,
-    subject: Subject,
-    after: &str,
+    found: Option<&Value>,
 ) -> Result<(), AllocError>
+    ensures { OnOk result (string_bytes out.new ≡ string_bytes out.old
+        ++ no_label (shown_in (option_map (λ value. view value.now) found.entry))) }
+{
+    write_around(alloc, out, "no label ", found, " is seen here")
+}
+
+/// Writes that what a label is of is no number.
+pub(crate) fn write_no_number(out: &mut String, subject: Subject) -> Result<(), AllocError>
+    ensures { OnOk result (string_bytes out.new ≡ string_bytes out.old ++ no_number subject) }
+{
+    write_subject(out, subject, " is no number")
+}
+
+/// Writes that what a label is of has no item.
+pub(crate) fn write_no_item(out: &mut String, subject: Subject) -> Result<(), AllocError>
+    ensures { OnOk result (string_bytes out.new ≡ string_bytes out.old ++ no_item subject) }
+{
+    write_subject(out, subject, " has no item")
+}
+
+// Writes what a label is of, and what follows.
+fn write_subject(out: &mut String, subject: Subject, after: &str) -> Result<(), AllocError>
     ensures { OnOk result (string_bytes out.new ≡ string_bytes out.old
         ++ (subject_text subject ++ after.now)) }
 {

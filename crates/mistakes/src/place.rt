@@ -2,11 +2,11 @@
 ghost use Rattle.std.specs.Prelude.{◌≡◌, ◌++◌, IfOk, OnOk, option_map, string_bytes};
 ghost use Rattle.json.specs.Print.{escape};
 ghost use Rattle.serde_json.specs.View.{view};
-ghost use Rattle.mistakes.specs.Within.{place_within, pointer_if, pointer_to, token_of};
+ghost use Rattle.mistakes.specs.Within.{place_within, pointer_if, pointer_operand, pointer_to, token_of};
 
-use crate::parts::{unknown_member, unnamed_reason};
+use crate::parts::{index_of, operand, unknown_member, unnamed_reason};
 use crate::shown::quoted;
-use rules::{CountRule, NameRule, Rule, ShapeRule};
+use rules::{CountRule, NameRule, Place, Rule, ShapeRule};
 use serde_json::Value;
 use std::alloc::{AllocError, Global};
 
@@ -30,6 +30,10 @@ pub fn place_within(alloc: Global, rule: Rule, part: &Value) -> Result<String, A
             "transactions",
             part,
         ),
+        Rule::Shape(ShapeRule::Else(_)) | Rule::Name(NameRule::Else) => pointer_if(
+            alloc, "else", part,
+        ),
+        Rule::Source(place, _) => pointer_operand(alloc, place, part),
         Rule::SeenLabel => pointer_if(alloc, "if", part),
         _ => Ok(String::new(alloc)),
     }
@@ -42,6 +46,18 @@ fn pointer_if(alloc: Global, name: &str, part: &Value) -> Result<String, AllocEr
     let mut out = String::new(alloc);
     if part.get(name).is_some() {
         write!(&mut out, "/{name}")?;
+    }
+    Ok(out)
+}
+
+// The pointer to the item of the list of an operation, where it is there.
+fn pointer_operand(alloc: Global, place: Place, part: &Value) -> Result<String, AllocError>
+    ensures { IfOk result (λ text. string_bytes text ≡ pointer_operand place (view part.now)) }
+{
+    let mut out = String::new(alloc);
+    let index = index_of(place);
+    if operand(part, index).is_some() {
+        write!(&mut out, "/op/{index}")?;
     }
     Ok(out)
 }

@@ -3,7 +3,7 @@
 
 ghost use Rattle.std.specs.Prelude.{◌≡◌, ◌++◌, OnOk, string_bytes};
 ghost use Rattle.serde_json.specs.View.{view};
-ghost use Rattle.mistakes.specs.Words.{abort_said, handlers_said, sort_said, too_early};
+ghost use Rattle.mistakes.specs.Words.{abort_said, else_said, handlers_said, sort_said, too_early};
 
 use crate::parts::{has_sort, is_text};
 use crate::phrases::{write_around, write_wanting};
@@ -12,6 +12,9 @@ use std::alloc::{AllocError, Global};
 
 /// The first version of documents in which an abort has a reason, and handlers are by reason.
 const REASONS_SINCE: u8 = 3;
+
+/// The first version of documents in which an operation says what its refusal does.
+const ELSE_SINCE: u8 = 5;
 
 /// Writes why it can't be said what a step is.
 #[tactic(auto, unfolding(crate::specs::Words::sort_said))]
@@ -49,7 +52,7 @@ pub(crate) fn write_handlers(
     if version >= REASONS_SINCE {
         write_wanting(alloc, out, "handlers", "an object of JSON", part)
     } else {
-        write_too_early(out, "\"handlers\"", version)
+        write_too_early(out, "\"handlers\"", REASONS_SINCE, version)
     }
 }
 
@@ -67,20 +70,38 @@ pub(crate) fn write_abort(
     if version >= REASONS_SINCE {
         write_wanting(alloc, out, "abort", "true or a reason", part)
     } else if is_text(part.get("abort")) {
-        write_too_early(out, "a reason", version)
+        write_too_early(out, "a reason", REASONS_SINCE, version)
     } else {
         write_wanting(alloc, out, "abort", "true", part)
     }
 }
 
-// Writes that the document is too early for this.
-fn write_too_early(out: &mut String, what: &str, version: u8) -> Result<(), AllocError>
+/// Writes why a document of the version has no `else` as this.
+#[tactic(auto, unfolding(crate::specs::Words::else_said))]
+pub(crate) fn write_else(
+    alloc: Global,
+    out: &mut String,
+    version: u8,
+    part: &Value,
+) -> Result<(), AllocError>
     ensures { OnOk result (string_bytes out.new ≡ string_bytes out.old
-        ++ too_early what.now version) }
+        ++ else_said version (view part.now)) }
+{
+    if version >= ELSE_SINCE {
+        write_wanting(alloc, out, "else", "true or a reason", part)
+    } else {
+        write_too_early(out, "\"else\"", ELSE_SINCE, version)
+    }
+}
+
+// Writes that the document is too early for this.
+fn write_too_early(out: &mut String, what: &str, since: u8, version: u8) -> Result<(), AllocError>
+    ensures { OnOk result (string_bytes out.new ≡ string_bytes out.old
+        ++ too_early what.now since version) }
 {
     write!(
         out,
-        "{what} is of version {REASONS_SINCE} on, and this document is of version {version}"
+        "{what} is of version {since} on, and this document is of version {version}"
     )?;
     Ok(())
 }

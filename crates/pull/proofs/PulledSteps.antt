@@ -1,5 +1,5 @@
 -- Steps that were pulled from tokens, as what is asked and spelled of their data.
-use Rattle.std.proofs.Common.{◌≡◌, ◌<◌, ℕ, arith, lt-ltb, le-leb, true, List, [], ◌∷◌, ◌++◌, Option, None, Some, refl, sym, ap, ◌∙◌}
+use Rattle.std.proofs.Common.{◌≡◌, ◌<◌, ℕ, arith, lt-ltb, le-leb, false, true, List, [], ◌∷◌, ◌++◌, Option, None, Some, refl, sym, ap, ◌∙◌}
 use Rattle.std.specs.Prelude.{codes, is_some}
 use Rattle.serde_json.specs.Data.{Data, Items, no_items, item, number, string, unsigned}
 use Rattle.atoms.specs.declared.amount.Amount.{Amount}
@@ -13,16 +13,20 @@ use Rattle.batch.specs.Names.{is_name}
 use Rattle.words.specs.Verbs.{amount_call, item_call, lone_call, pair_call}
 use Rattle.spelling.proofs.AmountLemmas.{amount_of-value}
 use Rattle.meaning.specs.Trees as tree
+use Rattle.meaning.specs.declared.template.Template.TheVariants.{Given}
 use Rattle.objects.specs.declared.call.Call.{Call}
 use Rattle.spelling.specs.declared.counts.Counts.{Counts}
+use Rattle.rules.specs.declared.rule.NameRule.TheVariants.{Else}
 use Rattle.rules.specs.declared.subject.Subject.TheVariants.{Reply}
 use Rattle.spelling.specs.Answer.{AreMet, IsMet}
-use Rattle.spelling.specs.Asked.{amount_asked, amount_item, item_asked, arguments_asked, label_asked, label_in, operation_asked}
-use Rattle.spelling.specs.Asked.{operation_verb, part, scope_after, sort_of, target_asked, operation_shape_asked}
+use Rattle.spelling.specs.Asked.{amount_asked, amount_item, argument_asked, arguments_asked, else_reason, item_asked, label_asked, label_in}
+use Rattle.spelling.specs.Asked.{operation_asked, operation_verb, part, reason_asked, scope_after, sort_of, target_asked}
+use Rattle.spelling.specs.Asked.{operation_shape_asked}
+use Rattle.spelling.specs.Look.{has}
 use Rattle.spelling.specs.Demand.{one_more_operation}
 use Rattle.pull.specs.Pulled.{op_array, op_step}
 use Rattle.spelling.specs.Scope.{Numbers, with_item, Scope, Setting, with_label}
-use Rattle.spelling.specs.Spelled.{Spelling, item_of, or_zero, call_of, operation_of, step_of, target_of}
+use Rattle.spelling.specs.Spelled.{Spelling, item_of, or_zero, operation_of, refusal_of, step_of, target_of, template_of}
 use Rattle.spelling.specs.declared.steps.Sort.TheVariants.{Operation}
 use Rattle.spelling.proofs.Checks.{check_met}
 use Rattle.spelling.specs.Places.{Places, step_placed}
@@ -41,11 +45,24 @@ unfolding sort_of
 op_sort None op = refl
 op_sort (Some name) op = refl
 
-pub op_shape : (label : Option (List ℕ)) (o c : List ℕ) (rest : Items) (counts : Counts)
-    → IsMet counts (operation_shape_asked (op_step label (op_array o c rest))) counts
+-- nothing is said of its refusal
+op_no_else : (label : Option (List ℕ)) (op : Data) → has (codes "else") (op_step label op) ≡ false
+op_no_else None op = refl
+op_no_else (Some name) op = refl
+
+op_no_reason : (label : Option (List ℕ)) (op : Data) → else_reason (op_step label op) ≡ None
+op_no_reason None op = refl
+op_no_reason (Some name) op = refl
+
+no_reason_met : (counts : Counts) → IsMet counts (reason_asked Else None) counts
+unfolding reason_asked
+no_reason_met counts = refl
+
+pub op_shape : (version : ℕ) (label : Option (List ℕ)) (o c : List ℕ) (rest : Items) (counts : Counts)
+    → IsMet counts (operation_shape_asked version (op_step label (op_array o c rest))) counts
 unfolding operation_shape_asked
-op_shape None o c rest counts = refl
-op_shape (Some name) o c rest counts = refl
+op_shape version None o c rest counts = refl
+op_shape version (Some name) o c rest counts = refl
 
 -- ---- arguments
 
@@ -54,44 +71,46 @@ amount_read a o c =
     let small : a.value < 9223372036854775808 = omega (arith, a.in_range.1) in
     rw (lt-ltb _ _ small, le-leb _ _ a.in_range.0, le-leb _ _ a.in_range.1) refl
 
-module _ (o c : List ℕ) where
+module _ (version : ℕ) (scope : Scope) (o c : List ℕ) where
   pub amount_met : (v : AmountVerb) (a : Amount) (counts : Counts)
-      → IsMet counts (arguments_asked (OfAmount v) (op_array o c (item (number (unsigned a.value)) no_items))) counts
+      → IsMet counts (arguments_asked version scope (OfAmount v) (op_array o c (item (number (unsigned a.value)) no_items))) counts
   unfolding arguments_asked amount_asked
   amount_met v a counts = rw (amount_read a o c) refl
 
-  pub amount_spelled : (v : AmountVerb) (a : Amount) (numbers : Numbers) → (amount_call v a, numbers)
-      ≡ call_of (OfAmount v) numbers (op_array o c (item (number (unsigned a.value)) no_items))
-  unfolding call_of
-  amount_spelled v a numbers = ap (λ x. (amount_call v x, numbers)) (amount_of-value a _ (ap or_zero (sym (amount_read a o c))))
+  pub amount_spelled : (v : AmountVerb) (a : Amount) (numbers : Numbers) → (Given (amount_call v a), numbers)
+      ≡ template_of version scope (OfAmount v) numbers (op_array o c (item (number (unsigned a.value)) no_items))
+  unfolding template_of
+  amount_spelled v a numbers = ap (λ x. (Given (amount_call v x), numbers)) (amount_of-value a _ (ap or_zero (sym (amount_read a o c))))
 
   pub item_met : (v : ItemVerb) (s : List ℕ) (counts : Counts) → is_name s ≡ true
-      → IsMet counts (arguments_asked (OfItem v) (op_array o c (item (string s) no_items))) counts
-  unfolding arguments_asked item_asked
+      → IsMet counts (arguments_asked version scope (OfItem v) (op_array o c (item (string s) no_items))) counts
+  unfolding arguments_asked argument_asked item_asked
   item_met v s counts named = rw named refl
 
   pub item_spelled : (v : ItemVerb) (s : List ℕ) (x : Item) (numbers after : Numbers) → x ≡ item_of s numbers → after ≡ with_item s numbers
-      → (item_call v x, after) ≡ call_of (OfItem v) numbers (op_array o c (item (string s) no_items))
-  unfolding call_of
+      → (Given (item_call v x), after) ≡ template_of version scope (OfItem v) numbers (op_array o c (item (string s) no_items))
+  unfolding template_of
   item_spelled v s x numbers after e f = rw (e, f) refl
 
   pub pair_met : (v : PairVerb) (k s : List ℕ) (counts : Counts) → is_name k ≡ true → is_name s ≡ true
-      → IsMet counts (arguments_asked (OfPair v) (op_array o c (item (string k) (item (string s) no_items)))) counts
-  unfolding arguments_asked item_asked
+      → IsMet counts (arguments_asked version scope (OfPair v) (op_array o c (item (string k) (item (string s) no_items)))) counts
+  unfolding arguments_asked argument_asked item_asked
   pair_met v k s counts first second = rw (first, second) refl
 
   pub pair_spelled : (v : PairVerb) (k s : List ℕ) (x y : Item) (numbers mid after : Numbers) → x ≡ item_of k numbers → mid
       ≡ with_item k numbers → y ≡ item_of s mid → after ≡ with_item s mid
-      → (pair_call v x y, after) ≡ call_of (OfPair v) numbers (op_array o c (item (string k) (item (string s) no_items)))
-  unfolding call_of
+      → (Given (pair_call v x y), after)
+      ≡ template_of version scope (OfPair v) numbers (op_array o c (item (string k) (item (string s) no_items)))
+  unfolding template_of
   pair_spelled v k s x y numbers mid after e f g h = rw (h, g, e, f) refl
 
-  pub lone_met : (v : LoneVerb) (counts : Counts) → IsMet counts (arguments_asked (Alone v) (op_array o c no_items)) counts
+  pub lone_met : (v : LoneVerb) (counts : Counts) → IsMet counts (arguments_asked version scope (Alone v) (op_array o c no_items)) counts
   unfolding arguments_asked
   lone_met v counts = refl
 
-  pub lone_spelled : (v : LoneVerb) (numbers : Numbers) → (lone_call v, numbers) ≡ call_of (Alone v) numbers (op_array o c no_items)
-  unfolding call_of
+  pub lone_spelled : (v : LoneVerb) (numbers : Numbers)
+      → (Given (lone_call v), numbers) ≡ template_of version scope (Alone v) numbers (op_array o c no_items)
+  unfolding template_of
   lone_spelled v numbers = refl
 
 -- ---- the operation
@@ -102,27 +121,32 @@ module _ (setting : Setting) (scope : Scope) (label : Option (List ℕ)) (o c : 
 
   pub operation_met : (places : Places) (start next : Counts) → IsMet start (one_more_operation setting.version ∷ []) next
       → IsMet next (target_asked setting o c) next
-      → IsMet next (arguments_asked (operation_verb setting o c) op) next → IsMet next (label_asked scope [] label) next
+      → IsMet next (arguments_asked setting.version scope (operation_verb setting o c) op) next
+      → IsMet next (label_asked scope [] label) next
       → AreMet start (step_placed places setting scope (op_step label op)) next
   unfolding step_placed operation_asked
   operation_met places start next counted target arguments labels =
       let d = op_step label op in
       let last = label_asked scope [] label in
-      let given = arguments_asked (operation_verb setting o c) op in
+      let no_reason = reason_asked Else None in
+      let given = arguments_asked setting.version scope (operation_verb setting o c) op in
       let named = target_asked setting o c in
       let one = one_more_operation setting.version ∷ [] in
-      let shape = operation_shape_asked d in
-      let first = check_met start start shape one (op_shape label o c rest start) ∙ counted in
+      let shape = operation_shape_asked setting.version d in
+      let first = check_met start start shape one (op_shape setting.version label o c rest start) ∙ counted in
       let second = check_met start next (shape ++ one) named first ∙ target in
       let third = check_met start next (shape ++ one ++ named) given second ∙ arguments in
-      let fourth = check_met start next (shape ++ one ++ named ++ given) last third ∙ labels in
-      rw (op_sort label op, op_part label op, op_label label op) (own_met start next (shape ++ one ++ named ++ given ++ last) fourth)
+      let fourth = check_met start next (shape ++ one ++ named ++ given) no_reason third ∙ no_reason_met next in
+      let fifth = check_met start next (shape ++ one ++ named ++ given ++ no_reason) last fourth ∙ labels in
+      rw (op_sort label op, op_part label op, op_label label op, op_no_reason label op)
+      (own_met start next (shape ++ one ++ named ++ given ++ no_reason ++ last) fifth)
 
-  pub operation_spelled : (block : Spelling) (numbers after : Numbers) (call : Call) → (call, after)
-      ≡ call_of (operation_verb setting o c) numbers op
+  pub operation_spelled : (block : Spelling) (numbers after : Numbers) (call : Call) → (Given call, after)
+      ≡ template_of setting.version scope (operation_verb setting o c) numbers op
       → (tree.Operation (target_of setting o) call (is_some label), after) ≡ step_of block setting scope numbers (op_step label op)
-  unfolding step_of operation_of
-  operation_spelled block numbers after call e = rw (op_sort label op, op_part label op, op_label label op, ← e) refl
+  unfolding step_of operation_of refusal_of
+  operation_spelled block numbers after call e =
+      rw (op_sort label op, op_part label op, op_label label op, op_no_else label op, ← e) refl
 
   pub operation_scope : scope_after setting scope (op_step label op) ≡ with_label label (Reply (operation_verb setting o c)) scope
   unfolding scope_after

@@ -10,6 +10,7 @@ use Rattle.meaning.specs.Trees as tree
 use Rattle.atoms.specs.declared.item.Item.{Item}
 use Rattle.spelling.specs.declared.counts.Counts.{Counts}
 use Rattle.spelling.specs.declared.steps.Sort.TheVariants.{If, Abort}
+use Rattle.rules.specs.declared.rule.NameRule.TheVariants.{Reason}
 use Rattle.rules.specs.declared.subject.Subject.{Subject}
 use Rattle.spelling.specs.Answer.{AreMet, IsMet}
 use Rattle.spelling.specs.Asked.{abort_asked, abort_shape_asked, if_label, if_shape_asked, is_abort, part}
@@ -199,13 +200,13 @@ module _ (setting : Setting) (scope : Scope) (reason : Option (List ℕ)) where
   -- what is asked of an abort
   pub abort_met : (places : Places) (start counted next : Counts)
       → is_abort setting.version (part (codes "abort") (abort_step reason)) ≡ true
-      → IsMet start (one_more_node setting.version ∷ []) counted → IsMet counted (reason_asked reason) next
+      → IsMet start (one_more_node setting.version ∷ []) counted → IsMet counted (reason_asked Reason reason) next
       → AreMet start (step_placed places setting scope (abort_step reason)) next
   unfolding step_placed abort_asked
   abort_met places start counted next may one met =
       let shape = abort_shape_asked setting.version (abort_step reason) in
-      rw (abort_sort reason, abort_reason reason) (own_met start next (shape ++ reason_asked reason)
-      (check_met start counted shape (reason_asked reason) (abort_shape reason setting.version start counted may one) ∙ met))
+      rw (abort_sort reason, abort_reason reason) (own_met start next (shape ++ reason_asked Reason reason)
+      (check_met start counted shape (reason_asked Reason reason) (abort_shape reason setting.version start counted may one) ∙ met))
 
   -- what an abort spells
   pub abort_spelled : (block : Spelling) (numbers after : Numbers) (n : Option ℕ) → (n, after) ≡ reason_of numbers reason

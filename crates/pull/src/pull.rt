@@ -19,8 +19,8 @@ ghost use Rattle.spelling.specs.Asked.{arguments_asked, scope_after};
 ghost use Rattle.spelling.specs.Places.{Places, step_placed};
 ghost use Rattle.spelling.specs.Answer.{AreMet, IsMet};
 ghost use Rattle.pull.specs.Pulled.{Begins, ReadsItems, ReadsMembers, ReadsValue, in_order, labelled, op_array};
-ghost use Rattle.spelling.specs.Scope.{numbers_of, scope_of, setting_of};
-ghost use Rattle.spelling.specs.Spelled.{Spelling, call_of, step_of};
+ghost use Rattle.spelling.specs.Scope.{Scope, numbers_of, scope_of, setting_of};
+ghost use Rattle.spelling.specs.Spelled.{Spelling, step_of, template_of};
 ghost use Rattle.batch.specs.Names.{is_name};
 ghost use Rattle.rules.specs.Limits.{limits_of};
 ghost use Rattle.rules.specs.declared.limits.TheConstants.{LAST_VERSION};
@@ -30,14 +30,16 @@ use crate::stop::Stop;
 use batch::{Call, Step, is_name};
 use fast_float::Numeral;
 use json::{Reader, Token};
+use meaning::Template;
 use objects::Amount;
 use rules::{LAST_VERSION, Limits, Subject};
 use serde_json::{Map, Value};
+use spelling::arguments::item_of;
 use spelling::counts::Counts;
 use spelling::declared::Declared;
 use spelling::labels::add_new_label;
 use spelling::numbers::number_of;
-use spelling::operations::{item_of, target_of};
+use spelling::operations::target_of;
 use spelling::state::{Numbering, State};
 use std::alloc::Global;
 use words::Verb;
@@ -216,8 +218,11 @@ fn pull_arguments(
     numbering: &mut Numbering,
 ) -> Result<Call, Stop>
     ensures { IfOk result (λ call. (rest : Items) × ReadsItems 0 reader.old rest reader.new
-        × ((o c : List ℕ) (counts : Counts) → IsMet counts (arguments_asked verb (op_array o c rest)) counts)
-        × ((o c : List ℕ) → (call, numbers_of numbering.new) ≡ call_of verb (numbers_of numbering.old) (op_array o c rest))) }
+        × ((version : ℕ) (scope : Scope) (o c : List ℕ) (counts : Counts)
+        → IsMet counts (arguments_asked version scope verb (op_array o c rest)) counts)
+        × ((version : ℕ) (scope : Scope) (o c : List ℕ)
+        → (Template.Given call, numbers_of numbering.new)
+        ≡ template_of version scope verb (numbers_of numbering.old) (op_array o c rest))) }
 {
     match verb {
         Verb::OfAmount(verb) => {

@@ -1,9 +1,9 @@
 //! Reads the steps of a block straight from their tokens, where they are in the common form.
 //!
-//! The common form, member by member: an operation's `op`, and its `as`; a subaction's or a child's
-//! `sub`, and then its `as` at any place, its `handlers` and, after them, its `handler`; `parallel`
-//! alone; `if`, one of `is`, `atleast` and `item`, then `then`, and `else`; `abort` alone. What may be
-//! left out may be left out, and no member comes twice.
+//! The common form, member by member: an operation's `op`, with no argument that a label gives, and
+//! its `as`; a subaction's or a child's `sub`, and then its `as` at any place, its `handlers` and, after
+//! them, its `handler`; `parallel` alone; `if`, one of `is`, `atleast` and `item`, then `then`, and
+//! `else`; `abort` alone. What may be left out may be left out, and no member comes twice.
 //!
 //! Of a step whose first member is another, a small tree is made and read as in any other document. So
 //! texts are numbered in the same order. Handlers by reason are read in the order of the reasons' bytes:
@@ -32,11 +32,11 @@ use batch::{Block, Handler, Step, Subaction, Test};
 use json::{Reader, Token};
 use rules::{NameRule, Rule, Subject, fits_item, fits_number, fits_word};
 use serde_json::Map;
+use spelling::arguments::item_of;
 use spelling::declared::Declared;
 use spelling::hashing::Labels;
 use spelling::heads::{if_step, no_labels, subaction_of};
 use spelling::labels::{add_new_label, leave_block};
-use spelling::operations::item_of;
 use spelling::state::{Numbering, ReasonOrder, State};
 use spelling::steps::{Sort, read_members, read_reason, read_step, reason_number};
 use std::alloc::Global;
@@ -483,7 +483,7 @@ fn pull_abort(
 {
     let reason = pull_reason(reader, declared.version)?;
     state.counts.one_more_node(declared.version)?;
-    let number = read_reason(alloc, reason, state)?;
+    let number = read_reason(alloc, reason, NameRule::Reason, state)?;
     Ok(Step::Abort(number))
 }
 

@@ -2,7 +2,7 @@
 use Rattle.std.proofs.Common.{◌≡◌, ℕ, arith}
 use Rattle.atoms.specs.declared.amount.Amount.{Amount}
 use Rattle.atoms.proofs.Amounts.{one_amount}
-use Rattle.spelling.specs.Amounts.{amount_of, clamped}
+use Rattle.meaning.specs.Amounts.{amount_of, clamped}
 
 clamped_same : (a : Amount) (n : ℕ) → a.value ≡ n → a.value ≡ clamped n
 clamped_same a n e = omega (arith, a.in_range.0, a.in_range.1)

@@ -10,13 +10,14 @@ use Rattle.serde_json.specs.Data.{Data, Items, no_items, item, Members, no_membe
 use Rattle.serde_json.specs.Find.{as_array, as_str, get}
 use Rattle.objects.specs.declared.kind.Kind.{Kind}
 use Rattle.objects.specs.declared.kind.Kind.TheVariants as kind
-use Rattle.spelling.specs.Asked.{children_in, handlers_in, if_label, key_of, kind_in, name_item, objects_in, or_no_items, part, scope_after}
-use Rattle.spelling.specs.Asked.{setting_in, sort_of, subject_of, text_of, transactions_in, value_of, verb_in, version_in}
+use Rattle.spelling.specs.Asked.{children_in, else_reason, handlers_in, if_label, is_source, key_of, kind_in, name_item, objects_in}
+use Rattle.spelling.specs.Asked.{or_no_items, part, scope_after, setting_in, sort_of, subject_of, text_of, transactions_in, value_of}
+use Rattle.spelling.specs.Asked.{verb_in, version_in}
 use Rattle.spelling.specs.Look.{has, or_empty, text_member}
 use Rattle.spelling.specs.Scope.{Numbers, Scope, Setting, Table, is_listed, no_numbers, with_item, with_reason, with_text}
-use Rattle.spelling.specs.Spelled.{Spelling, abort_of, block_of, block_of_if, blocks_of, call_of, children_spelled, document_in, entries_of}
+use Rattle.spelling.specs.Spelled.{Spelling, abort_of, block_of, block_of_if, blocks_of, children_spelled, document_in, entries_of}
 use Rattle.spelling.specs.Spelled.{handlers_spelled, if_of, members_of, operation_of, pairs_of, parallel_of, parts_in, reason_of, start_of}
-use Rattle.spelling.specs.Spelled.{starts_of, step_of, step_of_by, steps_spelled, sub_of, test_of}
+use Rattle.spelling.specs.Spelled.{argument_of, refusal_of, starts_of, step_of, step_of_by, steps_spelled, sub_of, template_of, test_of}
 use Rattle.spelling.specs.Asked.{document_shape_asked, names_of, object_name, object_name_asked, object_shape_asked}
 use Rattle.spelling.specs.Demand.{no_counts}
 use Rattle.spelling.specs.declared.steps.Sort.{Sort}
@@ -70,33 +71,51 @@ Differ numbers = Apart numbers.items
 item_kept : (text : List ℕ) (numbers : Numbers) → Differ numbers → Differ (with_item text numbers)
 item_kept text numbers apart = apart_with text numbers.items apart
 
-call_kept : (v : Verb) (numbers : Numbers) (op : Data) → Differ numbers → Differ (call_of v numbers op).1
-unfolding call_of
-call_kept (OfAmount v) numbers op apart = apart
-call_kept (OfItem v) numbers op apart = item_kept (name_item 2 op) numbers apart
-call_kept (OfPair v) numbers op apart =
-    item_kept (name_item 3 op) (with_item (name_item 2 op) numbers) (item_kept (name_item 2 op) numbers apart)
-call_kept (Alone v) numbers op apart = apart
+-- one of two, and of three
+two_kept : {A : Type 0} (a : Bool) (x y : A × Numbers) → Differ x.1 → Differ y.1 → Differ (cond a x y).1
+two_kept true x y first second = first
+two_kept false x y first second = second
 
-operation_kept : (setting : Setting) (numbers : Numbers) (d : Data) → Differ numbers → Differ (operation_of setting numbers d).1
-unfolding operation_of
-operation_kept setting numbers d apart = call_kept (verb_in setting (part (codes "op") d)) numbers (part (codes "op") d) apart
-
--- one of three
 three_kept : {A : Type 0} (a b : Bool) (x y z : A × Numbers) → Differ x.1 → Differ y.1 → Differ z.1 → Differ (cond a x (cond b y z)).1
 three_kept true b x y z first second third = first
 three_kept false true x y z first second third = second
 three_kept false false x y z first second third = third
 
-test_kept : (subject : Subject) (numbers : Numbers) (d : Data) → Differ numbers → Differ (test_of subject numbers d).1
-unfolding test_of
-test_kept subject numbers d apart = three_kept (has (codes "is") d) (has (codes "atleast") d) _ _ _ apart apart
-    (item_kept (or_empty (text_member (codes "item") d)) numbers apart)
-
 reason_kept : (numbers : Numbers) (o : Option (List ℕ)) → Differ numbers → Differ (reason_of numbers o).1
 unfolding reason_of
 reason_kept numbers None apart = apart
 reason_kept numbers (Some reason) apart = apart
+
+argument_kept : (version : ℕ) (scope : Scope) (i : ℕ) (numbers : Numbers) (op : Data) → Differ numbers
+    → Differ (argument_of version scope i numbers op).1
+argument_kept version scope i numbers op apart = two_kept (is_source version i op) _ _ apart (item_kept (name_item i op) numbers apart)
+
+template_kept : (version : ℕ) (scope : Scope) (v : Verb) (numbers : Numbers) (op : Data) → Differ numbers
+    → Differ (template_of version scope v numbers op).1
+unfolding template_of
+template_kept version scope (OfAmount v) numbers op apart = apart
+template_kept version scope (OfItem v) numbers op apart = argument_kept version scope 2 numbers op apart
+template_kept version scope (OfPair v) numbers op apart =
+    argument_kept version scope 3 (argument_of version scope 2 numbers op).1 op (argument_kept version scope 2 numbers op apart)
+template_kept version scope (Alone v) numbers op apart = apart
+
+refusal_kept : (numbers : Numbers) (d : Data) → Differ numbers → Differ (refusal_of numbers d).1
+unfolding refusal_of
+refusal_kept numbers d apart = two_kept (has (codes "else") d) _ _ (reason_kept numbers (else_reason d) apart) apart
+
+operation_kept : (setting : Setting) (scope : Scope) (numbers : Numbers) (d : Data) → Differ numbers
+    → Differ (operation_of setting scope numbers d).1
+unfolding operation_of
+operation_kept setting scope numbers d apart =
+    let op = part (codes "op") d in
+    let verb = verb_in setting op in
+    refusal_kept (template_of setting.version scope verb numbers op).1 d
+    (template_kept setting.version scope verb numbers op apart)
+
+test_kept : (subject : Subject) (numbers : Numbers) (d : Data) → Differ numbers → Differ (test_of subject numbers d).1
+unfolding test_of
+test_kept subject numbers d apart = three_kept (has (codes "is") d) (has (codes "atleast") d) _ _ _ apart apart
+    (item_kept (or_empty (text_member (codes "item") d)) numbers apart)
 
 abort_kept : (numbers : Numbers) (d : Data) → Differ numbers → Differ (abort_of numbers d).1
 unfolding abort_of
@@ -152,7 +171,7 @@ module _ (block : Spelling) (kept : Keeps block) where
     step_kept_by : (o : Option Sort) (scope : Scope) (numbers : Numbers) (d : Data) → Differ numbers
         → Differ (step_of_by o block setting scope numbers d).1
     step_kept_by None scope numbers d apart = apart
-    step_kept_by (Some an_operation) scope numbers d apart = operation_kept setting numbers d apart
+    step_kept_by (Some an_operation) scope numbers d apart = operation_kept setting scope numbers d apart
     step_kept_by (Some an_if) scope numbers d apart = if_kept scope numbers d apart
     step_kept_by (Some a_sub) scope numbers d apart = sub_kept scope numbers d apart
     step_kept_by (Some an_abort) scope numbers d apart = abort_kept numbers d apart

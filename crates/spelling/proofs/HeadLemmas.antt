@@ -7,11 +7,13 @@ use Rattle.meaning.specs.Trees as tree
 use Rattle.meaning.specs.declared.test.Test.{Test}
 use Rattle.spelling.specs.declared.counts.Counts.{Counts}
 use Rattle.rules.specs.declared.failure.Failure.{Failure}
+use Rattle.rules.specs.declared.rule.NameRule.TheVariants as named_rule
 use Rattle.rules.specs.declared.rule.Rule.TheVariants.{Start}
 use Rattle.rules.specs.declared.rule.StartRule.TheVariants.{NewKey}
-use Rattle.spelling.specs.Asked.{arguments_asked, call_named, children_in, handlers_in, if_label, if_shape_asked, label_asked, label_in}
-use Rattle.spelling.specs.Asked.{object_of, operation_asked, operation_shape_asked, pair_asked, parallel_shape_asked, part, seen_asked}
-use Rattle.spelling.specs.Asked.{key_of, sub_shape_asked, subject_of, target_asked, test_asked, verb_in}
+use Rattle.spelling.specs.Asked.{arguments_asked, call_named, children_in, else_reason, handlers_in, if_label, if_shape_asked}
+use Rattle.spelling.specs.Asked.{key_of, label_asked, label_in, object_of, operation_asked, operation_shape_asked, pair_asked}
+use Rattle.spelling.specs.Asked.{parallel_shape_asked, part, reason_asked, seen_asked, sub_shape_asked, subject_of, target_asked}
+use Rattle.spelling.specs.Asked.{test_asked, verb_in}
 use Rattle.spelling.specs.Demand.{Demand, check, one_more_node, one_more_operation}
 use Rattle.spelling.specs.Heads.{if_head_asked, new_start_asked, operation_head_asked, pair_names_asked}
 use Rattle.spelling.specs.Heads.{parallel_head_asked, sub_head_asked}
@@ -61,7 +63,9 @@ parallel_placed-is version places scope d c = own_both c (parallel_shape_asked d
     (inside (member_named (codes "parallel")) (children_placed version places scope [] 0 (children_in d)) nothing)
 
 pub operation_asked-is : (setting : Setting) (scope : Scope) (d : Data) → operation_asked setting scope d
-    ≡ operation_head_asked setting d ++ arguments_asked (verb_in setting (part (codes "op") d)) (part (codes "op") d)
+    ≡ operation_head_asked setting d
+    ++ arguments_asked setting.version scope (verb_in setting (part (codes "op") d)) (part (codes "op") d)
+    ++ reason_asked named_rule.Else (else_reason d)
     ++ label_asked scope [] (label_in d)
 unfolding operation_asked operation_head_asked
 operation_asked-is setting scope d = refl
@@ -85,7 +89,10 @@ module _ (setting : Setting) (scope : Scope) (d : Data) (start : Counts) where
   operation_head = operation_head_asked setting d
 
   abbrev arguments : List Demand
-  arguments = arguments_asked (verb_in setting (part (codes "op") d)) (part (codes "op") d)
+  arguments = arguments_asked setting.version scope (verb_in setting (part (codes "op") d)) (part (codes "op") d)
+
+  abbrev refusal : List Demand
+  refusal = reason_asked named_rule.Else (else_reason d)
 
   abbrev operation_label : List Demand
   operation_label = label_asked scope [] (label_in d)
@@ -93,28 +100,44 @@ module _ (setting : Setting) (scope : Scope) (d : Data) (start : Counts) where
   -- the first rule that isn't kept is before the arguments
   pub operation_head_failed : (e : Failure) → check start operation_head ≡ Err e → check start (operation_asked setting scope d) ≡ Err e
   operation_head_failed e failed = ap (check start) (operation_asked-is setting scope d)
-      ∙ check_failed start e (operation_head ++ arguments) operation_label (check_failed start e operation_head arguments failed)
+      ∙ check_failed start e (operation_head ++ arguments ++ refusal) operation_label
+      (check_failed start e (operation_head ++ arguments) refusal (check_failed start e operation_head arguments failed))
 
   -- it is in the arguments
   pub arguments_failed : (next : Counts) (e : Failure) → check start operation_head ≡ Ok next → check next arguments ≡ Err e
       → check start (operation_asked setting scope d) ≡ Err e
   arguments_failed next e met failed = ap (check start) (operation_asked-is setting scope d)
-      ∙ check_failed start e (operation_head ++ arguments) operation_label
-      (second_failed start next e operation_head arguments met failed)
+      ∙ check_failed start e (operation_head ++ arguments ++ refusal) operation_label
+      (check_failed start e (operation_head ++ arguments) refusal
+      (second_failed start next e operation_head arguments met failed))
+
+  -- it is in the reason of `else`
+  pub refusal_failed : (next after : Counts) (e : Failure) → check start operation_head ≡ Ok next
+      → check next arguments ≡ Ok after → check after refusal ≡ Err e → check start (operation_asked setting scope d) ≡ Err e
+  refusal_failed next after e met also failed = ap (check start) (operation_asked-is setting scope d)
+      ∙ check_failed start e (operation_head ++ arguments ++ refusal) operation_label
+      (second_failed start after e (operation_head ++ arguments) refusal
+      (both_met start next after operation_head arguments met also) failed)
+
+  before_label : (next after then : Counts) → check start operation_head ≡ Ok next → check next arguments ≡ Ok after
+      → check after refusal ≡ Ok then → check start (operation_head ++ arguments ++ refusal) ≡ Ok then
+  before_label next after then met also named = both_met start after then (operation_head ++ arguments) refusal
+      (both_met start next after operation_head arguments met also) named
 
   -- it is in the label
-  pub operation_label_failed : (next after : Counts) (e : Failure) → check start operation_head ≡ Ok next
-      → check next arguments ≡ Ok after → check after operation_label ≡ Err e → check start (operation_asked setting scope d) ≡ Err e
-  operation_label_failed next after e met also failed = ap (check start) (operation_asked-is setting scope d)
-      ∙ second_failed start after e (operation_head ++ arguments) operation_label
-      (both_met start next after operation_head arguments met also) failed
+  pub operation_label_failed : (next after then : Counts) (e : Failure) → check start operation_head ≡ Ok next
+      → check next arguments ≡ Ok after → check after refusal ≡ Ok then → check then operation_label ≡ Err e
+      → check start (operation_asked setting scope d) ≡ Err e
+  operation_label_failed next after then e met also named failed = ap (check start) (operation_asked-is setting scope d)
+      ∙ second_failed start then e (operation_head ++ arguments ++ refusal) operation_label
+      (before_label next after then met also named) failed
 
   -- there is none
-  pub operation_parts_met : (next after last : Counts) → check start operation_head ≡ Ok next → check next arguments ≡ Ok after
-      → check after operation_label ≡ Ok last → check start (operation_asked setting scope d) ≡ Ok last
-  operation_parts_met next after last met also rest = ap (check start) (operation_asked-is setting scope d)
-      ∙ both_met start after last (operation_head ++ arguments) operation_label
-      (both_met start next after operation_head arguments met also) rest
+  pub operation_parts_met : (next after then last : Counts) → check start operation_head ≡ Ok next → check next arguments ≡ Ok after
+      → check after refusal ≡ Ok then → check then operation_label ≡ Ok last → check start (operation_asked setting scope d) ≡ Ok last
+  operation_parts_met next after then last met also named rest = ap (check start) (operation_asked-is setting scope d)
+      ∙ both_met start then last (operation_head ++ arguments ++ refusal) operation_label
+      (before_label next after then met also named) rest
 
 -- ---- an `if`
 
@@ -259,7 +282,7 @@ module _ (version : ℕ) (places : Places) (scope : Scope) (d : Data) (start : C
 
 module _ (setting : Setting) (d : Data) (start : Counts) where
   abbrev operation_shape : List Demand
-  operation_shape = operation_shape_asked d
+  operation_shape = operation_shape_asked setting.version d
 
   abbrev counted : List Demand
   counted = one_more_operation setting.version ∷ []

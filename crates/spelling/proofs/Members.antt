@@ -50,8 +50,9 @@ absent names q (number n) only out = absurd (false≢true only)
 absent names q (string s) only out = absurd (false≢true only)
 absent names q (array ds) only out = absurd (false≢true only)
 
--- a step with an operation and no other part than a label is an operation
-pub only_operation : (d : Data) → has (codes "op") d ≡ true → has_only (codes "op" ∷ codes "as" ∷ []) d ≡ true → sort_of d ≡ Some Operation
+-- a step with an operation and no other part than a label and `else` is an operation
+pub only_operation : (d : Data) → has (codes "op") d ≡ true → has_only (codes "op" ∷ codes "as" ∷ codes "else" ∷ []) d ≡ true
+    → sort_of d ≡ Some Operation
 unfolding sort_of
 only_operation d op only = rw (
   op,
@@ -61,8 +62,8 @@ only_operation d op only = rw (
   none (codes "parallel") refl,
 ) refl
   where
-    none : (q : List ℕ) → is_among q (codes "op" ∷ codes "as" ∷ []) ≡ false → has q d ≡ false
-    none q out = absent (codes "op" ∷ codes "as" ∷ []) q d only out
+    none : (q : List ℕ) → is_among q (codes "op" ∷ codes "as" ∷ codes "else" ∷ []) ≡ false → has q d ≡ false
+    none q out = absent (codes "op" ∷ codes "as" ∷ codes "else" ∷ []) q d only out
 
 -- the lemma on operations under a name that an attribute can cite
 pub ruleset operations = only_operation

@@ -3,7 +3,7 @@ use Rattle.std.specs.Prelude.{ℕ, ℤ, nat_abs, ◌==◌, ◌&&◌, ◌||◌, B
 use Rattle.std.specs.Prelude.{Some, None, is_some, unwrap_or, option_and_then, nat_le, if◌then◌else◌}
 use Rattle.std.specs.Option.{option_map_or}
 use Rattle.serde_json.specs.Data.{Data, null, Items, no_items, item, Members}
-use Rattle.serde_json.specs.Find.{get, as_bool, as_object, as_str}
+use Rattle.serde_json.specs.Find.{at, get, as_bool, as_object, as_str}
 use Rattle.serde_json.specs.Events.{items_len}
 use Rattle.objects.specs.declared.kind.Kind.{Kind}
 use Rattle.objects.specs.declared.kind.Kind.TheVariants as kind
@@ -14,12 +14,14 @@ use Rattle.rules.specs.declared.rule.Rule.TheVariants as rule
 use Rattle.rules.specs.declared.rule.ArgumentRule.TheVariants as argument
 use Rattle.rules.specs.declared.rule.ConditionRule.TheVariants as condition
 use Rattle.rules.specs.declared.rule.CountRule.TheVariants as counted
+use Rattle.rules.specs.declared.rule.NameRule.{NameRule}
 use Rattle.rules.specs.declared.rule.NameRule.TheVariants as named
+use Rattle.rules.specs.declared.rule.SourceRule.{SourceRule}
+use Rattle.rules.specs.declared.rule.SourceRule.TheVariants as source
 use Rattle.rules.specs.declared.rule.ShapeRule.TheVariants as shape
 use Rattle.rules.specs.declared.rule.StartRule.TheVariants as start
 use Rattle.rules.specs.declared.rule.Place.{Place}
 use Rattle.rules.specs.declared.rule.Place.TheVariants.{Third, Fourth}
-use Rattle.words.specs.declared.verb.AmountVerb.{AmountVerb}
 use Rattle.words.specs.declared.verb.LoneVerb.TheVariants.{Balance}
 use Rattle.words.specs.declared.verb.Verb.{Verb}
 use Rattle.words.specs.declared.verb.Verb.TheVariants.{OfAmount, OfItem, OfPair, Alone}
@@ -62,11 +64,35 @@ label_asked scope earlier (Some name) = holds (is_name name) (rule.Name named.La
     ∷ holds (not (is_named name scope || is_named name earlier)) rule.NewLabel
     ∷ []
 
+-- a reason, where there is one, is a name, by this rule
+unfoldable pub reason_asked : NameRule → Option (List ℕ) → List Demand
+reason_asked which None = []
+reason_asked which (Some reason) = holds (is_name reason) (rule.Name which) ∷ []
+
+-- what a label is of, once it is seen
+abbrev pub subject_of : List ℕ → Scope → Subject
+subject_of name scope = unwrap_or (named name scope) Outcome
+
 -- ---- operations
 
 -- the amount in an operation's array
 abbrev pub amount_item : ℕ → Data → Option ℕ
 amount_item i op = option_and_then (within 1 largest_amount) (whole_item i op)
+
+-- versions whose operations may have arguments that labels give, and `else`
+abbrev pub has_fills : ℕ → Bool
+has_fills version = nat_le 5 version
+
+-- the argument at an index is given by a label: it is an object of JSON
+abbrev pub is_source : ℕ → ℕ → Data → Bool
+is_source version i op = is_some (option_and_then as_object (at i op)) && has_fills version
+
+-- the label that gives the argument at an index
+abbrev pub source_label : ℕ → Data → Option (List ℕ)
+source_label i op = option_and_then source_in (at i op)
+  where
+    source_in : Data → Option (List ℕ)
+    source_in d = if has_only (member_names form.Source) d then text_member (codes "from") d else None
 
 abbrev pub has_count : ℕ → Data → Bool
 has_count n op = option_map_or (λ m. m == n) (count op) false
@@ -80,22 +106,38 @@ index_of Fourth = 3
 abbrev pub name_item : ℕ → Data → List ℕ
 name_item i op = or_empty (text_item i op)
 
+-- a label gives the argument at a place, and what it is of fits, by this rule
+unfoldable pub source_asked : Scope → (Subject → Bool) → (Subject → SourceRule) → Place → Data → List Demand
+source_asked scope fits fit place op =
+    let name = or_empty (source_label (index_of place) op) in
+    holds (is_some (source_label (index_of place) op)) (rule.Source place source.Label)
+    ∷ holds (is_named name scope) (rule.Source place source.Seen)
+    ∷ holds (fits (subject_of name scope)) (rule.Source place (fit (subject_of name scope)))
+    ∷ []
+
 unfoldable pub item_asked : Place → Data → List Demand
 item_asked place op = holds (is_some (text_item (index_of place) op)) (rule.Argument (argument.Item place))
     ∷ holds (is_name (name_item (index_of place) op)) (rule.Name (named.Argument place))
     ∷ []
 
-unfoldable pub amount_asked : AmountVerb → Data → List Demand
-amount_asked v op = holds (has_count 3 op) (rule.Argument (argument.Count (OfAmount v)))
-    ∷ holds (is_some (amount_item 2 op)) (rule.Argument argument.Amount)
-    ∷ []
+unfoldable pub amount_asked : ℕ → Scope → Data → List Demand
+amount_asked version scope op =
+    if is_source version 2 op then source_asked scope fits_number source.Number Third op
+    else holds (is_some (amount_item 2 op)) (rule.Argument argument.Amount) ∷ []
 
-unfoldable pub arguments_asked : Verb → Data → List Demand
-arguments_asked (OfAmount v) op = amount_asked v op
-arguments_asked (OfItem v) op = holds (has_count 3 op) (rule.Argument (argument.Count (OfItem v))) ∷ item_asked Third op
-arguments_asked (OfPair v) op = holds (has_count 4 op) (rule.Argument (argument.Count (OfPair v)))
-    ∷ item_asked Third op ++ item_asked Fourth op
-arguments_asked (Alone v) op = holds (has_count 2 op) (rule.Argument (argument.Count (Alone v))) ∷ []
+-- an item, or a label that gives one
+unfoldable pub argument_asked : ℕ → Scope → Place → Data → List Demand
+argument_asked version scope place op =
+    if is_source version (index_of place) op then source_asked scope fits_item source.Item place op else item_asked place op
+
+unfoldable pub arguments_asked : ℕ → Scope → Verb → Data → List Demand
+arguments_asked version scope (OfAmount v) op = holds (has_count 3 op) (rule.Argument (argument.Count (OfAmount v)))
+    ∷ amount_asked version scope op
+arguments_asked version scope (OfItem v) op = holds (has_count 3 op) (rule.Argument (argument.Count (OfItem v)))
+    ∷ argument_asked version scope Third op
+arguments_asked version scope (OfPair v) op = holds (has_count 4 op) (rule.Argument (argument.Count (OfPair v)))
+    ∷ argument_asked version scope Third op ++ argument_asked version scope Fourth op
+arguments_asked version scope (Alone v) op = holds (has_count 2 op) (rule.Argument (argument.Count (Alone v))) ∷ []
 
 abbrev pub object_of : Data → List ℕ
 object_of op = or_empty (text_item 0 op)
@@ -110,12 +152,22 @@ verb_at setting object call = option_and_then (λ k. verb_of_text setting.versio
 abbrev pub operation_verb : Setting → List ℕ → List ℕ → Verb
 operation_verb setting object call = unwrap_or (verb_at setting object call) (Alone Balance)
 
-unfoldable pub operation_shape_asked : Data → List Demand
-operation_shape_asked d =
+-- `else` of an operation: `true` or a reason, which a version may have
+abbrev pub is_else : ℕ → Data → Bool
+is_else version d = not (has (codes "else") d)
+    || (has_fills version && (unwrap_or (as_bool (part (codes "else") d)) false || is_some (as_str (part (codes "else") d))))
+
+-- the reason of `else`, if it has one
+abbrev pub else_reason : Data → Option (List ℕ)
+else_reason d = text_member (codes "else") d
+
+unfoldable pub operation_shape_asked : ℕ → Data → List Demand
+operation_shape_asked version d =
     holds (has_only (member_names form.Operation) d) (rule.Shape (shape.Members form.Operation))
     ∷ holds (is_some (text_item 0 (part (codes "op") d))) (rule.Shape shape.OperationObject)
     ∷ holds (is_some (text_item 1 (part (codes "op") d))) (rule.Shape shape.OperationWord)
     ∷ holds (label_is_text d) (rule.Shape shape.Label)
+    ∷ holds (is_else version d) (rule.Shape (shape.Else version))
     ∷ []
 
 -- the object is known, and its kind has the call
@@ -131,10 +183,11 @@ verb_in setting op = operation_verb setting (object_of op) (call_named op)
 
 unfoldable pub operation_asked : Setting → Scope → Data → List Demand
 operation_asked setting scope d =
-    operation_shape_asked d
+    operation_shape_asked setting.version d
     ++ one_more_operation setting.version ∷ []
     ++ target_asked setting (object_of (part (codes "op") d)) (call_named (part (codes "op") d))
-    ++ arguments_asked (verb_in setting (part (codes "op") d)) (part (codes "op") d)
+    ++ arguments_asked setting.version scope (verb_in setting (part (codes "op") d)) (part (codes "op") d)
+    ++ reason_asked named.Else (else_reason d)
     ++ label_asked scope [] (label_in d)
 
 -- ---- the other steps
@@ -182,10 +235,6 @@ if_shape_asked d =
     ∷ holds (has (codes "then") d) (rule.Shape shape.Then)
     ∷ []
 
--- what a label is of, once it is seen
-abbrev pub subject_of : List ℕ → Scope → Subject
-subject_of name scope = unwrap_or (named name scope) Outcome
-
 -- the label is seen
 unfoldable pub seen_asked : Scope → List ℕ → List Demand
 seen_asked scope name = holds (is_named name scope) rule.SeenLabel ∷ []
@@ -215,10 +264,6 @@ handlers_in d = option_and_then as_object (get (codes "handlers") d)
 abbrev pub is_abort : ℕ → Data → Bool
 is_abort version d = unwrap_or (as_bool d) false || (nat_le 3 version && is_some (as_str d))
 
-unfoldable pub reason_asked : Option (List ℕ) → List Demand
-reason_asked None = []
-reason_asked (Some reason) = holds (is_name reason) (rule.Name named.Reason) ∷ []
-
 unfoldable pub abort_shape_asked : ℕ → Data → List Demand
 abort_shape_asked version d = holds (has_only (member_names form.Abort) d) (rule.Shape (shape.Members form.Abort))
     ∷ holds (is_abort version (part (codes "abort") d)) (rule.Shape (shape.Abort version))
@@ -226,7 +271,7 @@ abort_shape_asked version d = holds (has_only (member_names form.Abort) d) (rule
     ∷ []
 
 unfoldable pub abort_asked : ℕ → Data → List Demand
-abort_asked version d = abort_shape_asked version d ++ reason_asked (as_str (part (codes "abort") d))
+abort_asked version d = abort_shape_asked version d ++ reason_asked named.Reason (as_str (part (codes "abort") d))
 
 unfoldable pub parallel_shape_asked : Data → List Demand
 parallel_shape_asked d = holds (has_only (member_names form.Parallel) d) (rule.Shape (shape.Members form.Parallel))

@@ -16,7 +16,7 @@ use Rattle.spelling.specs.Scope.{Scope, Setting, Table, is_listed}
 -- of an operation: its shape, and what it names
 unfoldable pub operation_head_asked : Setting → Data → List Demand
 operation_head_asked setting d =
-    operation_shape_asked d
+    operation_shape_asked setting.version d
     ++ one_more_operation setting.version ∷ []
     ++ target_asked setting (object_of (part (codes "op") d)) (call_named (part (codes "op") d))
 

@@ -1,6 +1,5 @@
 pub mod Hashing
 pub mod Demand
-pub mod Amounts
 pub mod Look
 pub mod Scope
 pub mod Asked

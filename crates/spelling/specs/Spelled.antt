@@ -11,25 +11,34 @@ use Rattle.objects.specs.declared.kind.Kind.{Kind}
 use Rattle.objects.specs.declared.kind.Kind.TheVariants as kind
 use Rattle.objects.specs.declared.value.Value.{Value}
 use Rattle.objects.specs.declared.value.Value.TheVariants as value
-use Rattle.objects.specs.declared.call.Call.{Call}
+use Rattle.meaning.specs.declared.template.Argument.{Argument}
+use Rattle.meaning.specs.declared.template.Argument.TheVariants as argument
+use Rattle.meaning.specs.declared.template.Refusal.{Refusal}
+use Rattle.meaning.specs.declared.template.Refusal.TheVariants.{GoesOn, Aborts}
+use Rattle.meaning.specs.declared.template.Template.{Template}
+use Rattle.meaning.specs.declared.template.Template.TheVariants as template
+use Rattle.meaning.specs.declared.template.Template.TheVariants.{Given}
 use Rattle.meaning.specs.declared.test.Test.{Test}
 use Rattle.meaning.specs.declared.test.Test.TheVariants.{Is, AtLeast, IsItem}
 use Rattle.words.specs.declared.word.Word.TheVariants.{Aborted}
 use Rattle.objects.specs.Entries.{State}
-use Rattle.meaning.specs.Trees.{Block, NoStep, Step, Operation, If, Subaction, Abort, Parallel, handlers_of}
+use Rattle.meaning.specs.Trees.{Block, NoStep, Step, Operation, Fill, If, Subaction, Abort, Parallel, handlers_of}
 use Rattle.batch.specs.Names.{Texts}
 use Rattle.batch.specs.Views.{Tried, steps_of, children_of}
+use Rattle.words.specs.declared.verb.ItemVerb.{ItemVerb}
+use Rattle.words.specs.declared.verb.PairVerb.{PairVerb}
 use Rattle.words.specs.declared.verb.Verb.{Verb}
 use Rattle.words.specs.declared.verb.Verb.TheVariants.{OfAmount, OfItem, OfPair, Alone}
 use Rattle.rules.specs.declared.subject.Subject.{Subject}
 use Rattle.spelling.specs.declared.steps.Sort.{Sort}
 use Rattle.spelling.specs.declared.steps.Sort.TheVariants.{Operation as an_operation, If as an_if, Sub as a_sub, Abort as an_abort}
 use Rattle.spelling.specs.declared.steps.Sort.TheVariants.{Parallel as a_parallel}
-use Rattle.spelling.specs.Amounts.{amount_of}
+use Rattle.meaning.specs.Amounts.{amount_of}
 use Rattle.spelling.specs.Look.{has, text_member, whole_member, or_empty}
 use Rattle.spelling.specs.Scope.{Numbers, no_numbers, Setting, Scope, number_of, label_number, place_of, with_item, with_reason}
 use Rattle.words.specs.Verbs.{amount_call, item_call, lone_call, pair_call}
-use Rattle.spelling.specs.Asked.{part, label_in, amount_item, name_item, object_of, verb_in, if_label, subject_of, tested_word, sort_of}
+use Rattle.spelling.specs.Asked.{part, else_reason, is_source, label_in, source_label, amount_item, name_item, object_of, verb_in}
+use Rattle.spelling.specs.Asked.{if_label, subject_of, tested_word, sort_of}
 use Rattle.spelling.specs.Asked.{scope_after, handlers_in, children_in, kind_in, text_of, key_of, value_of, number_start, signed_start}
 use Rattle.spelling.specs.Asked.{names_of, or_no_items, objects_in, transactions_in, setting_in, version_in}
 use Rattle.meaning.specs.declared.limits.TheConstants.{MAX_DEPTH}
@@ -50,22 +59,58 @@ items_of first second numbers =
 abbrev pub spelled_map : {A B : Type 0} → (A → B) → A × Numbers → B × Numbers
 spelled_map f p = (f p.0, p.1)
 
-unfoldable pub call_of : Verb → Numbers → Data → Call × Numbers
-call_of (OfAmount v) numbers op = (amount_call v (amount_of (or_zero (amount_item 2 op))), numbers)
-call_of (OfItem v) numbers op = (item_call v (item_of (name_item 2 op) numbers), with_item (name_item 2 op) numbers)
-call_of (OfPair v) numbers op =
-    let after = with_item (name_item 2 op) numbers in
-    (pair_call v (item_of (name_item 2 op) numbers) (item_of (name_item 3 op) after), with_item (name_item 3 op) after)
-call_of (Alone v) numbers op = (lone_call v, numbers)
+-- the number of the label that gives the argument at an index
+abbrev pub source_of : Scope → ℕ → Data → ℕ
+source_of scope i op = label_number (or_empty (source_label i op)) scope
+
+-- an item, or a label that gives one
+abbrev pub argument_of : ℕ → Scope → ℕ → Numbers → Data → Argument × Numbers
+argument_of version scope i numbers op =
+    if is_source version i op then (argument.From (source_of scope i op), numbers)
+    else (argument.Is (item_of (name_item i op) numbers), with_item (name_item i op) numbers)
+
+abbrev pub item_template : ItemVerb → Argument → Template
+item_template v (argument.Is x) = Given (item_call v x)
+item_template v (argument.From label) = template.OfItem v label
+
+abbrev pub pair_template : PairVerb → Argument → Argument → Template
+pair_template v (argument.Is key) (argument.Is x) = Given (pair_call v key x)
+pair_template v key x = template.OfPair v key x
+
+unfoldable pub template_of : ℕ → Scope → Verb → Numbers → Data → Template × Numbers
+template_of version scope (OfAmount v) numbers op = (
+  if is_source version 2 op then template.OfAmount v (source_of scope 2 op)
+      else Given (amount_call v (amount_of (or_zero (amount_item 2 op)))),
+  numbers,
+)
+template_of version scope (OfItem v) numbers op = spelled_map (item_template v) (argument_of version scope 2 numbers op)
+template_of version scope (OfPair v) numbers op =
+    let key = argument_of version scope 2 numbers op in
+    spelled_map (pair_template v key.0) (argument_of version scope 3 key.1 op)
+template_of version scope (Alone v) numbers op = (Given (lone_call v), numbers)
+
+unfoldable pub reason_of : Numbers → Option (List ℕ) → Option ℕ × Numbers
+reason_of numbers None = (None, numbers)
+reason_of numbers (Some reason) = (Some (number_of reason numbers.reasons), with_reason reason numbers)
+
+-- what the operation's refusal does
+unfoldable pub refusal_of : Numbers → Data → Refusal × Numbers
+refusal_of numbers d = if has (codes "else") d then spelled_map Aborts (reason_of numbers (else_reason d)) else (GoesOn, numbers)
+
+-- an operation: where its call is given and a refusal does nothing, it is the plain step
+abbrev pub operation_step : ℕ → Template → Bool → Refusal → Step
+operation_step object (Given call) labelled GoesOn = Operation object call labelled
+operation_step object template labelled refusal = Fill object template labelled refusal
 
 -- the place of the object that an operation names
 abbrev pub target_of : Setting → List ℕ → ℕ
 target_of setting object = or_zero (place_of object setting.names)
 
-unfoldable pub operation_of : Setting → Numbers → Data → Step × Numbers
-operation_of setting numbers d =
+unfoldable pub operation_of : Setting → Scope → Numbers → Data → Step × Numbers
+operation_of setting scope numbers d =
     let op = part (codes "op") d in
-    spelled_map (λ call. Operation (target_of setting (object_of op)) call (is_some (label_in d))) (call_of (verb_in setting op) numbers op)
+    let made = template_of setting.version scope (verb_in setting op) numbers op in
+    spelled_map (operation_step (target_of setting (object_of op)) made.0 (is_some (label_in d))) (refusal_of made.1 d)
 
 unfoldable pub test_of : Subject → Numbers → Data → Test × Numbers
 test_of subject numbers d =
@@ -120,10 +165,6 @@ sub_of block scope numbers d =
     spelled_map (λ handler. tried body.0 handlers.0 handler (is_some (label_in d)))
     (block_of_if block scope handlers.1 (get (codes "handler") d))
 
-unfoldable pub reason_of : Numbers → Option (List ℕ) → Option ℕ × Numbers
-reason_of numbers None = (None, numbers)
-reason_of numbers (Some reason) = (Some (number_of reason numbers.reasons), with_reason reason numbers)
-
 unfoldable pub abort_of : Numbers → Data → Step × Numbers
 abort_of numbers d = spelled_map Abort (reason_of numbers (as_str (part (codes "abort") d)))
 
@@ -143,7 +184,7 @@ sub_step child = Subaction child.body child.handlers child.labelled
 
 abbrev pub step_of_by : Option Sort → Spelling → Setting → Scope → Numbers → Data → Step × Numbers
 step_of_by None block setting scope numbers d = (Abort None, numbers)
-step_of_by (Some an_operation) block setting scope numbers d = operation_of setting numbers d
+step_of_by (Some an_operation) block setting scope numbers d = operation_of setting scope numbers d
 step_of_by (Some an_if) block setting scope numbers d = if_of block scope numbers d
 step_of_by (Some a_sub) block setting scope numbers d = spelled_map sub_step (sub_of block scope numbers d)
 step_of_by (Some an_abort) block setting scope numbers d = abort_of numbers d

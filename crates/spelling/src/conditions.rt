@@ -7,9 +7,9 @@ ghost use Rattle.spelling.specs.Look.{text_member};
 ghost use Rattle.spelling.specs.Scope.{numbers_of};
 ghost use Rattle.spelling.specs.Spelled.{item_of, test_of};
 
+use crate::arguments::item_of;
 use crate::counts::Counts;
 use crate::look::{has, has_only, text_member, whole_member};
-use crate::operations::item_of;
 use crate::state::Numbering;
 use batch::{Test, Word, is_name};
 use rules::{

@@ -1,5 +1,5 @@
 //! Labels, and the demands on them.
-ghost use Rattle.std.specs.Prelude.{◌≡◌, [], length, option_map, true, false, not, Some, unwrap_or, IfErr, IfOk, MatchResult, OnOk};
+ghost use Rattle.std.specs.Prelude.{◌≡◌, [], is_some, length, option_map, true, false, not, Some, unwrap_or, IfErr, IfOk, IfSome, MatchResult, OnOk};
 ghost use Rattle.serde_json.specs.View.{view};
 ghost use Rattle.spelling.specs.Answer.{IsFirst, IsMet};
 ghost use Rattle.spelling.specs.Asked.{label_asked, label_in, label_is_text, seen_asked, subject_of};
@@ -165,8 +165,19 @@ pub fn seen_label(name: &str, labels: &Labels, counts: &Counts) -> Result<(u32, 
     ensures number { IfOk result (λ label. label.0 ≡ label_number name.now (scope_of labels.now.entries)) }
     ensures subject { IfOk result (λ label. label.1 ≡ subject_of name.now (scope_of labels.now.entries)) }
 {
-    let Some((number, _, subject)) = labels.get_full(name) else {
-        return Err(counts.broken(Rule::SeenLabel));
-    };
-    Ok((fit(number), *subject))
+    match found_label(name, labels) {
+        Some(found) => Ok(found),
+        None => Err(counts.broken(Rule::SeenLabel)),
+    }
+}
+
+/// The number of a label and what it is of, if it is seen.
+#[tactic(auto, using(crate::proofs::LabelLemmas::all_labels))]
+pub(crate) fn found_label(name: &str, labels: &Labels) -> Option<(u32, Subject)>
+    ensures seen { is_some result ≡ is_named name.now (scope_of labels.now.entries) }
+    ensures number { IfSome result (λ label. label.0 ≡ label_number name.now (scope_of labels.now.entries)) }
+    ensures subject { IfSome result (λ label. label.1 ≡ subject_of name.now (scope_of labels.now.entries)) }
+{
+    let (number, _, subject) = labels.get_full(name)?;
+    Some((fit(number), *subject))
 }

@@ -2,6 +2,7 @@
 //! in the order of the faults, and the batch's values that they spell. `pull` and `lang` rest on it.
 #![tactic(auto)]
 
+pub mod arguments;
 mod conditions;
 pub mod counts;
 pub mod declared;

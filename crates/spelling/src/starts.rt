@@ -12,11 +12,11 @@ ghost use Rattle.spelling.specs.Places.{elements_placed, entries_placed, object_
 ghost use Rattle.spelling.specs.Scope.{numbers_of, setting_of, with_item, with_text};
 ghost use Rattle.spelling.specs.Spelled.{bind_all, entries_of, item_of, pair_of, pairs_of, put_all, spelled_map, start_of, starts_of};
 
+use crate::arguments::{item_of, items_of};
 use crate::counts::Counts;
 use crate::declared::Declared;
 use crate::hashing::Texts;
 use crate::look::{count, has_only, text_item, text_member};
-use crate::operations::{item_of, items_of};
 use crate::state::{Numbering, add_text};
 use crate::unmet::Unmet;
 use batch::{Item, Kind, Objects, Value as ObjectValue, is_name};

@@ -100,15 +100,16 @@ pub fn reason_number(
     Ok(number)
 }
 
-/// The reason's number, where there is a reason.
+/// The reason's number, where there is a reason: it has to be a name, by this rule.
 #[tactic(auto, unfolding(crate::specs::Asked::reason_asked, crate::specs::Spelled::reason_of))]
 pub fn read_reason(
     alloc: Global,
     reason: Option<&str>,
+    rule: NameRule,
     state: &mut State,
 ) -> Result<Option<u32>, Failure>
-    ensures met { OnOk result (IsMet state.old.counts (reason_asked (option_map (λ text. text.now) reason.entry)) state.new.counts) }
-    ensures first { IfErr result (IsFirst state.old.counts (reason_asked (option_map (λ text. text.now) reason.entry))) }
+    ensures met { OnOk result (IsMet state.old.counts (reason_asked rule (option_map (λ text. text.now) reason.entry)) state.new.counts) }
+    ensures first { IfErr result (IsFirst state.old.counts (reason_asked rule (option_map (λ text. text.now) reason.entry))) }
     ensures value { IfOk result (λ number. (number, numbers_of state.new.numbering)
         ≡ reason_of (numbers_of state.old.numbering) (option_map (λ text. text.now) reason.entry)) }
     ensures labels { OnOk result (scope_of state.new.labels.entries ≡ scope_of state.old.labels.entries) }
@@ -117,13 +118,7 @@ pub fn read_reason(
         return Ok(None);
     };
     let reasons = &mut state.numbering.reasons;
-    let number = reason_number(
-        alloc,
-        name,
-        Rule::Name(NameRule::Reason),
-        &state.counts,
-        reasons,
-    )?;
+    let number = reason_number(alloc, name, Rule::Name(rule), &state.counts, reasons)?;
     Ok(Some(number))
 }
 
@@ -164,7 +159,7 @@ fn read_abort(alloc: Global, step: &Value, version: u8, state: &mut State) -> Re
     ensures labels { OnOk result (scope_of state.new.labels.entries ≡ scope_of state.old.labels.entries) }
 {
     let reason = abort_of(step, version, &mut state.counts)?;
-    let number = read_reason(alloc, reason, state)?;
+    let number = read_reason(alloc, reason, NameRule::Reason, state)?;
     Ok(Step::Abort(number))
 }
 

@@ -1,4 +1,4 @@
-use Rattle.std.proofs.Common.{◌≡◌, ◌∙◌, List, ℕ, Bool, true, false, Some, None, IsTrue}
+use Rattle.std.proofs.Common.{◌≡◌, List, ℕ, Bool, true, false, Some, None, IsTrue}
 use Rattle.std.proofs.Common.{cond, refl, subst, sym, true≢false, arith}
 use Rattle.std.specs.Str.{IsUtf8, is_utf8}
 use Rattle.std.proofs.lemmas.Result.{IfOk-weaker}

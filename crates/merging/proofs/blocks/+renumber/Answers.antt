@@ -1,15 +1,15 @@
 use Rattle.std.proofs.Common.{map, refl, rules, arith, ◌∙◌, ap, sym}
 use Rattle.std.proofs.lemmas.List.{length-map}
-use Rattle.batch.specs.Views.{block_view, handler_view, step_view, subaction_view}
+use Rattle.batch.specs.Views.{block_view, filling_view, handler_view, step_view, subaction_view}
 use Rattle.merging.specs.Renumbered.{new_number, renumbered, renumbered_member, renumbered_step, renumbered_tried}
 use Rattle.merging.proofs.Mapped.{mapped_whole, view_more}
-use Rattle.merging.proofs.RenumberedBlocks.{if_again, parallel_again, steps_again, sub_again, subaction_again}
+use Rattle.merging.proofs.RenumberedBlocks.{fill_again, if_again, parallel_again, steps_again, sub_again, subaction_again}
 use Rattle.batch.specs.Views.{steps_of}
 use Rattle.batch.specs.declared.tree.Step.{the_lemmas}
 use Rattle.batch.proofs.ViewLemmas.{block_view-is, step_view-Op, step_view-Abort}
 use Rattle.merging.proofs.blocks.+renumber.Goals as goal
-use Rattle.merging.proofs.blocks.+renumber.Goals.{renumber_step-in-Op, renumber_step-in-If, renumber_step-in-Sub, renumber_step-in-Abort}
-use Rattle.merging.proofs.blocks.+renumber.Goals.{renumber_step-in-Parallel}
+use Rattle.merging.proofs.blocks.+renumber.Goals.{renumber_step-in-Op, renumber_step-in-Fill, renumber_step-in-If, renumber_step-in-Sub}
+use Rattle.merging.proofs.blocks.+renumber.Goals.{renumber_step-in-Abort, renumber_step-in-Parallel}
 
 pub renumber_children-loop-place-init : goal.renumber_children-loop-place-init
 renumber_children-loop-place-init t c = (search rules, refl)
@@ -81,17 +81,21 @@ renumber_step-returns t c =
     let reasons = new_number c.args.numbers.now.reasons.items in
     elim c.match-replace.branch [
       | renumber_step-in-Op w ↦ search (rules, step_view-Op)
-      | renumber_step-in-If w ↦ ap step_view w.t-18-is
+      | renumber_step-in-Fill w ↦ ap step_view w.t-19-is
+          ∙ fill_again items reasons w.in-Fill.filling _
+          (w.renumber_filling.ensures ∙ ap (λ f. renumbered_step items reasons (filling_view f)) w.deref_mut.ensures.value)
+          ∙ ap (λ s. renumbered_step items reasons (step_view s)) (sym w.in-Fill.is ∙ c.replace.ensures.value)
+      | renumber_step-in-If w ↦ ap step_view w.t-19-is
           ∙ if_again items reasons w.in-If.label w.in-If.test _ w.in-If.then w.in-If.otherwise _ _ w.renumbered_test.ensures
-          (w.renumber_block.ensures ∙ ap (λ b. renumbered items reasons (block_view b)) w.deref_mut.ensures.value)
-          (w.renumber_block-in-If.ensures ∙ ap (λ b. renumbered items reasons (block_view b)) w.deref_mut-in-If.ensures.value)
+          (w.renumber_block.ensures ∙ ap (λ b. renumbered items reasons (block_view b)) w.deref_mut-in-If.ensures.value)
+          (w.renumber_block-in-If.ensures ∙ ap (λ b. renumbered items reasons (block_view b)) w.deref_mut-in-If-2.ensures.value)
           ∙ ap (λ s. renumbered_step items reasons (step_view s)) (sym w.in-If.is ∙ c.replace.ensures.value)
-      | renumber_step-in-Sub w ↦ ap step_view w.t-18-is
+      | renumber_step-in-Sub w ↦ ap step_view w.t-19-is
           ∙ sub_again items reasons w.in-Sub.child _
           (w.renumber_subaction.ensures ∙ ap (λ s. renumbered_tried items reasons (subaction_view s)) w.deref_mut-in-Sub.ensures.value)
           ∙ ap (λ s. renumbered_step items reasons (step_view s)) (sym w.in-Sub.is ∙ c.replace.ensures.value)
       | renumber_step-in-Abort w ↦ search (rules, step_view-Abort)
-      | renumber_step-in-Parallel w ↦ ap step_view w.t-18-is
+      | renumber_step-in-Parallel w ↦ ap step_view w.t-19-is
           ∙ parallel_again items reasons w.in-Parallel.children _ w.renumber_children.ensures
           ∙ ap (λ s. renumbered_step items reasons (step_view s)) (sym w.in-Parallel.is ∙ c.replace.ensures.value)
     ]

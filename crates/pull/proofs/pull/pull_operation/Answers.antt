@@ -8,9 +8,10 @@ use Rattle.spelling.specs.Answer.{IsMet}
 use Rattle.spelling.specs.Demand.{one_more_operation}
 use Rattle.std.specs.Prelude.{is_some}
 use Rattle.meaning.specs.Trees as tree
+use Rattle.meaning.specs.declared.template.Template.TheVariants.{Given}
 use Rattle.batch.specs.declared.tree.Step.{Op, the_lemmas}
 use Rattle.rules.specs.declared.subject.Subject.TheVariants.{Reply}
-use Rattle.spelling.specs.Spelled.{call_of, target_of}
+use Rattle.spelling.specs.Spelled.{target_of, template_of}
 use Rattle.spelling.specs.Scope.{numbers_of, scope_of, setting_of, with_label}
 use Rattle.pull.specs.Pulled.{ReadsValue, op_array, op_step}
 use Rattle.pull.proofs.PulledLemmas.{reads_array, reads_item, reads_member, reads_object, reads_string}
@@ -52,9 +53,10 @@ returns c =
       subst (λ ts. ReadsValue 2 (Token.begin_object ∷ Token.key (codes "op") ∷ ts) (op_step label op) new) (sym tokens)
           (reads_object 1 _ _ new members),
       λ places. operation_met setting scope label o w rest places start next counted target
-          (subst (λ v. IsMet next (arguments_asked v op) next) verb (given.2 o w next)) labels,
+          (subst (λ v. IsMet next (arguments_asked setting.version scope v op) next) verb (given.2 setting.version scope o w next)) labels,
       λ block. ap (λ (step : tree.Step). (step, after)) shown
           ∙ operation_spelled setting scope label o w rest block numbers after c.in_ok-call-2.call
-          (subst (λ v. (c.in_ok-call-2.call, after) ≡ call_of v numbers op) verb (given.3 o w)),
+          (subst (λ v. (Given c.in_ok-call-2.call, after) ≡ template_of setting.version scope v numbers op) verb
+          (given.3 setting.version scope o w)),
       added ∙ ap (λ v. with_label label (Reply v) scope) verb ∙ sym (operation_scope setting scope label o w rest),
     )

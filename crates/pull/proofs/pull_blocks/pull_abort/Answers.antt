@@ -2,6 +2,7 @@ use Rattle.std.proofs.Common.{◌≡◌, [], ◌∷◌, option_map, sym, ap, ◌
 use Rattle.meaning.specs.Trees as tree
 use Rattle.batch.specs.Views.{step_view}
 use Rattle.batch.specs.declared.tree.Step.{Abort, the_lemmas}
+use Rattle.rules.specs.declared.rule.NameRule.TheVariants.{Reason}
 use Rattle.spelling.specs.Answer.{IsMet}
 use Rattle.spelling.specs.Asked.{reason_asked}
 use Rattle.spelling.specs.Demand.{one_more_node}
@@ -23,7 +24,7 @@ returns c =
     let reason = option_map (λ text. text.now) c.in_ok-reason.reason in
     let done = c.in_ok-reason.ensures in
     let one : IsMet start (one_more_node setting.version ∷ []) counted = grind (arith, rules) in
-    let met : IsMet counted (reason_asked reason) next = grind (arith, rules) in
+    let met : IsMet counted (reason_asked Reason reason) next = grind (arith, rules) in
     let value : (c.in_ok-number.number, after) ≡ reason_of numbers reason = grind (arith, rules) in
     let same : scope_of c.read_reason.new.state.labels.entries ≡ scope = grind (arith, rules) in
     let shown : step_view (Abort c.in_ok-number.number) ≡ tree.Abort c.in_ok-number.number = search (rules, the_lemmas) in (
