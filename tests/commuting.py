@@ -1,5 +1,6 @@
 """The tables of `docs/DOCUMENT.md` on which operations commute: two transactions share a round where they say so."""
 
+import functools
 import itertools
 import json
 import pathlib
@@ -34,14 +35,17 @@ def cells(line):
     return [cell.strip() for cell in line.strip().strip("|").split("|")]
 
 
-def table_of(title):
-    """The rows of a type's table, each by its heading."""
+@functools.cache
+def table_of(kind):
+    """The rows of a kind's table, each by its heading."""
+    title = next(title for title, one, _ in TABLES if one == kind)
     section = PAGE.read_text().split("### %s: who commutes\n" % title)[1].split("\n## ")[0].split("\n### ")[0]
     lines = [cells(line) for line in section.splitlines() if line.startswith("|")]
     columns = lines[0][1:]
     return {row[0]: dict(zip(columns, row[1:])) for row in lines[2:]}
 
 
+@functools.cache
 def is_under(heading, operation, reply):
     """Whether a heading, as "`unbind`, `lookup` = `missing`", speaks of the operation with this reply."""
     wanted = None
@@ -54,7 +58,7 @@ def is_under(heading, operation, reply):
     return False
 
 
-def commute(cell, operations, replies):
+def says(cell, operations, replies):
     """What a cell says of two operations; None where it says that no value allows both."""
     if cell.startswith(("yes", "no")):
         return cell.startswith("yes")
@@ -64,7 +68,7 @@ def commute(cell, operations, replies):
         return any(one[-1] == reply.split()[-1] for one, reply in zip(operations, reversed(replies)))
     if cell == "only where A is at most N":
         numbers = dict(zip((one[0] for one in operations), zip(operations, replies)))
-        return numbers["raise"][0][1] <= int(numbers["top"][1])
+        return int(numbers["raise"][0][1]) <= int(numbers["top"][1])
     return None
 
 
@@ -72,6 +76,16 @@ def of_one_item(kind, operations):
     """Whether the table speaks of them: operations on different items or keys commute."""
     items = {one[1] for one in operations if len(one) > 1}
     return kind not in ("set", "directory") or len(items) < 2
+
+
+def commute(kind, one, other):
+    """What the page says of two operations on one object, each with its reply; None where no value allows both."""
+    operations, replies = zip(one, other)
+    if not of_one_item(kind, operations):
+        return True
+    table = table_of(kind)
+    row = next(table[heading] for heading in table if is_under(heading, *one))
+    return says(next(row[heading] for heading in row if is_under(heading, *other)), operations, replies)
 
 
 def report_of(program, kind, start, *transactions):
@@ -82,18 +96,13 @@ def report_of(program, kind, start, *transactions):
 
 
 def try_table(program, title, kind, starts):
-    table = table_of(title)
     operations = list(operations_of(kind))
     for start in starts:
         replies = [report_of(program, kind, start, one)[1].split(" = ")[1] for one in operations]
         known = list(zip(operations, replies))
         for first, reply in known:
             for second, other in known:
-                said = True
-                if of_one_item(kind, (first, second)):
-                    row = [table[heading] for heading in table if is_under(heading, first, reply)]
-                    cell = [row[0][heading] for heading in row[0] if is_under(heading, second, other)]
-                    said = commute(cell[0], (first, second), (reply, other))
+                said = commute(kind, (first, reply), (second, other))
                 program.compare(
                     "%s at %s, %s and %s" % (title, start, first, second), [],
                     (report_of(program, kind, start, first, second)[-1],),

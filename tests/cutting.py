@@ -38,7 +38,7 @@ def apart(chance):
         blocks += json.loads(text)["transactions"]
     chance.shuffle(objects)
     chance.shuffle(blocks)
-    return {"ordtx": 4, "objects": objects, "transactions": blocks}
+    return {"ordtx": 5, "objects": objects, "transactions": blocks}
 
 
 def try_document(program, parts, name, document, folder, most):

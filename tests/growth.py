@@ -175,14 +175,21 @@ STEPS = (
 )
 
 
+# Operations whose calls are made are read by a tree of their transaction, and have a box each.
+TREES = (
+    ("calls of replies", '{"op":["a","deposit",{"from":"n"}]}', 10),
+    ("refusals", '{"op":["a","withdraw",1],"else":"r"}', 9),
+)
+
+
 def try_reading(program, library):
-    """Steps are read straight from the text, not by trees of their members."""
+    """Most steps are read straight from the text, not by trees of their members."""
     first = '{"op":["a","balance"],"as":"n"}'
-    for name, step, most in STEPS:
+    for name, step, most in STEPS + TREES:
         words = ["check"]
         got, made, _ = preloaded.run(
             library, 0, words, program.path,
-            document([ACCOUNT], [block(first, *[step] * 1_000)]))
+            document([ACCOUNT], [block(first, *[step] * 1_000)], version=5))
         program.compare("reading of 1,000 %s: %d requests" % (name, made), words,
                         (got[1], made <= 1_000 * most + 200, None), (0, True, None))
 

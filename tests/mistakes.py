@@ -13,6 +13,7 @@ OBJECTS = [ACCOUNT, COUNTER, QUEUE, SET, DIRECTORY]
 NAME = ' is no name: a name has 1 to 32 ASCII letters, digits, "_" and "-"'
 TEXT = ", and has to be a text"
 ONE_OF = ' one of "op", "if", "sub", "abort" and "parallel"'
+SOURCE = 'an argument that a label gives is written {"from": "LABEL"}'
 FIRST = "/transactions/0/0"
 LATER = "/transactions/0/1"
 
@@ -39,6 +40,11 @@ def nested(levels):
 SEEN = {**BALANCE, "as": "n"}
 DONE = {"sub": [], "as": "s"}
 ADDED = op("s", "insert", "x", **{"as": "n"})
+
+
+def given(argument):
+    """A deposit of this argument, after a step that sets the label n."""
+    return steps(SEEN, op("a", "deposit", argument), version=5)
 
 
 def tested(*first, **test):
@@ -175,6 +181,19 @@ MISTAKES = (
      steps(op("d", "put", "k", "true"))),
     ("Name.Argument", 3, steps(op("d", "put", "a@b", "x")), FIRST, '"a@b"' + NAME, steps(op("d", "put", "a_b", "x"))),
     ("Name.Argument", 3, steps(op("d", "put", "k", "x.y")), FIRST, '"x.y"' + NAME, steps(op("d", "put", "k", "x-y"))),
+    ("Shape.Else", 2, steps({**GOOD, "else": False}, version=5), FIRST + "/else", '"else" is false, and has to be true or a reason',
+     steps({**GOOD, "else": True}, version=5)),
+    ("Shape.Else", 2, steps({**GOOD, "else": "late"}), FIRST + "/else", '"else" is of version 5 on, and this document is of version 4',
+     steps({**GOOD, "else": "late"}, version=5)),
+    ("Name.Else", 3, steps({**GOOD, "else": "too late"}, version=5), FIRST + "/else", '"too late"' + NAME,
+     steps({**GOOD, "else": "too-late"}, version=5)),
+    ("Source.Label", 7, given({"form": "n"}), LATER + "/op/2", SOURCE + '; did you mean "from"?', given({"from": "n"})),
+    ("Source.Label", 7, given({"from": 7}), LATER + "/op/2", SOURCE, given({"from": "n"})),
+    ("Source.Seen", 8, given({"from": "m"}), LATER + "/op/2", 'no label "m" is seen here', given({"from": "n"})),
+    ("Source.Number", 10, steps(ADDED, op("a", "deposit", {"from": "n"}), version=5), LATER + "/op/2",
+     'the reply of "insert" is no number', given({"from": "n"})),
+    ("Source.Item", 10, steps(SEEN, op("d", "put", "k", {"from": "n"}), version=5), LATER + "/op/3", 'the reply of "balance" has no item',
+     steps(op("q", "deq", **{"as": "n"}), op("d", "put", "k", {"from": "n"}), version=5)),
     ("Few.Nodes", 12, steps(*[{"abort": True}] * 100_001), "/transactions/0/100000",
      "more than 100,000 ifs, subactions, aborts, parallel steps and children", steps(*[{"abort": True}] * 100_000)),
     ("Shape.Test", 2, tested(SEEN), LATER, 'an "if" has just one of "is", "atleast" and "item"', tested(SEEN, atleast=1)),
@@ -235,7 +254,7 @@ def try_mistake(program, number, document, path, words, mended):
 def rules():
     """The names of the rules that there are, each after what is wrong where it isn't kept."""
     source = (ROOT / "crates" / "rules" / "src" / "rule.rt").read_text()
-    enums = {name: re.findall(r"^    (\w+)(?:\((\w+)\))?", body, re.MULTILINE)
+    enums = {name: re.findall(r"^    (\w+)(?:\((?:Place, )?(\w+)\))?", body, re.MULTILINE)
              for name, body in re.findall(r"^pub enum (\w+) \{\n(.*?)^\}", source, re.MULTILINE | re.DOTALL)}
     return {"%s.%s" % (rule, one) if held in enums else rule
             for rule, held in enums["Rule"] for one, _ in enums.get(held, [("", "")])}

@@ -76,9 +76,10 @@ def try_faults(program):
 
 # Steps that get fault 7, each with those of the page's lines that list it, and one that gets none.
 WRONG_ARGUMENTS = (
-    (["a", "deposit", 0], "1"), (["a", "deposit", -1], "1"), (["a", "deposit", 10 ** 12 + 1], "1"), (["a", "deposit", 5.5], "13"),
-    (["a", "deposit", 5.0], "3"), (["a", "withdraw", 1e30], "13"), (["a", "deposit", "5"], "1"), (["a", "withdraw"], "1"),
-    (["q", "enq", 5], "2"), (["q", "enq", None], "2"), (["a", "deposit", 5], ""),
+    (["a", "deposit", 0], "1"), (["a", "deposit", -1], "1"), (["a", "deposit", 10 ** 12 + 1], "1"), (["a", "deposit", 5.5], "14"),
+    (["a", "deposit", 5.0], "4"), (["a", "withdraw", 1e30], "14"), (["a", "deposit", "5"], "1"), (["a", "withdraw"], "1"),
+    (["q", "enq", 5], "2"), (["q", "enq", None], "2"), (["a", "deposit", {"fron": "x"}], "3"),
+    (["q", "enq", {"from": 5}], "3"), (["a", "deposit", 5], ""),
 )
 
 

@@ -19,31 +19,33 @@ KINDS = {
     "max": (2, lambda chance: chance.choice((0, 7, 10 ** 15)), (("raise", 2, "N", ("ok",)), ("top", 2, "", "atleast"))),
 }
 OPERATIONS = [operation[0] for _, _, operations in KINDS.values() for operation in operations]
-MEMBERS = ("ordtx", "objects", "transactions", "name", "kind", "start", "op", "as", "if", "is", "atleast", "item", "then", "else",
+MEMBERS = ("ordtx", "objects", "transactions", "name", "kind", "start", "op", "from", "as", "if", "is", "atleast", "item", "then", "else",
            "sub", "handlers", "handler", "abort", "parallel")
 NAMES = ("a", "b-1", "C_2", "0", "n" * 32)
 NUMBERS = (0, -1, 1, 10 ** 12, 10 ** 12 + 1, 10 ** 15 + 1, -10 ** 15 - 1, 2 ** 63 - 1, 2 ** 63, -2 ** 63, -2 ** 63 - 1, 2 ** 64, 0.5)
 OTHERS = (None, True, False, 3, "x", "", "a b", "ä", "a\n", "n" * 33, [], {}, [[]], ["a"], ["a", "b"])
 
 
-def name(chance):
-    return chance.choice(NAMES)
+def name(chance, among=NAMES):
+    return chance.choice(among)
 
 
-def names(chance):
-    return chance.sample(NAMES, chance.randrange(4))
+def names(chance, among=NAMES):
+    return chance.sample(among, chance.randrange(min(3, len(among)) + 1))
 
 
 class Writer:
-    """Writes blocks of a document of one version over its objects."""
+    """Writes blocks of a document of one version over its objects. A block has at most so many steps. An operation whose reply
+    has a number or an item comes `weight` times as often as another."""
 
-    def __init__(self, chance, version, objects):
+    def __init__(self, chance, version, objects, steps=3, weight=1, reasons=NAMES):
         self.chance, self.version, self.objects, self.labels = chance, version, objects, 0
+        self.steps, self.weight, self.reasons = steps, weight, reasons
 
     def block(self, depth, seen):
         """Steps; `seen` has the labels that they see, each with the tests that fit."""
         seen = dict(seen)
-        return [self.step(depth, seen) for _ in range(self.chance.randrange(4))]
+        return [self.step(depth, seen) for _ in range(self.chance.randrange(self.steps + 1))]
 
     def step(self, depth, seen):
         sorts = [self.operation] * 6 * bool(self.objects) + [self.abort]
@@ -61,12 +63,24 @@ class Writer:
     def operation(self, _, seen):
         chance = self.chance
         target = chance.choice(self.objects)
-        verb, _, arguments, tests = chance.choice([one for one in KINDS[target["kind"]][2] if one[1] <= self.version])
-        values = [chance.choice((1, 20, 10 ** 12)) if one == "N" else name(chance) for one in arguments]
-        return self.label({"op": [target["name"], verb, *values]}, tests, seen)
+        verb, _, arguments, tests = chance.choice([
+            one for one in KINDS[target["kind"]][2] if one[1] <= self.version
+            for _ in range(self.weight if one[3] == "atleast" or "item" in one[3] else 1)])
+        step = {"op": [target["name"], verb, *(self.argument(one, seen) for one in arguments)]}
+        if self.version > 4 and chance.random() < 0.3:
+            step["else"] = chance.choice((True, name(chance, self.reasons)))
+        return self.label(step, tests, seen)
+
+    def argument(self, sort, seen):
+        """An amount or an item, or, in a version that has it, a label that may give one."""
+        chance = self.chance
+        labels = [label for label, tests in seen.items() if ("atleast" == tests if sort == "N" else "item" in tests)]
+        if self.version > 4 and labels and chance.random() < 0.8:
+            return {"from": chance.choice(labels)}
+        return chance.choice((1, 20, 10 ** 12)) if sort == "N" else name(chance)
 
     def abort(self, *_):
-        return {"abort": name(self.chance) if self.version > 2 and self.chance.random() < 0.5 else True}
+        return {"abort": name(self.chance, self.reasons) if self.version > 2 and self.chance.random() < 0.5 else True}
 
     def condition(self, depth, seen):
         label = self.chance.choice(list(seen))
@@ -83,7 +97,7 @@ class Writer:
     def subaction(self, depth, seen):
         step = {"sub": self.block(depth - 1, seen)}
         if self.version > 2 and self.chance.random() < 0.4:
-            step["handlers"] = {reason: self.block(depth - 1, seen) for reason in names(self.chance)}
+            step["handlers"] = {reason: self.block(depth - 1, seen) for reason in names(self.chance, self.reasons)}
         if self.chance.random() < 0.4:
             step["handler"] = self.block(depth - 1, seen)
         return self.label(step, ("committed", "aborted"), seen)
@@ -98,16 +112,17 @@ class Writer:
         return {"parallel": children}
 
 
-def whole(chance):
-    """A document that `check` takes."""
-    version = chance.randrange(1, 6)
+def whole(chance, version=None, most=3, **options):
+    """A document that `check` takes, with at most so many objects and transactions, and options of the `Writer`."""
+    version = version or chance.randrange(1, 6)
     kinds = [kind for kind in KINDS if KINDS[kind][0] <= version]
     objects = []
-    for number in range(chance.randrange(4)):
+    for number in range(chance.randrange(most + 1)):
         kind = chance.choice(kinds)
         objects.append({"name": "o%d" % number, "kind": kind, "start": KINDS[kind][1](chance)})
-    writer = Writer(chance, version, objects)
-    return {"ordtx": version, "objects": objects, "transactions": [writer.block(3, {}) for _ in range(chance.randrange(4))]}
+    writer = Writer(chance, version, objects, **options)
+    transactions = [writer.block(3, {}) for _ in range(chance.randrange(most + 1))]
+    return {"ordtx": version, "objects": objects, "transactions": transactions}
 
 
 def long(chance, transactions, steps, apart=False):
@@ -117,7 +132,7 @@ def long(chance, transactions, steps, apart=False):
              for number, (kind, (_, start, _)) in enumerate(KINDS.items())] for owner in range(transactions if apart else 1)]
     blocks = []
     for number in range(transactions):
-        writer = Writer(chance, 4, ours[number if apart else 0])
+        writer = Writer(chance, 5, ours[number if apart else 0])
         blocks.append([{"sub": writer.block(3, {}), "handler": []} for _ in range(steps)])
     objects = [one for own in ours for one in own]
     if apart:
@@ -125,7 +140,7 @@ def long(chance, transactions, steps, apart=False):
         chance.shuffle(objects)
         for block in blocks:
             block.insert(chance.randrange(steps), {"op": ["all", "deposit", 1]})
-    return {"ordtx": 4, "objects": objects, "transactions": blocks}
+    return {"ordtx": 5, "objects": objects, "transactions": blocks}
 
 
 def places(value):

@@ -6,9 +6,9 @@ RANGE = 1_048_576  # as in crates/lang/src/document.rt
 LEDGER = '{"name":"a","kind":"account","start":0},{"name":"s","kind":"set","start":[]}'
 
 
-def document(objects, transactions, comma):
-    return ('{"ordtx":4,"objects":[%s],"transactions":[%s]}'
-            % (objects, comma.join(transactions))).encode()
+def document(objects, transactions, comma, version=4):
+    return ('{"ordtx":%d,"objects":[%s],"transactions":[%s]}'
+            % (version, objects, comma.join(transactions))).encode()
 
 
 def transactions(count):
@@ -32,6 +32,16 @@ def mixed(count):
                % (key, item, key, item, item, key, reason, reason, item, item))
 
 
+def made(count):
+    """So many transactions, of which some have calls that are made of replies, with items and reasons that are new in each range."""
+    for number in range(count):
+        key, reason = "k%d" % (number // 7), "r%d" % (number // 5)
+        yield ('[{"op":["q","enq","%s"]},{"op":["q","deq"],"as":"x","else":"%s"},{"op":["d","put",{"from":"x"},"%s"]},'
+               '{"op":["d","bind","%s",{"from":"x"}],"else":true},%s]'
+               % (key, reason, key, key, ",".join(['{"op":["a","balance"]}'] * 8)) if number % 9 == 0 else
+               '[{"op":["s","insert","%s"]},%s]' % (key, ",".join(['{"op":["a","balance"]}'] * 16)))
+
+
 MIXED = LEDGER + ',{"name":"d","kind":"directory","start":[]},{"name":"q","kind":"queue","start":["v2"]}'
 COMMAS = (",", ",\n  ", ",\t \r\n")
 POSITION = re.compile(rb" line \d+ column \d+")
@@ -43,13 +53,13 @@ def answer(program, command, given):
     return POSITION.sub(b"", out), status, err
 
 
-def try_same(program, name, objects, listed, commands=("check", "serial", "locate"), commas=COMMAS):
+def try_same(program, name, objects, listed, commands=("check", "serial", "locate"), commas=COMMAS, version=4):
     """A comma that doesn't follow its bracket at once is no cut: so the last document is one range."""
-    whole = document(objects, listed, " ,")
+    whole = document(objects, listed, " ,", version)
     for command in commands:
         wanted = answer(program, command, whole)
         for comma in commas:
-            got = answer(program, command, document(objects, listed, comma))
+            got = answer(program, command, document(objects, listed, comma, version))
             program.compare(name, [command], got, wanted)
 
 
@@ -88,6 +98,8 @@ def try_all(program):
     try_workers(program, "pairs", document(LEDGER + "," + held, listed, ","))
     for comma in COMMAS:
         try_workers(program, "threads", document(MIXED, mixed(4_000), comma))
+    try_same(program, "calls of replies", MIXED, list(made(4_000)), commas=COMMAS[:1], version=5)
+    try_workers(program, "calls of replies", document(MIXED, made(4_000), ",", 5))
     broken = list(mixed(4_000))
     broken[3_000] = '[{"op":["s","insert","],["]}]'
     try_workers(program, "a fault and threads", document(MIXED, broken, ","))

@@ -39,6 +39,10 @@ BOTH_SIDES = (
     (READ + '{"op":["c","read"],"as":"n"}', False, True),
     (READ + '{"if":"n","is":"ok","then":[]}', False, True),
     ('{"sub":[' * 24 + ']}' * 24, False, True),
+    (READ + '{"op":["c","add",{"from":"n"}],"else":"r"}', True, True),
+    (READ + '{"op":["c","add",{"from":"n"}],"else":true}', True, True),
+    ('{"op":["c","add",{"from":"n"}]}', False, True),
+    (READ + '{"op":["c","read",{"from":"n"}]}', False, False),
 )
 
 # Wrong steps, and the places to which the schema's errors lead.
@@ -49,6 +53,11 @@ PLACES = (
     ('{"op":["c","insert",7]}', {"op/2"}),
     ('{"op":["c","bind","k","a b"]}', {"op/3"}),
     ('{"op":["c","bind","k"]}', {"op"}),
+    ('{"op":["c","add",{"from":7}]}', {"op/2/from"}),
+    ('{"op":["c","add",{}]}', {"op/2"}),
+    ('{"op":["c","bind",{"from":"n"},{"from":"n","to":"n"}]}', {"op/3/to"}),
+    ('{"op":["c","read"],"else":false}', {"else"}),
+    ('{"op":["c","read"],"else":"no name"}', {"else"}),
     ('{"op":["c","read",1]}', {"op"}),
     ('{"op":["c","subtract",1]}', {"op/1"}),
     ('{"op":["c d","read"]}', {"op/0"}),
@@ -70,7 +79,7 @@ PLACES = (
 
 
 def of_steps(steps):
-    return ('{"ordtx":4,"objects":[{"name":"c","kind":"counter","start":0}],"transactions":[[%s]]}' % steps).encode()
+    return ('{"ordtx":5,"objects":[{"name":"c","kind":"counter","start":0}],"transactions":[[%s]]}' % steps).encode()
 
 
 def fault_of(program, document):

@@ -4,13 +4,12 @@ A run of a transaction at an opening is what `serial` prints of it on the object
 before the opening. Its operations are compared by the tables with what the earlier runs of the round leave.
 """
 
-import functools
 import json
 import pathlib
 import random
 import re
 
-import commuting
+import interpreter
 import randoms
 
 ROOT = pathlib.Path(__file__).resolve().parent.parent
@@ -18,7 +17,6 @@ EXAMPLES = ROOT / "examples"
 
 # How `docs/DOCUMENT.md` cuts a line.
 PARTS = re.search(r're\.fullmatch\(r"(.*?)", line\)', (ROOT / "docs" / "DOCUMENT.md").read_text())[1]
-TITLES = {kind: title for title, kind, _ in commuting.TABLES}
 PLANS = ([], ["--workers", "1"], ["--workers", "64", "--cut", "1"])
 
 # Transactions on an account of 100, and their lines.
@@ -50,22 +48,6 @@ TRANSACTIONS = (
 )
 
 
-@functools.cache
-def table_of(kind):
-    return commuting.table_of(TITLES[kind])
-
-
-def commute(kind, one, other):
-    """Whether two operations on one object, with their replies, commute by the table."""
-    (first, reply), (second, answer) = one, other
-    if kind in ("set", "directory") and len({operation[1] for operation in (first, second) if len(operation) > 1}) > 1:
-        return True
-    table = table_of(kind)
-    row = [table[heading] for heading in table if commuting.is_under(heading, first, reply)][0]
-    cell = [row[heading] for heading in row if commuting.is_under(heading, second, answer)][0]
-    return commuting.commute(cell, (first, second), (reply, answer)) is not False
-
-
 class Run:
     """The operations of a run, each as path, object, operation and reply; and those that the run leaves."""
 
@@ -77,9 +59,8 @@ class Run:
         for sort, path, rest in lines:
             if sort == "O":
                 call, reply = rest.split(" = ")
-                words = call.split()
-                entry = ("%d%s" % (number, path[1:]), words[0],
-                         (tuple(int(word) if word.isdigit() and k else word for k, word in enumerate(words[1:])), reply), rest)
+                target, *words = call.split()
+                entry = interpreter.Entry("%d%s" % (number, path[1:]), target, tuple(words), reply)
                 self.entries.append(entry)
                 if left and not any(path.startswith(body) for body in undone):
                     self.net.append(entry)
@@ -88,14 +69,6 @@ class Run:
 def text_of(program, command, document):
     out, status, _ = program.run([command], json.dumps(document).encode())
     return out.decode() if status == 0 else None
-
-
-def first_conflict(kinds, run, nets):
-    for entry in run.entries:
-        for earlier in nets:
-            if entry[1] == earlier[1] and not commute(kinds[entry[1]], entry[2], earlier[2]):
-                return entry, earlier
-    return None
 
 
 def lines_of(program, document):
@@ -109,13 +82,13 @@ def lines_of(program, document):
         at, nets, place, met = dict(json.loads(carried), ordtx=document["ordtx"]), [], opening, None
         while place < len(transactions):
             run = Run(place + 1, text_of(program, "serial", dict(at, transactions=[transactions[place]])))
-            met = first_conflict(kinds, run, nets)
+            met = interpreter.first_conflict(kinds, run.entries, nets)
             if met:
                 break
             nets += run.net
             place += 1
         if met:
-            lines.append("why %d %s %s after %s %s\n" % (len(lines) + 1, met[0][0], met[0][3], met[1][0], met[1][3]))
+            lines.append("why %d %s after %s\n" % (len(lines) + 1, *met))
         opening = place
     return "".join(lines)
 
