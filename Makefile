@@ -58,6 +58,7 @@ bench: bin/ordtx
 	RT=$(RT) bench/claims
 	bench/run bin/ordtx
 	bench/growth bin/ordtx
+	if command -v sqlite3 > /dev/null; then bench/smallbank bin/ordtx; fi
 	cd crates/bench_stages && $(RT) run > /dev/null
 	bench/stages crates/bench_stages/out/bench_stages
 
