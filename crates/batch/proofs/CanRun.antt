@@ -157,8 +157,8 @@ operations_before (block ∷ blocks) (suc b) zero le = absurd (omega arith)
 operations_before (block ∷ blocks) (suc b) (suc i) le = let rest = operations_before blocks b i (omega arith) in omega arith
 
 -- each transaction can be run where those before it led
-pub transaction_can_run : (start : State) (texts : Texts) (blocks : List meant.Block) (i : ℕ) → IsBatch start texts blocks
-    → i < length blocks → CanRunHere (block_at blocks i) [] (state_at start blocks i)
+pub transaction_can_run : {version : ℕ} (start : State) (texts : Texts) (blocks : List meant.Block) (i : ℕ)
+    → IsBatch version start texts blocks → i < length blocks → CanRunHere (block_at blocks i) [] (state_at start blocks i)
 transaction_can_run start texts blocks i is lt =
     let keeps = batch_keeps start blocks i (omega arith) in
     let few = operations_before blocks i i (omega arith) in

@@ -112,5 +112,5 @@ pub soundness : SoundnessLaw
 soundness block held state h = is_sound block held state h
 
 pub batch_soundness : BatchSoundnessLaw
-batch_soundness start texts blocks i is lt = is_sound (block_at blocks i) [] (state_at start blocks i)
+batch_soundness version start texts blocks i is lt = is_sound (block_at blocks i) [] (state_at start blocks i)
     (transaction_can_run start texts blocks i is lt)

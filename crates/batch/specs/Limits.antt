@@ -87,17 +87,17 @@ abbrev pub AllShallow : List Block → Type 0
 AllShallow [] = ⊤
 AllShallow (block ∷ blocks) = (depth block ≤ MAX_DEPTH) × AllShallow blocks
 
--- the starting objects, their names, and the transactions by number
-pub record IsBatch (start : State) (texts : Texts) (transactions : List Block) : Type 0 where
+-- the version of the document, the starting objects, their names, and the transactions by number
+pub record IsBatch (version : ℕ) (start : State) (texts : Texts) (transactions : List Block) : Type 0 where
   -- calls fit their objects, labels are bound, and tests fit them
   pub well_formed : AllWellFormed transactions (kinds start)
   -- each object has one name, and each item and reason that is named has one
   pub named : length texts.objects ≡ length start
   pub named_starts : AllNamedValues texts start
   pub named_transactions : AllNamed texts transactions
-  pub object_names : AreNames texts.objects
-  pub item_names : AreNames texts.items
-  pub reason_names : AreNames texts.reasons
+  pub object_names : AreNames version texts.objects
+  pub item_names : AreNames version texts.items
+  pub reason_names : AreNames version texts.reasons
   pub few_objects : length start ≤ MAX_OBJECTS
   pub few_transactions : length transactions ≤ MAX_TRANSACTIONS
   pub few_operations : all_operations transactions ≤ MAX_OPERATIONS

@@ -1,5 +1,5 @@
 -- A batch is one in one way at most, so that a struct may keep it.
-use Rattle.std.specs.Prelude.{List, [], ◌∷◌}
+use Rattle.std.specs.Prelude.{ℕ, List, [], ◌∷◌}
 use Rattle.std.proofs.Props.{props}
 use Rattle.objects.specs.declared.kind.Kind.{Kind}
 use Rattle.objects.specs.Entries.{State, kinds}
@@ -17,8 +17,9 @@ AllShallow-prop : (blocks : List Block) → IsProp (AllShallow blocks)
 AllShallow-prop [] = hlevel props
 AllShallow-prop (block ∷ blocks) = hlevel (props, AllShallow-prop blocks)
 
-pub IsBatch-prop : (start : State) (texts : Texts) (transactions : List Block) → IsProp (IsBatch start texts transactions)
-IsBatch-prop start texts transactions = hlevel (
+pub IsBatch-prop : (version : ℕ) (start : State) (texts : Texts) (transactions : List Block)
+    → IsProp (IsBatch version start texts transactions)
+IsBatch-prop version start texts transactions = hlevel (
   props,
   AllWellFormed-prop transactions (kinds start),
   AllShallow-prop transactions,

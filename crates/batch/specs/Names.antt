@@ -1,6 +1,6 @@
 -- Names, and the texts of a batch's numbers: of each object, item and reason by its number.
 use Rattle.std.specs.Prelude.{ℕ, ◌&&◌, ◌||◌, ◌==◌, Bool, IsTrue, List, [], length, map, nat_lt, nat_le, slice_index_or, string_bytes}
-use Rattle.std.specs.Prelude.{String}
+use Rattle.std.specs.Prelude.{String, if◌then◌else◌}
 use Rattle.std.specs.List.{list_all}
 use Rattle.std.specs.declared.alloc.Global.{Global}
 use Rattle.meaning.specs.Words.{Names}
@@ -9,16 +9,31 @@ use Rattle.meaning.specs.declared.limits.TheConstants.{MAX_NAME}
 abbrev pub is_between : ℕ → ℕ → ℕ → Bool
 is_between low high x = nat_le low x && nat_le x high
 
+-- versions of documents whose names are long, and may have signs
+abbrev pub has_long_names : ℕ → Bool
+has_long_names version = nat_le 5 version
+
 -- ASCII letters, digits, `_` and `-`
-abbrev pub is_name_byte : ℕ → Bool
-is_name_byte x = is_between 48 57 x || is_between 65 90 x || is_between 97 122 x || x == 95 || x == 45
+abbrev pub is_plain_byte : ℕ → Bool
+is_plain_byte x = is_between 48 57 x || is_between 65 90 x || is_between 97 122 x || x == 95 || x == 45
 
--- 1 to MAX_NAME such bytes
-unfoldable pub is_name : List ℕ → Bool
-is_name s = nat_lt 0 (length s) && nat_le (length s) MAX_NAME && list_all is_name_byte s
+-- `#`, `%`, `+`, `.`, `/`, `:` and `@`
+abbrev pub is_sign_byte : ℕ → Bool
+is_sign_byte x = x == 35 || x == 37 || x == 43 || is_between 46 47 x || x == 58 || x == 64
 
-abbrev pub AreNames : List (List ℕ) → Type 0
-AreNames texts = IsTrue (list_all is_name texts)
+abbrev pub is_name_byte : ℕ → ℕ → Bool
+is_name_byte version x = is_plain_byte x || has_long_names version && is_sign_byte x
+
+-- how many bytes a name of a version has at most
+abbrev pub most_name_bytes : ℕ → ℕ
+most_name_bytes version = if has_long_names version then MAX_NAME else 32
+
+-- a name in a document of a version
+unfoldable pub is_name : ℕ → List ℕ → Bool
+is_name version s = nat_lt 0 (length s) && nat_le (length s) (most_name_bytes version) && list_all (is_name_byte version) s
+
+abbrev pub AreNames : ℕ → List (List ℕ) → Type 0
+AreNames version texts = IsTrue (list_all (is_name version) texts)
 
 pub record Texts : Type 0 where
   pub objects : List (List ℕ)

@@ -50,7 +50,7 @@ SoundnessLaw = (block : Block) (held : List Held) (state : State) → CanRunHere
 -- So each transaction of a batch, where those before it lead.
 abbrev pub BatchSoundnessLaw : Type 0
 BatchSoundnessLaw =
-    (start : State) (texts : Texts) (blocks : List Block) (i : ℕ)
-    → IsBatch start texts blocks
+    (version : ℕ) (start : State) (texts : Texts) (blocks : List Block) (i : ℕ)
+    → IsBatch version start texts blocks
     → i < length blocks
     → IsSound (block_at blocks i) [] (state_at start blocks i)

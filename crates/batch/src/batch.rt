@@ -25,7 +25,7 @@ pub struct Batch {
     pub transactions: Vec<Block>,
     /// How tables of its entries are hashed.
     pub hashing: EntryHashing,
-    pub ghost is_batch: { IsBatch objects names (map block_view transactions.items) } by { IsBatch-prop objects names (map block_view transactions.items) },
+    pub ghost is_batch: { IsBatch version objects names (map block_view transactions.items) } by { IsBatch-prop version objects names (map block_view transactions.items) },
 }
 
 impl Batch {
@@ -37,7 +37,7 @@ impl Batch {
         transactions: Vec<Block>,
         hashing: EntryHashing,
     ) -> Batch
-        requires { IsBatch objects names (map block_view transactions.items) }
+        requires { IsBatch version objects names (map block_view transactions.items) }
         ensures version { result.version ≡ version }
         ensures objects { result.objects ≡ objects }
         ensures names { result.names ≡ names }

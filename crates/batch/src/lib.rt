@@ -22,7 +22,7 @@ pub use handlers::{handler_for, taker, untaken};
 pub use labels::{add_label, test_holds};
 pub use left::perform_left;
 pub use meaning::{End, Test, Word};
-pub use names::{Names, is_name};
+pub use names::{Names, has_long_names, is_name, most_name_bytes};
 pub use objects::{Call, Entry, Item, Kind, NoMemory, Objects, Reply, Value};
 pub use record::{Made, Record, Taken};
 pub use tree::{Block, Filling, Handler, Otherwise, Step, Subaction};

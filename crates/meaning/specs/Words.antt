@@ -1,5 +1,6 @@
 -- The texts of calls, replies and values.
-use Rattle.std.specs.Prelude.{ℕ, List, [], ◌∷◌, ◌++◌, map, codes}
+use Rattle.std.specs.Prelude.{ℕ, ◌==◌, ◌||◌, Bool, List, [], ◌∷◌, ◌++◌, map, codes, if◌then◌else◌}
+use Rattle.std.specs.List.{list_any}
 use Rattle.std.specs.Fmt.{decimal, signed_decimal}
 use Rattle.std.specs.FinSet as finite_set
 use Rattle.std.specs.FinMap as finite_map
@@ -74,8 +75,16 @@ joined between (first ∷ second ∷ rest) = first ++ between ++ joined between 
 abbrev pub spaced : List (List ℕ) → List ℕ
 spaced texts = joined (codes " ") texts
 
+abbrev pub has_colon : List ℕ → Bool
+has_colon text = list_any (λ x. x == 58) text
+
+-- between a key and its item: a colon, or `=`, which no name has, where one of the two has a colon
+abbrev pub separator : List ℕ → List ℕ → List ℕ
+separator key item = if has_colon key || has_colon item then codes "=" else codes ":"
+
 abbrev pub binding_text : Names → Item × Item → List ℕ
-binding_text names binding = names.item binding.0 ++ codes ":" ++ names.item binding.1
+binding_text names binding =
+    names.item binding.0 ++ separator (names.item binding.0) (names.item binding.1) ++ names.item binding.1
 
 -- the members of a set, ascending, as a map's keys do
 abbrev pub members : finite_set.FinSet item_cmp → List Item

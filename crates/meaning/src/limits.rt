@@ -14,7 +14,7 @@ pub const MAX_OPERATIONS: usize = 9_000_000;
 pub const MAX_NODES: usize = 9_000_000;
 
 /// How many bytes a name has at most.
-pub const MAX_NAME: usize = 32;
+pub const MAX_NAME: usize = 128;
 
 /// How deep blocks are nested at most.
 pub const MAX_DEPTH: usize = 24;

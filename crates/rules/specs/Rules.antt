@@ -15,7 +15,7 @@ wrong_of_source (source.Item subject) = wrong.Condition
 abbrev pub wrong_of : Rule → Wrong
 wrong_of rule.Json = wrong.NotJson
 wrong_of (rule.Shape shape) = wrong.Shape
-wrong_of (rule.Name named) = wrong.Name
+wrong_of (rule.Name version named) = wrong.Name
 wrong_of rule.NewObject = wrong.DuplicateObject
 wrong_of rule.KnownObject = wrong.UnknownObject
 wrong_of (rule.KnownOperation version kind) = wrong.UnknownOperation

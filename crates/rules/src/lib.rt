@@ -7,12 +7,14 @@
 mod failure;
 mod form;
 mod limits;
+mod pointer;
 mod rule;
 mod subject;
 
 pub use failure::Failure;
 pub use form::Form;
 pub use limits::{LAST_VERSION, Limits, MAX_BYTES};
+pub use pointer::pointer_token;
 pub use rule::{
     ArgumentRule, ConditionRule, CountRule, NameRule, Place, Rule, ShapeRule, SourceRule, StartRule,
 };

@@ -166,7 +166,7 @@ pub enum Rule {
     /// The part has the shape that its place asks for.
     Shape(ShapeRule),
     /// A text is a name.
-    Name(NameRule),
+    Name(u8, NameRule),
     /// No earlier object has the name.
     NewObject,
     /// An object has the name.
@@ -212,7 +212,7 @@ impl Rule {
         match self {
             Rule::Json => Wrong::NotJson,
             Rule::Shape(_) => Wrong::Shape,
-            Rule::Name(_) => Wrong::Name,
+            Rule::Name(_, _) => Wrong::Name,
             Rule::NewObject => Wrong::DuplicateObject,
             Rule::KnownObject => Wrong::UnknownObject,
             Rule::KnownOperation(_, _) => Wrong::UnknownOperation,
