@@ -1,7 +1,7 @@
 //! The words of the values of objects.
 ghost use Rattle.std.specs.Prelude.{◌≡◌, ◌++◌, OnOk, map, string_bytes};
 ghost use Rattle.std.specs.FinMap as finite_map;
-ghost use Rattle.meaning.specs.Words.{spaced, binding_text, members, value_text};
+ghost use Rattle.meaning.specs.Words.{spaced, binding_text, has_colon, members, separator, value_text};
 ghost use Rattle.batch.specs.Names.{names_of};
 
 use crate::names::item_name;
@@ -74,8 +74,27 @@ fn write_binding(out: &mut String, names: &Names, key: Item, item: Item) -> Resu
     ensures { OnOk result (string_bytes out.new
         ≡ string_bytes out.old ++ binding_text (names_of names.now) (key, item)) }
 {
-    out.push_str(item_name(names, key))?;
-    out.push(':')?;
-    out.push_str(item_name(names, item))?;
+    let key = item_name(names, key);
+    let item = item_name(names, item);
+    out.push_str(key)?;
+    out.push_str(separator(key, item))?;
+    out.push_str(item)?;
     Ok(())
+}
+
+/// The sign between a key and its item, by which a script can cut them.
+fn separator(key: &str, item: &str) -> &'static str
+    ensures { result.now ≡ separator key.now item.now }
+{
+    if has_colon(key) || has_colon(item) {
+        "="
+    } else {
+        ":"
+    }
+}
+
+fn has_colon(text: &str) -> bool
+    ensures { result ≡ has_colon text.now }
+{
+    text.as_bytes().iter().any(|byte| *byte == b':')
 }

@@ -15,9 +15,9 @@ use Rattle.batch.proofs.CanRun.{well_formed_at, block_at_view, operations_before
 use Rattle.speculate.specs.Runs.{IsWithinOthers}
 
 -- a transaction can be run on objects of the batch's kinds that are no larger than all others can make them
-pub transaction_can_run : (start : State) (texts : Texts) (blocks : List declared_block.Block) (i : ℕ) (state : State)
+pub transaction_can_run : {version : ℕ} (start : State) (texts : Texts) (blocks : List declared_block.Block) (i : ℕ) (state : State)
     (x : declared_block.Block)
-    → IsBatch start texts (map block_view blocks) → kinds state ≡ kinds start → IsWithinOthers (map block_view blocks) i state
+    → IsBatch version start texts (map block_view blocks) → kinds state ≡ kinds start → IsWithinOthers (map block_view blocks) i state
     → i < length blocks → x ≡ get_or blocks i x → CanRunHere (block_view x) [] state
 transaction_can_run start texts blocks i state x is same within lt read =
     let size = length-map blocks block_view in
