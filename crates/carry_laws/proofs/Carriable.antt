@@ -48,16 +48,17 @@ IsApart names (value.Directory d) = Apart (map names.item (finite_map.keys d))
 IsApart names v = ⊤
 
 module _ (names : Names) where
-  pub writable : (v : Value) → size_of v ≤ MAX_START → ((x : Item) → HasItem v x → IsNamed names x) → IsWritable names v
-  writable (value.Account n) small named = small
-  writable (value.Counter n) small named = small
-  writable (value.Set s) small named = each_of (IsNamed names) (members s) (λ x at. named x (among_contained s x at))
-  writable (value.Queue q) small named = each_of (IsNamed names) q (λ x at. named x (contains_among q x at))
-  writable (value.Directory d) small named = each_of (AreNamedBoth names) (finite_map.entries d) (λ e at. (
+  pub writable : (version : ℕ) (v : Value) → size_of v ≤ MAX_START → ((x : Item) → HasItem v x → IsNamed version names x)
+      → IsWritable version names v
+  writable version (value.Account n) small named = small
+  writable version (value.Counter n) small named = small
+  writable version (value.Set s) small named = each_of (IsNamed version names) (members s) (λ x at. named x (among_contained s x at))
+  writable version (value.Queue q) small named = each_of (IsNamed version names) q (λ x at. named x (contains_among q x at))
+  writable version (value.Directory d) small named = each_of (AreNamedBoth version names) (finite_map.entries d) (λ e at. (
     named e.0 (e.0, e.1, among_bound d e.0 e.1 at, inl refl),
     named e.1 (e.0, e.1, among_bound d e.0 e.1 at, inr refl),
   ))
-  writable (value.Max n) small named = small
+  writable version (value.Max n) small named = small
 
   key_of_map : (d : finite_map.FinMap item_cmp Item) (x : Item) → Among x (finite_map.keys d) → HasItem (value.Directory d) x
   key_of_map d x at =
@@ -75,13 +76,14 @@ module _ (names : Names) where
   apart (value.Max n) one = tt
 
   pub all_writable : (version n entries : ℕ) (values : State) → first_unfit version n entries values ≡ None
-      → AreNames (object_names names n values) → ((x : Item) → SomeHasItem values x → IsNamed names x) → AreWritable names n values
+      → AreNames version (object_names names n values) → ((x : Item) → SomeHasItem values x → IsNamed version names x)
+      → AreWritable version names n values
   all_writable version n entries [] fit object named = tt
   all_writable version n entries (v ∷ values) fit object named =
       let fits = first_fits version n entries v values fit in
-      let both = and_parts (is_name (names.object n)) _ object in (
+      let both = and_parts (is_name version (names.object n)) _ object in (
         both.0,
-        writable v fits.small (λ x has. named x (inl has)),
+        writable version v fits.small (λ x has. named x (inl has)),
         all_writable version (n + 1) (entries + entries_in v) values fits.rest both.1 (λ x has. named x (inr has)),
       )
 

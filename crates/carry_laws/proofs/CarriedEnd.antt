@@ -10,7 +10,7 @@ use Rattle.objects.specs.Objects.{kind_of_value}
 use Rattle.meaning.specs.Batch.{final_state}
 use Rattle.meaning.specs.Trees.{Block}
 use Rattle.meaning.proofs.Keeping.{batch_keeps}
-use Rattle.batch.specs.Names.{names_of}
+use Rattle.batch.specs.Names.{AreNames, names_of}
 use Rattle.faults.specs.Faults.{wrong_outside}
 use Rattle.lang.specs.Reading.{Document, most_bytes, reading, spelled_by, value_of}
 use Rattle.rules.specs.Limits.{limits_of}
@@ -27,6 +27,7 @@ use Rattle.carry.specs.Carried.{carried_version, first_unfit}
 use Rattle.carry_laws.specs.Carrying.{CanBeCarried}
 use Rattle.carry_laws.specs.Laws.{CarriedEndLaw, end_of}
 use Rattle.carry_laws.proofs.CarriedLaws.{carried_is_read}
+use Rattle.carry_laws.proofs.LaterNames.{names_later}
 use Rattle.carry_laws.proofs.LimitsSince.{limits_since}
 use Rattle.carry_laws.proofs.NamedEnd.{end_named}
 use Rattle.carry_laws.proofs.NamedTexts.{named_objects_fit}
@@ -87,6 +88,12 @@ few_objects d none =
     let here = (few d (first_met A B (first_met (A ++ B) C met))).0 in
     omega (arith, here, many_starts (version_in d) no_numbers (objects_in d))
 
+-- names in the document of a value are names of each version that isn't an earlier one
+pub names_since : (d : Data) (version : ℕ) → version_in d ≤ version → (texts : List (List ℕ)) → AreNames (document_in d).version texts
+    → AreNames version texts
+unfolding document_in
+names_since d version later texts names = names_later (version_in d) version later texts names
+
 module _ (version : ℕ) where
   can_be_carried : (d : Data) → version_in d ≤ version → first_fault (placed d) ≡ None
       → first_unfit version 0 0 (final_state (document_in d).start (document_in d).transactions) ≡ None
@@ -98,7 +105,10 @@ module _ (version : ℕ) where
       let size = same_length document.start document.transactions in
       let few = few_objects d none in
       let most = (limits_since (version_in d) version later).objects in
-      named_objects_fit version document.texts values (batch.object_names, objects_differ d none) (batch.item_names, items_differ d)
+      let names = names_since d version later in
+      named_objects_fit version document.texts values
+      (names document.texts.objects batch.object_names, objects_differ d none)
+      (names document.texts.items batch.item_names, items_differ d)
       (batch.named ∙ sym size)
       (end_named document.texts document.start document.transactions (length document.transactions) batch.named_starts
       batch.named_transactions)

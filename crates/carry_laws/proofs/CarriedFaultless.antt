@@ -78,16 +78,16 @@ signed_back (pos n) small = rw (lt-ltb n (2 ^ 63) (omega arith)) (rw (le-leb n M
 signed_back (negsuc n) small = rw (le-leb (suc n) MAX_START small)
 
 module _ (version : ℕ) (carried : IsCarriedVersion version) (names : Names) where
-  entries_meet : (xs : List Item) → AllByRecursion (IsNamed names) xs
+  entries_meet : (xs : List Item) → AllByRecursion (IsNamed version names) xs
       → Meet version (length xs) (entries_asked version (items_data names xs))
   unfolding entry_asked
   entries_meet [] named = meet_none version
   entries_meet (x ∷ xs) named =
       let rest = entries_asked version (items_data names xs) in
-      meet_test version _ true _ _ refl (meet_test version _ (is_name (names.item x)) _ _ named.0
+      meet_test version _ true _ _ refl (meet_test version _ (is_name version (names.item x)) _ _ named.0
       (meet_start version (length xs) rest (entries_meet xs named.1)))
 
-  elements_meet : (earlier : Table) (xs : List Item) → AllByRecursion (IsNamed names) xs → Apart (map names.item xs)
+  elements_meet : (earlier : Table) (xs : List Item) → AllByRecursion (IsNamed version names) xs → Apart (map names.item xs)
       → AreNew earlier (map names.item xs) → Meet version (length xs) (elements_asked version earlier (items_data names xs))
   unfolding element_asked
   elements_meet earlier [] named apart new = meet_none version
@@ -96,10 +96,10 @@ module _ (version : ℕ) (carried : IsCarriedVersion version) (names : Names) wh
       let rest = λ (table : Table). elements_asked version table (items_data names xs) in
       let later = subst (λ table. Meet version (length xs) (rest table)) (sym (with_new text earlier new.0))
       (elements_meet (earlier ++ text ∷ []) xs named.1 apart.1 (new_after text earlier (map names.item xs) apart.0 new.1)) in
-      meet_test version _ true _ _ refl (meet_test version _ (is_name text) _ _ named.0
+      meet_test version _ true _ _ refl (meet_test version _ (is_name version text) _ _ named.0
       (meet_test version _ (not (is_listed text earlier)) _ _ (ap not new.0) (meet_start version (length xs) _ later)))
 
-  pairs_meet : (earlier : Table) (pairs : List (Item × Item)) → AllByRecursion (AreNamedBoth names) pairs
+  pairs_meet : (earlier : Table) (pairs : List (Item × Item)) → AllByRecursion (AreNamedBoth version names) pairs
       → Apart (map names.item (map (λ e. e.0) pairs)) → AreNew earlier (map names.item (map (λ e. e.0) pairs))
       → Meet version (length pairs) (pairs_asked version earlier (pairs_data names pairs))
   unfolding pair_asked
@@ -111,10 +111,10 @@ module _ (version : ℕ) (carried : IsCarriedVersion version) (names : Names) wh
       let later = subst (λ table. Meet version (length pairs) (rest table)) (sym (with_new text earlier new.0))
       (pairs_meet (earlier ++ text ∷ []) pairs named.1 apart.1 (new_after text earlier keys apart.0 new.1)) in
       meet_test version _ true _ _ refl (meet_test version _ true _ _ refl (meet_test version _ true _ _ refl
-      (meet_test version _ (is_name text) _ _ named.0.0 (meet_test version _ (is_name (names.item pair.1)) _ _ named.0.1
+      (meet_test version _ (is_name version text) _ _ named.0.0 (meet_test version _ (is_name version (names.item pair.1)) _ _ named.0.1
       (meet_test version _ (not (is_listed text earlier)) _ _ (ap not new.0) (meet_start version (length pairs) _ later))))))
 
-  start_meet : (v : Value) → size_of v ≤ MAX_START → IsWritable names v → IsApart names v
+  start_meet : (v : Value) → size_of v ≤ MAX_START → IsWritable version names v → IsApart names v
       → Meet version (entries_in v) (start_asked version (kind_of_value v) (start_data names v))
   unfolding start_asked array_start_asked
   start_meet (value.Account n) small ok apart = meet_test version 0 (is_some (number_start (start_data names (value.Account n)))) _ []
@@ -139,8 +139,8 @@ module _ (version : ℕ) (carried : IsCarriedVersion version) (names : Names) wh
   pub kind_is : (n : ℕ) (v : Value) → kind_in version (object_data names n v) ≡ kind_of_value v
   kind_is n v = ap (λ k. unwrap_or k kind.Account) (kind_read n v)
 
-  pub object_meets : (n : ℕ) (v : Value) (earlier : Table) → is_name (names.object n) ≡ true → is_listed (names.object n) earlier ≡ false
-      → size_of v ≤ MAX_START → IsWritable names v → IsApart names v
+  pub object_meets : (n : ℕ) (v : Value) (earlier : Table) → is_name version (names.object n) ≡ true
+      → is_listed (names.object n) earlier ≡ false → size_of v ≤ MAX_START → IsWritable version names v → IsApart names v
       → Meet version (entries_in v) (object_asked version earlier (object_data names n v))
   unfolding object_asked object_shape_asked object_name_asked
   object_meets n v earlier named new small ok apart =
@@ -150,11 +150,11 @@ module _ (version : ℕ) (carried : IsCarriedVersion version) (names : Names) wh
       (start_meet v small ok apart) in
       meet_test version _ true _ _ refl (meet_test version _ true _ _ refl
       (meet_test version _ (is_some (object_kind version (object_data names n v))) _ _ (ap is_some (kind_read n v))
-      (meet_test version _ true _ _ refl (meet_test version _ (is_name (names.object n)) _ _ named
+      (meet_test version _ true _ _ refl (meet_test version _ (is_name version (names.object n)) _ _ named
       (meet_test version _ (not (is_listed (names.object n) earlier)) _ start (ap not new) started)))))
 
   objects_met : (n entries : ℕ) (values : State) (earlier : Table) (c : Counts) → c.starts ≤ entries
-      → first_unfit version n entries values ≡ None → AreWritable names n values → AllByRecursion (IsApart names) values
+      → first_unfit version n entries values ≡ None → AreWritable version names n values → AllByRecursion (IsApart names) values
       → Apart (object_names names n values)
       → AreNew earlier (object_names names n values)
       → (next : Counts) × (check c (objects_asked version earlier (objects_data names n values)) ≡ Ok next)
@@ -190,7 +190,7 @@ module _ (version : ℕ) (carried : IsCarriedVersion version) (names : Names) wh
       ) refl
 
   pub carried_faultless : (values : State) → length values ≤ (limits_of version).objects → first_unfit version 0 0 values ≡ None
-      → AreWritable names 0 values
+      → AreWritable version names 0 values
       → AllByRecursion (IsApart names) values → Apart (object_names names 0 values)
       → first_fault (placed (carried_data version names values)) ≡ None
   unfolding asked

@@ -116,24 +116,24 @@ objects_key rest = refl
 pub version_written : (version : ℕ) → version ≤ LAST_VERSION → IsNumber (decimal version)
 version_written version known = IsNumber-decimal version (omega arith)
 
-module _ (names : Names) where
-  items_written : (xs : List Item) → AllByRecursion (IsNamed names) xs → AllWrite (map (item_text names) xs) (items_json names xs)
+module _ (version : ℕ) (names : Names) where
+  items_written : (xs : List Item) → AllByRecursion (IsNamed version names) xs → AllWrite (map (item_text names) xs) (items_json names xs)
   items_written [] named = tt
-  items_written (x ∷ xs) named = (text_written (names.item x) (name_plain (names.item x) named.0), items_written xs named.1)
+  items_written (x ∷ xs) named = (text_written (names.item x) (name_plain version (names.item x) named.0), items_written xs named.1)
 
-  pair_written : (pair : Item × Item) → AreNamedBoth names pair → Writes (pair_text names pair) (pair_json names pair)
+  pair_written : (pair : Item × Item) → AreNamedBoth version names pair → Writes (pair_text names pair) (pair_json names pair)
   pair_written pair named = list_written (item_text names pair.0 ∷ item_text names pair.1 ∷ [])
       (json.item (json.string (names.item pair.0)) (json.item (json.string (names.item pair.1)) json.no_items)) (
-        text_written (names.item pair.0) (name_plain (names.item pair.0) named.0),
-        (text_written (names.item pair.1) (name_plain (names.item pair.1) named.1), tt),
+        text_written (names.item pair.0) (name_plain version (names.item pair.0) named.0),
+        (text_written (names.item pair.1) (name_plain version (names.item pair.1) named.1), tt),
       )
 
-  pairs_written : (pairs : List (Item × Item)) → AllByRecursion (AreNamedBoth names) pairs
+  pairs_written : (pairs : List (Item × Item)) → AllByRecursion (AreNamedBoth version names) pairs
       → AllWrite (map (pair_text names) pairs) (pairs_json names pairs)
   pairs_written [] named = tt
   pairs_written (pair ∷ pairs) named = (pair_written pair named.0, pairs_written pairs named.1)
 
-  start_written : (v : Value) → IsWritable names v → Writes (start_text names v) (start_json names v)
+  start_written : (v : Value) → IsWritable version names v → Writes (start_text names v) (start_json names v)
   start_written (value.Account n) ok = number_written (decimal n) (IsNumber-decimal n (omega arith))
   start_written (value.Counter (pos n)) ok = number_written (decimal n) (IsNumber-decimal n (omega arith))
   start_written (value.Counter (negsuc n)) ok =
@@ -143,7 +143,7 @@ module _ (names : Names) where
   start_written (value.Directory d) ok = list_written _ _ (pairs_written (finite_map.entries d) ok)
   start_written (value.Max n) ok = number_written (decimal n) (IsNumber-decimal n (omega arith))
 
-  pub object_written : (n : ℕ) (v : Value) → is_name (names.object n) ≡ true → IsWritable names v
+  pub object_written : (n : ℕ) (v : Value) → is_name version (names.object n) ≡ true → IsWritable version names v
       → Writes (object_text names n v) (object_json names n v)
   object_written n v named ok rest ended =
       let name = names.object n in
@@ -152,7 +152,7 @@ module _ (names : Names) where
       ap (lex between) (object_parts (codes "{\"name\": ") (quoted name) (codes ", \"kind\": ") (quoted kind) (codes ", \"start\": ")
       (start_text names v) (codes "}") rest)
       ∙ name_key _ ∙ ap (λ ls. token Token.begin_object ∷ token (Token.string (codes "name")) ∷ colon ∷ ls) (
-      quoted_lexed name _ (name_plain name named) ∙ ap (λ ls. token (Token.string name) ∷ ls) (
+      quoted_lexed name _ (name_plain version name named) ∙ ap (λ ls. token (Token.string name) ∷ ls) (
       kind_key _ ∙ ap (λ ls. comma ∷ token (Token.string (codes "kind")) ∷ colon ∷ ls) (
       quoted_lexed kind _ (kind_plain (kind_of_value v)) ∙ ap (λ ls. token (Token.string kind) ∷ ls) (
       start_key _ ∙ ap (λ ls. comma ∷ token (Token.string (codes "start")) ∷ colon ∷ ls) (
@@ -160,12 +160,12 @@ module _ (names : Names) where
       ∙ sym (append_assoc start (token Token.end_object ∷ []) (lex between rest))
       )))))
 
-  objects_written : (n : ℕ) (values : State) → AreWritable names n values
+  objects_written : (n : ℕ) (values : State) → AreWritable version names n values
       → AllWrite (object_texts names n values) (objects_json names n values)
   objects_written n [] ok = tt
   objects_written n (v ∷ values) ok = (object_written n v ok.0 ok.1, objects_written (n + 1) values ok.2)
 
-pub carried_lexed : (version : ℕ) → version ≤ LAST_VERSION → (names : Names) (values : State) → AreWritable names 0 values
+pub carried_lexed : (version : ℕ) → version ≤ LAST_VERSION → (names : Names) (values : State) → AreWritable version names 0 values
     → lex between (carried_text version names values) ≡ json_lexemes (carried_json version names values)
 unfolding lex content
 carried_lexed version known names values ok =
@@ -179,4 +179,4 @@ carried_lexed version known names values ok =
     objects_key (texts ++ (codes "\n]" ++ last))
     ∙ ap (λ ls. comma ∷ token (Token.string (codes "objects")) ∷ colon ∷ token Token.begin_array ∷ ls)
     (joined_lexed (codes ",\n") (codes "\n]") (λ r. refl) (λ r. refl) (λ r. refl) (λ r. refl)
-    (object_texts names 0 values) (objects_json names 0 values) last (objects_written names 0 values ok))))
+    (object_texts names 0 values) (objects_json names 0 values) last (objects_written version names 0 values ok))))

@@ -38,26 +38,27 @@ module _ (names : Names) where
   pairs_read [] = refl
   pairs_read (pair ∷ pairs) = rw (pairs_read pairs)
 
-  start_read : (v : Value) → IsWritable names v → of_json (start_json names v) ≡ Some (start_data names v)
-  start_read (value.Account n) ok = rw (number_of-decimal n (omega arith))
-  start_read (value.Counter (pos n)) ok = rw (number_of-decimal n (omega arith))
-  start_read (value.Counter (negsuc n)) ok = rw (number_of-negative n (omega arith))
-  start_read (value.Set s) ok = rw (items_read (members s))
-  start_read (value.Queue q) ok = rw (items_read q)
-  start_read (value.Directory d) ok = rw (pairs_read (finite_map.entries d))
-  start_read (value.Max n) ok = rw (number_of-decimal n (omega arith))
+  start_read : (version : ℕ) (v : Value) → IsWritable version names v → of_json (start_json names v) ≡ Some (start_data names v)
+  start_read version (value.Account n) ok = rw (number_of-decimal n (omega arith))
+  start_read version (value.Counter (pos n)) ok = rw (number_of-decimal n (omega arith))
+  start_read version (value.Counter (negsuc n)) ok = rw (number_of-negative n (omega arith))
+  start_read version (value.Set s) ok = rw (items_read (members s))
+  start_read version (value.Queue q) ok = rw (items_read q)
+  start_read version (value.Directory d) ok = rw (pairs_read (finite_map.entries d))
+  start_read version (value.Max n) ok = rw (number_of-decimal n (omega arith))
 
-  pub object_read : (n : ℕ) (v : Value) → IsWritable names v → of_json (object_json names n v) ≡ Some (object_data names n v)
-  object_read n v ok = rw (start_read v ok)
+  pub object_read : (version n : ℕ) (v : Value) → IsWritable version names v
+      → of_json (object_json names n v) ≡ Some (object_data names n v)
+  object_read version n v ok = rw (start_read version v ok)
 
-  objects_read : (n : ℕ) (values : State) → AreWritable names n values
+  objects_read : (version n : ℕ) (values : State) → AreWritable version names n values
       → of_items (objects_json names n values) ≡ Some (objects_data names n values)
-  objects_read n [] ok = refl
-  objects_read n (v ∷ values) ok = rw (object_read n v ok.1, objects_read (n + 1) values ok.2)
+  objects_read version n [] ok = refl
+  objects_read version n (v ∷ values) ok = rw (object_read version n v ok.1, objects_read version (n + 1) values ok.2)
 
-  document_read : (version : ℕ) → version ≤ LAST_VERSION → (values : State) → AreWritable names 0 values
+  document_read : (version : ℕ) → version ≤ LAST_VERSION → (values : State) → AreWritable version names 0 values
       → of_json (carried_json version names values) ≡ Some (carried_data version names values)
-  document_read version known values ok = rw (version_number version known, objects_read 0 values ok)
+  document_read version known values ok = rw (version_number version known, objects_read version 0 values ok)
 
   -- ---- how deep it is
 
@@ -87,7 +88,7 @@ module _ (names : Names) where
   -- ---- the text
 
   module _ (version : ℕ) (known : version ≤ LAST_VERSION) where
-    pub carried_read : (values : State) → AreWritable names 0 values
+    pub carried_read : (values : State) → AreWritable version names 0 values
         → read (carried_text version names values) ≡ Some (carried_data version names values)
     carried_read values ok =
         let j = carried_json version names values in
@@ -97,7 +98,7 @@ module _ (names : Names) where
         ∙ value-json_tokens j max_depth [] (shallow version values))
         ∙ document_read version known values ok
 
-    pub carried_value : (values : State) → AreWritable names 0 values
+    pub carried_value : (values : State) → AreWritable version names 0 values
         → (if is_utf8 (carried_text version names values) then read (carried_text version names values) else None)
         ≡ Some (carried_data version names values)
     carried_value values ok =

@@ -26,16 +26,16 @@ use Rattle.carry.specs.Carried.{carried_text, document_head, item_text, list_tex
 use Rattle.carry_laws.proofs.Listed.{AreNamedBoth, AreWritable, IsNamed, IsWritable}
 use Rattle.carry_laws.proofs.NamesPlain.{high_byte}
 
-bytes_ascii : (s : List ℕ) → list_all is_name_byte s ≡ true → IsAscii s
-bytes_ascii [] e = IsAscii-nil
-bytes_ascii (x ∷ s) e =
+bytes_ascii : (version : ℕ) (s : List ℕ) → list_all (is_name_byte version) s ≡ true → IsAscii s
+bytes_ascii version [] e = IsAscii-nil
+bytes_ascii version (x ∷ s) e =
     let both = and_parts _ _ e in
-    let high = high_byte x both.0 in
-    IsAscii-cons x s (omega arith) (bytes_ascii s both.1)
+    let high = high_byte version x both.0 in
+    IsAscii-cons x s (omega arith) (bytes_ascii version s both.1)
 
-name_utf8 : (s : List ℕ) → is_name s ≡ true → IsUtf8 s
+name_utf8 : (version : ℕ) (s : List ℕ) → is_name version s ≡ true → IsUtf8 s
 unfolding is_name
-name_utf8 s e = IsUtf8-from_ascii s (bytes_ascii s (and_parts _ _ e).1)
+name_utf8 version s e = IsUtf8-from_ascii s (bytes_ascii version s (and_parts _ _ e).1)
 
 between_utf8 : (a b c : List ℕ) → IsUtf8 a → IsUtf8 b → IsUtf8 c → IsUtf8 (a ++ b ++ c)
 between_utf8 a b c first second third = IsUtf8-append (a ++ b) c (IsUtf8-append a b first second) third
@@ -65,12 +65,12 @@ kind_utf8 kind.Max = IsUtf8-are_ascii (codes "max") refl
 number_utf8 : (n : ℕ) → n ≤ MAX_START → IsUtf8 (decimal n)
 number_utf8 n small = IsUtf8-from_ascii (decimal n) (IsAscii-decimal n (omega arith))
 
-module _ (names : Names) where
-  items_utf8 : (xs : List Item) → AllByRecursion (IsNamed names) xs → AllByRecursion IsUtf8 (map (item_text names) xs)
+module _ (version : ℕ) (names : Names) where
+  items_utf8 : (xs : List Item) → AllByRecursion (IsNamed version names) xs → AllByRecursion IsUtf8 (map (item_text names) xs)
   items_utf8 [] named = tt
-  items_utf8 (x ∷ xs) named = (quoted_utf8 (names.item x) (name_utf8 (names.item x) named.0), items_utf8 xs named.1)
+  items_utf8 (x ∷ xs) named = (quoted_utf8 (names.item x) (name_utf8 version (names.item x) named.0), items_utf8 xs named.1)
 
-  pairs_utf8 : (pairs : List (Item × Item)) → AllByRecursion (AreNamedBoth names) pairs
+  pairs_utf8 : (pairs : List (Item × Item)) → AllByRecursion (AreNamedBoth version names) pairs
       → AllByRecursion IsUtf8 (map (pair_text names) pairs)
   pairs_utf8 [] named = tt
   pairs_utf8 (pair ∷ pairs) named = (
@@ -79,7 +79,7 @@ module _ (names : Names) where
     pairs_utf8 pairs named.1,
   )
 
-  start_utf8 : (v : Value) → IsWritable names v → IsUtf8 (start_text names v)
+  start_utf8 : (v : Value) → IsWritable version names v → IsUtf8 (start_text names v)
   start_utf8 (value.Account n) ok = number_utf8 n ok
   start_utf8 (value.Counter (pos n)) ok = number_utf8 n ok
   start_utf8 (value.Counter (negsuc n)) ok = IsUtf8-from_ascii (signed_decimal (negsuc n)) (IsAscii-signed (negsuc n) (omega arith))
@@ -88,7 +88,8 @@ module _ (names : Names) where
   start_utf8 (value.Directory d) ok = list_utf8 (map (pair_text names) (finite_map.entries d)) (pairs_utf8 (finite_map.entries d) ok)
   start_utf8 (value.Max n) ok = number_utf8 n ok
 
-  object_utf8 : (n : ℕ) (v : Value) → is_name (names.object n) ≡ true → IsWritable names v → IsUtf8 (object_text names n v)
+  object_utf8 : (n : ℕ) (v : Value) → is_name version (names.object n) ≡ true → IsWritable version names v
+      → IsUtf8 (object_text names n v)
   object_utf8 n v named ok =
       let name = quoted (names.object n) in
       let kind = quoted (kind_text (kind_of_value v)) in
@@ -97,12 +98,12 @@ module _ (names : Names) where
       let third = codes ", \"start\": " in
       between_utf8 (first ++ name ++ second ++ kind ++ third) (start_text names v) (codes "}")
       (between_utf8 (first ++ name ++ second) kind third
-      (between_utf8 first name second (IsUtf8-are_ascii first refl) (quoted_utf8 (names.object n) (name_utf8 (names.object n) named))
-      (IsUtf8-are_ascii second refl))
+      (between_utf8 first name second (IsUtf8-are_ascii first refl)
+      (quoted_utf8 (names.object n) (name_utf8 version (names.object n) named)) (IsUtf8-are_ascii second refl))
       (quoted_utf8 (kind_text (kind_of_value v)) (kind_utf8 (kind_of_value v))) (IsUtf8-are_ascii third refl))
       (start_utf8 v ok) (IsUtf8-are_ascii (codes "}") refl)
 
-  objects_utf8 : (n : ℕ) (values : State) → AreWritable names n values → AllByRecursion IsUtf8 (object_texts names n values)
+  objects_utf8 : (n : ℕ) (values : State) → AreWritable version names n values → AllByRecursion IsUtf8 (object_texts names n values)
   objects_utf8 n [] ok = tt
   objects_utf8 n (v ∷ values) ok = (object_utf8 n v ok.0 ok.1, objects_utf8 (n + 1) values ok.2)
 
@@ -113,8 +114,9 @@ module _ (version : ℕ) (known : version ≤ LAST_VERSION) where
       (IsUtf8-are_ascii (codes "{\"ordtx\": ") refl) (number_utf8 version (omega arith))
       (IsUtf8-are_ascii (codes ",\n\"objects\": [\n") refl)
 
-  pub carried_utf8 : (names : Names) (values : State) → AreWritable names 0 values → IsUtf8 (carried_text version names values)
+  pub carried_utf8 : (names : Names) (values : State) → AreWritable version names 0 values → IsUtf8 (carried_text version names values)
   carried_utf8 names values ok = between_utf8 (document_head version) (joined (codes ",\n") (object_texts names 0 values))
       (codes "\n],\n\"transactions\": [\n]}\n") head_utf8
-      (joined_utf8 (codes ",\n") (IsUtf8-are_ascii (codes ",\n") refl) (object_texts names 0 values) (objects_utf8 names 0 values ok))
+      (joined_utf8 (codes ",\n") (IsUtf8-are_ascii (codes ",\n") refl) (object_texts names 0 values)
+      (objects_utf8 version names 0 values ok))
       (IsUtf8-are_ascii _ refl)

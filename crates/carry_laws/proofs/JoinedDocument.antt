@@ -51,7 +51,7 @@ module _ (version : ℕ) (carried : IsCarriedVersion version) where
     fewer : Fewer next c
 
   starts_met : (n entries : ℕ) (starts : List StartOf) (earlier : Table) (c : Counts) → c.starts ≤ entries
-      → first_unfit version n entries (map value_of starts) ≡ None → AllByRecursion CanStart starts
+      → first_unfit version n entries (map value_of starts) ≡ None → AllByRecursion (CanStart version) starts
       → AllByRecursion IsApartStart starts → Apart (map name_of starts) → AreNew earlier (map name_of starts)
       → StartsMet c earlier starts
   starts_met n entries [] earlier c few fit ok apart differ new =
@@ -177,7 +177,7 @@ module _ (version : ℕ) (carried : IsCarriedVersion version) (first : Named) (d
 
   pub joined_reads : PartsMet d → length (starts_with first d) ≤ (limits_of version).objects
       → first_unfit version 0 0 (map value_of (starts_with first d)) ≡ None
-      → AllByRecursion CanStart (starts_with first d) → AllByRecursion IsApartStart (starts_with first d)
+      → AllByRecursion (CanStart version) (starts_with first d) → AllByRecursion IsApartStart (starts_with first d)
       → Apart (map name_of (starts_with first d)) → Read
   unfolding asked
   joined_reads parts short fit ok apart differ =

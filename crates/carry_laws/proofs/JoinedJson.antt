@@ -29,14 +29,15 @@ joined_json version starts js = json.object (json.member (codes "ordtx") (json.n
     (json.member (codes "objects") (json.array (starts_json starts))
     (json.member (codes "transactions") (json.array js) json.no_members)))
 
--- a start that has a name, and that can be written
-abbrev pub CanStart : StartOf → Type 0
-CanStart start = (is_name (name_of start) ≡ true) × IsWritable start.names start.value
+-- a start that has a name of a version, and that can be written
+abbrev pub CanStart : ℕ → StartOf → Type 0
+CanStart version start = (is_name version (name_of start) ≡ true) × IsWritable version start.names start.value
 
-starts_written : (starts : List StartOf) → AllByRecursion CanStart starts → AllWrite (map object_text_of starts) (starts_json starts)
-starts_written [] ok = tt
-starts_written (start ∷ starts) ok =
-    (object_written start.names start.place start.value ok.0.0 ok.0.1, starts_written starts ok.1)
+starts_written : (version : ℕ) (starts : List StartOf) → AllByRecursion (CanStart version) starts
+    → AllWrite (map object_text_of starts) (starts_json starts)
+starts_written version [] ok = tt
+starts_written version (start ∷ starts) ok =
+    (object_written version start.names start.place start.value ok.0.0 ok.0.1, starts_written version starts ok.1)
 
 transactions_key : (rest : List ℕ) → lex between (codes ",\n\"transactions\": [\n" ++ rest)
     ≡ comma ∷ token (Token.string (codes "transactions")) ∷ colon ∷ token Token.begin_array ∷ lex between rest
@@ -53,7 +54,8 @@ lines_lexed : (texts : List (List ℕ)) (js : json.Items) (rest : List ℕ) → 
 unfolding lex
 lines_lexed texts js rest all = joined_lexed (codes ",\n") (codes "\n]") (λ r. refl) (λ r. refl) (λ r. refl) (λ r. refl) texts js rest all
 
-pub text_lexed : (version : ℕ) → version ≤ LAST_VERSION → (starts : List StartOf) (bytes : List ℕ) → AllByRecursion CanStart starts
+pub text_lexed : (version : ℕ) → version ≤ LAST_VERSION → (starts : List StartOf) (bytes : List ℕ)
+    → AllByRecursion (CanStart version) starts
     → ItemsHaveNumbers (transactions_of (tree_of bytes))
     → lex between (joined_text version starts bytes) ≡ json_lexemes (joined_json version starts (transactions_of (tree_of bytes)))
 text_lexed version known starts bytes ok numbers =
@@ -75,7 +77,7 @@ text_lexed version known starts bytes ok numbers =
     ∙ ap (λ ls. token (Token.number (decimal version)) ∷ ls) (
     objects_key (objects ++ (codes "\n]" ++ last))
     ∙ ap (λ ls. comma ∷ token (Token.string (codes "objects")) ∷ colon ∷ token Token.begin_array ∷ ls) (
-    lines_lexed (map object_text_of starts) (starts_json starts) last (starts_written starts ok)
+    lines_lexed (map object_text_of starts) (starts_json starts) last (starts_written version starts ok)
     ∙ ap (λ ls. items_lexemes false (starts_json starts) ++ ls) (
     transactions_key tail
     ∙ ap (λ ls. comma ∷ token (Token.string (codes "transactions")) ∷ colon ∷ token Token.begin_array ∷ ls) (

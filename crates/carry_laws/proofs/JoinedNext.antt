@@ -147,7 +147,7 @@ first_apart : (bytes : List ℕ) (document : Document) → reading bytes ≡ Ok 
     → Apart (object_names (names_of document.texts) 0 (final_state document.start document.transactions))
 first_apart bytes document reads =
     let source = of_reading bytes document reads in
-    let all = end_is_named bytes document reads in
+    let all = end_is_named document.version bytes document reads (omega arith) in
     let size = all.size in
     let differ = subst (λ (x : Document). Apart x.texts.objects) source.is
     (distinct_apart (document_in source.value).texts.objects (objects_differ source.value source.faultless)) in
@@ -155,18 +155,19 @@ first_apart bytes document reads =
 
 -- the same of the value of the next document
 joined_next : (version : ℕ) → IsCarriedVersion version → (first next : List ℕ) (document : Document) (d : Data)
-    → reading first ≡ Ok document → value_of next ≡ Some d → version_in d ≤ version → first_fault (placed d) ≡ None
+    → reading first ≡ Ok document → document.version ≤ version → value_of next ≡ Some d → version_in d ≤ version
+    → first_fault (placed d) ≡ None
     → MayBeJoined version next (document_in d).start (starts_with (ends_of document) d)
     → (joined : Document) × (items : ℕ → ℕ) × (reading (joined_text version (starts_with (ends_of document) d) next) ≡ Ok joined)
     × IsNextWith version (starts_with (ends_of document) d) (document_in d) items joined
-joined_next version carried first next document d reads value later none may =
+joined_next version carried first next document d reads before value later none may =
     let ends = ends_of document in
     let starts = starts_with ends d in
     let j = joined_of version ends d in
-    let one = end_is_named first document reads in
-    let other = starts_are_named d none in
+    let one = end_is_named version first document reads before in
+    let other = starts_are_named version d later none in
     let ok = joined_can_start version ends (next_of d) one other may.fit in
-    let apart = joined_apart ends (next_of d) one other in
+    let apart = joined_apart version ends (next_of d) one other in
     let differ = joined_differ ends (next_of d) other.size
     (distinct_apart (document_in d).texts.objects (objects_differ d none)) (first_apart first document reads) in
     let read = joined_reads version carried ends d later other.size may.one_kind (parts_met d none) may.few may.fit ok apart differ in
@@ -185,9 +186,9 @@ unfolding document_in
 joined_is_next first next document next_document reads next_reads may =
     let source = of_reading next next_document next_reads in
     let known = into_known first next document next_document reads next_reads in
-    subst (λ (x : Document). IsCarriedVersion (version_into document x) → x.version ≤ version_into document x
-    → MayBeJoined (version_into document x) next x.start (starts_into document x)
+    subst (λ (x : Document). IsCarriedVersion (version_into document x) → document.version ≤ version_into document x
+    → x.version ≤ version_into document x → MayBeJoined (version_into document x) next x.start (starts_into document x)
     → (joined : Document) × (items : ℕ → ℕ) × (reading (text_into document x next) ≡ Ok joined)
     × IsNextWith (version_into document x) (starts_into document x) x items joined) source.is
-    (λ carried later. joined_next (version_into document (document_in source.value)) carried first next document source.value reads
-    source.reads later source.faultless) known.0 known.1 may
+    (λ carried before later. joined_next (version_into document (document_in source.value)) carried first next document source.value
+    reads before source.reads later source.faultless) known.0 known.1 known.2 may

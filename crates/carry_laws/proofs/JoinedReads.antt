@@ -18,24 +18,26 @@ use Rattle.carry_laws.proofs.JoinedJson.{CanStart, joined_json, starts_json, tex
 use Rattle.carry_laws.proofs.Lexemes.{tokens_alone}
 use Rattle.carry_laws.proofs.NextTree.{AreTransactions}
 
-starts_read : (starts : List StartOf) → AllByRecursion CanStart starts → of_items (starts_json starts) ≡ Some (starts_data starts)
-starts_read [] ok = refl
-starts_read (start ∷ starts) ok = rw (object_read start.names start.place start.value ok.0.1, starts_read starts ok.1)
+starts_read : (version : ℕ) (starts : List StartOf) → AllByRecursion (CanStart version) starts
+    → of_items (starts_json starts) ≡ Some (starts_data starts)
+starts_read version [] ok = refl
+starts_read version (start ∷ starts) ok =
+    rw (object_read start.names version start.place start.value ok.0.1, starts_read version starts ok.1)
 
 starts_flat : (starts : List StartOf) → items_depth (starts_json starts) ≤ 3
 starts_flat [] = omega arith
 starts_flat (start ∷ starts) = omega (arith, start_flat start.names start.value, starts_flat starts)
 
 module _ (version : ℕ) (known : version ≤ LAST_VERSION) (starts : List StartOf) (js : json.Items) (ds : Items)
-    (ok : AllByRecursion CanStart starts) (t : AreTransactions js ds) where
+    (ok : AllByRecursion (CanStart version) starts) (t : AreTransactions js ds) where
   document_read : of_json (joined_json version starts js) ≡ Some (joined_data version starts ds)
-  document_read = rw (version_number version known, starts_read starts ok, t.is)
+  document_read = rw (version_number version known, starts_read version starts ok, t.is)
 
   shallow : depth (joined_json version starts js) ≤ 127
   shallow = let flat = t.flat in omega (arith, starts_flat starts, flat)
 
 module _ (version : ℕ) (known : version ≤ LAST_VERSION) where
-  pub joined_read : (starts : List StartOf) (bytes : List ℕ) (ds : Items) → AllByRecursion CanStart starts
+  pub joined_read : (starts : List StartOf) (bytes : List ℕ) (ds : Items) → AllByRecursion (CanStart version) starts
       → AreTransactions (transactions_of (tree_of bytes)) ds
       → read (joined_text version starts bytes) ≡ Some (joined_data version starts ds)
   joined_read starts bytes ds ok t =
@@ -47,7 +49,7 @@ module _ (version : ℕ) (known : version ≤ LAST_VERSION) where
       ∙ value-json_tokens j max_depth [] (shallow version known starts js ds ok t))
       ∙ document_read version known starts js ds ok t
 
-  pub joined_value : (starts : List StartOf) (bytes : List ℕ) (ds : Items) → AllByRecursion CanStart starts
+  pub joined_value : (starts : List StartOf) (bytes : List ℕ) (ds : Items) → AllByRecursion (CanStart version) starts
       → AreTransactions (transactions_of (tree_of bytes)) ds → IsUtf8 (joined_text version starts bytes)
       → value_of (joined_text version starts bytes) ≡ Some (joined_data version starts ds)
   joined_value starts bytes ds ok t utf8 =

@@ -32,6 +32,7 @@ use Rattle.carry_laws.proofs.Among.{Among, Apart, each_of, of_each}
 use Rattle.carry_laws.proofs.CarriedFaultless.{kind_back, kind_is}
 use Rattle.carry_laws.proofs.NamedTexts.{names_from}
 use Rattle.merging.proofs.NumberedTexts.{first_listed, listed_at, listed_kept}
+use Rattle.carry_laws.proofs.LaterNames.{name_later}
 use Rattle.carry_laws.proofs.LimitsSince.{limits_since}
 use Rattle.carry_laws.proofs.OtherSetting.{Declares}
 use Rattle.carry_laws.proofs.Versions.{each_version}
@@ -319,6 +320,7 @@ declares_more old version more others above later carried =
       fills = λ known. le-leb 5 version (omega (arith, leb-true 5 old.version known, later));
       operations = λ n under. more_below n _ _ most.operations under;
       nodes = λ n under. more_below n _ _ most.nodes under;
+      named = name_later old.version version later;
       listed = λ name listed. listed_kept name old.names more listed;
       places = λ name listed. place_kept name old.names more listed;
       kinds = λ name k is. kind_kept name old.names more old.kinds others k is;

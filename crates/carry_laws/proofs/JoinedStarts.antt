@@ -84,17 +84,18 @@ module _ (P : StartOf → Type 0) (first next : Named)
 
 -- ---- objects and items with names
 
--- each object and each item has a text that is a name
-pub record AreAllNamed (texts : Texts) (values : State) : Type 0 where
-  pub objects : AreNames texts.objects
-  pub items : AreNames texts.items
+-- each object and each item has a text that is a name of a version
+pub record AreAllNamed (version : ℕ) (texts : Texts) (values : State) : Type 0 where
+  pub objects : AreNames version texts.objects
+  pub items : AreNames version texts.items
   pub size : length texts.objects ≡ length values
   pub named : AllNamedValues texts values
   pub apart : Apart texts.items
 
 -- a start has a name, and so have its items
-abbrev IsNamedStart : StartOf → Type 0
-IsNamedStart start = (is_name (name_of start) ≡ true) × ((x : Item) → HasItem start.value x → IsNamed start.names x)
+abbrev IsNamedStart : ℕ → StartOf → Type 0
+IsNamedStart version start =
+    (is_name version (name_of start) ≡ true) × ((x : Item) → HasItem start.value x → IsNamed version start.names x)
 
 abbrev pub IsApartStart : StartOf → Type 0
 IsApartStart start = IsApart start.names start.value
@@ -108,41 +109,43 @@ value_at_named texts (w ∷ values) zero v named there = subst (IsNamedValue tex
     same w v e = cc
 value_at_named texts (w ∷ values) (suc n) v named there = value_at_named texts values n v named.1 there
 
-start_named : (named : Named) → AreAllNamed named.texts named.values → (n : ℕ) (v : Value) → slice_get named.values n ≡ Some v
-    → IsNamedStart (start_of named n v)
-start_named named all n v there =
+start_named : (version : ℕ) (named : Named) → AreAllNamed version named.texts named.values → (n : ℕ) (v : Value)
+    → slice_get named.values n ≡ Some v → IsNamedStart version (start_of named n v)
+start_named version named all n v there =
     let within = slice_get_within named.values n v there in
     let size = all.size in (
-      AllPass-from_list_all is_name named.texts.objects all.objects n [] (omega (arith, within, size)),
-      λ x has. AllPass-from_list_all is_name named.texts.items all.items x.0 []
+      AllPass-from_list_all (is_name version) named.texts.objects all.objects n [] (omega (arith, within, size)),
+      λ x has. AllPass-from_list_all (is_name version) named.texts.items all.items x.0 []
           (value_has_text named.texts v x (value_at_named named.texts named.values n v all.named there) has),
     )
 
 -- the items of a start have names of their own
-start_apart : (named : Named) → AreAllNamed named.texts named.values → (n : ℕ) (v : Value) → slice_get named.values n ≡ Some v
-    → IsApartStart (start_of named n v)
-start_apart named all n v there =
+start_apart : (version : ℕ) (named : Named) → AreAllNamed version named.texts named.values → (n : ℕ) (v : Value)
+    → slice_get named.values n ≡ Some v → IsApartStart (start_of named n v)
+start_apart version named all n v there =
     let texts = named.texts in
     let has_text = value_has_text texts v in
     let is_named = value_at_named texts named.values n v all.named there in
     apart (names_of texts) v (λ x y has had e. one_item x y (one_place [] texts.items x.0 y.0 all.apart (has_text x is_named has)
     (has_text y is_named had) e))
 
-pub joined_apart : (first next : Named) → AreAllNamed first.texts first.values → AreAllNamed next.texts next.values
-    → AllByRecursion IsApartStart (joined first next)
-joined_apart first next one other = each_joined IsApartStart first next (start_apart first one) (start_apart next other)
+pub joined_apart : (version : ℕ) (first next : Named) → AreAllNamed version first.texts first.values
+    → AreAllNamed version next.texts next.values → AllByRecursion IsApartStart (joined first next)
+joined_apart version first next one other =
+    each_joined IsApartStart first next (start_apart version first one) (start_apart version next other)
 
 can_start : (version place entries : ℕ) (starts : List StartOf) → first_unfit version place entries (map value_of starts) ≡ None
-    → AllByRecursion IsNamedStart starts → AllByRecursion CanStart starts
+    → AllByRecursion (IsNamedStart version) starts → AllByRecursion (CanStart version) starts
 can_start version place entries [] fit named = tt
 can_start version place entries (start ∷ starts) fit named =
     let fits = first_fits version place entries start.value (map value_of starts) fit in (
-      (named.0.0, writable start.names start.value fits.small named.0.1),
+      (named.0.0, writable start.names version start.value fits.small named.0.1),
       can_start version (place + 1) (entries + entries_in start.value) starts fits.rest named.1,
     )
 
-pub joined_can_start : (version : ℕ) (first next : Named) → AreAllNamed first.texts first.values → AreAllNamed next.texts next.values
-    → first_unfit version 0 0 (map value_of (joined first next)) ≡ None → AllByRecursion CanStart (joined first next)
+pub joined_can_start : (version : ℕ) (first next : Named) → AreAllNamed version first.texts first.values
+    → AreAllNamed version next.texts next.values → first_unfit version 0 0 (map value_of (joined first next)) ≡ None
+    → AllByRecursion (CanStart version) (joined first next)
 joined_can_start version first next one other fit =
     can_start version 0 0 (joined first next) fit
-    (each_joined IsNamedStart first next (start_named first one) (start_named next other))
+    (each_joined (IsNamedStart version) first next (start_named version first one) (start_named version next other))

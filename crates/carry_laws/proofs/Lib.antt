@@ -1,6 +1,7 @@
 pub mod Lexemes
 pub mod Written
 pub mod NamesPlain
+pub mod LaterNames
 pub mod Listed
 pub mod Versions
 pub mod CarriedJson

@@ -28,11 +28,11 @@ grows first old new limit less more later most before = by (nat_le first old) (n
     by false false e f = before
 
 -- one that was the same in all versions before
-since_one : (old new limit before : ℕ) → old ≤ new → before ≤ limit → since 5 old limit before ≤ since 5 new limit before
+pub since_one : (old new limit before : ℕ) → old ≤ new → before ≤ limit → since 5 old limit before ≤ since 5 new limit before
 since_one old new limit before later less = grows 5 old new limit before before later less (omega arith)
 
 -- what is no less than either of two numbers
-either_less : (b : Bool) (m n most : ℕ) → m ≤ most → n ≤ most → cond b m n ≤ most
+pub either_less : (b : Bool) (m n most : ℕ) → m ≤ most → n ≤ most → cond b m n ≤ most
 either_less true m n most here there = here
 either_less false m n most here there = there
 

@@ -12,21 +12,22 @@ use Rattle.batch.specs.Names.{is_name}
 use Rattle.meaning.specs.declared.limits.TheConstants.{MAX_START}
 use Rattle.meaning.specs.WellFormed.{size_of}
 
--- an item that has a name
-abbrev pub IsNamed : Names → Item → Type 0
-IsNamed names x = is_name (names.item x) ≡ true
+-- an item that has a name of a version
+abbrev pub IsNamed : ℕ → Names → Item → Type 0
+IsNamed version names x = is_name version (names.item x) ≡ true
 
-abbrev pub AreNamedBoth : Names → Item × Item → Type 0
-AreNamedBoth names pair = IsNamed names pair.0 × IsNamed names pair.1
+abbrev pub AreNamedBoth : ℕ → Names → Item × Item → Type 0
+AreNamedBoth version names pair = IsNamed version names pair.0 × IsNamed version names pair.1
 
 -- a value whose number is small enough, or whose items have names
-abbrev pub IsWritable : Names → Value → Type 0
-IsWritable names (value.Set s) = AllByRecursion (IsNamed names) (members s)
-IsWritable names (value.Queue q) = AllByRecursion (IsNamed names) q
-IsWritable names (value.Directory d) = AllByRecursion (AreNamedBoth names) (finite_map.entries d)
-IsWritable names v = size_of v ≤ MAX_START
+abbrev pub IsWritable : ℕ → Names → Value → Type 0
+IsWritable version names (value.Set s) = AllByRecursion (IsNamed version names) (members s)
+IsWritable version names (value.Queue q) = AllByRecursion (IsNamed version names) q
+IsWritable version names (value.Directory d) = AllByRecursion (AreNamedBoth version names) (finite_map.entries d)
+IsWritable version names v = size_of v ≤ MAX_START
 
 -- the objects from place n on
-abbrev pub AreWritable : Names → ℕ → State → Type 0
-AreWritable names n [] = ⊤
-AreWritable names n (v ∷ values) = (is_name (names.object n) ≡ true) × IsWritable names v × AreWritable names (n + 1) values
+abbrev pub AreWritable : ℕ → Names → ℕ → State → Type 0
+AreWritable version names n [] = ⊤
+AreWritable version names n (v ∷ values) =
+    (is_name version (names.object n) ≡ true) × IsWritable version names v × AreWritable version names (n + 1) values

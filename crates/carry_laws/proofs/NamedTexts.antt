@@ -83,9 +83,9 @@ named_objects_fit version texts values objects items size named few fit =
     record {
       few = few;
       fit = fit;
-      objects_named = subst AreNames (sym same) objects.0;
+      objects_named = subst (AreNames version) (sym same) objects.0;
       objects_apart = subst (IsDistinct bytes_eq) (sym same) objects.1;
-      items_named = λ x has. AllPass-from_list_all is_name texts.items items.0 x.0 [] (has_text texts values x named has);
+      items_named = λ x has. AllPass-from_list_all (is_name version) texts.items items.0 x.0 [] (has_text texts values x named has);
       items_apart = λ x y has had e. one_item x y (one_place [] texts.items x.0 y.0 apart (has_text texts values x named has)
           (has_text texts values y named had) e);
     }

@@ -6,24 +6,25 @@ use Rattle.json.specs.Print.{escape}
 use Rattle.json.proofs.Printed.Strings.{escape_byte_plain}
 use Rattle.batch.specs.Names.{is_name, is_name_byte}
 
-low_byte : (x : ℕ) → is_name_byte x ≡ true → 32 ≤ x
-low_byte x e = grind arith
+low_byte : (version x : ℕ) → is_name_byte version x ≡ true → 32 ≤ x
+low_byte version x e = grind arith
 
-pub high_byte : (x : ℕ) → is_name_byte x ≡ true → x ≤ 122
-high_byte x e = grind arith
+pub high_byte : (version x : ℕ) → is_name_byte version x ≡ true → x ≤ 122
+high_byte version x e = grind arith
 
-no_quote : (x : ℕ) → is_name_byte x ≡ true → x ≡ 34 → ⊥
-no_quote x e is = grind arith
+no_quote : (version x : ℕ) → is_name_byte version x ≡ true → x ≡ 34 → ⊥
+no_quote version x e is = grind arith
 
-no_backslash : (x : ℕ) → is_name_byte x ≡ true → x ≡ 92 → ⊥
-no_backslash x e is = grind arith
+no_backslash : (version x : ℕ) → is_name_byte version x ≡ true → x ≡ 92 → ⊥
+no_backslash version x e is = grind arith
 
-plain : (s : List ℕ) → list_all is_name_byte s ≡ true → escape s ≡ s
-plain [] e = refl
-plain (x ∷ s) e =
+plain : (version : ℕ) (s : List ℕ) → list_all (is_name_byte version) s ≡ true → escape s ≡ s
+plain version [] e = refl
+plain version (x ∷ s) e =
     let both = and_parts _ _ e in
-    ap₂ (λ (a b : List ℕ). a ++ b) (escape_byte_plain x (no_quote x both.0) (no_backslash x both.0) (low_byte x both.0)) (plain s both.1)
+    ap₂ (λ (a b : List ℕ). a ++ b) (escape_byte_plain x (no_quote version x both.0) (no_backslash version x both.0)
+    (low_byte version x both.0)) (plain version s both.1)
 
-pub name_plain : (s : List ℕ) → is_name s ≡ true → escape s ≡ s
+pub name_plain : (version : ℕ) (s : List ℕ) → is_name version s ≡ true → escape s ≡ s
 unfolding is_name
-name_plain s e = plain s (and_parts _ _ e).1
+name_plain version s e = plain version s (and_parts _ _ e).1

@@ -18,6 +18,7 @@ use Rattle.meaning.specs.declared.template.Template.TheVariants as template
 use Rattle.meaning.specs.declared.template.Template.TheVariants.{Given}
 use Rattle.rules.specs.declared.rule.CountRule.TheVariants.{Nodes, Operations}
 use Rattle.rules.specs.declared.rule.ArgumentRule.TheVariants as argument_rule
+use Rattle.rules.specs.declared.rule.NameRule.{NameRule}
 use Rattle.rules.specs.declared.rule.NameRule.TheVariants as names
 use Rattle.rules.specs.declared.rule.Place.{Place}
 use Rattle.rules.specs.declared.rule.Place.TheVariants.{Third, Fourth}
@@ -32,6 +33,7 @@ use Rattle.words.specs.declared.verb.Verb.{Verb}
 use Rattle.words.specs.declared.verb.Verb.TheVariants.{OfAmount, OfItem, OfPair, Alone}
 use Rattle.words.specs.declared.verb.LoneVerb.TheVariants.{Balance}
 use Rattle.meaning.specs.declared.limits.TheConstants.{MAX_DEPTH}
+use Rattle.rules.specs.declared.subject.Subject.{Subject}
 use Rattle.rules.specs.declared.subject.Subject.TheVariants.{Outcome, Reply}
 use Rattle.spelling.specs.declared.steps.Sort.{Sort}
 use Rattle.spelling.specs.declared.steps.Sort.TheVariants.{Operation as an_operation, If as an_if, Sub as a_sub, Abort as an_abort}
@@ -39,13 +41,13 @@ use Rattle.spelling.specs.declared.steps.Sort.TheVariants.{Parallel as a_paralle
 use Rattle.spelling.specs.Demand.{Demand, and_then, broken_at, check, holds, in_transaction, limited, one_more_node}
 use Rattle.spelling.specs.Demand.{one_more_operation, one_more_start}
 use Rattle.rules.specs.Limits.{limits_of}
-use Rattle.spelling.specs.Look.{has, whole, within}
+use Rattle.spelling.specs.Look.{has, or_empty, text_member, whole, within}
 use Rattle.spelling.specs.Scope.{Numbers, Scope, Setting, is_listed, kind_named, label_number, number_of, place_of, with_label}
 use Rattle.spelling.specs.Scope.{with_item, with_reason}
 use Rattle.spelling.specs.Asked.{abort_asked, abort_shape_asked, amount_asked, amount_item, argument_asked, arguments_asked, call_named}
 use Rattle.spelling.specs.Asked.{children_in, else_reason, handlers_are_members, has_count, has_fills, index_of, is_else, is_source}
 use Rattle.spelling.specs.Asked.{item_asked, name_item, reason_asked, source_asked}
-use Rattle.spelling.specs.Asked.{handlers_in}
+use Rattle.spelling.specs.Asked.{handlers_in, holds_item, holds_number, holds_word}
 use Rattle.spelling.specs.Asked.{if_label, if_shape_asked, is_abort, label_asked, label_in, object_of, operation_asked}
 use Rattle.spelling.specs.Asked.{operation_shape_asked}
 use Rattle.spelling.specs.Asked.{or_no_items, parallel_shape_asked, part, scope_after, scope_after_by, seen_asked, sort_of}
@@ -60,9 +62,7 @@ use Rattle.spelling.proofs.Demands.{Asks, array_asked, block_asked, block_asked_
 use Rattle.spelling.proofs.Demands.{members_asked, parallel_asked, step_asked, step_asked_by, steps_asked, sub_asked, transaction_asked}
 use Rattle.spelling.proofs.Demands.{transactions_asked}
 use Rattle.spelling.proofs.MetLemmas.{What, count}
-use Rattle.lang.proofs.Faultless.{if_shape_counts, label_counts, parallel_shape_counts}
-use Rattle.lang.proofs.Faultless.{reason_counts}
-use Rattle.lang.proofs.Faultless.{seen_counts, test_counts}
+use Rattle.lang.proofs.Faultless.{if_shape_counts, parallel_shape_counts, seen_counts}
 use Rattle.carry_laws.proofs.Meeting.{Counts}
 
 -- What the one setting declares, the other declares at the same places, and it may have what the one may.
@@ -72,6 +72,7 @@ pub record Declares (old new : Setting) : Type 0 where
   pub fills : has_fills old.version ≡ true → has_fills new.version ≡ true
   pub operations : (n : ℕ) → nat_lt n (limits_of old.version).operations ≡ true → nat_lt n (limits_of new.version).operations ≡ true
   pub nodes : (n : ℕ) → nat_lt n (limits_of old.version).nodes ≡ true → nat_lt n (limits_of new.version).nodes ≡ true
+  pub named : (name : List ℕ) → is_name old.version name ≡ true → is_name new.version name ≡ true
   pub listed : (name : List ℕ) → is_listed name old.names ≡ true → is_listed name new.names ≡ true
   pub places : (name : List ℕ) → is_listed name old.names ≡ true → place_of name new.names ≡ place_of name old.names
   pub kinds : (name : List ℕ) (k : Kind) → kind_named name old ≡ Some k → kind_named name new ≡ Some k
@@ -172,14 +173,18 @@ same_met (in_transaction i ∷ ds) c d next fewer none met =
 kept_same : (xs : List Demand) (P : Type 0) → count What.starts xs ≡ 0 → P → Kept xs xs P
 kept_same xs P none known = record { kept = λ c d next fewer met. (same_met xs c d next fewer none met, known) }
 
+-- before a list of which nothing is known
+kept_with : (xs xs' ys ys' : List Demand) (P : Type 0) → Kept xs xs' P → Kept ys ys' ⊤ → Kept (xs ++ ys) (xs' ++ ys') P
+kept_with xs xs' ys ys' P first second =
+    kept_so (xs ++ ys) (xs' ++ ys') (P × ⊤) P (λ both. both.0) (kept_on xs xs' ys ys' P ⊤ first second)
+
 -- after, or before, a list that is the same
 kept_before : (xs ys ys' : List Demand) (P : Type 0) → count What.starts xs ≡ 0 → Kept ys ys' P → Kept (xs ++ ys) (xs ++ ys') P
 kept_before xs ys ys' P none rest =
     kept_so (xs ++ ys) (xs ++ ys') (⊤ × P) P (λ both. both.1) (kept_on xs xs ys ys' ⊤ P (kept_same xs ⊤ none tt) rest)
 
 kept_after : (xs xs' ys : List Demand) (P : Type 0) → count What.starts ys ≡ 0 → Kept xs xs' P → Kept (xs ++ ys) (xs' ++ ys) P
-kept_after xs xs' ys P none first =
-    kept_so (xs ++ ys) (xs' ++ ys) (P × ⊤) P (λ both. both.0) (kept_on xs xs' ys ys P ⊤ first (kept_same ys ⊤ none tt))
+kept_after xs xs' ys P none first = kept_with xs xs' ys ys P first (kept_same ys ⊤ none tt)
 
 -- a test that holds where another does, by whatever rules
 kept_test : (a b : Bool) (rule later : Rule) → (a ≡ true → b ≡ true) → Kept (holds a rule ∷ []) (holds b later ∷ []) (a ≡ true)
@@ -210,16 +215,23 @@ first_is false r ds c next met = cc
 
 -- One of two lists, by whether an argument is an object and the version has such arguments. Where it has none, the list that is
 -- met says that the argument is no object.
-kept_choice : (is_object old_has new_has : Bool) (source given : List Demand) → (old_has ≡ true → new_has ≡ true)
-    → count What.starts source ≡ 0 → count What.starts given ≡ 0
+kept_choice : (is_object old_has new_has : Bool) (source given given' : List Demand) → (old_has ≡ true → new_has ≡ true)
+    → count What.starts source ≡ 0 → Kept given given' ⊤
     → ((c next : Counts) → check c given ≡ Ok next → is_object ≡ false)
-    → Kept (cond (is_object && old_has) source given) (cond (is_object && new_has) source given)
+    → Kept (cond (is_object && old_has) source given) (cond (is_object && new_has) source given')
     ((is_object && new_has) ≡ (is_object && old_has))
-kept_choice true true true source given later none also no_object = kept_same source _ none refl
-kept_choice true true false source given later none also no_object = let it = later refl in cc
-kept_choice true false new_has source given later none also no_object =
+kept_choice true true true source given given' later none also no_object = kept_same source _ none refl
+kept_choice true true false source given given' later none also no_object = let it = later refl in cc
+kept_choice true false new_has source given given' later none also no_object =
     record { kept = λ c d next fewer met. let no = no_object c next met in cc }
-kept_choice false old_has new_has source given later none also no_object = kept_same given _ also refl
+kept_choice false old_has new_has source given given' later none also no_object = kept_so given given' ⊤ _ (λ _. refl) also
+
+-- One of three lists. Of the third nothing is known.
+kept_third : (a b : Bool) (xs ys zs zs' : List Demand) → count What.starts xs ≡ 0 → count What.starts ys ≡ 0 → Kept zs zs' ⊤
+    → Kept (cond a xs (cond b ys zs)) (cond a xs (cond b ys zs')) ⊤
+kept_third true b xs ys zs zs' none also third = kept_same xs ⊤ none tt
+kept_third false true xs ys zs zs' none also third = kept_same ys ⊤ also tt
+kept_third false false xs ys zs zs' none also third = third
 
 -- what may be left out may be so in a later version, too
 or_later : (a b old_has new_has : Bool) → (old_has ≡ true → new_has ≡ true) → (a || (old_has && b)) ≡ true → (a || (new_has && b)) ≡ true
@@ -269,6 +281,41 @@ module _ (old new : Setting) (declares : Declares old new) where
             it.2,
           )
       by c d next fewer false within met = cc
+
+  -- a name is one of the other version
+  name_kept : (name : List ℕ) (which : NameRule) → Kept (holds (is_name old.version name) (Name old.version which) ∷ [])
+      (holds (is_name new.version name) (Name new.version which) ∷ []) ⊤
+  name_kept name which = kept_so _ _ _ ⊤ (λ _. tt)
+      (kept_test (is_name old.version name) _ (Name old.version which) (Name new.version which) (declares.named name))
+
+  -- so is that of a reason, of a label, of an item, and of a test's item
+  reason_kept : (which : NameRule) (o : Option (List ℕ)) → Kept (reason_asked old.version which o) (reason_asked new.version which o) ⊤
+  unfolding reason_asked
+  reason_kept which None = kept_same [] ⊤ refl tt
+  reason_kept which (Some reason) = name_kept reason which
+
+  label_kept : (scope earlier : Scope) (o : Option (List ℕ))
+      → Kept (label_asked old.version scope earlier o) (label_asked new.version scope earlier o) ⊤
+  unfolding label_asked
+  label_kept scope earlier None = kept_same [] ⊤ refl tt
+  label_kept scope earlier (Some name) = kept_after (holds (is_name old.version name) (Name old.version names.Label) ∷ [])
+      (holds (is_name new.version name) (Name new.version names.Label) ∷ []) (_ ∷ []) ⊤ refl (name_kept name names.Label)
+
+  item_kept : (place : Place) (op : Data) → Kept (item_asked old.version place op) (item_asked new.version place op) ⊤
+  unfolding item_asked
+  item_kept place op =
+      let name = name_item (index_of place) op in
+      kept_before (_ ∷ []) (holds (is_name old.version name) (Name old.version (names.Argument place)) ∷ [])
+      (holds (is_name new.version name) (Name new.version (names.Argument place)) ∷ []) ⊤ refl (name_kept name (names.Argument place))
+
+  test_kept : (subject : Subject) (d : Data) → Kept (test_asked old.version subject d) (test_asked new.version subject d) ⊤
+  unfolding test_asked
+  test_kept subject d =
+      let name = or_empty (text_member (codes "item") d) in
+      kept_third (has (codes "is") d) (has (codes "atleast") d) (holds_word subject d) (holds_number subject d)
+      (holds_item old.version subject d) (holds_item new.version subject d) refl refl
+      (kept_before (_ ∷ _ ∷ []) (holds (is_name old.version name) (Name old.version names.TestedItem) ∷ [])
+      (holds (is_name new.version name) (Name new.version names.TestedItem) ∷ []) ⊤ refl (name_kept name names.TestedItem))
 
   -- a word names the same verb of an object
   verb_kept : (object call : List ℕ) → is_some (verb_at old object call) ≡ true → verb_at new object call ≡ verb_at old object call
@@ -327,17 +374,19 @@ module _ (old new : Setting) (declares : Declares old new) where
   amount_kept scope op =
       kept_choice (is_some (option_and_then as_object (at 2 op))) (has_fills old.version) (has_fills new.version)
       (source_asked scope fits_number source.Number Third op) (holds (is_some (amount_item 2 op)) (rule.Argument argument_rule.Amount) ∷ [])
-      declares.fills refl refl (λ c next met. amount_no_object (at 2 op) (first_is _ _ [] c next met))
+      _ declares.fills refl (kept_same _ ⊤ refl tt) (λ c next met. amount_no_object (at 2 op) (first_is _ _ [] c next met))
 
   argument_kept : (scope : Scope) (place : Place) (op : Data)
       → Kept (argument_asked old.version scope place op) (argument_asked new.version scope place op)
       (is_source new.version (index_of place) op ≡ is_source old.version (index_of place) op)
   unfolding argument_asked source_asked item_asked
   argument_kept scope place op =
+      let named = holds (is_name old.version (name_item (index_of place) op)) (Name old.version (names.Argument place)) in
       kept_choice (is_some (option_and_then as_object (at (index_of place) op))) (has_fills old.version) (has_fills new.version)
-      (source_asked scope fits_item source.Item place op) (item_asked place op) declares.fills refl refl
+      (source_asked scope fits_item source.Item place op) (item_asked old.version place op) (item_asked new.version place op)
+      declares.fills refl (item_kept place op)
       (λ c next met. text_no_object (at (index_of place) op)
-      (first_is _ _ (holds (is_name (name_item (index_of place) op)) (Name (names.Argument place)) ∷ []) c next met))
+      (first_is _ _ (named ∷ []) c next met))
 
   -- the same call is spelled
   abbrev SameCall : Scope → Verb → Data → Type 0
@@ -393,8 +442,10 @@ module _ (old new : Setting) (declares : Declares old new) where
       let C' = target_asked new (object_of op) (call_named op) in
       let D = arguments_asked old.version scope (verb_in old op) op in
       let D' = arguments_asked new.version scope (verb_in new op) op in
-      let E = reason_asked names.Else (else_reason d) in
-      let F = label_asked scope [] (label_in d) in
+      let E = reason_asked old.version names.Else (else_reason d) in
+      let E' = reason_asked new.version names.Else (else_reason d) in
+      let F = label_asked old.version scope [] (label_in d) in
+      let F' = label_asked new.version scope [] (label_in d) in
       let call = SameCall scope (verb_in old op) op in
       let head = kept_on (A ++ B) (A' ++ B') C C' (⊤ × ⊤) (SameTarget op)
       (kept_on A A' B B' ⊤ ⊤ (operation_shape_kept d) one_more) (target_kept op) in
@@ -403,9 +454,9 @@ module _ (old new : Setting) (declares : Declares old new) where
       let four = kept_so (A ++ B ++ C ++ D) (A' ++ B' ++ C' ++ D') (((⊤ × ⊤) × SameTarget op) × call) (SameOperation scope op)
       (λ known. (known.0.1, known.1))
       (kept_then (A ++ B ++ C) (A' ++ B' ++ C') D D' ((⊤ × ⊤) × SameTarget op) call head rest) in
-      kept_after (A ++ B ++ C ++ D ++ E) (A' ++ B' ++ C' ++ D' ++ E) F (SameOperation scope op) (label_counts What.starts scope [] (label_in d))
-      (kept_after (A ++ B ++ C ++ D) (A' ++ B' ++ C' ++ D') E (SameOperation scope op)
-      (reason_counts What.starts names.Else (else_reason d)) four)
+      kept_with (A ++ B ++ C ++ D ++ E) (A' ++ B' ++ C' ++ D' ++ E') F F' (SameOperation scope op)
+      (kept_with (A ++ B ++ C ++ D) (A' ++ B' ++ C' ++ D') E E' (SameOperation scope op) four (reason_kept names.Else (else_reason d)))
+      (label_kept scope [] (label_in d))
 
   operation_same : (scope : Scope) (numbers : Numbers) (d : Data) → SameOperation scope (part (codes "op") d)
       → operation_of new scope numbers d ≡ operation_of old scope numbers d
@@ -438,12 +489,13 @@ module _ (old new : Setting) (declares : Declares old new) where
       let later = holds (is_abort new.version asked) by_new ∷ [] in
       let node = one_more_node old.version ∷ [] in
       let node' = one_more_node new.version ∷ [] in
-      kept_after (_ ∷ test ++ node) (_ ∷ later ++ node') _ ⊤ (reason_counts What.starts names.Reason (as_str asked))
+      kept_with (_ ∷ test ++ node) (_ ∷ later ++ node') _ _ ⊤
       (kept_before (_ ∷ []) (test ++ node) (later ++ node') ⊤ refl
       (kept_so (test ++ node) (later ++ node') _ ⊤ (λ _. tt) (kept_on test later node node' _ ⊤
       (kept_test (is_abort old.version asked) _ by_old by_new
       (or_reasons (unwrap_or (as_bool asked) false) (is_some (as_str asked))))
       node_kept)))
+      (reason_kept names.Reason (as_str asked))
 
   -- ---- the steps that hold blocks
 
@@ -467,37 +519,42 @@ module _ (old new : Setting) (declares : Declares old new) where
         let B = one_more_node old.version ∷ [] in
         let B' = one_more_node new.version ∷ [] in
         let C = seen_asked scope (if_label d) in
-        let D = test_asked subject d in
+        let D = test_asked old.version subject d in
+        let D' = test_asked new.version subject d in
         let E = old_asks scope then in
         let E' = new_asks scope then in
         let F = block_asked_if old_asks scope else in
         let F' = block_asked_if new_asks scope else in
         let counted = kept_before A B B' ⊤ (if_shape_counts What.starts d) node_kept in
-        let tested = kept_after (A ++ B ++ C) (A ++ B' ++ C) D ⊤ (test_counts What.starts subject d)
-        (kept_after (A ++ B) (A ++ B') C ⊤ (seen_counts What.starts scope (if_label d)) counted) in
-        let head = kept_on (A ++ B ++ C ++ D) (A ++ B' ++ C ++ D) E E' _ _ tested (inner scope then) in
-        kept_so (A ++ B ++ C ++ D ++ E ++ F) (A ++ B' ++ C ++ D ++ E' ++ F') _ _ (λ same numbers.
+        let tested = kept_with (A ++ B ++ C) (A ++ B' ++ C) D D' ⊤
+        (kept_after (A ++ B) (A ++ B') C ⊤ (seen_counts What.starts scope (if_label d)) counted) (test_kept subject d) in
+        let head = kept_on (A ++ B ++ C ++ D) (A ++ B' ++ C ++ D') E E' _ _ tested (inner scope then) in
+        kept_so (A ++ B ++ C ++ D ++ E ++ F) (A ++ B' ++ C ++ D' ++ E' ++ F') _ _ (λ same numbers.
         let test = test_of subject numbers d in
         λ i. spelled_map (λ second. If (label_number (if_label d) scope) test.0 (same.0.1 test.1 i).0 (or_no_step second))
         (same.1 (same.0.1 test.1 i).1 i))
-        (kept_on (A ++ B ++ C ++ D ++ E) (A ++ B' ++ C ++ D ++ E') F F' _ _ head (block_if_kept scope else))
+        (kept_on (A ++ B ++ C ++ D ++ E) (A ++ B' ++ C ++ D' ++ E') F F' _ _ head (block_if_kept scope else))
 
-    members_kept : (scope : Scope) (ds : Members) → Kept (members_asked old_asks scope ds) (members_asked new_asks scope ds)
+    members_kept : (scope : Scope) (ds : Members)
+        → Kept (members_asked old.version old_asks scope ds) (members_asked new.version new_asks scope ds)
         ((numbers : Numbers) → members_of new_block scope numbers ds ≡ members_of old_block scope numbers ds)
     members_kept scope no_members = kept_same [] _ refl (λ numbers. refl)
     members_kept scope (member reason d ds) =
-        let A = holds (is_name reason) (Name names.Handlers) ∷ [] in
+        let A = holds (is_name old.version reason) (Name old.version names.Handlers) ∷ [] in
+        let A' = holds (is_name new.version reason) (Name new.version names.Handlers) ∷ [] in
         let E = old_asks scope d in
         let E' = new_asks scope d in
-        let F = members_asked old_asks scope ds in
-        let F' = members_asked new_asks scope ds in
-        kept_so (A ++ E ++ F) (A ++ E' ++ F') _ _ (λ same numbers. λ i.
-        let one = same.0 (with_reason reason numbers) i in
+        let F = members_asked old.version old_asks scope ds in
+        let F' = members_asked new.version new_asks scope ds in
+        kept_so (A ++ E ++ F) (A' ++ E' ++ F') _ _ (λ same numbers. λ i.
+        let one = same.0.1 (with_reason reason numbers) i in
         let rest = same.1 one.1 i in
         ((number_of reason numbers.reasons, one.0) ∷ rest.0, rest.1))
-        (kept_on (A ++ E) (A ++ E') F F' _ _ (kept_before A E E' _ refl (inner scope d)) (members_kept scope ds))
+        (kept_on (A ++ E) (A' ++ E') F F' _ _ (kept_on A A' E E' ⊤ _ (name_kept reason names.Handlers) (inner scope d))
+        (members_kept scope ds))
 
-    handlers_kept : (scope : Scope) (o : Option Members) → Kept (handlers_asked old_asks scope o) (handlers_asked new_asks scope o)
+    handlers_kept : (scope : Scope) (o : Option Members)
+        → Kept (handlers_asked old.version old_asks scope o) (handlers_asked new.version new_asks scope o)
         ((numbers : Numbers) → handlers_spelled new_block scope numbers o ≡ handlers_spelled old_block scope numbers o)
     unfolding handlers_asked handlers_spelled
     handlers_kept scope None = kept_same [] _ refl (λ numbers. refl)
@@ -516,22 +573,23 @@ module _ (old new : Setting) (declares : Declares old new) where
         let A' = sub_shape_asked new.version d in
         let B = one_more_node old.version ∷ [] in
         let B' = one_more_node new.version ∷ [] in
-        let C = label_asked scope earlier (label_in d) in
+        let C = label_asked old.version scope earlier (label_in d) in
+        let C' = label_asked new.version scope earlier (label_in d) in
         let D = old_asks scope sub in
         let D' = new_asks scope sub in
-        let E = handlers_asked old_asks scope members in
-        let E' = handlers_asked new_asks scope members in
+        let E = handlers_asked old.version old_asks scope members in
+        let E' = handlers_asked new.version new_asks scope members in
         let F = block_asked_if old_asks scope handler in
         let F' = block_asked_if new_asks scope handler in
         let counted = kept_so (A ++ B) (A' ++ B') _ ⊤ (λ _. tt) (kept_on A A' B B' ⊤ ⊤ (sub_shape_kept d) node_kept) in
-        let head = kept_after (A ++ B) (A' ++ B') C ⊤ (label_counts What.starts scope earlier (label_in d)) counted in
-        let body = kept_on (A ++ B ++ C) (A' ++ B' ++ C) D D' _ _ head (inner scope sub) in
-        let handled = kept_on (A ++ B ++ C ++ D) (A' ++ B' ++ C ++ D') E E' _ _ body (handlers_kept scope members) in
-        kept_so (A ++ B ++ C ++ D ++ E ++ F) (A' ++ B' ++ C ++ D' ++ E' ++ F') _ _ (λ same numbers. λ i.
+        let head = kept_with (A ++ B) (A' ++ B') C C' ⊤ counted (label_kept scope earlier (label_in d)) in
+        let body = kept_on (A ++ B ++ C) (A' ++ B' ++ C') D D' _ _ head (inner scope sub) in
+        let handled = kept_on (A ++ B ++ C ++ D) (A' ++ B' ++ C' ++ D') E E' _ _ body (handlers_kept scope members) in
+        kept_so (A ++ B ++ C ++ D ++ E ++ F) (A' ++ B' ++ C' ++ D' ++ E' ++ F') _ _ (λ same numbers. λ i.
         let one = same.0.0.1 numbers i in
         let by_reasons = same.0.1 one.1 i in
         spelled_map (λ otherwise. tried one.0 by_reasons.0 otherwise (is_some (label_in d))) (same.1 by_reasons.1 i))
-        (kept_on (A ++ B ++ C ++ D ++ E) (A' ++ B' ++ C ++ D' ++ E') F F' _ _ handled (block_if_kept scope handler))
+        (kept_on (A ++ B ++ C ++ D ++ E) (A' ++ B' ++ C' ++ D' ++ E') F F' _ _ handled (block_if_kept scope handler))
 
     children_kept : (scope earlier : Scope) (ds : Items)
         → Kept (children_asked old.version old_asks scope earlier ds) (children_asked new.version new_asks scope earlier ds)

@@ -4,7 +4,6 @@ use Rattle.std.proofs.Common.{length-append}
 use Rattle.std.specs.Prelude.{codes}
 use Rattle.std.specs.FinMap as finite_map
 use Rattle.std.specs.List.{AllByRecursion}
-use Rattle.std.proofs.lemmas.Bool.{and_parts, leb-true}
 use Rattle.std.proofs.lemmas.Fmt.{length-decimal-le}
 use Rattle.atoms.specs.declared.item.Item.{Item}
 use Rattle.objects.specs.Entries.{State}
@@ -24,6 +23,7 @@ use Rattle.carry.specs.Carried.{quoted, start_text}
 use Rattle.carry_laws.specs.Carrying.{IsCarriedVersion}
 use Rattle.carry_laws.proofs.Carriable.{first_fits}
 use Rattle.carry_laws.proofs.ItemsOf.{members_few}
+use Rattle.carry_laws.proofs.LaterNames.{most_bytes, name_bytes}
 use Rattle.carry_laws.proofs.Listed.{AreNamedBoth, AreWritable, IsNamed, IsWritable}
 use Rattle.carry_laws.proofs.Versions.{enough_bytes}
 
@@ -49,12 +49,11 @@ list_length texts =
     let two : length (codes ", ") ≤ 2 = omega arith in
     omega (arith, joined_length (codes ", ") texts two, length-append (codes "[" ++ joined (codes ", ") texts) (codes "]"))
 
-name_length : (name : List ℕ) → is_name name ≡ true → length name ≤ 32
-unfolding is_name
-name_length name e = leb-true (length name) 32 (and_parts _ _ (and_parts _ _ e).0).1
+name_length : (version : ℕ) (name : List ℕ) → is_name version name ≡ true → length name ≤ 128
+name_length version name e = omega (arith, name_bytes version name e, most_bytes version)
 
-quoted_length : (name : List ℕ) → length name ≤ 32 → length (quoted name) ≤ 34
-quoted_length name short = omega (arith, length-append (codes "\"" ++ name) (codes "\""))
+quoted_length : (text : List ℕ) → length (quoted text) ≤ length text + 2
+quoted_length text = omega (arith, length-append (codes "\"" ++ text) (codes "\""))
 
 kind_length : (k : Kind) → length (kind_text k) ≤ 32
 kind_length kind.Account = omega arith
@@ -67,13 +66,13 @@ kind_length kind.Max = omega arith
 number_length : (n : ℕ) → n ≤ MAX_START → length (decimal n) ≤ 16
 number_length n small = length-decimal-le 16 n (omega arith) (omega arith) (omega arith)
 
-module _ (names : Names) where
-  items_length : (xs : List Item) → AllByRecursion (IsNamed names) xs → total (map (item_text names) xs) ≤ 36 * length xs
+module _ (version : ℕ) (names : Names) where
+  items_length : (xs : List Item) → AllByRecursion (IsNamed version names) xs → total (map (item_text names) xs) ≤ 132 * length xs
   items_length [] named = omega arith
   items_length (x ∷ xs) named =
-      omega (arith, items_length xs named.1, quoted_length (names.item x) (name_length (names.item x) named.0))
+      omega (arith, items_length xs named.1, quoted_length (names.item x), name_length version (names.item x) named.0)
 
-  pair_length : (pair : Item × Item) → AreNamedBoth names pair → length (pair_text names pair) ≤ 74
+  pair_length : (pair : Item × Item) → AreNamedBoth version names pair → length (pair_text names pair) ≤ 266
   pair_length pair named =
       omega (
         arith,
@@ -81,12 +80,12 @@ module _ (names : Names) where
         items_length (pair.0 ∷ pair.1 ∷ []) (named.0, (named.1, tt)),
       )
 
-  pairs_length : (pairs : List (Item × Item)) → AllByRecursion (AreNamedBoth names) pairs
-      → total (map (pair_text names) pairs) ≤ 76 * length pairs
+  pairs_length : (pairs : List (Item × Item)) → AllByRecursion (AreNamedBoth version names) pairs
+      → total (map (pair_text names) pairs) ≤ 268 * length pairs
   pairs_length [] named = omega arith
   pairs_length (pair ∷ pairs) named = omega (arith, pairs_length pairs named.1, pair_length pair named.0)
 
-  start_length : (v : Value) → IsWritable names v → length (start_text names v) ≤ 76 * entries_in v + 20
+  start_length : (v : Value) → IsWritable version names v → length (start_text names v) ≤ 268 * entries_in v + 20
   start_length (value.Account n) ok = omega (arith, number_length n ok)
   start_length (value.Counter (pos n)) ok = omega (arith, number_length n ok)
   start_length (value.Counter (negsuc n)) ok = omega (arith, number_length (suc n) ok)
@@ -106,21 +105,23 @@ module _ (names : Names) where
       ≡ length a + length name + length b + length kind + length c + length start + length d
   parts_length a name b kind c start d = simp length-append
 
-  object_length : (n : ℕ) (v : Value) → is_name (names.object n) ≡ true → IsWritable names v
-      → length (object_text names n v) ≤ 76 * entries_in v + 120
+  object_length : (n : ℕ) (v : Value) → is_name version (names.object n) ≡ true → IsWritable version names v
+      → length (object_text names n v) ≤ 268 * entries_in v + 216
   object_length n v named ok =
       omega (
         arith,
         parts_length (codes "{\"name\": ") (quoted (names.object n)) (codes ", \"kind\": ") (quoted (kind_text (kind_of_value v)))
             (codes ", \"start\": ")
             (start_text names v) (codes "}"),
-        quoted_length (names.object n) (name_length (names.object n) named),
-        quoted_length (kind_text (kind_of_value v)) (kind_length (kind_of_value v)),
+        quoted_length (names.object n),
+        name_length version (names.object n) named,
+        quoted_length (kind_text (kind_of_value v)),
+        kind_length (kind_of_value v),
         start_length v ok,
       )
 
-  objects_length : (n : ℕ) (values : State) → AreWritable names n values
-      → total (object_texts names n values) ≤ 76 * all_entries_in values + 122 * length values
+  objects_length : (n : ℕ) (values : State) → AreWritable version names n values
+      → total (object_texts names n values) ≤ 268 * all_entries_in values + 218 * length values
   objects_length n [] ok = omega arith
   objects_length n (v ∷ values) ok = omega (arith, objects_length (n + 1) values ok.2, object_length n v ok.0 ok.1)
 
@@ -134,7 +135,7 @@ all_few version n entries (v ∷ values) few fit =
 
 -- the text is not longer than a document of the version may be
 pub carried_length : (version : ℕ) → IsCarriedVersion version → (names : Names) (values : State)
-    → length values ≤ (limits_of version).objects → first_unfit version 0 0 values ≡ None → AreWritable names 0 values
+    → length values ≤ (limits_of version).objects → first_unfit version 0 0 values ≡ None → AreWritable version names 0 values
     → length (carried_text version names values) ≤ (limits_of version).bytes
 carried_length version carried names values few fit ok =
     let first = codes "{\"ordtx\": " in
@@ -148,7 +149,7 @@ carried_length version carried names values few fit ok =
       few,
       enough_bytes version carried,
       joined_length (codes ",\n") (object_texts names 0 values) two,
-      objects_length names 0 values ok,
+      objects_length version names 0 values ok,
       all_few version 0 0 values (omega arith) fit,
       length-append (document_head version ++ objects) tail,
       length-append (document_head version) objects,

@@ -49,6 +49,6 @@ each_version P four five (suc (suc (suc (suc (suc (suc n)))))) (above, below) = 
 
 -- the bytes of as many objects with as many entries as may start a document
 pub enough_bytes : (version : ℕ) → IsCarriedVersion version
-    → 76 * (limits_of version).entries + 122 * (limits_of version).objects + 200 ≤ (limits_of version).bytes
+    → 268 * (limits_of version).entries + 218 * (limits_of version).objects + 200 ≤ (limits_of version).bytes
 enough_bytes =
-    each_version (λ v. 76 * (limits_of v).entries + 122 * (limits_of v).objects + 200 ≤ (limits_of v).bytes) (omega arith) (omega arith)
+    each_version (λ v. 268 * (limits_of v).entries + 218 * (limits_of v).objects + 200 ≤ (limits_of v).bytes) (omega arith) (omega arith)

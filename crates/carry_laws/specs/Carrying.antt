@@ -39,7 +39,7 @@ object_names names n (v ∷ values) = names.object n ∷ object_names names (n +
 pub record CanBeCarried (version : ℕ) (names : Names) (values : State) : Type 0 where
   pub few : length values ≤ (limits_of version).objects
   pub fit : first_unfit version 0 0 values ≡ None
-  pub objects_named : AreNames (object_names names 0 values)
+  pub objects_named : AreNames version (object_names names 0 values)
   pub objects_apart : IsDistinct bytes_eq (object_names names 0 values)
-  pub items_named : (x : Item) → SomeHasItem values x → is_name (names.item x) ≡ true
+  pub items_named : (x : Item) → SomeHasItem values x → is_name version (names.item x) ≡ true
   pub items_apart : (x y : Item) → SomeHasItem values x → SomeHasItem values y → names.item x ≡ names.item y → x ≡ y

@@ -34,12 +34,12 @@ abbrev pub CarriedLaw : Type 0
 CarriedLaw = (version : ℕ) (names : Names) (values : State) → IsCarriedVersion version → CanBeCarried version names values
     → (document : Document) × (reading (carried_text version names values) ≡ Ok document) × StartsWith version names values document
 
-abbrev pub AreDistinctNames : List (List ℕ) → Type 0
-AreDistinctNames texts = AreNames texts × IsDistinct bytes_eq texts
+abbrev pub AreDistinctNames : ℕ → List (List ℕ) → Type 0
+AreDistinctNames version texts = AreNames version texts × IsDistinct bytes_eq texts
 
 -- Objects can be carried over under the texts of a batch, where each object and each item has a text of its own.
 abbrev pub NamedLaw : Type 0
-NamedLaw = (version : ℕ) (texts : Texts) (values : State) → AreDistinctNames texts.objects → AreDistinctNames texts.items
+NamedLaw = (version : ℕ) (texts : Texts) (values : State) → AreDistinctNames version texts.objects → AreDistinctNames version texts.items
     → length texts.objects ≡ length values → AllNamedValues texts values → length values ≤ (limits_of version).objects
     → first_unfit version 0 0 values ≡ None
     → CanBeCarried version (names_of texts) values

@@ -130,19 +130,20 @@ one_of_three x true b A B C p q r = p
 one_of_three x false true A B C p q r = q
 one_of_three x false false A B C p q r = r
 
-pub test_counts : (x : What) (subject : Subject) (d : Data) → count x (test_asked subject d) ≡ 0
+pub test_counts : (x : What) (version : ℕ) (subject : Subject) (d : Data) → count x (test_asked version subject d) ≡ 0
 unfolding test_asked
-test_counts x subject d = one_of_three x (has (codes "is") d) (has (codes "atleast") d) (holds_word subject d) (holds_number subject d)
-    (holds_item subject d) refl refl refl
+test_counts x version subject d = one_of_three x (has (codes "is") d) (has (codes "atleast") d) (holds_word subject d)
+    (holds_number subject d) (holds_item version subject d) refl refl refl
 
 pub sub_shape_counts : (x : What) (version : ℕ) (d : Data) → count x (sub_shape_asked version d) ≡ 0
 unfolding sub_shape_asked
 sub_shape_counts x version d = refl
 
-pub label_counts : (x : What) (scope earlier : Scope) (o : Option (List ℕ)) → count x (label_asked scope earlier o) ≡ 0
+pub label_counts : (x : What) (version : ℕ) (scope earlier : Scope) (o : Option (List ℕ))
+    → count x (label_asked version scope earlier o) ≡ 0
 unfolding label_asked
-label_counts x scope earlier None = refl
-label_counts x scope earlier (Some name) = refl
+label_counts x version scope earlier None = refl
+label_counts x version scope earlier (Some name) = refl
 
 pub operation_shape_counts : (x : What) (version : ℕ) (d : Data) → count x (operation_shape_asked version d) ≡ 0
 unfolding operation_shape_asked
@@ -159,7 +160,8 @@ one_of_two x false A B p q = q
 argument_counts : (x : What) (version : ℕ) (scope : Scope) (place : Place) (op : Data) → count x (argument_asked version scope place op) ≡ 0
 unfolding argument_asked source_asked item_asked
 argument_counts x version scope place op =
-    one_of_two x (is_source version (index_of place) op) (source_asked scope fits_item HasItem place op) (item_asked place op) refl refl
+    one_of_two x (is_source version (index_of place) op) (source_asked scope fits_item HasItem place op) (item_asked version place op)
+    refl refl
 
 pub arguments_count : (x : What) (version : ℕ) (scope : Scope) (v : Verb) (op : Data) → count x (arguments_asked version scope v op) ≡ 0
 unfolding arguments_asked amount_asked source_asked
@@ -178,18 +180,18 @@ pub parallel_shape_counts : (x : What) (d : Data) → count x (parallel_shape_as
 unfolding parallel_shape_asked
 parallel_shape_counts x d = refl
 
-pub reason_counts : (x : What) (which : NameRule) (o : Option (List ℕ)) → count x (reason_asked which o) ≡ 0
+pub reason_counts : (x : What) (version : ℕ) (which : NameRule) (o : Option (List ℕ)) → count x (reason_asked version which o) ≡ 0
 unfolding reason_asked
-reason_counts x which None = refl
-reason_counts x which (Some reason) = refl
+reason_counts x version which None = refl
+reason_counts x version which (Some reason) = refl
 
 -- ---- labels after a step
 
 -- a checked label is seen neither here nor among the earlier siblings'
-label_is_new : (scope earlier : Scope) (name : List ℕ) → AllMet (label_asked scope earlier (Some name)) → (is_named name scope ≡ false)
-    × (is_named name earlier ≡ false)
+label_is_new : (version : ℕ) (scope earlier : Scope) (name : List ℕ) → AllMet (label_asked version scope earlier (Some name))
+    → (is_named name scope ≡ false) × (is_named name earlier ≡ false)
 unfolding label_asked
-label_is_new scope earlier name met = or_parts (is_named name scope) (is_named name earlier)
+label_is_new version scope earlier name met = or_parts (is_named name scope) (is_named name earlier)
     (not-true (is_named name scope || is_named name earlier) met.1.0)
 
 with_new : (name : List ℕ) (subject : Subject) (scope : Scope) → is_named name scope ≡ false → with_label (Some name) subject scope ≡ scope
@@ -203,12 +205,13 @@ seen_more scope labels name subject label is seen =
     ∙ ap (λ s. map subject_of_label labels ++ s ∷ []) (sym is)
     ∙ sym (map-append subject_of_label labels (label ∷ []))
 
-label_seen : (scope earlier : Scope) (labels : List Label) (o : Option (List ℕ)) (subject : Subject) (label : Label)
-    → subject_of_label label ≡ subject → AllMet (label_asked scope earlier o) → AreSeen scope labels
+label_seen : (version : ℕ) (scope earlier : Scope) (labels : List Label) (o : Option (List ℕ)) (subject : Subject) (label : Label)
+    → subject_of_label label ≡ subject → AllMet (label_asked version scope earlier o) → AreSeen scope labels
     → AreSeen (with_label o subject scope) (labels ++ added_if (is_some o) label)
-label_seen scope earlier labels None subject label is met seen = seen ∙ ap (map subject_of_label) (sym (append-nil labels))
-label_seen scope earlier labels (Some name) subject label is met seen =
-    ap subjects (with_new name subject scope (label_is_new scope earlier name met).0) ∙ seen_more scope labels name subject label is seen
+label_seen version scope earlier labels None subject label is met seen = seen ∙ ap (map subject_of_label) (sym (append-nil labels))
+label_seen version scope earlier labels (Some name) subject label is met seen =
+    ap subjects (with_new name subject scope (label_is_new version scope earlier name met).0)
+    ∙ seen_more scope labels name subject label is seen
 
 grows_by : (o : Option (List ℕ)) (subject : Subject) (scope : Scope) → length (with_label o subject scope) ≤ length scope + 1
 grows_by None subject scope = omega arith
@@ -227,24 +230,24 @@ abbrev AreNew : Scope → Scope → Type 0
 AreNew scope earlier = with_labels earlier scope ≡ scope ++ earlier
 
 -- a child's label joins its earlier siblings'
-new_label : (scope earlier : Scope) (o : Option (List ℕ)) → AllMet (label_asked scope earlier o) → AreNew scope earlier
-    → AreNew scope (with_label o Outcome earlier)
-new_label scope earlier None met new = new
-new_label scope earlier (Some name) met new =
-    let fresh = label_is_new scope earlier name met in
+new_label : (version : ℕ) (scope earlier : Scope) (o : Option (List ℕ)) → AllMet (label_asked version scope earlier o)
+    → AreNew scope earlier → AreNew scope (with_label o Outcome earlier)
+new_label version scope earlier None met new = new
+new_label version scope earlier (Some name) met new =
+    let fresh = label_is_new version scope earlier name met in
     let here = is_named-append name scope earlier ∙ or_from (is_named name scope) (is_named name earlier) fresh.0 fresh.1 in
     ap (λ xs. with_labels xs scope) (with_new name Outcome earlier fresh.1) ∙ with_labels-append earlier ((name, Outcome) ∷ []) scope
     ∙ ap (with_label (Some name) Outcome) new
     ∙ with_new name Outcome (scope ++ earlier) here ∙ append_assoc scope earlier ((name, Outcome) ∷ [])
     ∙ ap (λ xs. scope ++ xs) (sym (with_new name Outcome earlier fresh.1))
 
-earlier_subjects : (scope earlier : Scope) (o : Option (List ℕ)) (labels : List Label) → AllMet (label_asked scope earlier o)
-    → subjects earlier ≡ map subject_of_label labels → subjects (with_label o Outcome earlier) ≡ map subject_of_label
-    (labels ++ added_if (is_some o) OfSubaction)
+earlier_subjects : (version : ℕ) (scope earlier : Scope) (o : Option (List ℕ)) (labels : List Label)
+    → AllMet (label_asked version scope earlier o) → subjects earlier ≡ map subject_of_label labels
+    → subjects (with_label o Outcome earlier) ≡ map subject_of_label (labels ++ added_if (is_some o) OfSubaction)
 unfolding subject_of_label
-earlier_subjects scope earlier None labels met seen = seen ∙ ap (map subject_of_label) (sym (append-nil labels))
-earlier_subjects scope earlier (Some name) labels met seen =
-    ap subjects (with_new name Outcome earlier (label_is_new scope earlier name met).1)
+earlier_subjects version scope earlier None labels met seen = seen ∙ ap (map subject_of_label) (sym (append-nil labels))
+earlier_subjects version scope earlier (Some name) labels met seen =
+    ap subjects (with_new name Outcome earlier (label_is_new version scope earlier name met).1)
     ∙ seen_more earlier labels name Outcome OfSubaction refl seen
 
 depth_is_positive : (block : tree.Block) → 1 ≤ limits.depth block
@@ -300,15 +303,15 @@ module _ (setting : Setting) (paired : length setting.names ≡ length setting.k
     }
     else_good (Some b) labels operations nodes deep good = good
 
-    test_fits_here : (subject : Subject) (numbers : Numbers) (d : Data) → AllMet (test_asked subject d)
+    test_fits_here : (subject : Subject) (numbers : Numbers) (d : Data) → AllMet (test_asked setting.version subject d)
         → fits (test_of subject numbers d).0 subject ≡ true
     unfolding test_asked test_of
     test_fits_here subject numbers d met =
         pick_test (λ test. fits test subject ≡ true) (has (codes "is") d) (has (codes "atleast") d) _ _ _ (holds_word subject d)
-        (holds_number subject d) (holds_item subject d)
+        (holds_number subject d) (holds_item setting.version subject d)
         (λ (m : AllMet (holds_word subject d)). let w = some_of (tested_word subject d) m.0 in
         let is = fitted subject (option_and_then word_of_text (text_member (codes "is") d)) w.0 w.1 in rw w.1 is)
-        (λ (m : AllMet (holds_number subject d)). m.0) (λ (m : AllMet (holds_item subject d)). m.0) met
+        (λ (m : AllMet (holds_number subject d)). m.0) (λ (m : AllMet (holds_item setting.version subject d)). m.0) met
 
     if_good : (scope : Scope) (numbers : Numbers) (d : Data) (labels : List Label) → AreSeen scope labels
         → length scope + counted (if_asked setting.version asks scope d) < most_labels → AllMet (if_asked setting.version asks scope d)
@@ -323,14 +326,14 @@ module _ (setting : Setting) (paired : length setting.names ≡ length setting.k
         let A = if_shape_asked d in
         let B = one_more_node setting.version ∷ [] in
         let C = seen_asked scope (if_label d) in
-        let D = test_asked subject d in
+        let D = test_asked setting.version subject d in
         let E = asks scope first in
         let F = block_asked_if asks scope second in
         let ops = count_six What.operations A B C D E F in
         let nds = count_six What.nodes A B C D E F in
         let a1 = if_shape_counts What.operations d in let a2 = if_shape_counts What.nodes d in
         let c1 = seen_counts What.operations scope (if_label d) in let c2 = seen_counts What.nodes scope (if_label d) in
-        let d1 = test_counts What.operations subject d in let d2 = test_counts What.nodes subject d in
+        let d1 = test_counts What.operations setting.version subject d in let d2 = test_counts What.nodes setting.version subject d in
         let metE = rest_met (A ++ B ++ C ++ D) E (first_met (A ++ B ++ C ++ D ++ E) F met) in
         let metF = rest_met (A ++ B ++ C ++ D ++ E) F met in
         let metD = rest_met (A ++ B ++ C) D (first_met (A ++ B ++ C ++ D) E (first_met (A ++ B ++ C ++ D ++ E) F met)) in
@@ -356,10 +359,12 @@ module _ (setting : Setting) (paired : length setting.names ≡ length setting.k
         }
 
     members_good : (scope : Scope) (numbers : Numbers) (ds : Members) (others : Handlers) (labels : List Label) (operations nodes : ℕ)
-        → AreSeen scope labels → length scope + counted (members_asked asks scope ds) < most_labels → AllMet (members_asked asks scope ds)
+        → AreSeen scope labels → length scope + counted (members_asked setting.version asks scope ds) < most_labels
+        → AllMet (members_asked setting.version asks scope ds)
         → GoodHandlers setting.kinds others labels n operations nodes
         → GoodHandlers setting.kinds (for_reasons (members_of block scope numbers ds).0 others) labels n
-        (count What.operations (members_asked asks scope ds) + operations) (count What.nodes (members_asked asks scope ds) + nodes)
+        (count What.operations (members_asked setting.version asks scope ds) + operations)
+        (count What.nodes (members_asked setting.version asks scope ds) + nodes)
     members_good scope numbers no_members others labels operations nodes seen few met good =
         record {
           fits = good.fits;
@@ -369,8 +374,8 @@ module _ (setting : Setting) (paired : length setting.names ≡ length setting.k
               good.shallow;
         }
     members_good scope numbers (member reason d ds) others labels operations nodes seen few met good =
-        let A = member_asked asks scope reason d in
-        let B = members_asked asks scope ds in
+        let A = member_asked setting.version asks scope reason d in
+        let B = members_asked setting.version asks scope ds in
         let ops = count-append What.operations A B in
         let nds = count-append What.nodes A B in
         let here = inner scope (with_reason reason numbers) d labels seen (omega (arith, few, ops, nds)) (first_met A B met).1 in
@@ -425,11 +430,12 @@ module _ (setting : Setting) (paired : length setting.names ≡ length setting.k
     by_reason list (Some b) = refl
 
     handlers_good : (scope : Scope) (numbers : Numbers) (o : Option Members) (h : Option tree.Block) (labels : List Label)
-        (operations nodes : ℕ) → AreSeen scope labels → length scope + counted (handlers_asked asks scope o) < most_labels
-        → AllMet (handlers_asked asks scope o)
+        (operations nodes : ℕ) → AreSeen scope labels → length scope + counted (handlers_asked setting.version asks scope o) < most_labels
+        → AllMet (handlers_asked setting.version asks scope o)
         → GoodIf setting.kinds h labels n operations nodes
         → GoodHandlers setting.kinds (handlers_of (handlers_spelled block scope numbers o).0 h) labels n
-        (count What.operations (handlers_asked asks scope o) + operations) (count What.nodes (handlers_asked asks scope o) + nodes)
+        (count What.operations (handlers_asked setting.version asks scope o) + operations)
+        (count What.nodes (handlers_asked setting.version asks scope o) + nodes)
     unfolding handlers_asked handlers_spelled
     handlers_good scope numbers None h labels operations nodes seen few met good =
         let last = last_good h labels operations nodes good in
@@ -458,14 +464,15 @@ module _ (setting : Setting) (paired : length setting.names ≡ length setting.k
         let last = get (codes "handler") d in
         let A = sub_shape_asked setting.version d in
         let B = one_more_node setting.version ∷ [] in
-        let C = label_asked scope earlier (label_in d) in
+        let C = label_asked setting.version scope earlier (label_in d) in
         let D = asks scope body in
-        let E = handlers_asked asks scope by_reasons in
+        let E = handlers_asked setting.version asks scope by_reasons in
         let F = block_asked_if asks scope last in
         let ops = count_six What.operations A B C D E F in
         let nds = count_six What.nodes A B C D E F in
         let a1 = sub_shape_counts What.operations setting.version d in let a2 = sub_shape_counts What.nodes setting.version d in
-        let c1 = label_counts What.operations scope earlier (label_in d) in let c2 = label_counts What.nodes scope earlier (label_in d) in
+        let c1 = label_counts What.operations setting.version scope earlier (label_in d) in
+        let c2 = label_counts What.nodes setting.version scope earlier (label_in d) in
         let metF = rest_met (A ++ B ++ C ++ D ++ E) F met in
         let metE = rest_met (A ++ B ++ C ++ D) E (first_met (A ++ B ++ C ++ D ++ E) F met) in
         let metD = rest_met (A ++ B ++ C) D (first_met (A ++ B ++ C ++ D) E (first_met (A ++ B ++ C ++ D ++ E) F met)) in
@@ -486,14 +493,14 @@ module _ (setting : Setting) (paired : length setting.names ≡ length setting.k
 
     -- the label of a subaction was checked, and it counts for one node at least
     sub_label : (scope earlier : Scope) (d : Data) → AllMet (sub_asked setting.version asks scope earlier d)
-        → AllMet (label_asked scope earlier (label_in d))
+        → AllMet (label_asked setting.version scope earlier (label_in d))
     unfolding sub_asked
     sub_label scope earlier d met =
         let A = sub_shape_asked setting.version d in
         let B = one_more_node setting.version ∷ [] in
-        let C = label_asked scope earlier (label_in d) in
+        let C = label_asked setting.version scope earlier (label_in d) in
         let D = asks scope (part (codes "sub") d) in
-        let E = handlers_asked asks scope (handlers_in d) in
+        let E = handlers_asked setting.version asks scope (handlers_in d) in
         let F = block_asked_if asks scope (get (codes "handler") d) in
         rest_met (A ++ B) C (first_met (A ++ B ++ C) D (first_met (A ++ B ++ C ++ D) E (first_met (A ++ B ++ C ++ D ++ E) F met)))
 
@@ -503,7 +510,8 @@ module _ (setting : Setting) (paired : length setting.names ≡ length setting.k
         omega (
           arith,
           count_six What.nodes (sub_shape_asked setting.version d) (one_more_node setting.version ∷ [])
-              (label_asked scope earlier (label_in d)) (asks scope (part (codes "sub") d)) (handlers_asked asks scope (handlers_in d))
+              (label_asked setting.version scope earlier (label_in d)) (asks scope (part (codes "sub") d))
+              (handlers_asked setting.version asks scope (handlers_in d))
               (block_asked_if asks scope (get (codes "handler") d)),
         )
 
@@ -560,7 +568,8 @@ module _ (setting : Setting) (paired : length setting.names ≡ length setting.k
         let checked = sub_label scope earlier d (first_met A B met) in
         let one = added_if (is_some (label_in d)) OfSubaction in
         let rest = children_labels scope next (sub_of block scope numbers d).1 ds (labels ++ one) (rest_met A B met)
-        (new_label scope earlier (label_in d) checked new) (earlier_subjects scope earlier (label_in d) labels checked seen) in
+        (new_label setting.version scope earlier (label_in d) checked new)
+        (earlier_subjects setting.version scope earlier (label_in d) labels checked seen) in
         let later = added_by_children (children_of (children_spelled block scope (sub_of block scope numbers d).1 ds).0) in (
           rest.0,
           rest.1 ∙ ap (map subject_of_label) (append_assoc labels one later ∙ ap (λ b. labels ++ (added_if b OfSubaction ++ later))
@@ -582,8 +591,8 @@ module _ (setting : Setting) (paired : length setting.names ≡ length setting.k
         let B = one_more_operation setting.version ∷ [] in
         let C = target_asked setting (object_of op) (call_named op) in
         let D = arguments_asked setting.version scope verb op in
-        let E = reason_asked names.Else (else_reason d) in
-        let F = label_asked scope [] (label_in d) in
+        let E = reason_asked setting.version names.Else (else_reason d) in
+        let F = label_asked setting.version scope [] (label_in d) in
         let metD = first_met (A ++ B ++ C ++ D) E (first_met (A ++ B ++ C ++ D ++ E) F met) in
         let metC = rest_met (A ++ B) C (first_met (A ++ B ++ C) D metD) in
         let made = template_of setting.version scope verb numbers op in
@@ -602,8 +611,8 @@ module _ (setting : Setting) (paired : length setting.names ≡ length setting.k
             operation_shape_counts What.operations setting.version d,
             target_counts What.operations setting (object_of op) (call_named op),
             arguments_count What.operations setting.version scope verb op,
-            reason_counts What.operations names.Else (else_reason d),
-            label_counts What.operations scope [] (label_in d),
+            reason_counts What.operations setting.version names.Else (else_reason d),
+            label_counts What.operations setting.version scope [] (label_in d),
           );
           nodes_are = omega (
             arith,
@@ -612,8 +621,8 @@ module _ (setting : Setting) (paired : length setting.names ≡ length setting.k
             operation_shape_counts What.nodes setting.version d,
             target_counts What.nodes setting (object_of op) (call_named op),
             arguments_count What.nodes setting.version scope verb op,
-            reason_counts What.nodes names.Else (else_reason d),
-            label_counts What.nodes scope [] (label_in d),
+            reason_counts What.nodes setting.version names.Else (else_reason d),
+            label_counts What.nodes setting.version scope [] (label_in d),
           );
           shallow = omega (arith, is.3);
         }
@@ -624,11 +633,16 @@ module _ (setting : Setting) (paired : length setting.names ≡ length setting.k
     unfolding abort_asked abort_shape_asked abort_of
     abort_good scope numbers d labels =
         let A = abort_shape_asked setting.version d in
-        let B = reason_asked names.Reason (as_str (part (codes "abort") d)) in
+        let reason = as_str (part (codes "abort") d) in
+        let B = reason_asked setting.version names.Reason reason in
         record {
           fits = tt;
-          operations_are = omega (arith, count-append What.operations A B, reason_counts What.operations names.Reason (as_str (part (codes "abort") d)));
-          nodes_are = omega (arith, count-append What.nodes A B, reason_counts What.nodes names.Reason (as_str (part (codes "abort") d)));
+          operations_are = omega (
+            arith,
+            count-append What.operations A B,
+            reason_counts What.operations setting.version names.Reason reason,
+          );
+          nodes_are = omega (arith, count-append What.nodes A B, reason_counts What.nodes setting.version names.Reason reason);
           shallow = omega arith;
         }
 
@@ -686,12 +700,12 @@ module _ (setting : Setting) (paired : length setting.names ≡ length setting.k
         let B = one_more_operation setting.version ∷ [] in
         let C = target_asked setting (object_of op) (call_named op) in
         let D = arguments_asked setting.version scope verb op in
-        let E = reason_asked names.Else (else_reason d) in
-        let F = label_asked scope [] (label_in d) in
+        let E = reason_asked setting.version names.Else (else_reason d) in
+        let F = label_asked setting.version scope [] (label_in d) in
         let made = template_of setting.version scope verb numbers op in
         let is = step_adds (target_of setting (object_of op)) made.0 (is_some (label_in d)) (refusal_of made.1 d).0 in (
           subst (λ more. AreSeen (with_label (label_in d) (Reply verb) scope) (labels ++ more)) (sym is.0)
-              (label_seen scope [] labels (label_in d) (Reply verb) (OfVerb (template_verb made.0))
+              (label_seen setting.version scope [] labels (label_in d) (Reply verb) (OfVerb (template_verb made.0))
               (ap (λ v. Reply v) (verb_is setting.version scope verb numbers op)) (rest_met (A ++ B ++ C ++ D ++ E) F met) seen),
           omega (arith, grows_by (label_in d) (Reply verb) scope, count_six What.operations A B C D E F),
         )
@@ -735,7 +749,7 @@ module _ (setting : Setting) (paired : length setting.names ≡ length setting.k
             shallow =
                 max-le good.body_shallow good.handlers_shallow;
           },
-          label_seen scope [] labels (label_in d) Outcome OfSubaction outcome_is (sub_label scope [] d met) seen
+          label_seen setting.version scope [] labels (label_in d) Outcome OfSubaction outcome_is (sub_label scope [] d met) seen
               ∙ ap (λ b. map subject_of_label (labels ++ added_if b OfSubaction)) (sym (sub_labelled scope numbers d)),
           omega (arith, grows_by (label_in d) Outcome scope, sub_is_node scope [] d),
         )

@@ -211,7 +211,7 @@ object_counts : (version : ℕ) (names : Table) (numbers : Numbers) (d : Data)
 unfolding object_asked
 object_counts version names numbers d =
     let A = object_shape_asked version d in
-    let B = object_name_asked names (object_name d) in
+    let B = object_name_asked version names (object_name d) in
     let C = start_asked version (kind_in version d) (part (codes "start") d) in
     omega (arith, start_counts version (kind_in version d) numbers (part (codes "start") d), count-append What.starts (A ++ B) C)
 
@@ -278,7 +278,7 @@ few d met =
 
 met_is_batch : (d : Data) → AllMet (asked d) → count What.starts (asked d) ≤ MAX_ENTRIES
     → count What.operations (asked d) ≤ MAX_OPERATIONS → count What.nodes (asked d) ≤ MAX_NODES
-    → IsBatch (document_in d).start (document_in d).texts (document_in d).transactions
+    → IsBatch (document_in d).version (document_in d).start (document_in d).texts (document_in d).transactions
 unfolding asked document_in parts_in
 met_is_batch d met few_starts few_operations few_nodes =
     let setting = setting_in d in
@@ -328,8 +328,8 @@ met_is_batch d met few_starts few_operations few_nodes =
     }
 
 -- the law that a batch keeps
-pub faultless_is_batch : (d : Data) → first_fault (placed d) ≡ None → IsBatch (document_in d).start (document_in d).texts
-    (document_in d).transactions
+pub faultless_is_batch : (d : Data) → first_fault (placed d) ≡ None
+    → IsBatch (document_in d).version (document_in d).start (document_in d).texts (document_in d).transactions
 faultless_is_batch d none =
     let all = faultless d none in
     let p = passed (asked d) no_counts all.0 all.1 in

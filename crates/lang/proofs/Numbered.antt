@@ -82,18 +82,19 @@ lone_call_named texts v = subst (ItemsAre (HasText texts)) (sym (lone_phrase v))
 -- ---- arguments
 
 argument_numbered : (version : ℕ) (scope : Scope) (place : Place) (numbers : Numbers) (op : Data)
-    → Numbered IsNamedArgument numbers (argument_of version scope (index_of place) numbers op) (argument_asked version scope place op)
+    → Numbered version IsNamedArgument numbers (argument_of version scope (index_of place) numbers op)
+    (argument_asked version scope place op)
 unfolding argument_asked item_asked
 argument_numbered version scope place numbers op = by (is_source version (index_of place) op)
   where
-    by : (source : Bool) → Numbered IsNamedArgument numbers
+    by : (source : Bool) → Numbered version IsNamedArgument numbers
         (cond source (argument.From (source_of scope (index_of place) op), numbers)
         (argument.Is (item_of (name_item (index_of place) op) numbers), with_item (name_item (index_of place) op) numbers))
-        (cond source (source_asked scope fits_item HasItem place op) (item_asked place op))
+        (cond source (source_asked scope fits_item HasItem place op) (item_asked version place op))
     by true = record { named = tt; grows = grows_none numbers _ }
     by false = record {
       named = number_below (name_item (index_of place) op) numbers.items;
-      grows = grows_item (name_item (index_of place) op) numbers (item_asked place op) (λ met. met.1.0);
+      grows = grows_item version (name_item (index_of place) op) numbers (item_asked version place op) (λ met. met.1.0);
     }
 
 item_template_named : (texts : Texts) (v : ItemVerb) (x : Argument) → IsNamedArgument texts x → IsNamedTemplate texts (item_template v x)
@@ -112,7 +113,7 @@ amount_template_named texts v true label n = tt
 amount_template_named texts v false label n = amount_call_named texts v n
 
 template_numbered : (version : ℕ) (scope : Scope) (v : Verb) (numbers : Numbers) (op : Data)
-    → Numbered IsNamedTemplate numbers (template_of version scope v numbers op) (arguments_asked version scope v op)
+    → Numbered version IsNamedTemplate numbers (template_of version scope v numbers op) (arguments_asked version scope v op)
 unfolding template_of arguments_asked
 template_numbered version scope (OfAmount v) numbers op = record {
   named = amount_template_named (texts_in numbers) v (is_source version 2 op) (source_of scope 2 op) (or_zero (amount_item 2 op));
@@ -144,24 +145,26 @@ template_numbered version scope (Alone v) numbers op =
 
 -- ---- operations
 
-reason_numbered : (which : NameRule) (numbers : Numbers) (o : Option (List ℕ))
-    → Numbered (λ texts reason. ForSome reason (HasReason texts)) numbers (reason_of numbers o) (reason_asked which o)
+reason_numbered : (version : ℕ) (which : NameRule) (numbers : Numbers) (o : Option (List ℕ))
+    → Numbered version (λ texts reason. ForSome reason (HasReason texts)) numbers (reason_of numbers o) (reason_asked version which o)
 unfolding reason_of reason_asked
-reason_numbered which numbers None = record { named = λ r is. absurd cc; grows = grows_none numbers _ }
-reason_numbered which numbers (Some reason) = record {
+reason_numbered version which numbers None = record { named = λ r is. absurd cc; grows = grows_none numbers _ }
+reason_numbered version which numbers (Some reason) = record {
   named = λ r is. let same : number_of reason numbers.reasons ≡ r = cc in subst (λ n. n < length (with_reason reason numbers).reasons) same
       (number_below reason numbers.reasons);
-  grows = grows_reason reason numbers _ (λ met. met.0);
+  grows = grows_reason version reason numbers _ (λ met. met.0);
 }
 
-refusal_numbered : (numbers : Numbers) (d : Data)
-    → Numbered IsNamedRefusal numbers (refusal_of numbers d) (reason_asked names.Else (else_reason d))
+refusal_numbered : (version : ℕ) (numbers : Numbers) (d : Data)
+    → Numbered version IsNamedRefusal numbers (refusal_of numbers d) (reason_asked version names.Else (else_reason d))
 unfolding refusal_of
-refusal_numbered numbers d = by (has (codes "else") d)
+refusal_numbered version numbers d = by (has (codes "else") d)
   where
-    by : (b : Bool) → Numbered IsNamedRefusal numbers
-        (cond b (spelled_map Aborts (reason_of numbers (else_reason d))) (GoesOn, numbers)) (reason_asked names.Else (else_reason d))
-    by true = let reason = reason_numbered names.Else numbers (else_reason d) in record { named = reason.named; grows = reason.grows }
+    by : (b : Bool) → Numbered version IsNamedRefusal numbers
+        (cond b (spelled_map Aborts (reason_of numbers (else_reason d))) (GoesOn, numbers))
+        (reason_asked version names.Else (else_reason d))
+    by true =
+        let reason = reason_numbered version names.Else numbers (else_reason d) in record { named = reason.named; grows = reason.grows }
     by false = record { named = tt; grows = grows_none numbers _ }
 
 step_named : (texts : Texts) (object : ℕ) (t : Template) (labelled : Bool) (refusal : Refusal) → IsNamedTemplate texts t
@@ -173,7 +176,7 @@ step_named texts object (template.OfItem v label) labelled refusal named also = 
 step_named texts object (template.OfPair v key x) labelled refusal named also = (named, also)
 
 operation_numbered : (setting : Setting) (scope : Scope) (numbers : Numbers) (d : Data)
-    → Numbered IsNamedStep numbers (operation_of setting scope numbers d) (operation_asked setting scope d)
+    → Numbered setting.version IsNamedStep numbers (operation_of setting scope numbers d) (operation_asked setting scope d)
 unfolding operation_of operation_asked
 operation_numbered setting scope numbers d =
     let op = part (codes "op") d in
@@ -181,12 +184,12 @@ operation_numbered setting scope numbers d =
     let B = one_more_operation setting.version ∷ [] in
     let C = target_asked setting (object_of op) (call_named op) in
     let D = arguments_asked setting.version scope (verb_in setting op) op in
-    let E = reason_asked names.Else (else_reason d) in
-    let F = label_asked scope [] (label_in d) in
+    let E = reason_asked setting.version names.Else (else_reason d) in
+    let F = label_asked setting.version scope [] (label_in d) in
     let made = template_of setting.version scope (verb_in setting op) numbers op in
     let last = refusal_of made.1 d in
     let call = template_numbered setting.version scope (verb_in setting op) numbers op in
-    let refusal = refusal_numbered made.1 d in
+    let refusal = refusal_numbered setting.version made.1 d in
     let call_named_still = template_later (texts_in made.1) (texts_in last.1) refusal.grows.items refusal.grows.reasons made.0 call.named in
     record {
       named = step_named (texts_in last.1) (target_of setting (object_of op)) made.0 (is_some (label_in d)) last.0 call_named_still
@@ -198,28 +201,32 @@ operation_numbered setting scope numbers d =
 -- ---- tests and aborts
 
 -- one of three tests
-one_of_three : (a b : Bool) (numbers : Numbers) (x y z : Test × Numbers) (X Y Z : List Demand) → Numbered IsNamedTest numbers x X
-    → Numbered IsNamedTest numbers y Y → Numbered IsNamedTest numbers z Z
-    → Numbered IsNamedTest numbers (cond a x (cond b y z)) (cond a X (cond b Y Z))
+one_of_three : {version : ℕ} (a b : Bool) (numbers : Numbers) (x y z : Test × Numbers) (X Y Z : List Demand)
+    → Numbered version IsNamedTest numbers x X → Numbered version IsNamedTest numbers y Y → Numbered version IsNamedTest numbers z Z
+    → Numbered version IsNamedTest numbers (cond a x (cond b y z)) (cond a X (cond b Y Z))
 one_of_three true b numbers x y z X Y Z first second third = first
 one_of_three false true numbers x y z X Y Z first second third = second
 one_of_three false false numbers x y z X Y Z first second third = third
 
-test_numbered : (subject : Subject) (numbers : Numbers) (d : Data) → Numbered IsNamedTest numbers (test_of subject numbers d)
-    (test_asked subject d)
+test_numbered : (version : ℕ) (subject : Subject) (numbers : Numbers) (d : Data)
+    → Numbered version IsNamedTest numbers (test_of subject numbers d) (test_asked version subject d)
 unfolding test_of test_asked
-test_numbered subject numbers d =
+test_numbered version subject numbers d =
     let text = or_empty (text_member (codes "item") d) in
     one_of_three (has (codes "is") d) (has (codes "atleast") d) numbers _ _ _ (holds_word subject d) (holds_number subject d)
-    (holds_item subject d)
+    (holds_item version subject d)
     (record { named = tt; grows = grows_none numbers _ })
     (record { named = tt; grows = grows_none numbers _ })
-    (record { named = number_below text numbers.items; grows = grows_item text numbers (holds_item subject d) (λ met. met.1.1.0) })
+    (record {
+      named = number_below text numbers.items;
+      grows = grows_item version text numbers (holds_item version subject d) (λ met. met.1.1.0);
+    })
 
-abort_numbered : (version : ℕ) (numbers : Numbers) (d : Data) → Numbered IsNamedStep numbers (abort_of numbers d) (abort_asked version d)
+abort_numbered : (version : ℕ) (numbers : Numbers) (d : Data)
+    → Numbered version IsNamedStep numbers (abort_of numbers d) (abort_asked version d)
 unfolding abort_of abort_asked
 abort_numbered version numbers d =
-    let reason = reason_numbered names.Reason numbers (as_str (part (codes "abort") d)) in
+    let reason = reason_numbered version names.Reason numbers (as_str (part (codes "abort") d)) in
     record { named = reason.named; grows = grows_behind _ _ (abort_shape_asked version d) _ reason.grows }
 
 -- ---- the steps that hold blocks
@@ -255,8 +262,8 @@ handlers_named texts None (Some handler) named last = last
 handlers_named texts (Some members) None named last = members_named texts members _ named tt
 handlers_named texts (Some members) (Some handler) named last = members_named texts members _ named last
 
-members_later : (before after : Numbers) (ds : List Demand) → Grows before after ds → (members : List (ℕ × tree.Block))
-    → NamedMembers (texts_in before) members → NamedMembers (texts_in after) members
+members_later : {version : ℕ} (before after : Numbers) (ds : List Demand) → Grows version before after ds
+    → (members : List (ℕ × tree.Block)) → NamedMembers (texts_in before) members → NamedMembers (texts_in after) members
 unfolding NamedMembers
 members_later before after ds grows [] named = tt
 members_later before after ds grows (first ∷ rest) named = (
@@ -265,35 +272,36 @@ members_later before after ds grows (first ∷ rest) named = (
   members_later before after ds grows rest named.2,
 )
 
-members_if_later : (before after : Numbers) (ds : List Demand) → Grows before after ds → (members : Option (List (ℕ × tree.Block)))
-    → NamedMembersIf (texts_in before) members → NamedMembersIf (texts_in after) members
+members_if_later : {version : ℕ} (before after : Numbers) (ds : List Demand) → Grows version before after ds
+    → (members : Option (List (ℕ × tree.Block))) → NamedMembersIf (texts_in before) members → NamedMembersIf (texts_in after) members
 unfolding NamedMembersIf
 members_if_later before after ds grows None named = tt
 members_if_later before after ds grows (Some members) named = members_later before after ds grows members named
 
 module _ (setting : Setting) (asks : Scope → Data → List Demand) (block : Scope → Numbers → Data → tree.Block × Numbers)
-    (inner : (scope : Scope) (numbers : Numbers) (d : Data) → Numbered IsNamed numbers (block scope numbers d) (asks scope d)) where
-  block_if_numbered : (scope : Scope) (numbers : Numbers) (o : Option Data) → Numbered NamedIf numbers (block_of_if block scope numbers o)
-      (block_asked_if asks scope o)
+    (inner : (scope : Scope) (numbers : Numbers) (d : Data)
+    → Numbered setting.version IsNamed numbers (block scope numbers d) (asks scope d)) where
+  block_if_numbered : (scope : Scope) (numbers : Numbers) (o : Option Data)
+      → Numbered setting.version NamedIf numbers (block_of_if block scope numbers o) (block_asked_if asks scope o)
   unfolding block_of_if block_asked_if NamedIf
   block_if_numbered scope numbers None = record { named = tt; grows = grows_none numbers _ }
   block_if_numbered scope numbers (Some d) = let it = inner scope numbers d in record { named = it.named; grows = it.grows }
 
-  if_numbered : (scope : Scope) (numbers : Numbers) (d : Data) → Numbered IsNamedStep numbers (if_of block scope numbers d)
-      (if_asked setting.version asks scope d)
+  if_numbered : (scope : Scope) (numbers : Numbers) (d : Data)
+      → Numbered setting.version IsNamedStep numbers (if_of block scope numbers d) (if_asked setting.version asks scope d)
   unfolding if_of if_asked
   if_numbered scope numbers d =
       let subject = subject_of (if_label d) scope in
       let tested = test_of subject numbers d in
       let one = block scope tested.1 (part (codes "then") d) in
       let other = block_of_if block scope one.1 (get (codes "else") d) in
-      let test = test_numbered subject numbers d in
+      let test = test_numbered setting.version subject numbers d in
       let first = inner scope tested.1 (part (codes "then") d) in
       let second = block_if_numbered scope one.1 (get (codes "else") d) in
       let A = if_shape_asked d in
       let B = one_more_node setting.version ∷ [] in
       let C = seen_asked scope (if_label d) in
-      let D = test_asked subject d in
+      let D = test_asked setting.version subject d in
       let E = asks scope (part (codes "then") d) in
       let F = block_asked_if asks scope (get (codes "else") d) in
       let both = grows_on tested.1 one.1 other.1 E F first.grows second.grows in
@@ -307,8 +315,8 @@ module _ (setting : Setting) (asks : Scope → Data → List Demand) (block : Sc
             (grows_behind numbers tested.1 (A ++ B ++ C) D test.grows) first.grows) second.grows;
       }
 
-  members_numbered : (scope : Scope) (numbers : Numbers) (ds : Members) → Numbered NamedMembers numbers (members_of block scope numbers ds)
-      (members_asked asks scope ds)
+  members_numbered : (scope : Scope) (numbers : Numbers) (ds : Members)
+      → Numbered setting.version NamedMembers numbers (members_of block scope numbers ds) (members_asked setting.version asks scope ds)
   unfolding NamedMembers
   members_numbered scope numbers no_members = record { named = tt; grows = grows_none numbers _ }
   members_numbered scope numbers (member reason d ds) =
@@ -318,8 +326,9 @@ module _ (setting : Setting) (asks : Scope → Data → List Demand) (block : Sc
       let rest = members_numbered scope here.1 ds in
       let last = (members_of block scope here.1 ds).1 in
       let named : HasReason (texts_in begun) (number_of reason numbers.reasons) = number_below reason numbers.reasons in
-      let one = grows_on numbers begun here.1 (holds (is_name reason) (rule.Name names.Handlers) ∷ []) (asks scope d)
-      (grows_reason reason numbers _ (λ met. met.0)) first.grows in
+      let one = grows_on numbers begun here.1
+      (holds (is_name setting.version reason) (rule.Name setting.version names.Handlers) ∷ []) (asks scope d)
+      (grows_reason setting.version reason numbers _ (λ met. met.0)) first.grows in
       record {
         named = (
           omega (arith, named, first.grows.reasons, rest.grows.reasons),
@@ -327,11 +336,12 @@ module _ (setting : Setting) (asks : Scope → Data → List Demand) (block : Sc
               (texts_in last) rest.grows.items rest.grows.reasons here.0 first.named,
           rest.named,
         );
-        grows = grows_on numbers here.1 last (member_asked asks scope reason d) (members_asked asks scope ds) one rest.grows;
+        grows = grows_on numbers here.1 last (member_asked setting.version asks scope reason d)
+            (members_asked setting.version asks scope ds) one rest.grows;
       }
 
-  handlers_numbered : (scope : Scope) (numbers : Numbers) (o : Option Members) → Numbered NamedMembersIf numbers
-      (handlers_spelled block scope numbers o) (handlers_asked asks scope o)
+  handlers_numbered : (scope : Scope) (numbers : Numbers) (o : Option Members) → Numbered setting.version NamedMembersIf numbers
+      (handlers_spelled block scope numbers o) (handlers_asked setting.version asks scope o)
   unfolding handlers_spelled handlers_asked NamedMembersIf
   handlers_numbered scope numbers None = record { named = tt; grows = grows_none numbers _ }
   handlers_numbered scope numbers (Some ds) = let it = members_numbered scope numbers ds in record { named = it.named; grows = it.grows }
@@ -339,8 +349,8 @@ module _ (setting : Setting) (asks : Scope → Data → List Demand) (block : Sc
   NamedTried : Texts → Tried → Type 0
   NamedTried texts child = IsNamed texts child.body × AreNamedHandlers texts child.handlers
 
-  sub_numbered : (scope earlier : Scope) (numbers : Numbers) (d : Data) → Numbered NamedTried numbers (sub_of block scope numbers d)
-      (sub_asked setting.version asks scope earlier d)
+  sub_numbered : (scope earlier : Scope) (numbers : Numbers) (d : Data)
+      → Numbered setting.version NamedTried numbers (sub_of block scope numbers d) (sub_asked setting.version asks scope earlier d)
   unfolding sub_of sub_asked NamedTried
   sub_numbered scope earlier numbers d =
       let body = block scope numbers (part (codes "sub") d) in
@@ -351,9 +361,9 @@ module _ (setting : Setting) (asks : Scope → Data → List Demand) (block : Sc
       let third = block_if_numbered scope by_reasons.1 (get (codes "handler") d) in
       let A = sub_shape_asked setting.version d in
       let B = one_more_node setting.version ∷ [] in
-      let C = label_asked scope earlier (label_in d) in
+      let C = label_asked setting.version scope earlier (label_in d) in
       let D = asks scope (part (codes "sub") d) in
-      let E = handlers_asked asks scope (handlers_in d) in
+      let E = handlers_asked setting.version asks scope (handlers_in d) in
       let F = block_asked_if asks scope (get (codes "handler") d) in
       let both = grows_on body.1 by_reasons.1 otherwise.1 E F second.grows third.grows in
       record {
@@ -368,8 +378,8 @@ module _ (setting : Setting) (asks : Scope → Data → List Demand) (block : Sc
       }
 
   children_numbered : (scope earlier : Scope) (numbers : Numbers) (ds : Items)
-      → Numbered (λ texts children. AreNamed texts (children_of children)) numbers (children_spelled block scope numbers ds)
-      (children_asked setting.version asks scope earlier ds)
+      → Numbered setting.version (λ texts children. AreNamed texts (children_of children)) numbers
+      (children_spelled block scope numbers ds) (children_asked setting.version asks scope earlier ds)
   unfolding NamedTried
   children_numbered scope earlier numbers no_items = record { named = tt; grows = grows_none numbers _ }
   children_numbered scope earlier numbers (item d ds) =
@@ -388,8 +398,8 @@ module _ (setting : Setting) (asks : Scope → Data → List Demand) (block : Sc
             (children_asked setting.version asks scope next ds) first.grows rest.grows;
       }
 
-  parallel_numbered : (scope : Scope) (numbers : Numbers) (d : Data) → Numbered IsNamedStep numbers (parallel_of block scope numbers d)
-      (parallel_asked setting.version asks scope d)
+  parallel_numbered : (scope : Scope) (numbers : Numbers) (d : Data)
+      → Numbered setting.version IsNamedStep numbers (parallel_of block scope numbers d) (parallel_asked setting.version asks scope d)
   unfolding parallel_of parallel_asked
   parallel_numbered scope numbers d =
       let children = children_numbered scope [] numbers (children_in d) in
@@ -401,7 +411,8 @@ module _ (setting : Setting) (asks : Scope → Data → List Demand) (block : Sc
   -- ---- any step
 
   by_sort : (sort : Option Sort) (scope : Scope) (numbers : Numbers) (d : Data)
-      → Numbered IsNamedStep numbers (step_of_by sort block setting scope numbers d) (step_asked_by sort asks setting scope d)
+      → Numbered setting.version IsNamedStep numbers (step_of_by sort block setting scope numbers d)
+      (step_asked_by sort asks setting scope d)
   unfolding NamedTried
   by_sort None scope numbers d = record { named = λ r is. absurd cc; grows = grows_none numbers _ }
   by_sort (Some an_operation) scope numbers d = operation_numbered setting scope numbers d
@@ -410,8 +421,9 @@ module _ (setting : Setting) (asks : Scope → Data → List Demand) (block : Sc
   by_sort (Some an_abort) scope numbers d = abort_numbered setting.version numbers d
   by_sort (Some a_parallel) scope numbers d = parallel_numbered scope numbers d
 
-  steps_numbered : (scope : Scope) (numbers : Numbers) (ds : Items) → Numbered (λ texts steps. IsNamed texts (steps_of steps)) numbers
-      (steps_spelled block setting scope numbers ds) (steps_asked asks setting scope ds)
+  steps_numbered : (scope : Scope) (numbers : Numbers) (ds : Items)
+      → Numbered setting.version (λ texts steps. IsNamed texts (steps_of steps)) numbers (steps_spelled block setting scope numbers ds)
+      (steps_asked asks setting scope ds)
   unfolding step_of step_asked
   steps_numbered scope numbers no_items = record { named = tt; grows = grows_none numbers _ }
   steps_numbered scope numbers (item d ds) =
@@ -426,15 +438,15 @@ module _ (setting : Setting) (asks : Scope → Data → List Demand) (block : Sc
       }
 
   array_numbered : (scope : Scope) (numbers : Numbers) (o : Option Items)
-      → Numbered (λ texts steps. IsNamed texts (steps_of steps)) numbers (steps_spelled block setting scope numbers (or_no_items o))
-      (array_asked (steps_asked asks setting scope) o)
+      → Numbered setting.version (λ texts steps. IsNamed texts (steps_of steps)) numbers
+      (steps_spelled block setting scope numbers (or_no_items o)) (array_asked (steps_asked asks setting scope) o)
   array_numbered scope numbers None = record { named = tt; grows = grows_none numbers _ }
   array_numbered scope numbers (Some ds) = steps_numbered scope numbers ds
 
 -- ---- blocks
 
 block_numbered : (setting : Setting) (n : ℕ) (scope : Scope) (numbers : Numbers) (d : Data)
-    → Numbered IsNamed numbers (block_of setting n scope numbers d) (block_asked setting n scope d)
+    → Numbered setting.version IsNamed numbers (block_of setting n scope numbers d) (block_asked setting n scope d)
 unfolding block_of block_asked
 block_numbered setting zero scope numbers d = record { named = tt; grows = grows_none numbers _ }
 block_numbered setting (suc n) scope numbers d =
@@ -442,7 +454,7 @@ block_numbered setting (suc n) scope numbers d =
     record { named = it.named; grows = it.grows }
 
 pub blocks_numbered : (setting : Setting) (number : ℕ) (numbers : Numbers) (ds : Items)
-    → Numbered AllNamed numbers (blocks_of setting numbers ds) (transactions_asked number setting ds)
+    → Numbered setting.version AllNamed numbers (blocks_of setting numbers ds) (transactions_asked number setting ds)
 blocks_numbered setting number numbers no_items = record { named = tt; grows = grows_none numbers _ }
 blocks_numbered setting number numbers (item d ds) =
     let here = block_of setting MAX_DEPTH [] numbers d in

@@ -70,7 +70,7 @@ bind_all_has texts (e ∷ es) m had have =
 
 -- ---- entries
 
-entries_numbered : (version : ℕ) (numbers : Numbers) (ds : Items) → Numbered AllHave numbers (entries_of numbers ds)
+entries_numbered : (version : ℕ) (numbers : Numbers) (ds : Items) → Numbered version AllHave numbers (entries_of numbers ds)
     (entries_asked version ds)
 unfolding AllHave entry_asked
 entries_numbered version numbers no_items = record { named = tt; grows = grows_none numbers _ }
@@ -82,11 +82,11 @@ entries_numbered version numbers (item d ds) =
     record {
       named = (omega (arith, here, rest.grows.items), rest.named);
       grows = grows_on numbers next last (entry_asked version d) (entries_asked version ds)
-          (grows_item (text_of d) numbers (entry_asked version d) (λ met. met.1.0)) rest.grows;
+          (grows_item version (text_of d) numbers (entry_asked version d) (λ met. met.1.0)) rest.grows;
     }
 
-elements_numbered : (version : ℕ) (numbers : Numbers) (earlier : Table) (ds : Items) → Numbered AllHave numbers (entries_of numbers ds)
-    (elements_asked version earlier ds)
+elements_numbered : (version : ℕ) (numbers : Numbers) (earlier : Table) (ds : Items)
+    → Numbered version AllHave numbers (entries_of numbers ds) (elements_asked version earlier ds)
 unfolding AllHave element_asked
 elements_numbered version numbers earlier no_items = record { named = tt; grows = grows_none numbers _ }
 elements_numbered version numbers earlier (item d ds) =
@@ -98,11 +98,11 @@ elements_numbered version numbers earlier (item d ds) =
     record {
       named = (omega (arith, here, rest.grows.items), rest.named);
       grows = grows_on numbers next last (element_asked version earlier d) (elements_asked version after ds)
-          (grows_item (text_of d) numbers (element_asked version earlier d) (λ met. met.1.0)) rest.grows;
+          (grows_item version (text_of d) numbers (element_asked version earlier d) (λ met. met.1.0)) rest.grows;
     }
 
-pairs_numbered : (version : ℕ) (numbers : Numbers) (earlier : Table) (ds : Items) → Numbered AllPairsHave numbers (pairs_of numbers ds)
-    (pairs_asked version earlier ds)
+pairs_numbered : (version : ℕ) (numbers : Numbers) (earlier : Table) (ds : Items)
+    → Numbered version AllPairsHave numbers (pairs_of numbers ds) (pairs_asked version earlier ds)
 unfolding AllPairsHave pair_asked
 pairs_numbered version numbers earlier no_items = record { named = tt; grows = grows_none numbers _ }
 pairs_numbered version numbers earlier (item d ds) =
@@ -112,8 +112,8 @@ pairs_numbered version numbers earlier (item d ds) =
     let after = with_text (key_of d) earlier in
     let rest = pairs_numbered version next after ds in
     let asked = pair_asked version earlier d in
-    let first = grows_item (key_of d) numbers asked (λ met. met.1.1.1.0) in
-    let second = grows_item (value_of d) between asked (λ met. met.1.1.1.1.0) in
+    let first = grows_item version (key_of d) numbers asked (λ met. met.1.1.1.0) in
+    let second = grows_item version (value_of d) between asked (λ met. met.1.1.1.1.0) in
     let key : HasText (texts_in between) (item_of (key_of d) numbers) = number_below (key_of d) numbers.items in
     let bound : HasText (texts_in next) (item_of (value_of d) between) = number_below (value_of d) between.items in
     record {
@@ -124,19 +124,20 @@ pairs_numbered version numbers earlier (item d ds) =
 
 -- ---- values
 
-set_numbered : (version : ℕ) (numbers : Numbers) (o : Option Items) → Numbered AllHave numbers (entries_of numbers (or_no_items o))
+set_numbered : (version : ℕ) (numbers : Numbers) (o : Option Items) → Numbered version AllHave numbers (entries_of numbers (or_no_items o))
     (array_start_asked kind.Set (elements_asked version []) o)
 unfolding array_start_asked AllHave
 set_numbered version numbers None = record { named = tt; grows = grows_none numbers _ }
 set_numbered version numbers (Some ds) = elements_numbered version numbers [] ds
 
-queue_numbered : (version : ℕ) (numbers : Numbers) (o : Option Items) → Numbered AllHave numbers (entries_of numbers (or_no_items o))
-    (array_start_asked kind.Queue (entries_asked version) o)
+queue_numbered : (version : ℕ) (numbers : Numbers) (o : Option Items)
+    → Numbered version AllHave numbers (entries_of numbers (or_no_items o)) (array_start_asked kind.Queue (entries_asked version) o)
 unfolding array_start_asked AllHave
 queue_numbered version numbers None = record { named = tt; grows = grows_none numbers _ }
 queue_numbered version numbers (Some ds) = entries_numbered version numbers ds
 
-directory_numbered : (version : ℕ) (numbers : Numbers) (o : Option Items) → Numbered AllPairsHave numbers (pairs_of numbers (or_no_items o))
+directory_numbered : (version : ℕ) (numbers : Numbers) (o : Option Items)
+    → Numbered version AllPairsHave numbers (pairs_of numbers (or_no_items o))
     (array_start_asked kind.Directory (pairs_asked version []) o)
 unfolding array_start_asked AllPairsHave
 directory_numbered version numbers None = record { named = tt; grows = grows_none numbers _ }
@@ -150,7 +151,7 @@ none_bound : (texts : Texts) (k x : Item) → finite_map.get (finite_map.empty {
 none_bound texts k x is = let none = finite_map.get-empty {X = Item} item_cmp k in absurd cc
 
 start_numbered : (version : ℕ) (k : Kind) (numbers : Numbers) (d : Data)
-    → Numbered IsNamedValue numbers (start_of k numbers d) (start_asked version k d)
+    → Numbered version IsNamedValue numbers (start_of k numbers d) (start_asked version k d)
 unfolding start_of start_asked
 start_numbered version kind.Account numbers d = record { named = tt; grows = grows_none numbers _ }
 start_numbered version kind.Counter numbers d = record { named = tt; grows = grows_none numbers _ }
@@ -172,7 +173,7 @@ start_numbered version kind.Directory numbers d =
     record { named = bind_all_has (texts_in pairs.1) pairs.0 finite_map.empty (none_bound (texts_in pairs.1)) it.named; grows = it.grows }
 start_numbered version kind.Max numbers d = record { named = tt; grows = grows_none numbers _ }
 
-pub starts_numbered : (version : ℕ) (names : Table) (numbers : Numbers) (ds : Items) → Numbered AllNamedValues numbers
+pub starts_numbered : (version : ℕ) (names : Table) (numbers : Numbers) (ds : Items) → Numbered version AllNamedValues numbers
     (starts_of version numbers ds) (objects_asked version names ds)
 unfolding object_asked
 starts_numbered version names numbers no_items = record { named = tt; grows = grows_none numbers _ }
@@ -185,7 +186,7 @@ starts_numbered version names numbers (item d ds) =
     let first = start_numbered version k numbers start in
     let rest = starts_numbered version next here.1 ds in
     let A = object_shape_asked version d in
-    let B = object_name_asked names (object_name d) in
+    let B = object_name_asked version names (object_name d) in
     let C = start_asked version k start in
     record {
       named = (value_later (texts_in here.1) (texts_in last) rest.grows.items rest.grows.reasons here.0 first.named, rest.named);
@@ -195,15 +196,16 @@ starts_numbered version names numbers (item d ds) =
 
 -- ---- names of objects
 
-object_named : (version : ℕ) (names : Table) (d : Data) → AllMet (object_asked version names d) → is_name (object_name d) ≡ true
+object_named : (version : ℕ) (names : Table) (d : Data) → AllMet (object_asked version names d) → is_name version (object_name d) ≡ true
 unfolding object_asked object_name_asked
 object_named version names d met =
     let A = object_shape_asked version d in
-    let B = object_name_asked names (object_name d) in
+    let B = object_name_asked version names (object_name d) in
     let C = start_asked version (kind_in version d) (part (codes "start") d) in
     (rest_met A B (first_met (A ++ B) C met)).0
 
-pub objects_named : (version : ℕ) (names : Table) (ds : Items) → AllMet (objects_asked version names ds) → AreNames (names_of ds)
+pub objects_named : (version : ℕ) (names : Table) (ds : Items) → AllMet (objects_asked version names ds)
+    → AreNames version (names_of ds)
 objects_named version names no_items met = refl
 objects_named version names (item d ds) met =
     let next = names ++ object_name d ∷ [] in

@@ -14,24 +14,26 @@ with_more text table = by (is_listed text table)
     by true = omega arith
     by false = omega (arith, length-append table (text ∷ []))
 
-with_name : (text : List ℕ) (table : Table) → is_name text ≡ true → AreNames table → AreNames (with_text text table)
-with_name text table named are = by (is_listed text table)
+with_name : (version : ℕ) (text : List ℕ) (table : Table) → is_name version text ≡ true → AreNames version table
+    → AreNames version (with_text text table)
+with_name version text table named are = by (is_listed text table)
   where
-    by : (b : Bool) → AreNames (cond b table (table ++ text ∷ []))
+    by : (b : Bool) → AreNames version (cond b table (table ++ text ∷ []))
     by true = are
-    by false = list_all-append is_name table (text ∷ []) ∙ rw (are, named) refl
+    by false = list_all-append (is_name version) table (text ∷ []) ∙ rw (are, named) refl
 
 -- the tables only grow, and where the demands are met they keep to names
-pub record Grows (before after : Numbers) (ds : List Demand) : Type 0 where
+pub record Grows (version : ℕ) (before after : Numbers) (ds : List Demand) : Type 0 where
   pub items : length before.items ≤ length after.items
   pub reasons : length before.reasons ≤ length after.reasons
-  pub item_names : AllMet ds → AreNames before.items → AreNames after.items
-  pub reason_names : AllMet ds → AreNames before.reasons → AreNames after.reasons
+  pub item_names : AllMet ds → AreNames version before.items → AreNames version after.items
+  pub reason_names : AllMet ds → AreNames version before.reasons → AreNames version after.reasons
 
-pub grows_none : (numbers : Numbers) (ds : List Demand) → Grows numbers numbers ds
+pub grows_none : {version : ℕ} (numbers : Numbers) (ds : List Demand) → Grows version numbers numbers ds
 grows_none numbers ds = record { items = omega arith; reasons = omega arith; item_names = λ met are. are; reason_names = λ met are. are }
 
-pub grows_on : (a b c : Numbers) (xs ys : List Demand) → Grows a b xs → Grows b c ys → Grows a c (xs ++ ys)
+pub grows_on : {version : ℕ} (a b c : Numbers) (xs ys : List Demand) → Grows version a b xs → Grows version b c ys
+    → Grows version a c (xs ++ ys)
 grows_on a b c xs ys g h = record {
   items = omega (arith, g.items, h.items);
   reasons = omega (arith, g.reasons, h.reasons);
@@ -40,7 +42,8 @@ grows_on a b c xs ys g h = record {
 }
 
 -- by the same demands
-pub grows_both : (a b c : Numbers) (ds : List Demand) → Grows a b ds → Grows b c ds → Grows a c ds
+pub grows_both : {version : ℕ} (a b c : Numbers) (ds : List Demand) → Grows version a b ds → Grows version b c ds
+    → Grows version a c ds
 grows_both a b c ds g h = record {
   items = omega (arith, g.items, h.items);
   reasons = omega (arith, g.reasons, h.reasons);
@@ -48,28 +51,28 @@ grows_both a b c ds g h = record {
   reason_names = λ met are. h.reason_names met (g.reason_names met are);
 }
 
-pub grows_behind : (a b : Numbers) (xs ys : List Demand) → Grows a b ys → Grows a b (xs ++ ys)
+pub grows_behind : {version : ℕ} (a b : Numbers) (xs ys : List Demand) → Grows version a b ys → Grows version a b (xs ++ ys)
 grows_behind a b xs ys g = grows_on a a b xs ys (grows_none a xs) g
 
-pub grows_before : (a b : Numbers) (xs ys : List Demand) → Grows a b xs → Grows a b (xs ++ ys)
+pub grows_before : {version : ℕ} (a b : Numbers) (xs ys : List Demand) → Grows version a b xs → Grows version a b (xs ++ ys)
 grows_before a b xs ys g = grows_on a b b xs ys g (grows_none b ys)
 
-pub grows_item : (text : List ℕ) (numbers : Numbers) (ds : List Demand) → (AllMet ds → is_name text ≡ true)
-    → Grows numbers (with_item text numbers) ds
-grows_item text numbers ds named = record {
+pub grows_item : (version : ℕ) (text : List ℕ) (numbers : Numbers) (ds : List Demand) → (AllMet ds → is_name version text ≡ true)
+    → Grows version numbers (with_item text numbers) ds
+grows_item version text numbers ds named = record {
   items = with_more text numbers.items;
   reasons = omega arith;
-  item_names = λ met are. with_name text numbers.items (named met) are;
+  item_names = λ met are. with_name version text numbers.items (named met) are;
   reason_names = λ met are. are;
 }
 
-pub grows_reason : (text : List ℕ) (numbers : Numbers) (ds : List Demand) → (AllMet ds → is_name text ≡ true)
-    → Grows numbers (with_reason text numbers) ds
-grows_reason text numbers ds named = record {
+pub grows_reason : (version : ℕ) (text : List ℕ) (numbers : Numbers) (ds : List Demand) → (AllMet ds → is_name version text ≡ true)
+    → Grows version numbers (with_reason text numbers) ds
+grows_reason version text numbers ds named = record {
   items = omega arith;
   reasons = with_more text numbers.reasons;
   item_names = λ met are. are;
-  reason_names = λ met are. with_name text numbers.reasons (named met) are;
+  reason_names = λ met are. with_name version text numbers.reasons (named met) are;
 }
 
 -- the texts that are numbered so far
@@ -77,7 +80,7 @@ abbrev pub texts_in : Numbers → Texts
 texts_in numbers = record { objects = []; items = numbers.items; reasons = numbers.reasons }
 
 -- what is spelled has its texts, which the demands made names
-pub record Numbered {A : Type 0} (HasTexts : Texts → A → Type 0) (before : Numbers) (spelled : A × Numbers)
+pub record Numbered {A : Type 0} (version : ℕ) (HasTexts : Texts → A → Type 0) (before : Numbers) (spelled : A × Numbers)
     (ds : List Demand) : Type 0 where
   pub named : HasTexts (texts_in spelled.1) spelled.0
-  pub grows : Grows before spelled.1 ds
+  pub grows : Grows version before spelled.1 ds

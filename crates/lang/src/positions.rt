@@ -4,7 +4,7 @@
 
 use json::{Reader, Scratch, Token};
 use memchr::{memchr_iter, memrchr};
-use mistakes::pointer_token;
+use mistakes::shown_token;
 use pull::notes::MAX_NESTING;
 use std::alloc::{AllocError, Global};
 
@@ -78,7 +78,7 @@ fn is_of(alloc: Global, token: &str, name: &str) -> Result<bool, AllocError> {
     if !token.contains('~') && !token.contains('\\') {
         return Ok(token == name);
     }
-    let own = pointer_token(alloc, name)?;
+    let own = shown_token(alloc, name)?;
     Ok(own.as_str() == token)
 }
 

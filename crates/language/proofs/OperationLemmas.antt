@@ -26,7 +26,6 @@ use Rattle.rules.specs.declared.rule.NameRule.{NameRule}
 use Rattle.rules.specs.declared.rule.NameRule.TheVariants.{Else}
 use Rattle.rules.specs.declared.rule.Place.{Place}
 use Rattle.rules.specs.declared.rule.Place.TheVariants.{Third, Fourth}
-use Rattle.rules.specs.declared.rule.Rule.{Rule}
 use Rattle.rules.specs.declared.rule.Rule.TheVariants as rule
 use Rattle.rules.specs.declared.rule.SourceRule.{SourceRule}
 use Rattle.rules.specs.declared.rule.SourceRule.TheVariants as source
@@ -62,16 +61,16 @@ module _ {A : Type 0} {right : Result (A × Seen) Found} (seen : Seen) where
       needs_is (named name scope) _ (λ no. unmet _ (rw (there, no))) (λ subject known.
       asks_is (fits subject) _ (λ no. unmet _ (rw (there, known, no))) (λ is. rw there at (met (rw (there, known, is))))))
 
-  item_is : (place : Place) (op : Data) (rest : Item → Reading A)
-      → ((e : Failure) → check seen.counts (item_asked place op) ≡ Err e → Err (found_here e) ≡ right)
-      → (check seen.counts (item_asked place op) ≡ Ok seen.counts
+  item_is : (version : ℕ) (place : Place) (op : Data) (rest : Item → Reading A)
+      → ((e : Failure) → check seen.counts (item_asked version place op) ≡ Err e → Err (found_here e) ≡ right)
+      → (check seen.counts (item_asked version place op) ≡ Ok seen.counts
       → rest (item_of (name_item (index_of place) op) seen.numbers)
       (seen_of seen.counts (with_item (name_item (index_of place) op) seen.numbers)) ≡ right)
-      → item_argument place op rest seen ≡ right
+      → item_argument version place op rest seen ≡ right
   unfolding item_asked
-  item_is place op rest unmet met =
+  item_is version place op rest unmet met =
       needs_is (text_item (index_of place) op) _ (λ no. unmet _ (rw no)) (λ name there.
-      asks_is (is_name name) _ (λ no. unmet _ (rw (there, no))) (λ is. rw there at (met (rw (there, is)))))
+      asks_is (is_name version name) _ (λ no. unmet _ (rw (there, no))) (λ is. rw there at (met (rw (there, is)))))
 
   argument_is : (version : ℕ) (scope : Scope) (place : Place) (op : Data) (rest : Argument → Reading A)
       → ((e : Failure) → check seen.counts (argument_asked version scope place op) ≡ Err e → Err (found_here e) ≡ right)
@@ -87,14 +86,15 @@ module _ {A : Type 0} {right : Result (A × Seen) Found} (seen : Seen) where
           (Is (item_of (name_item (index_of place) op) seen.numbers), with_item (name_item (index_of place) op) seen.numbers)
 
       by : (b : Bool)
-          → ((e : Failure) → check seen.counts (cond b (source_asked scope fits_item source.Item place op) (item_asked place op)) ≡ Err e
+          → ((e : Failure)
+          → check seen.counts (cond b (source_asked scope fits_item source.Item place op) (item_asked version place op)) ≡ Err e
           → Err (found_here e) ≡ right)
-          → (check seen.counts (cond b (source_asked scope fits_item source.Item place op) (item_asked place op)) ≡ Ok seen.counts
+          → (check seen.counts (cond b (source_asked scope fits_item source.Item place op) (item_asked version place op)) ≡ Ok seen.counts
           → rest (of b).0 (seen_of seen.counts (of b).1) ≡ right)
           → cond b (source_argument scope fits_item source.Item place op (λ label. rest (From label)))
-          (item_argument place op (λ x. rest (Is x))) seen ≡ right
+          (item_argument version place op (λ x. rest (Is x))) seen ≡ right
       by true unmet met = source_is scope fits_item source.Item place op (λ label. rest (From label)) unmet met
-      by false unmet met = item_is place op (λ x. rest (Is x)) unmet met
+      by false unmet met = item_is version place op (λ x. rest (Is x)) unmet met
 
 -- the amount of a call, or the label that gives it
 amount_reads : (version : ℕ) (scope : Scope) (v : AmountVerb) (op : Data) (seen : Seen)
@@ -131,43 +131,45 @@ call_reads version scope (OfPair v) op seen =
 call_reads version scope (Alone v) op seen = asks_is (has_count 2 op) _ (λ no. rw no) (λ is. rw is)
 
 -- the number of a reason
-pub reason_is : (which : Rule) (reason : List ℕ) (seen : Seen) → reason_in which reason seen
-    ≡ answer (here (check seen.counts (holds (is_name reason) which ∷ []))) (number_of reason seen.numbers.reasons)
-    (with_reason reason seen.numbers)
-reason_is which reason seen = asks_is (is_name reason) _ (λ no. rw no) (λ is. rw is)
+pub reason_is : (version : ℕ) (which : NameRule) (reason : List ℕ) (seen : Seen) → reason_in version which reason seen
+    ≡ answer (here (check seen.counts (holds (is_name version reason) (rule.Name version which) ∷ [])))
+    (number_of reason seen.numbers.reasons) (with_reason reason seen.numbers)
+reason_is version which reason seen = asks_is (is_name version reason) _ (λ no. rw no) (λ is. rw is)
 
 -- a reason, where there is one
-pub reason_reads : (which : NameRule) (o : Option (List ℕ)) (seen : Seen) → if_there (reason_in (rule.Name which)) o seen
-    ≡ answer (here (check seen.counts (reason_asked which o))) (reason_of seen.numbers o).0 (reason_of seen.numbers o).1
+pub reason_reads : (version : ℕ) (which : NameRule) (o : Option (List ℕ)) (seen : Seen) → if_there (reason_in version which) o seen
+    ≡ answer (here (check seen.counts (reason_asked version which o))) (reason_of seen.numbers o).0 (reason_of seen.numbers o).1
 unfolding reason_asked reason_of
-reason_reads which None seen = refl
-reason_reads which (Some reason) seen =
-    check_is (reason_in (rule.Name which) reason) _ (check seen.counts (holds (is_name reason) (rule.Name which) ∷ []))
-    (reason_is (rule.Name which) reason seen) (λ e failed. rw failed) (λ c met. rw met)
+reason_reads version which None seen = refl
+reason_reads version which (Some reason) seen =
+    check_is (reason_in version which reason) _ (check seen.counts (holds (is_name version reason) (rule.Name version which) ∷ []))
+    (reason_is version which reason seen) (λ e failed. rw failed) (λ c met. rw met)
 
 -- what an operation's refusal does
-refusal_reads : (d : Data) (seen : Seen) → refusal_in d seen
-    ≡ answer (here (check seen.counts (reason_asked Else (else_reason d)))) (refusal_of seen.numbers d).0 (refusal_of seen.numbers d).1
+refusal_reads : (version : ℕ) (d : Data) (seen : Seen) → refusal_in version d seen
+    ≡ answer (here (check seen.counts (reason_asked version Else (else_reason d)))) (refusal_of seen.numbers d).0
+    (refusal_of seen.numbers d).1
 unfolding refusal_of reason_asked
-refusal_reads d seen = by (get (codes "else") d)
+refusal_reads version d seen = by (get (codes "else") d)
   where
     by : (o : Option Data) → cond (is_some o)
-        (after (if_there (reason_in (rule.Name Else)) (option_and_then as_str o)) (λ reason. spells (Aborts reason))) (spells GoesOn) seen
-        ≡ answer (here (check seen.counts (reason_asked Else (option_and_then as_str o))))
+        (after (if_there (reason_in version Else) (option_and_then as_str o)) (λ reason. spells (Aborts reason))) (spells GoesOn) seen
+        ≡ answer (here (check seen.counts (reason_asked version Else (option_and_then as_str o))))
         (cond (is_some o) (spelled_map Aborts (reason_of seen.numbers (option_and_then as_str o))) (GoesOn, seen.numbers)).0
         (cond (is_some o) (spelled_map Aborts (reason_of seen.numbers (option_and_then as_str o))) (GoesOn, seen.numbers)).1
     by None = refl
-    by (Some x) = check_is (if_there (reason_in (rule.Name Else)) (as_str x)) _ (check seen.counts (reason_asked Else (as_str x)))
-        (reason_reads Else (as_str x) seen) (λ e failed. rw failed) (λ c met. rw met)
+    by (Some x) = check_is (if_there (reason_in version Else) (as_str x)) _ (check seen.counts (reason_asked version Else (as_str x)))
+        (reason_reads version Else (as_str x) seen) (λ e failed. rw failed) (λ c met. rw met)
 
 -- a label that may be set leaves the rest, and else there is a fault
-pub label_is : {A : Type 0} {right : Result (A × Seen) Found} {seen : Seen} (scope earlier : Scope) (label : Option (List ℕ))
-    (rest : Reading A) → ((e : Failure) → check seen.counts (label_asked scope earlier label) ≡ Err e → Err (found_here e) ≡ right)
-    → (check seen.counts (label_asked scope earlier label) ≡ Ok seen.counts → rest seen ≡ right)
-    → new_label scope earlier label rest seen ≡ right
+pub label_is : {A : Type 0} {right : Result (A × Seen) Found} {seen : Seen} (version : ℕ) (scope earlier : Scope)
+    (label : Option (List ℕ)) (rest : Reading A)
+    → ((e : Failure) → check seen.counts (label_asked version scope earlier label) ≡ Err e → Err (found_here e) ≡ right)
+    → (check seen.counts (label_asked version scope earlier label) ≡ Ok seen.counts → rest seen ≡ right)
+    → new_label version scope earlier label rest seen ≡ right
 unfolding label_asked
-label_is scope earlier None rest unmet met = met refl
-label_is scope earlier (Some name) rest unmet met = asks_is (is_name name) _ (λ no. unmet _ (rw no))
+label_is version scope earlier None rest unmet met = met refl
+label_is version scope earlier (Some name) rest unmet met = asks_is (is_name version name) _ (λ no. unmet _ (rw no))
     (λ is. asks_is (not (is_named name scope || is_named name earlier)) _ (λ no. unmet _ (rw (is, no))) (λ new. met (rw (is, new))))
 
 -- a listed text has a place below the length
@@ -206,15 +208,16 @@ operation_reads setting scope d seen =
     let known = option_and_then (λ k. verb_of_text setting.version k word) (slice_get setting.kinds place) in
     needs_is known _ (λ no. rw no) (λ verb there. rw there (
     let arguments = arguments_asked setting.version scope verb op in
-    let reason = reason_asked Else (else_reason d) in
-    let labelled = label_asked scope [] (label_in d) in
+    let reason = reason_asked setting.version Else (else_reason d) in
+    let labelled = label_asked setting.version scope [] (label_in d) in
     let made = template_of setting.version scope verb seen.numbers op in
     rw (append_assoc arguments reason labelled) (
     check_is (call_in setting.version scope verb op) _ (check c arguments)
     (call_reads setting.version scope verb op (seen_of c seen.numbers))
     (λ e failed. rw (check_failed c e arguments (reason ++ labelled) failed))
     (λ after_call met. rw (check_met c after_call arguments (reason ++ labelled) met) (
-    check_is (refusal_in d) _ (check after_call reason) (refusal_reads d (seen_of after_call made.1))
+    check_is (refusal_in setting.version d) _ (check after_call reason)
+    (refusal_reads setting.version d (seen_of after_call made.1))
     (λ e failed. rw (check_failed after_call e reason labelled failed))
     (λ then met. rw (check_met after_call then reason labelled met) (
-    label_is scope [] (label_in d) _ (λ e failed. rw failed) (λ met. rw met))))))))))))))))))))))
+    label_is setting.version scope [] (label_in d) _ (λ e failed. rw failed) (λ met. rw met))))))))))))))))))))))

@@ -34,7 +34,7 @@ entry_reads : (version : ℕ) (earlier : Table) (d : Data) (seen : Seen) → ent
 unfolding entry_asked
 entry_reads version earlier d seen =
     needs_is (as_str d) _ (λ no. rw no) (λ name there. rw there (
-    asks_is (is_name name) _ (λ no. rw no) (λ is. rw is (
+    asks_is (is_name version name) _ (λ no. rw no) (λ is. rw is (
     counted_is (one_more_start version) _ seen (λ e over. rw over) (λ c within. rw within)))))
 
 -- the entries of a queue from an index on
@@ -53,7 +53,7 @@ element_reads : (version : ℕ) (earlier : Table) (d : Data) (seen : Seen) → e
 unfolding element_asked
 element_reads version earlier d seen =
     needs_is (as_str d) _ (λ no. rw no) (λ name there. rw there (
-    asks_is (is_name name) _ (λ no. rw no) (λ is. rw is (
+    asks_is (is_name version name) _ (λ no. rw no) (λ is. rw is (
     asks_is (not (is_listed name earlier)) _ (λ no. rw no) (λ new. rw new (
     counted_is (one_more_start version) _ seen (λ e over. rw over) (λ c within. rw within)))))))
 
@@ -77,8 +77,8 @@ pair_reads version earlier d seen =
     asks_is (has_count 2 d) _ (λ no. rw no) (λ is. rw is (
     needs_is (text_item 0 d) _ (λ no. rw no) (λ key there. rw there (
     needs_is (text_item 1 d) _ (λ no. rw no) (λ name there. rw there (
-    asks_is (is_name key) _ (λ no. rw no) (λ is. rw is (
-    asks_is (is_name name) _ (λ no. rw no) (λ is. rw is (
+    asks_is (is_name version key) _ (λ no. rw no) (λ is. rw is (
+    asks_is (is_name version name) _ (λ no. rw no) (λ is. rw is (
     asks_is (not (is_listed key earlier)) _ (λ no. rw no) (λ new. rw new (
     counted_is (one_more_start version) _ seen (λ e over. rw over) (λ c within. rw within)))))))))))))
 
@@ -129,7 +129,7 @@ object_reads version names d seen =
     needs_is (text_member (codes "name") d) _ (λ no. rw no) (λ name there. rw there (
     needs_is (object_kind version d) _ (λ no. rw no) (λ k there. rw there (
     needs_is (get (codes "start") d) _ (λ no. rw no) (λ start there. rw there (
-    asks_is (is_name name) _ (λ no. rw no) (λ is. rw is (
+    asks_is (is_name version name) _ (λ no. rw no) (λ is. rw is (
     asks_is (not (is_listed name names)) _ (λ no. rw no) (λ new. rw new (
     inside_is (member_named (codes "start")) (start_in version k start) _ (seek seen.counts (start_placed version k start))
     (start_reads version k start seen) (λ found failed. rw failed) (λ c met. rw met)))))))))))))

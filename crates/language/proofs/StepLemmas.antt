@@ -32,10 +32,11 @@ use Rattle.language.proofs.Joined.{after_is, answer, asks_is, by_test, check_is,
 use Rattle.language.proofs.OperationLemmas.{label_is, operation_reads, reason_is, reason_reads}
 
 -- the test of an `if`
-test_reads : (subject : Subject) (d : Data) (seen : Seen) → test_in subject d seen
-    ≡ answer (here (check seen.counts (test_asked subject d))) (test_of subject seen.numbers d).0 (test_of subject seen.numbers d).1
+test_reads : (version : ℕ) (subject : Subject) (d : Data) (seen : Seen) → test_in version subject d seen
+    ≡ answer (here (check seen.counts (test_asked version subject d))) (test_of subject seen.numbers d).0
+    (test_of subject seen.numbers d).1
 unfolding test_in test_asked test_of
-test_reads subject d seen =
+test_reads version subject d seen =
     by_test (has (codes "is") d)
     (λ is. rw is (needs_is (tested_word subject d) _ (λ no. rw no) (λ word there. rw there)))
     (λ other. rw other (by_test (has (codes "atleast") d)
@@ -45,7 +46,7 @@ test_reads subject d seen =
     (λ other. rw other (
     asks_is (fits_item subject) _ (λ no. rw no) (λ is. rw is (
     needs_is (text_member (codes "item") d) _ (λ no. rw no) (λ x there. rw there (
-    asks_is (is_name x) _ (λ no. rw no) (λ is. rw is)))))))))
+    asks_is (is_name version x) _ (λ no. rw no) (λ is. rw is)))))))))
 
 -- an abort, and the labels after it
 abort_reads : (version : ℕ) (scope : Scope) (d : Data) (seen : Seen) → abort_in version scope d seen
@@ -56,8 +57,8 @@ abort_reads version scope d seen =
     asks_is (has_only (member_names form.Abort) d) _ (λ no. rw no) (λ is. rw is (
     asks_is (is_abort version (part (codes "abort") d)) _ (λ no. rw no) (λ is. rw is (
     counted_is (one_more_node version) _ seen (λ e over. rw over) (λ c within. rw within (
-    check_is (if_there (reason_in (Name Reason)) reason) _ (check c (reason_asked Reason reason))
-    (reason_reads Reason reason (seen_of c seen.numbers))
+    check_is (if_there (reason_in version Reason) reason) _ (check c (reason_asked version Reason reason))
+    (reason_reads version Reason reason (seen_of c seen.numbers))
     (λ e failed. rw failed) (λ c met. rw met)))))))
 
 -- the label of a subaction, among no others and then after these
@@ -94,7 +95,8 @@ module _ (block : BlockReader) (places : Places) (spelling : Spelling) (same : A
       needs_is (get (codes "then") d) _ (λ no. rw no) (λ inner there. rw there (
       counted_is (one_more_node version) _ seen (λ e over. rw over) (λ c within. rw within (
       needs_is (named label scope) _ (λ no. rw no) (λ subject there. rw there (
-      check_is (test_in subject d) _ (check c (test_asked subject d)) (test_reads subject d (seen_of c seen.numbers))
+      check_is (test_in version subject d) _ (check c (test_asked version subject d))
+      (test_reads version subject d (seen_of c seen.numbers))
       (λ e failed. rw failed) (λ c met. rw met (
       inside_is (member_named (codes "then")) (block scope inner) _ (seek c (places scope inner))
       (same scope inner (seen_of c (test_of subject seen.numbers d).1)) (λ found failed. rw failed) (λ c met. rw met (
@@ -105,28 +107,31 @@ module _ (block : BlockReader) (places : Places) (spelling : Spelling) (same : A
       (λ c met. rw met)))))))))))))))))
 
   -- the handlers by reason
-  handlers_read : (scope : Scope) (ds : Members) (seen : Seen) → handlers_by_reason block scope ds seen
-      ≡ answer (seek seen.counts (members_placed places scope ds)) (members_of spelling scope seen.numbers ds).0
+  handlers_read : (version : ℕ) (scope : Scope) (ds : Members) (seen : Seen) → handlers_by_reason version block scope ds seen
+      ≡ answer (seek seen.counts (members_placed version places scope ds)) (members_of spelling scope seen.numbers ds).0
       (members_of spelling scope seen.numbers ds).1
-  handlers_read scope no_members seen = refl
-  handlers_read scope (member reason d ds) seen =
+  handlers_read version scope no_members seen = refl
+  handlers_read version scope (member reason d ds) seen =
       let numbers = with_reason reason seen.numbers in
-      check_is (reason_in (Name Handlers) reason) _ (check seen.counts (holds (is_name reason) (Name Handlers) ∷ []))
-      (reason_is (Name Handlers) reason seen)
+      check_is (reason_in version Handlers reason) _
+      (check seen.counts (holds (is_name version reason) (Name version Handlers) ∷ []))
+      (reason_is version Handlers reason seen)
       (λ e failed. rw failed) (λ c met. rw met (
       inside_is (member_named reason) (block scope d) _ (seek c (places scope d)) (same scope d (seen_of c numbers))
       (λ found failed. rw failed) (λ c met. rw met (
-      after_is (handlers_by_reason block scope ds) _ (seek c (members_placed places scope ds))
-      (handlers_read scope ds (seen_of c (spelling scope numbers d).1)) (λ found failed. rw failed) (λ c met. rw met)))))
+      after_is (handlers_by_reason version block scope ds) _ (seek c (members_placed version places scope ds))
+      (handlers_read version scope ds (seen_of c (spelling scope numbers d).1)) (λ found failed. rw failed) (λ c met. rw met)))))
 
   -- the same where a subaction may have them
-  handlers_if_read : (scope : Scope) (o : Option Members) (seen : Seen) → if_there (handlers_by_reason block scope) o seen
-      ≡ answer (seek seen.counts (handlers_placed places scope o)) (handlers_spelled spelling scope seen.numbers o).0
+  handlers_if_read : (version : ℕ) (scope : Scope) (o : Option Members) (seen : Seen)
+      → if_there (handlers_by_reason version block scope) o seen
+      ≡ answer (seek seen.counts (handlers_placed version places scope o)) (handlers_spelled spelling scope seen.numbers o).0
       (handlers_spelled spelling scope seen.numbers o).1
   unfolding handlers_placed handlers_spelled
-  handlers_if_read scope None seen = refl
-  handlers_if_read scope (Some ds) seen = after_is (handlers_by_reason block scope ds) _ (seek seen.counts (members_placed places scope ds))
-      (handlers_read scope ds seen) (λ found failed. rw failed) (λ c met. rw met)
+  handlers_if_read version scope None seen = refl
+  handlers_if_read version scope (Some ds) seen = after_is (handlers_by_reason version block scope ds) _
+      (seek seen.counts (members_placed version places scope ds)) (handlers_read version scope ds seen) (λ found failed. rw failed)
+      (λ c met. rw met)
 
   -- a subaction or a child, and the labels of the siblings up to it
   sub_reads : (version : ℕ) (scope earlier : Scope) (d : Data) (seen : Seen) → sub_in version block scope earlier d seen
@@ -139,12 +144,12 @@ module _ (block : BlockReader) (places : Places) (spelling : Spelling) (same : A
       asks_is (label_is_text d) _ (λ no. rw no) (λ is. rw is (
       asks_is (handlers_are_members version d) _ (λ no. rw no) (λ is. rw is (
       counted_is (one_more_node version) _ seen (λ e over. rw over) (λ c within. rw within (
-      label_is scope earlier (label_in d) _ (λ e failed. rw failed) (λ new. rw new (
+      label_is version scope earlier (label_in d) _ (λ e failed. rw failed) (λ new. rw new (
       let body = (spelling scope seen.numbers sub).1 in
       inside_is (member_named (codes "sub")) (block scope sub) _ (seek c (places scope sub)) (same scope sub (seen_of c seen.numbers))
       (λ found failed. rw failed) (λ c met. rw met (
-      inside_is (member_named (codes "handlers")) (if_there (handlers_by_reason block scope) (handlers_in d)) _
-      (seek c (handlers_placed places scope (handlers_in d))) (handlers_if_read scope (handlers_in d) (seen_of c body))
+      inside_is (member_named (codes "handlers")) (if_there (handlers_by_reason version block scope) (handlers_in d)) _
+      (seek c (handlers_placed version places scope (handlers_in d))) (handlers_if_read version scope (handlers_in d) (seen_of c body))
       (λ found failed. rw failed) (λ c met. rw met (
       inside_is (member_named (codes "handler")) (if_there (block scope) (get (codes "handler") d)) _
       (seek c (block_placed_if places scope (get (codes "handler") d)))

@@ -64,9 +64,9 @@ use Rattle.language.specs.Reading.{needs, needs_item, nothing_seen, reason_in, s
 -- ---- operations
 
 -- the item at a place of an operation's array
-abbrev pub item_argument : {A : Type 0} → Place → Data → (Item → Reading A) → Reading A
-item_argument place op =
-    needs_item (text_item (index_of place) op) (rule.Argument (argument_rule.Item place)) (rule.Name (named.Argument place))
+abbrev pub item_argument : {A : Type 0} → ℕ → Place → Data → (Item → Reading A) → Reading A
+item_argument version place op =
+    needs_item version (text_item (index_of place) op) (rule.Argument (argument_rule.Item place)) (named.Argument place)
 
 -- the label that gives an argument: it is seen, and what it is of fits, by this rule
 abbrev pub source_argument : {A : Type 0} → Scope → (Subject → Bool) → (Subject → SourceRule) → Place → Data
@@ -81,7 +81,7 @@ source_argument scope fits fit place op rest =
 abbrev pub argument_in : {A : Type 0} → ℕ → Scope → Place → Data → (Argument → Reading A) → Reading A
 argument_in version scope place op rest =
     if is_source version (index_of place) op then source_argument scope fits_item source.Item place op (λ label. rest (argument.From label))
-    else item_argument place op (λ x. rest (argument.Is x))
+    else item_argument version place op (λ x. rest (argument.Is x))
 
 -- a call of a verb, with the arguments in an operation's array
 abbrev pub call_in : ℕ → Scope → Verb → Data → Reading Template
@@ -98,16 +98,16 @@ call_in version scope (OfPair v) op = asks (has_count 4 op) (rule.Argument (argu
 call_in version scope (Alone v) op = asks (has_count 2 op) (rule.Argument (argument_rule.Count (Alone v))) (spells (Given (lone_call v)))
 
 -- what the operation's refusal does
-abbrev pub refusal_in : Data → Reading Refusal
-refusal_in d =
-    if has (codes "else") d then after (if_there (reason_in (rule.Name named.Else)) (else_reason d)) (λ reason. spells (Aborts reason))
+abbrev pub refusal_in : ℕ → Data → Reading Refusal
+refusal_in version d =
+    if has (codes "else") d then after (if_there (reason_in version named.Else) (else_reason d)) (λ reason. spells (Aborts reason))
     else spells GoesOn
 
 -- a label, if there is one: a name that is neither seen nor an earlier sibling's
-abbrev pub new_label : {A : Type 0} → Scope → Scope → Option (List ℕ) → Reading A → Reading A
-new_label scope earlier None rest = rest
-new_label scope earlier (Some name) rest =
-    asks (is_name name) (rule.Name named.Label) (
+abbrev pub new_label : {A : Type 0} → ℕ → Scope → Scope → Option (List ℕ) → Reading A → Reading A
+new_label version scope earlier None rest = rest
+new_label version scope earlier (Some name) rest =
+    asks (is_name version name) (rule.Name version named.Label) (
     asks (not (is_named name scope || is_named name earlier)) rule.NewLabel
     rest)
 
@@ -125,8 +125,8 @@ operation_in setting scope d =
     let kind = slice_get setting.kinds place in
     needs (option_and_then (λ k. verb_of_text setting.version k word) kind) (rule.KnownOperation setting.version kind) (λ verb.
     after (call_in setting.version scope verb op) (λ template.
-    after (refusal_in d) (λ refusal.
-    new_label scope [] (label_in d) (
+    after (refusal_in setting.version d) (λ refusal.
+    new_label setting.version scope [] (label_in d) (
     spells (operation_step place template (is_some (label_in d)) refusal, with_label (label_in d) (Reply verb) scope))))))))))))
 
 -- ---- the other steps
@@ -136,13 +136,13 @@ abbrev pub BlockReader : Type 0
 BlockReader = Scope → Data → Reading Block
 
 -- the test of an `if`, against what its label is of
-unfoldable pub test_in : Subject → Data → Reading Test
-test_in subject d =
+unfoldable pub test_in : ℕ → Subject → Data → Reading Test
+test_in version subject d =
     if has (codes "is") d then needs (tested_word subject d) (rule.Condition (condition.Word subject)) (λ word. spells (Is word))
     else if has (codes "atleast") d then asks (fits_number subject) (rule.Condition (condition.Number subject)) (
     needs (whole_member (codes "atleast") d) (rule.Condition condition.AtLeast) (λ n. spells (AtLeast n)))
     else asks (fits_item subject) (rule.Condition (condition.HasItem subject)) (
-    needs_item (text_member (codes "item") d) (rule.Condition condition.TestedItem) (rule.Name named.TestedItem) (λ x. spells (IsItem x)))
+    needs_item version (text_member (codes "item") d) (rule.Condition condition.TestedItem) named.TestedItem (λ x. spells (IsItem x)))
 
 -- an `if`, after which the same labels are seen
 unfoldable pub if_in : ℕ → BlockReader → Scope → Data → Reading (Step × Scope)
@@ -153,19 +153,19 @@ if_in version block scope d =
     needs (get (codes "then") d) (rule.Shape shape.Then) (λ inner.
     counted (one_more_node version) (
     needs (named label scope) rule.SeenLabel (λ subject.
-    after (test_in subject d) (λ test.
+    after (test_in version subject d) (λ test.
     inside (member_named (codes "then")) (block scope inner) (λ branch.
     inside (member_named (codes "else")) (if_there (block scope) (get (codes "else") d)) (λ other.
     spells (If (label_number label scope) test branch (unwrap_or other NoStep), scope))))))))))
 
 -- The handlers by reason, in the order of the reasons' bytes, as a value has its members. A reason that is no name breaks a rule of
 -- them all.
-abbrev pub handlers_by_reason : BlockReader → Scope → Members → Reading (List (ℕ × Block))
-handlers_by_reason block scope no_members = spells []
-handlers_by_reason block scope (member reason d ds) =
-    after (reason_in (rule.Name named.Handlers) reason) (λ number.
+abbrev pub handlers_by_reason : ℕ → BlockReader → Scope → Members → Reading (List (ℕ × Block))
+handlers_by_reason version block scope no_members = spells []
+handlers_by_reason version block scope (member reason d ds) =
+    after (reason_in version named.Handlers reason) (λ number.
     inside (member_named reason) (block scope d) (λ handler.
-    after (handlers_by_reason block scope ds) (λ others.
+    after (handlers_by_reason version block scope ds) (λ others.
     spells ((number, handler) ∷ others))))
 
 -- a subaction, or a child whose earlier siblings have these labels; and those labels with its own
@@ -176,9 +176,9 @@ sub_in version block scope earlier d =
     asks (label_is_text d) (rule.Shape shape.Label) (
     asks (handlers_are_members version d) (rule.Shape (shape.Handlers version)) (
     counted (one_more_node version) (
-    new_label scope earlier (label_in d) (
+    new_label version scope earlier (label_in d) (
     inside (member_named (codes "sub")) (block scope sub) (λ body.
-    inside (member_named (codes "handlers")) (if_there (handlers_by_reason block scope) (handlers_in d)) (λ handlers.
+    inside (member_named (codes "handlers")) (if_there (handlers_by_reason version block scope) (handlers_in d)) (λ handlers.
     inside (member_named (codes "handler")) (if_there (block scope) (get (codes "handler") d)) (λ handler.
     spells (tried body handlers handler (is_some (label_in d)), with_label (label_in d) Outcome earlier))))))))))
 
@@ -197,7 +197,7 @@ abort_in version scope d =
     asks (has_only (member_names form.Abort) d) (rule.Shape (shape.Members form.Abort)) (
     asks (is_abort version (part (codes "abort") d)) (rule.Shape (shape.Abort version)) (
     counted (one_more_node version) (
-    after (if_there (reason_in (rule.Name named.Reason)) (as_str (part (codes "abort") d))) (λ reason.
+    after (if_there (reason_in version named.Reason) (as_str (part (codes "abort") d))) (λ reason.
     spells (Abort reason, scope)))))
 
 -- ---- steps and blocks
@@ -227,7 +227,7 @@ block_in setting (suc n) scope d = needs (as_array d) (rule.Shape shape.Block) (
 abbrev pub entry_in : ℕ → Table → Data → Reading (Item × Table)
 entry_in version earlier d =
     needs (as_str d) (rule.Start start.Entry) (λ name.
-    asks (is_name name) (rule.Name named.Entry) (
+    asks (is_name version name) (rule.Name version named.Entry) (
     counted (one_more_start version) (
     item_named name (λ x. spells (x, earlier)))))
 
@@ -235,7 +235,7 @@ entry_in version earlier d =
 abbrev pub element_in : ℕ → Table → Data → Reading (Item × Table)
 element_in version earlier d =
     needs (as_str d) (rule.Start start.Entry) (λ name.
-    asks (is_name name) (rule.Name named.Entry) (
+    asks (is_name version name) (rule.Name version named.Entry) (
     asks (not (is_listed name earlier)) (rule.Start start.NewEntry) (
     counted (one_more_start version) (
     item_named name (λ x. spells (x, with_text name earlier))))))
@@ -246,8 +246,8 @@ pair_in version earlier d =
     asks (has_count 2 d) (rule.Start start.Pair) (
     needs (text_item 0 d) (rule.Start start.PairKey) (λ key.
     needs (text_item 1 d) (rule.Start start.PairItem) (λ name.
-    asks (is_name key) (rule.Name named.PairKey) (
-    asks (is_name name) (rule.Name named.PairItem) (
+    asks (is_name version key) (rule.Name version named.PairKey) (
+    asks (is_name version name) (rule.Name version named.PairItem) (
     asks (not (is_listed key earlier)) (rule.Start start.NewKey) (
     counted (one_more_start version) (
     item_named key (λ k. item_named name (λ x. spells ((k, x), with_text key earlier))))))))))
@@ -274,7 +274,7 @@ object_in version names d =
     needs (text_member (codes "name") d) (rule.Shape shape.ObjectName) (λ name.
     needs (object_kind version d) (rule.Shape (shape.ObjectKind version)) (λ k.
     needs (get (codes "start") d) (rule.Shape shape.ObjectStart) (λ start.
-    asks (is_name name) (rule.Name named.Object) (
+    asks (is_name version name) (rule.Name version named.Object) (
     asks (not (is_listed name names)) rule.NewObject (
     inside (member_named (codes "start")) (start_in version k start) (λ v.
     spells (v, names ++ name ∷ []))))))))

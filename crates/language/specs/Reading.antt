@@ -5,7 +5,9 @@ use Rattle.std.specs.Result.{result_map_both}
 use Rattle.serde_json.specs.Data.{Data, Items, no_items, item}
 use Rattle.atoms.specs.declared.item.Item.{Item}
 use Rattle.batch.specs.Names.{is_name}
+use Rattle.rules.specs.declared.rule.NameRule.{NameRule}
 use Rattle.rules.specs.declared.rule.Rule.{Rule}
+use Rattle.rules.specs.declared.rule.Rule.TheVariants.{Name}
 use Rattle.spelling.specs.declared.counts.Counts.{Counts}
 use Rattle.spelling.specs.Demand.{Demand, broken_at, check_one, no_counts}
 use Rattle.spelling.specs.Places.{Found, Token, found_here, found_inside, here, item_at}
@@ -72,9 +74,9 @@ each part i s (item d ds) =
     after (each part (i + 1) one.1 ds) (λ rest.
     spells (one.0 ∷ rest.0, rest.1)))
 
--- The number of a reason, by first appearance. The reason has to be a name, by this rule.
-abbrev pub reason_in : Rule → List ℕ → Reading ℕ
-reason_in rule name = asks (is_name name) rule (λ seen.
+-- The number of a reason, by first appearance. The reason has to be a name of the version, by this rule.
+abbrev pub reason_in : ℕ → NameRule → List ℕ → Reading ℕ
+reason_in version which name = asks (is_name version name) (Name version which) (λ seen.
     spells (number_of name seen.numbers.reasons) (record seen { numbers = with_reason name seen.numbers }))
 
 -- an item, which has the number of its name by first appearance
@@ -82,6 +84,7 @@ abbrev pub item_named : {A : Type 0} → List ℕ → (Item → Reading A) → R
 item_named name rest seen =
     rest (record { 0 = number_of name seen.numbers.items }) (record seen { numbers = with_item name seen.numbers })
 
--- an item whose name has to be there and be one, by these rules
-abbrev pub needs_item : {A : Type 0} → Option (List ℕ) → Rule → Rule → (Item → Reading A) → Reading A
-needs_item text there named rest = needs text there (λ name. asks (is_name name) named (item_named name rest))
+-- an item whose name has to be there and be one of the version, by these rules
+abbrev pub needs_item : {A : Type 0} → ℕ → Option (List ℕ) → Rule → NameRule → (Item → Reading A) → Reading A
+needs_item version text there which rest =
+    needs text there (λ name. asks (is_name version name) (Name version which) (item_named name rest))

@@ -66,19 +66,19 @@ module _ (version : ℕ) where
   one_of_three false true A B C first second third = second
   one_of_three false false A B C first second third = third
 
-  test_in : (subject : Subject) (d : Data) → InBlock version (test_asked subject d)
+  test_in : (known : ℕ) (subject : Subject) (d : Data) → InBlock version (test_asked known subject d)
   unfolding test_asked
-  test_in subject d = one_of_three (has (codes "is") d) (has (codes "atleast") d) (holds_word subject d) (holds_number subject d)
-      (holds_item subject d) tt tt tt
+  test_in known subject d = one_of_three (has (codes "is") d) (has (codes "atleast") d) (holds_word subject d) (holds_number subject d)
+      (holds_item known subject d) tt tt tt
 
   sub_shape_in : (known : ℕ) (d : Data) → InBlock version (sub_shape_asked known d)
   unfolding sub_shape_asked
   sub_shape_in known d = tt
 
-  label_is_in : (scope earlier : Scope) (o : Option (List ℕ)) → InBlock version (label_asked scope earlier o)
+  label_is_in : (known : ℕ) (scope earlier : Scope) (o : Option (List ℕ)) → InBlock version (label_asked known scope earlier o)
   unfolding label_asked
-  label_is_in scope earlier None = tt
-  label_is_in scope earlier (Some name) = tt
+  label_is_in known scope earlier None = tt
+  label_is_in known scope earlier (Some name) = tt
 
   operation_shape_in : (known : ℕ) (d : Data) → InBlock version (operation_shape_asked known d)
   unfolding operation_shape_asked
@@ -97,9 +97,9 @@ module _ (version : ℕ) where
   unfolding source_asked
   source_in scope fits fit place op = tt
 
-  item_in : (place : Place) (op : Data) → InBlock version (item_asked place op)
+  item_in : (known : ℕ) (place : Place) (op : Data) → InBlock version (item_asked known place op)
   unfolding item_asked
-  item_in place op = tt
+  item_in known place op = tt
 
   amount_in : (known : ℕ) (scope : Scope) (op : Data) → InBlock version (amount_asked known scope op)
   unfolding amount_asked
@@ -109,7 +109,7 @@ module _ (version : ℕ) where
   argument_in : (known : ℕ) (scope : Scope) (place : Place) (op : Data) → InBlock version (argument_asked known scope place op)
   unfolding argument_asked
   argument_in known scope place op = one_of_two (is_source known (index_of place) op) (source_asked scope fits_item source.Item place op)
-      (item_asked place op) (source_in scope fits_item source.Item place op) (item_in place op)
+      (item_asked known place op) (source_in scope fits_item source.Item place op) (item_in known place op)
 
   arguments_in : (known : ℕ) (scope : Scope) (v : Verb) (op : Data) → InBlock version (arguments_asked known scope v op)
   unfolding arguments_asked
@@ -123,15 +123,15 @@ module _ (version : ℕ) where
   unfolding parallel_shape_asked
   parallel_shape_in d = tt
 
-  reason_in : (which : NameRule) (o : Option (List ℕ)) → InBlock version (reason_asked which o)
+  reason_in : (known : ℕ) (which : NameRule) (o : Option (List ℕ)) → InBlock version (reason_asked known which o)
   unfolding reason_asked
-  reason_in which None = tt
-  reason_in which (Some reason) = tt
+  reason_in known which None = tt
+  reason_in known which (Some reason) = tt
 
   abort_in : (d : Data) → InBlock version (abort_asked version d)
   unfolding abort_asked abort_shape_asked
-  abort_in d = both_in (abort_shape_asked version d) (reason_asked Reason (as_str (part (codes "abort") d))) (refl, tt)
-      (reason_in Reason (as_str (part (codes "abort") d)))
+  abort_in d = both_in (abort_shape_asked version d) (reason_asked version Reason (as_str (part (codes "abort") d))) (refl, tt)
+      (reason_in version Reason (as_str (part (codes "abort") d)))
 
 -- an operation counts one in a document of its version
 operation_in : (setting : Setting) (scope : Scope) (d : Data) → InBlock setting.version (operation_asked setting scope d)
@@ -143,16 +143,16 @@ operation_in setting scope d =
     let B = one_more_operation version ∷ [] in
     let C = target_asked setting (object_of op) (call_named op) in
     let D = arguments_asked version scope (verb_in setting op) op in
-    let E = reason_asked Else (else_reason d) in
-    let F = label_asked scope [] (label_in d) in
+    let E = reason_asked version Else (else_reason d) in
+    let F = label_asked version scope [] (label_in d) in
     both_in version (A ++ B ++ C ++ D ++ E) F
     (both_in version (A ++ B ++ C ++ D) E
     (both_in version (A ++ B ++ C) D
     (both_in version (A ++ B) C (both_in version A B (operation_shape_in version version d) (refl, tt))
     (target_in version setting (object_of op) (call_named op)))
     (arguments_in version version scope (verb_in setting op) op))
-    (reason_in version Else (else_reason d)))
-    (label_is_in version scope [] (label_in d))
+    (reason_in version version Else (else_reason d)))
+    (label_is_in version version scope [] (label_in d))
 
 -- ---- the steps that hold blocks
 
@@ -176,23 +176,25 @@ module _ (setting : Setting) (asks : Asks) (inner : (scope : Scope) (d : Data) �
       let A = if_shape_asked d in
       let B = one_more_node version ∷ [] in
       let C = seen_asked scope (if_label d) in
-      let D = test_asked subject d in
+      let D = test_asked version subject d in
       let E = asks scope (part (codes "then") d) in
       let F = block_asked_if asks scope (get (codes "else") d) in
       joined (A ++ B ++ C ++ D ++ E) F
       (joined (A ++ B ++ C ++ D) E
       (joined (A ++ B ++ C) D
       (joined (A ++ B) C (joined A B (if_shape_in version d) (refl, tt)) (seen_in version scope (if_label d)))
-      (test_in version subject d))
+      (test_in version version subject d))
       (inner scope (part (codes "then") d)))
       (block_if_in scope (get (codes "else") d))
 
-  members_in : (scope : Scope) (ds : Members) → In (members_asked asks scope ds)
+  members_in : (scope : Scope) (ds : Members) → In (members_asked setting.version asks scope ds)
   members_in scope no_members = tt
   members_in scope (member reason d ds) =
-      joined (holds (is_name reason) (Name Handlers) ∷ asks scope d) (members_asked asks scope ds) (inner scope d) (members_in scope ds)
+      let version = setting.version in
+      joined (holds (is_name version reason) (Name version Handlers) ∷ asks scope d) (members_asked version asks scope ds) (inner scope d)
+      (members_in scope ds)
 
-  handlers_are_in : (scope : Scope) (o : Option Members) → In (handlers_asked asks scope o)
+  handlers_are_in : (scope : Scope) (o : Option Members) → In (handlers_asked setting.version asks scope o)
   unfolding handlers_asked
   handlers_are_in scope None = tt
   handlers_are_in scope (Some ds) = members_in scope ds
@@ -203,14 +205,14 @@ module _ (setting : Setting) (asks : Asks) (inner : (scope : Scope) (d : Data) �
       let version = setting.version in
       let A = sub_shape_asked version d in
       let B = one_more_node version ∷ [] in
-      let C = label_asked scope earlier (label_in d) in
+      let C = label_asked version scope earlier (label_in d) in
       let D = asks scope (part (codes "sub") d) in
-      let E = handlers_asked asks scope (handlers_in d) in
+      let E = handlers_asked version asks scope (handlers_in d) in
       let F = block_asked_if asks scope (get (codes "handler") d) in
       joined (A ++ B ++ C ++ D ++ E) F
       (joined (A ++ B ++ C ++ D) E
       (joined (A ++ B ++ C) D
-      (joined (A ++ B) C (joined A B (sub_shape_in version version d) (refl, tt)) (label_is_in version scope earlier (label_in d)))
+      (joined (A ++ B) C (joined A B (sub_shape_in version version d) (refl, tt)) (label_is_in version version scope earlier (label_in d)))
       (inner scope (part (codes "sub") d)))
       (handlers_are_in scope (handlers_in d)))
       (block_if_in scope (get (codes "handler") d))

@@ -11,16 +11,17 @@ abbrev pub other_key : List (List ℕ) → List (String Global) → Option (List
 other_key names [] = None
 other_key names (k ∷ ks) = if is_among (string_bytes k) names then other_key names ks else Some (string_bytes k)
 
-abbrev pub unnamed_key : List (String Global) → Option (List ℕ)
-unnamed_key [] = None
-unnamed_key (k ∷ ks) = if is_name (string_bytes k) then unnamed_key ks else Some (string_bytes k)
+abbrev pub unnamed_key : ℕ → List (String Global) → Option (List ℕ)
+unnamed_key version [] = None
+unnamed_key version (k ∷ ks) = if is_name version (string_bytes k) then unnamed_key version ks else Some (string_bytes k)
 
 pub first_other-keys : (names : List (List ℕ)) (es : List Entry) → first_other names (members_view es) ≡ other_key names (keys_of es)
 first_other-keys names [] = refl
 first_other-keys names (e ∷ es) =
     ap (λ rest. if is_among (string_bytes e.0) names then rest else Some (string_bytes e.0)) (first_other-keys names es)
 
-pub first_unnamed-keys : (es : List Entry) → first_unnamed (members_view es) ≡ unnamed_key (keys_of es)
-first_unnamed-keys [] = refl
-first_unnamed-keys (e ∷ es) =
-    ap (λ rest. if is_name (string_bytes e.0) then rest else Some (string_bytes e.0)) (first_unnamed-keys es)
+pub first_unnamed-keys : (version : ℕ) (es : List Entry)
+    → first_unnamed version (members_view es) ≡ unnamed_key version (keys_of es)
+first_unnamed-keys version [] = refl
+first_unnamed-keys version (e ∷ es) =
+    ap (λ rest. if is_name version (string_bytes e.0) then rest else Some (string_bytes e.0)) (first_unnamed-keys version es)

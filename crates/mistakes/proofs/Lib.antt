@@ -1,4 +1,3 @@
 pub mod Printed
 pub mod Keys
 pub mod Joins
-pub mod Replaced

@@ -38,13 +38,13 @@ first_other names (member k d ms) = if is_among k names then first_other names m
 abbrev pub unknown_member : Form → Data → Option (List ℕ)
 unknown_member form d = option_and_then (first_other (member_names form)) (as_object d)
 
-abbrev pub first_unnamed : Members → Option (List ℕ)
-first_unnamed no_members = None
-first_unnamed (member k d ms) = if is_name k then first_unnamed ms else Some k
+abbrev pub first_unnamed : ℕ → Members → Option (List ℕ)
+first_unnamed version no_members = None
+first_unnamed version (member k d ms) = if is_name version k then first_unnamed version ms else Some k
 
--- the first reason of handlers that is no name
-abbrev pub unnamed_reason : Data → Option (List ℕ)
-unnamed_reason d = option_and_then first_unnamed (as_object d)
+-- the first reason of handlers that is no name of a version
+abbrev pub unnamed_reason : ℕ → Data → Option (List ℕ)
+unnamed_reason version d = option_and_then (first_unnamed version) (as_object d)
 
 -- a member says what the step is
 abbrev pub has_sort : Data → Bool

@@ -1,10 +1,10 @@
 -- The phrases of several rules.
-use Rattle.std.specs.Prelude.{ℕ, List, ◌++◌, codes, Option, Some, None, decimal}
+use Rattle.std.specs.Prelude.{ℕ, List, ◌++◌, codes, Option, Some, None, decimal, if◌then◌else◌}
 use Rattle.serde_json.specs.Data.{Data}
 use Rattle.serde_json.specs.Find.{get}
 use Rattle.objects.specs.declared.kind.Kind.{Kind}
 use Rattle.objects.specs.declared.kind.Kind.TheVariants as kind
-use Rattle.meaning.specs.declared.limits.TheConstants.{MAX_NAME}
+use Rattle.batch.specs.Names.{has_long_names, most_name_bytes}
 use Rattle.rules.specs.declared.form.Form.{Form}
 use Rattle.rules.specs.declared.form.Form.TheVariants as form
 use Rattle.rules.specs.declared.subject.Subject.{Subject}
@@ -23,9 +23,15 @@ wanting_at name wanted (Some d) = codes "\"" ++ name ++ codes "\" is " ++ shown 
 abbrev pub wanting : List ℕ → List ℕ → Data → List ℕ
 wanting name wanted d = wanting_at name wanted (get name d)
 
--- what is shown is no name
-abbrev pub no_name : List ℕ → List ℕ
-no_name text = text ++ codes " is no name: a name has 1 to " ++ decimal MAX_NAME ++ codes " ASCII letters, digits, \"_\" and \"-\""
+-- what names of a version have beside letters and digits
+abbrev pub signs_text : ℕ → List ℕ
+signs_text version = if has_long_names version then codes " and signs of \"_-.:/@+#%\"" else codes ", \"_\" and \"-\""
+
+-- what is shown is no name of a version
+abbrev pub no_name : ℕ → List ℕ → List ℕ
+no_name version text =
+    text ++ codes " is no name: a name has 1 to " ++ decimal (most_name_bytes version) ++ codes " ASCII letters, digits"
+    ++ signs_text version
 
 abbrev pub more_than : ℕ → List ℕ → List ℕ
 more_than most things = codes "more than " ++ grouped most ++ codes " " ++ things

@@ -1,7 +1,8 @@
 -- Where in a part the value is that is wrong.
-use Rattle.std.specs.Prelude.{ℕ, ◌==◌, List, [], ◌∷◌, ◌++◌, codes, Option, Some, None, is_some, if◌then◌else◌, decimal, flat_map}
+use Rattle.std.specs.Prelude.{ℕ, List, [], ◌++◌, codes, Option, Some, None, is_some, if◌then◌else◌, decimal}
 use Rattle.json.specs.Print.{escape}
 use Rattle.serde_json.specs.Data.{Data}
+use Rattle.rules.specs.Pointers.{pointer_token}
 use Rattle.rules.specs.declared.rule.Place.{Place}
 use Rattle.rules.specs.declared.rule.Rule.{Rule}
 use Rattle.rules.specs.declared.rule.CountRule.TheVariants as counted
@@ -10,17 +11,13 @@ use Rattle.rules.specs.declared.rule.Rule.TheVariants as rule
 use Rattle.rules.specs.declared.rule.ShapeRule.TheVariants as shape
 use Rattle.mistakes.specs.Parts.{has, index_of, operand, unknown_member, unnamed_reason}
 
--- the text with another in place of a byte
-abbrev pub replaced : ℕ → List ℕ → List ℕ → List ℕ
-replaced old new text = flat_map (λ x. if x == old then new else x ∷ []) text
-
--- A name in a JSON Pointer (RFC 6901): `~0` stands for `~`, and `~1` for `/`. What JSON escapes in a text is escaped so here.
-abbrev pub token_of : List ℕ → List ℕ
-token_of name = escape (replaced 47 (codes "~1") (replaced 126 (codes "~0") name))
+-- A name in a JSON Pointer. What JSON escapes in a text is escaped so here.
+abbrev pub shown_token : List ℕ → List ℕ
+shown_token name = escape (pointer_token name)
 
 abbrev pub pointer_to : Option (List ℕ) → List ℕ
 pointer_to None = []
-pointer_to (Some name) = codes "/" ++ token_of name
+pointer_to (Some name) = codes "/" ++ shown_token name
 
 -- the member, where it is there
 abbrev pub pointer_if : List ℕ → Data → List ℕ
@@ -40,6 +37,6 @@ place_within (rule.Few (counted.Transactions version)) d = pointer_if (codes "tr
 place_within (rule.Shape (shape.Else version)) d = pointer_if (codes "else") d
 place_within (rule.Source place one) d = pointer_operand place d
 place_within rule.SeenLabel d = pointer_if (codes "if") d
-place_within (rule.Name named.Handlers) d = pointer_to (unnamed_reason d)
-place_within (rule.Name named.Else) d = pointer_if (codes "else") d
+place_within (rule.Name version named.Handlers) d = pointer_to (unnamed_reason version d)
+place_within (rule.Name version named.Else) d = pointer_if (codes "else") d
 place_within r d = []

@@ -170,17 +170,17 @@ shape_words (shape.Handlers version) d = handlers_said version d
 shape_words (shape.Abort version) d = abort_said version d
 shape_words shape.Children d = wanting (codes "parallel") (codes "a list") d
 
-abbrev pub name_words : NameRule → Data → List ℕ
-name_words named.Object d = no_name (shown_in (get (codes "name") d))
-name_words named.Entry d = no_name (shown d)
-name_words named.PairKey d = no_name (shown_in (at 0 d))
-name_words named.PairItem d = no_name (shown_in (at 1 d))
-name_words named.Label d = no_name (shown_in (get (codes "as") d))
-name_words (named.Argument place) d = no_name (shown_in (operand (index_of place) d))
-name_words named.TestedItem d = no_name (shown_in (get (codes "item") d))
-name_words named.Handlers d = no_name (shown_in (option_map string (unnamed_reason d)))
-name_words named.Reason d = no_name (shown_in (get (codes "abort") d))
-name_words named.Else d = no_name (shown_in (get (codes "else") d))
+abbrev pub name_words : ℕ → NameRule → Data → List ℕ
+name_words version named.Object d = no_name version (shown_in (get (codes "name") d))
+name_words version named.Entry d = no_name version (shown d)
+name_words version named.PairKey d = no_name version (shown_in (at 0 d))
+name_words version named.PairItem d = no_name version (shown_in (at 1 d))
+name_words version named.Label d = no_name version (shown_in (get (codes "as") d))
+name_words version (named.Argument place) d = no_name version (shown_in (operand (index_of place) d))
+name_words version named.TestedItem d = no_name version (shown_in (get (codes "item") d))
+name_words version named.Handlers d = no_name version (shown_in (option_map string (unnamed_reason version d)))
+name_words version named.Reason d = no_name version (shown_in (get (codes "abort") d))
+name_words version named.Else d = no_name version (shown_in (get (codes "else") d))
 
 abbrev pub argument_words : ArgumentRule → Data → List ℕ
 argument_words (argument.Count v) d = codes "\"" ++ verb_text v ++ codes "\" takes " ++ taken v
@@ -221,7 +221,7 @@ abbrev pub said : Rule → Data → List ℕ
 said rule.Json d = codes "this cannot be read as JSON"
 said (rule.Few one) d = count_words one d
 said (rule.Shape one) d = shape_words one d
-said (rule.Name one) d = name_words one d
+said (rule.Name version one) d = name_words version one d
 said rule.NewObject d = codes "an earlier object has the name " ++ shown_in (get (codes "name") d)
 said (rule.Start one) d = start_words one d
 said rule.Depth d = codes "blocks are more than " ++ decimal MAX_DEPTH ++ codes " deep in one another"

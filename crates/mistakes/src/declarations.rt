@@ -144,21 +144,23 @@ fn write_up_to_most(out: &mut String, before: &str) -> Result<(), AllocError>
     Ok(())
 }
 
-/// Writes which reason of handlers is no name.
+/// Writes which reason of handlers is no name of a version.
 pub(crate) fn write_handlers_named(
     alloc: Global,
     out: &mut String,
+    version: u8,
     part: &Value,
 ) -> Result<(), AllocError>
     ensures { OnOk result (string_bytes out.new ≡ string_bytes out.old
-        ++ no_name (shown_in (option_map string (unnamed_reason (view part.now))))) }
+        ++ no_name version
+        (shown_in (option_map string (unnamed_reason version (view part.now))))) }
 {
-    match unnamed_reason(part) {
+    match unnamed_reason(version, part) {
         Some(reason) => {
             let reason = quoted(alloc, reason)?;
-            write_no_name(out, reason.as_str())?;
+            write_no_name(out, version, reason.as_str())?;
         }
-        None => write_no_name(out, "null")?,
+        None => write_no_name(out, version, "null")?,
     }
     Ok(())
 }

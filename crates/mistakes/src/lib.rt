@@ -13,4 +13,4 @@ mod shown;
 mod steps;
 
 pub use mistake::words;
-pub use place::{place_within, pointer_token};
+pub use place::{place_within, shown_token};

@@ -76,23 +76,29 @@ fn write_shape_rule(
 fn write_name_rule(
     alloc: Global,
     out: &mut String,
+    version: u8,
     rule: NameRule,
     part: &Value,
 ) -> Result<(), AllocError>
     ensures { OnOk result (string_bytes out.new ≡ string_bytes out.old
-        ++ name_words rule (view part.now)) }
+        ++ name_words version rule (view part.now)) }
 {
     match rule {
-        NameRule::Object => write_unnamed(alloc, out, part.get("name"))?,
-        NameRule::Entry => write_unnamed(alloc, out, Some(part))?,
-        NameRule::PairKey => write_unnamed(alloc, out, part.get(0))?,
-        NameRule::PairItem => write_unnamed(alloc, out, part.get(1))?,
-        NameRule::Label => write_unnamed(alloc, out, part.get("as"))?,
-        NameRule::Argument(place) => write_unnamed(alloc, out, operand(part, index_of(place)))?,
-        NameRule::TestedItem => write_unnamed(alloc, out, part.get("item"))?,
-        NameRule::Handlers => write_handlers_named(alloc, out, part)?,
-        NameRule::Reason => write_unnamed(alloc, out, part.get("abort"))?,
-        NameRule::Else => write_unnamed(alloc, out, part.get("else"))?,
+        NameRule::Object => write_unnamed(alloc, out, version, part.get("name"))?,
+        NameRule::Entry => write_unnamed(alloc, out, version, Some(part))?,
+        NameRule::PairKey => write_unnamed(alloc, out, version, part.get(0))?,
+        NameRule::PairItem => write_unnamed(alloc, out, version, part.get(1))?,
+        NameRule::Label => write_unnamed(alloc, out, version, part.get("as"))?,
+        NameRule::Argument(place) => write_unnamed(
+            alloc,
+            out,
+            version,
+            operand(part, index_of(place)),
+        )?,
+        NameRule::TestedItem => write_unnamed(alloc, out, version, part.get("item"))?,
+        NameRule::Handlers => write_handlers_named(alloc, out, version, part)?,
+        NameRule::Reason => write_unnamed(alloc, out, version, part.get("abort"))?,
+        NameRule::Else => write_unnamed(alloc, out, version, part.get("else"))?,
     }
     Ok(())
 }
@@ -238,7 +244,7 @@ fn write_said(alloc: Global, out: &mut String, rule: Rule, part: &Value) -> Resu
         Rule::Json => out.push_str("this cannot be read as JSON")?,
         Rule::Few(rule) => write_count_rule(alloc, out, rule, part)?,
         Rule::Shape(rule) => write_shape_rule(alloc, out, rule, part)?,
-        Rule::Name(rule) => write_name_rule(alloc, out, rule, part)?,
+        Rule::Name(version, rule) => write_name_rule(alloc, out, version, rule, part)?,
         Rule::NewObject => {
             let found = part.get("name");
             write_around(alloc, out, "an earlier object has the name ", found, "")?;

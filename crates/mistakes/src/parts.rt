@@ -55,13 +55,13 @@ pub(crate) fn unknown_member(form: Form, part: &Value) -> Option<&str>
     None
 }
 
-/// The first reason of handlers that is no name.
-pub(crate) fn unnamed_reason(part: &Value) -> Option<&str>
-    ensures { option_map (λ name. name.now) result ≡ unnamed_reason (view part.now) }
+/// The first reason of handlers that is no name of a version.
+pub(crate) fn unnamed_reason(version: u8, part: &Value) -> Option<&str>
+    ensures { option_map (λ name. name.now) result ≡ unnamed_reason version (view part.now) }
 {
     let members = part.as_object()?;
     for key in members.keys() {
-        if !is_name(key.as_str()) {
+        if !is_name(version, key.as_str()) {
             return Some(key.as_str());
         }
     }

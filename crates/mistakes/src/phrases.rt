@@ -3,11 +3,11 @@
 
 ghost use Rattle.std.specs.Prelude.{◌≡◌, ◌++◌, OnOk, option_map, string_bytes};
 ghost use Rattle.serde_json.specs.View.{view};
-ghost use Rattle.mistakes.specs.Phrases.{a_kind, form_text, missing, more_than, no_item, no_label, no_name, no_number, subject_text, too_new, wanting, wanting_at};
+ghost use Rattle.mistakes.specs.Phrases.{a_kind, form_text, missing, more_than, no_item, no_label, no_name, no_number, signs_text, subject_text, too_new, wanting, wanting_at};
 ghost use Rattle.mistakes.specs.Shown.{shown, shown_in};
 
 use crate::shown::{shown, shown_in, write_grouped};
-use meaning::limits::MAX_NAME;
+use batch::{has_long_names, most_name_bytes};
 use objects::Kind;
 use rules::{Form, Subject};
 use serde_json::Value;
@@ -74,28 +74,43 @@ pub(crate) fn write_around(
     Ok(())
 }
 
-/// Writes that what is shown is no name.
-pub(crate) fn write_no_name(out: &mut String, text: &str) -> Result<(), AllocError>
-    ensures { OnOk result (string_bytes out.new ≡ string_bytes out.old ++ no_name text.now) }
+// What names of a version have beside letters and digits.
+fn signs_text(version: u8) -> &'static str
+    ensures { result.now ≡ signs_text version }
 {
+    if has_long_names(version) {
+        " and signs of \"_-.:/@+#%\""
+    } else {
+        ", \"_\" and \"-\""
+    }
+}
+
+/// Writes that what is shown is no name of a version.
+pub(crate) fn write_no_name(out: &mut String, version: u8, text: &str) -> Result<(), AllocError>
+    ensures { OnOk result (string_bytes out.new
+        ≡ string_bytes out.old ++ no_name version text.now) }
+{
+    let most = most_name_bytes(version);
+    let signs = signs_text(version);
     write!(
         out,
-        "{text} is no name: a name has 1 to {MAX_NAME} ASCII letters, digits, \"_\" and \"-\""
+        "{text} is no name: a name has 1 to {most} ASCII letters, digits{signs}"
     )?;
     Ok(())
 }
 
-/// Writes that a value is no name.
+/// Writes that a value is no name of a version.
 pub(crate) fn write_unnamed(
     alloc: Global,
     out: &mut String,
+    version: u8,
     found: Option<&Value>,
 ) -> Result<(), AllocError>
     ensures { OnOk result (string_bytes out.new ≡ string_bytes out.old
-        ++ no_name (shown_in (option_map (λ value. view value.now) found.entry))) }
+        ++ no_name version (shown_in (option_map (λ value. view value.now) found.entry))) }
 {
     let value = shown_in(alloc, found)?;
-    write_no_name(out, value.as_str())
+    write_no_name(out, version, value.as_str())
 }
 
 /// Writes that there are more than so many things.

@@ -2,11 +2,11 @@
 ghost use Rattle.std.specs.Prelude.{◌≡◌, ◌++◌, IfOk, OnOk, option_map, string_bytes};
 ghost use Rattle.json.specs.Print.{escape};
 ghost use Rattle.serde_json.specs.View.{view};
-ghost use Rattle.mistakes.specs.Within.{place_within, pointer_if, pointer_operand, pointer_to, token_of};
+ghost use Rattle.mistakes.specs.Within.{place_within, pointer_if, pointer_operand, pointer_to, shown_token};
 
 use crate::parts::{index_of, operand, unknown_member, unnamed_reason};
 use crate::shown::quoted;
-use rules::{CountRule, NameRule, Place, Rule, ShapeRule};
+use rules::{CountRule, NameRule, Place, Rule, ShapeRule, pointer_token};
 use serde_json::Value;
 use std::alloc::{AllocError, Global};
 
@@ -20,7 +20,7 @@ pub fn place_within(alloc: Global, rule: Rule, part: &Value) -> Result<String, A
 {
     match rule {
         Rule::Shape(ShapeRule::Members(form)) => pointer_to(alloc, unknown_member(form, part)),
-        Rule::Name(NameRule::Handlers) => pointer_to(alloc, unnamed_reason(part)),
+        Rule::Name(version, NameRule::Handlers) => pointer_to(alloc, unnamed_reason(version, part)),
         Rule::Shape(ShapeRule::Version) => pointer_if(alloc, "ordtx", part),
         Rule::Shape(ShapeRule::Objects) | Rule::Few(CountRule::Objects(_)) => pointer_if(
             alloc, "objects", part,
@@ -30,7 +30,7 @@ pub fn place_within(alloc: Global, rule: Rule, part: &Value) -> Result<String, A
             "transactions",
             part,
         ),
-        Rule::Shape(ShapeRule::Else(_)) | Rule::Name(NameRule::Else) => pointer_if(
+        Rule::Shape(ShapeRule::Else(_)) | Rule::Name(_, NameRule::Else) => pointer_if(
             alloc, "else", part,
         ),
         Rule::Source(place, _) => pointer_operand(alloc, place, part),
@@ -69,7 +69,7 @@ fn pointer_to(alloc: Global, member: Option<&str>) -> Result<String, AllocError>
 {
     let mut out = String::new(alloc);
     if let Some(name) = member {
-        let token = pointer_token(alloc, name)?;
+        let token = shown_token(alloc, name)?;
         write!(&mut out, "/{token}")?;
     }
     Ok(out)
@@ -79,12 +79,11 @@ fn pointer_to(alloc: Global, member: Option<&str>) -> Result<String, AllocError>
 /// escaped in it, too.
 ///
 /// Err where memory was refused.
-pub fn pointer_token(alloc: Global, name: &str) -> Result<String, AllocError>
-    ensures { IfOk result (λ token. string_bytes token ≡ token_of name.now) }
+pub fn shown_token(alloc: Global, name: &str) -> Result<String, AllocError>
+    ensures { IfOk result (λ token. string_bytes token ≡ shown_token name.now) }
 {
-    let tildes = name.replace(alloc, '~', "~0")?;
-    let slashes = tildes.as_str().replace(alloc, '/', "~1")?;
-    escaped(alloc, slashes.as_str())
+    let token = pointer_token(alloc, name)?;
+    escaped(alloc, token.as_str())
 }
 
 // As in a text of JSON, without the quotes.

@@ -28,16 +28,16 @@ use Rattle.pull.proofs.PulledLemmas.{reads_array, reads_item, reads_no_items, re
 -- ---- entries
 
 module _ (version : ℕ) (c d : Counts) (counted : IsMet c (one_more_start version ∷ []) d) where
-  entry_met : (s : List ℕ) → is_name s ≡ true → IsMet c (entry_asked version (string s)) d
+  entry_met : (s : List ℕ) → is_name version s ≡ true → IsMet c (entry_asked version (string s)) d
   unfolding entry_asked
   entry_met s named = rw named counted
 
-  element_met : (earlier : Table) (s : List ℕ) → is_name s ≡ true → is_listed s earlier ≡ false
+  element_met : (earlier : Table) (s : List ℕ) → is_name version s ≡ true → is_listed s earlier ≡ false
       → IsMet c (element_asked version earlier (string s)) d
   unfolding element_asked
   element_met earlier s named new = rw (named, new) counted
 
-  pair_met : (earlier : Table) (k s : List ℕ) → is_name k ≡ true → is_name s ≡ true → is_listed k earlier ≡ false
+  pair_met : (earlier : Table) (k s : List ℕ) → is_name version k ≡ true → is_name version s ≡ true → is_listed k earlier ≡ false
       → IsMet c (pair_asked version earlier (array (item (string k) (item (string s) no_items)))) d
   unfolding pair_asked
   pair_met earlier k s first second new = rw (first, second, new) counted
@@ -85,7 +85,7 @@ module _ (version : ℕ) (old : List Token) (start : Counts) (numbers : Numbers)
 
   -- one more entry
   pub queue_more : (now new : List Token) (c d : Counts) (n m : Numbers) (queue more : List Item) (s : List ℕ) (x : Item)
-      → QueueRead version old now start c numbers n queue → now ≡ Token.string s ∷ new → is_name s ≡ true
+      → QueueRead version old now start c numbers n queue → now ≡ Token.string s ∷ new → is_name version s ≡ true
       → IsMet c (one_more_start version ∷ []) d → x ≡ item_of s n → m ≡ with_item s n → more ≡ queue ++ x ∷ []
       → QueueRead version old new start d numbers m more
   queue_more now new c d n m queue more s x r is named counted value joined pushed =
@@ -145,7 +145,7 @@ module _ (version : ℕ) (old : List Token) (start : Counts) (numbers : Numbers)
 
   -- one more item, which the set didn't hold
   pub set_more : (now new : List Token) (c d : Counts) (n m : Numbers) (set more : finite_set.FinSet item_cmp) (s : List ℕ) (x : Item)
-      → SetRead version old now start c numbers n set → now ≡ Token.string s ∷ new → is_name s ≡ true
+      → SetRead version old now start c numbers n set → now ≡ Token.string s ∷ new → is_name version s ≡ true
       → IsMet c (one_more_start version ∷ []) d → x ≡ item_of s n → m ≡ with_item s n → finite_set.contains set x ≡ false
       → more ≡ finite_set.insert set x → SetRead version old new start d numbers m more
   set_more now new c d n m set more s x r is named counted value joined free put =
@@ -223,9 +223,10 @@ module _ (version : ℕ) (old : List Token) (start : Counts) (numbers : Numbers)
   -- one more key, which the directory didn't bind, and its item
   pub directory_more : (now new : List Token) (c d : Counts) (n m : Numbers) (directory more : finite_map.FinMap item_cmp Item)
       (k s : List ℕ) (x y : Item) → DirectoryRead version old now start c numbers n directory
-      → now ≡ Token.begin_array ∷ Token.string k ∷ Token.string s ∷ Token.end_array ∷ new → is_name k ≡ true → is_name s ≡ true
-      → IsMet c (one_more_start version ∷ []) d → x ≡ item_of k n → y ≡ item_of s (with_item k n) → m ≡ with_item s (with_item k n)
-      → binds directory x ≡ false → more ≡ finite_map.insert directory x y → DirectoryRead version old new start d numbers m more
+      → now ≡ Token.begin_array ∷ Token.string k ∷ Token.string s ∷ Token.end_array ∷ new → is_name version k ≡ true
+      → is_name version s ≡ true → IsMet c (one_more_start version ∷ []) d → x ≡ item_of k n → y ≡ item_of s (with_item k n)
+      → m ≡ with_item s (with_item k n) → binds directory x ≡ false → more ≡ finite_map.insert directory x y
+      → DirectoryRead version old new start d numbers m more
   directory_more now new c d n m directory more k s x y r is first second counted key value joined free put =
       let i = r.index in
       let at = item_of k n in

@@ -42,15 +42,15 @@ module _ (version : ℕ) (name text : List ℕ) (v : Data) (k : Kind) (known : k
   declared_shape c = rw known refl
 
   -- what is asked of its parts is what is asked of the whole
-  pub declared_met : (names : Table) (start next : Counts) → IsMet start (object_name_asked names name) start
+  pub declared_met : (names : Table) (start next : Counts) → IsMet start (object_name_asked version names name) start
       → AreMet start (start_placed version k v) next → AreMet start (object_placed version names (declaration name text v)) next
   unfolding object_placed
   declared_met names start next named met =
       let d = declaration name text v in
       let rest = inside (member_named (codes "start")) (start_placed version k v) nothing in
-      rw declared_kind (own_first start start (object_shape_asked version d) (itself (object_name_asked names name) rest)
+      rw declared_kind (own_first start start (object_shape_asked version d) (itself (object_name_asked version names name) rest)
       (declared_shape start)
-      ∙ own_first start start (object_name_asked names name) rest named
+      ∙ own_first start start (object_name_asked version names name) rest named
       ∙ part_met start next (member_named (codes "start")) (start_placed version k v) nothing met)
 
 -- ---- its tokens

@@ -54,9 +54,9 @@ op_no_reason : (label : Option (List ℕ)) (op : Data) → else_reason (op_step 
 op_no_reason None op = refl
 op_no_reason (Some name) op = refl
 
-no_reason_met : (counts : Counts) → IsMet counts (reason_asked Else None) counts
+no_reason_met : (version : ℕ) (counts : Counts) → IsMet counts (reason_asked version Else None) counts
 unfolding reason_asked
-no_reason_met counts = refl
+no_reason_met version counts = refl
 
 pub op_shape : (version : ℕ) (label : Option (List ℕ)) (o c : List ℕ) (rest : Items) (counts : Counts)
     → IsMet counts (operation_shape_asked version (op_step label (op_array o c rest))) counts
@@ -82,7 +82,7 @@ module _ (version : ℕ) (scope : Scope) (o c : List ℕ) where
   unfolding template_of
   amount_spelled v a numbers = ap (λ x. (Given (amount_call v x), numbers)) (amount_of-value a _ (ap or_zero (sym (amount_read a o c))))
 
-  pub item_met : (v : ItemVerb) (s : List ℕ) (counts : Counts) → is_name s ≡ true
+  pub item_met : (v : ItemVerb) (s : List ℕ) (counts : Counts) → is_name version s ≡ true
       → IsMet counts (arguments_asked version scope (OfItem v) (op_array o c (item (string s) no_items))) counts
   unfolding arguments_asked argument_asked item_asked
   item_met v s counts named = rw named refl
@@ -92,7 +92,7 @@ module _ (version : ℕ) (scope : Scope) (o c : List ℕ) where
   unfolding template_of
   item_spelled v s x numbers after e f = rw (e, f) refl
 
-  pub pair_met : (v : PairVerb) (k s : List ℕ) (counts : Counts) → is_name k ≡ true → is_name s ≡ true
+  pub pair_met : (v : PairVerb) (k s : List ℕ) (counts : Counts) → is_name version k ≡ true → is_name version s ≡ true
       → IsMet counts (arguments_asked version scope (OfPair v) (op_array o c (item (string k) (item (string s) no_items)))) counts
   unfolding arguments_asked argument_asked item_asked
   pair_met v k s counts first second = rw (first, second) refl
@@ -122,13 +122,13 @@ module _ (setting : Setting) (scope : Scope) (label : Option (List ℕ)) (o c : 
   pub operation_met : (places : Places) (start next : Counts) → IsMet start (one_more_operation setting.version ∷ []) next
       → IsMet next (target_asked setting o c) next
       → IsMet next (arguments_asked setting.version scope (operation_verb setting o c) op) next
-      → IsMet next (label_asked scope [] label) next
+      → IsMet next (label_asked setting.version scope [] label) next
       → AreMet start (step_placed places setting scope (op_step label op)) next
   unfolding step_placed operation_asked
   operation_met places start next counted target arguments labels =
       let d = op_step label op in
-      let last = label_asked scope [] label in
-      let no_reason = reason_asked Else None in
+      let last = label_asked setting.version scope [] label in
+      let no_reason = reason_asked setting.version Else None in
       let given = arguments_asked setting.version scope (operation_verb setting o c) op in
       let named = target_asked setting o c in
       let one = one_more_operation setting.version ∷ [] in
@@ -136,7 +136,7 @@ module _ (setting : Setting) (scope : Scope) (label : Option (List ℕ)) (o c : 
       let first = check_met start start shape one (op_shape setting.version label o c rest start) ∙ counted in
       let second = check_met start next (shape ++ one) named first ∙ target in
       let third = check_met start next (shape ++ one ++ named) given second ∙ arguments in
-      let fourth = check_met start next (shape ++ one ++ named ++ given) no_reason third ∙ no_reason_met next in
+      let fourth = check_met start next (shape ++ one ++ named ++ given) no_reason third ∙ no_reason_met setting.version next in
       let fifth = check_met start next (shape ++ one ++ named ++ given ++ no_reason) last fourth ∙ labels in
       rw (op_sort label op, op_part label op, op_label label op, op_no_reason label op)
       (own_met start next (shape ++ one ++ named ++ given ++ no_reason ++ last) fifth)

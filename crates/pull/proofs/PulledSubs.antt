@@ -145,11 +145,11 @@ nothing_asked places scope None mid next e met = cc
 nothing_asked places scope (Some d) mid next e met = cc
 
 -- absent handlers by reason ask nothing
-none_asked : (places : Places) (scope : Scope) (reasons : Option Members) (mid next : Counts) → reasons ≡ None
-    → AreMet mid (handlers_placed places scope reasons) next → mid ≡ next
+none_asked : (version : ℕ) (places : Places) (scope : Scope) (reasons : Option Members) (mid next : Counts) → reasons ≡ None
+    → AreMet mid (handlers_placed version places scope reasons) next → mid ≡ next
 unfolding handlers_placed
-none_asked places scope None mid next e met = cc
-none_asked places scope (Some d) mid next e met = cc
+none_asked version places scope None mid next e met = cc
+none_asked version places scope (Some d) mid next e met = cc
 
 module _ (k version : ℕ) (places : Places) (block : Spelling) (scope : Scope) (old : List Token) (start : Counts) (numbers : Numbers) where
   -- nothing yet
@@ -226,8 +226,8 @@ module _ (k version : ℕ) (places : Places) (block : Spelling) (scope : Scope) 
     pub tail_handlers : (handlers : Option (List (ℕ × Block))) (handler : Option Block) (hs : Members) (read_handlers : List (ℕ × Block))
         (inner left : List Token) (last : Counts) (final : Numbers)
         → read_key now ≡ Some (Some (codes "handlers"), inner) → ReadsValue k inner (object hs) left → nat_le 3 version ≡ true
-        → AreMet next (members_placed places scope hs) last → (read_handlers, final) ≡ members_of block scope after hs → handlers ≡ None
-        → handler ≡ None
+        → AreMet next (members_placed version places scope hs) last → (read_handlers, final) ≡ members_of block scope after hs
+        → handlers ≡ None → handler ≡ None
         → SubTail k version places block scope old start numbers handlers handler label now next after
         → SubTail k version places block scope old start numbers (Some read_handlers) handler label left last final
     unfolding block_placed_if block_of_if handlers_placed handlers_spelled
@@ -237,7 +237,7 @@ module _ (k version : ℕ) (places : Places) (block : Spelling) (scope : Scope) 
         let empty = no_handlers block scope numbers t.between t.reasons
         (subst (λ h. (h, t.between) ≡ handlers_spelled block scope numbers t.reasons) neither t.reasons_spelled) in
         let same = nothing_asked places scope t.every t.mid next none.0 t.second in
-        let before = none_asked places scope t.reasons start t.mid empty.0 t.first in
+        let before = none_asked version places scope t.reasons start t.mid empty.0 t.first in
         let bare : Data → Members = λ body. sub_members body None None label in
         record {
           reasons = Some hs;
@@ -250,7 +250,7 @@ module _ (k version : ℕ) (places : Places) (block : Spelling) (scope : Scope) 
               (reads_member k (bare body) (codes "handlers") now inner left new (object hs) ms is (read_key-shorter _ _ _ is) first
               (subst (λ found. ReadsMembers k found left ms new) (sym (put_handlers body hs label)) read))));
           allowed = may;
-          first = subst (λ c. AreMet c (members_placed places scope hs) last) (sym (before ∙ same)) met;
+          first = subst (λ c. AreMet c (members_placed version places scope hs) last) (sym (before ∙ same)) met;
           second = refl;
           reasons_spelled = ap (spelled_map (λ (xs : List (ℕ × Block)). Some xs)) spelled
               ∙ ap (λ n. spelled_map (λ (xs : List (ℕ × Block)). Some xs) (members_of block scope n hs)) (sym (empty.1 ∙ none.1));
@@ -267,22 +267,22 @@ module _ (version : ℕ) (places : Places) (block : Spelling) (scope : Scope) (b
   -- what is asked of the parts is what is asked of the whole
   pub sub_met : (earlier : Scope) (start counted inside_counts mid next : Counts) → are_allowed version reasons ≡ true
       → IsMet start (one_more_node version ∷ []) counted → AreMet counted (places scope body) inside_counts
-      → AreMet inside_counts (handlers_placed places scope reasons) mid → AreMet mid (block_placed_if places scope every) next
-      → IsMet counted (label_asked scope earlier (label_in whole)) counted
+      → AreMet inside_counts (handlers_placed version places scope reasons) mid → AreMet mid (block_placed_if places scope every) next
+      → IsMet counted (label_asked version scope earlier (label_in whole)) counted
       → AreMet start (sub_placed version places scope earlier whole) next
   unfolding sub_placed
   sub_met earlier start counted inside_counts mid next may one first second third labels =
       let last = inside (member_named (codes "handler")) (block_placed_if places scope every) nothing in
-      let taken = inside (member_named (codes "handlers")) (handlers_placed places scope reasons) last in
+      let taken = inside (member_named (codes "handlers")) (handlers_placed version places scope reasons) last in
       let steps = inside (member_named (codes "sub")) (places scope body) taken in
-      let named = label_asked scope earlier (label_in whole) in
+      let named = label_asked version scope earlier (label_in whole) in
       rw (sub_body body reasons every label, sub_reasons body reasons every label, sub_every body reasons every label)
       (own_first start start (sub_shape_asked version whole) (itself (one_more_node version ∷ []) (itself named steps))
       (sub_shape body reasons every label version start may)
       ∙ own_first start counted (one_more_node version ∷ []) (itself named steps) one
       ∙ own_first counted counted named steps labels
       ∙ part_met counted inside_counts (member_named (codes "sub")) (places scope body) taken first
-      ∙ part_met inside_counts mid (member_named (codes "handlers")) (handlers_placed places scope reasons) last second
+      ∙ part_met inside_counts mid (member_named (codes "handlers")) (handlers_placed version places scope reasons) last second
       ∙ part_met mid next (member_named (codes "handler")) (block_placed_if places scope every) nothing third)
 
   -- what the parts spell is what the whole spells
@@ -303,15 +303,16 @@ module _ (version : ℕ) (places : Places) (block : Spelling) (scope : Scope) (b
       ) refl
 
 -- a label that may be set where one thing was counted may be set where another was
-pub label_anywhere : (scope earlier : Scope) (label : Option (List ℕ)) (here there : Counts)
-    → IsMet here (label_asked scope earlier label) here
-    → IsMet there (label_asked scope earlier label) there
+pub label_anywhere : (version : ℕ) (scope earlier : Scope) (label : Option (List ℕ)) (here there : Counts)
+    → IsMet here (label_asked version scope earlier label) here
+    → IsMet there (label_asked version scope earlier label) there
 unfolding label_asked
-label_anywhere scope earlier None here there met = refl
-label_anywhere scope earlier (Some name) here there met = by (is_name name) (not (is_named name scope || is_named name earlier)) met
+label_anywhere version scope earlier None here there met = refl
+label_anywhere version scope earlier (Some name) here there met =
+    by (is_name version name) (not (is_named name scope || is_named name earlier)) met
   where
-    by : (a b : Bool) → check here (holds a (Name Label) ∷ holds b NewLabel ∷ []) ≡ Ok here
-        → check there (holds a (Name Label) ∷ holds b NewLabel ∷ []) ≡ Ok there
+    by : (a b : Bool) → check here (holds a (Name version Label) ∷ holds b NewLabel ∷ []) ≡ Ok here
+        → check there (holds a (Name version Label) ∷ holds b NewLabel ∷ []) ≡ Ok there
     by true true e = refl
     by true false e = cc
     by false b e = cc

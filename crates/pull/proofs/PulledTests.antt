@@ -31,11 +31,12 @@ use Rattle.spelling.proofs.PlaceLemmas.{own_first, own_met, part_met}
 
 module _ (subject : Subject) (label : List ℕ) (first : Data) where
   -- a word that fits is as asked
-  pub word_met : (s : List ℕ) (w : Word) (second : Option Data) (counts : Counts) → word_of_text s ≡ Some w → fits_word subject w ≡ true
-      → IsMet counts (test_asked subject (if_step label word (string s) first second)) counts
+  pub word_met : (version : ℕ) (s : List ℕ) (w : Word) (second : Option Data) (counts : Counts) → word_of_text s ≡ Some w
+      → fits_word subject w ≡ true
+      → IsMet counts (test_asked version subject (if_step label word (string s) first second)) counts
   unfolding test_asked
-  word_met s w None counts e fits = rw (e, fits) refl
-  word_met s w (Some d) counts e fits = rw (e, fits) refl
+  word_met version s w None counts e fits = rw (e, fits) refl
+  word_met version s w (Some d) counts e fits = rw (e, fits) refl
 
   -- and is the test
   pub word_spelled : (s : List ℕ) (w : Word) (second : Option Data) (numbers : Numbers) → word_of_text s ≡ Some w
@@ -45,11 +46,12 @@ module _ (subject : Subject) (label : List ℕ) (first : Data) where
   word_spelled s w (Some d) numbers e fits = rw (e, fits) refl
 
   -- a number, where one fits, is as asked
-  pub least_met : (x : Num) (n : ℤ) (second : Option Data) (counts : Counts) → as_i64 x ≡ Some n → fits_number subject ≡ true
-      → IsMet counts (test_asked subject (if_step label least (number x) first second)) counts
+  pub least_met : (version : ℕ) (x : Num) (n : ℤ) (second : Option Data) (counts : Counts) → as_i64 x ≡ Some n
+      → fits_number subject ≡ true
+      → IsMet counts (test_asked version subject (if_step label least (number x) first second)) counts
   unfolding test_asked
-  least_met x n None counts e fits = rw (e, fits) refl
-  least_met x n (Some d) counts e fits = rw (e, fits) refl
+  least_met version x n None counts e fits = rw (e, fits) refl
+  least_met version x n (Some d) counts e fits = rw (e, fits) refl
 
   -- and is the test
   pub least_spelled : (x : Num) (n : ℤ) (second : Option Data) (numbers : Numbers) → as_i64 x ≡ Some n
@@ -59,11 +61,12 @@ module _ (subject : Subject) (label : List ℕ) (first : Data) where
   least_spelled x n (Some d) numbers e = rw e refl
 
   -- an item, where one fits, is as asked
-  pub entry_met : (s : List ℕ) (second : Option Data) (counts : Counts) → is_name s ≡ true → fits_item subject ≡ true
-      → IsMet counts (test_asked subject (if_step label entry (string s) first second)) counts
+  pub entry_met : (version : ℕ) (s : List ℕ) (second : Option Data) (counts : Counts) → is_name version s ≡ true
+      → fits_item subject ≡ true
+      → IsMet counts (test_asked version subject (if_step label entry (string s) first second)) counts
   unfolding test_asked
-  entry_met s None counts e fits = rw (e, fits) refl
-  entry_met s (Some d) counts e fits = rw (e, fits) refl
+  entry_met version s None counts e fits = rw (e, fits) refl
+  entry_met version s (Some d) counts e fits = rw (e, fits) refl
 
   -- and is the test
   pub entry_spelled : (s : List ℕ) (x : Item) (second : Option Data) (numbers after : Numbers) → x ≡ item_of s numbers
@@ -130,7 +133,7 @@ module _ (setting : Setting) (scope : Scope) (label : List ℕ) (key : TestKey) 
 
   -- what is asked of the parts is what is asked of the whole
   pub if_met : (places : Places) (start counted inside_counts next : Counts) → IsMet start (one_more_node setting.version ∷ []) counted
-      → IsMet counted (seen_asked scope label) counted → IsMet counted (test_asked (subject_of label scope) whole) counted
+      → IsMet counted (seen_asked scope label) counted → IsMet counted (test_asked setting.version (subject_of label scope) whole) counted
       → AreMet counted (places scope first) inside_counts → AreMet inside_counts (block_placed_if places scope second) next
       → AreMet start (step_placed places setting scope whole) next
   unfolding step_placed if_placed
@@ -138,7 +141,7 @@ module _ (setting : Setting) (scope : Scope) (label : List ℕ) (key : TestKey) 
       let last = inside (member_named (codes "else")) (block_placed_if places scope second) nothing in
       let branches = inside (member_named (codes "then")) (places scope first) last in
       let named = seen_asked scope label in
-      let tested = test_asked (subject_of label scope) whole in
+      let tested = test_asked setting.version (subject_of label scope) whole in
       rw (
         if_sort label v first key second,
         if_name label v first key second,
@@ -200,13 +203,14 @@ module _ (setting : Setting) (scope : Scope) (reason : Option (List ℕ)) where
   -- what is asked of an abort
   pub abort_met : (places : Places) (start counted next : Counts)
       → is_abort setting.version (part (codes "abort") (abort_step reason)) ≡ true
-      → IsMet start (one_more_node setting.version ∷ []) counted → IsMet counted (reason_asked Reason reason) next
+      → IsMet start (one_more_node setting.version ∷ []) counted → IsMet counted (reason_asked setting.version Reason reason) next
       → AreMet start (step_placed places setting scope (abort_step reason)) next
   unfolding step_placed abort_asked
   abort_met places start counted next may one met =
       let shape = abort_shape_asked setting.version (abort_step reason) in
-      rw (abort_sort reason, abort_reason reason) (own_met start next (shape ++ reason_asked Reason reason)
-      (check_met start counted shape (reason_asked Reason reason) (abort_shape reason setting.version start counted may one) ∙ met))
+      let named = reason_asked setting.version Reason reason in
+      rw (abort_sort reason, abort_reason reason) (own_met start next (shape ++ named)
+      (check_met start counted shape named (abort_shape reason setting.version start counted may one) ∙ met))
 
   -- what an abort spells
   pub abort_spelled : (block : Spelling) (numbers after : Numbers) (n : Option ℕ) → (n, after) ≡ reason_of numbers reason

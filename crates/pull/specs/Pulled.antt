@@ -76,7 +76,7 @@ pub record SubTail (k version : ℕ) (places : Places) (block : Spelling) (scope
   pub reads : (body : Data) (ms : Members) (new : List Token) → ReadsMembers k (sub_members body reasons every label) now ms new
       → ReadsMembers k (sub_members body None None None) old ms new
   pub allowed : are_allowed version reasons ≡ true
-  pub first : AreMet start (handlers_placed places scope reasons) mid
+  pub first : AreMet start (handlers_placed version places scope reasons) mid
   pub second : AreMet mid (block_placed_if places scope every) next
   pub reasons_spelled : (handlers, between) ≡ handlers_spelled block scope numbers reasons
   pub every_spelled : (handler, after) ≡ block_of_if block scope between every

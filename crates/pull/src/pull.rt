@@ -61,12 +61,13 @@ pub(crate) fn pull_text<'a>(reader: &mut Reader<'a>) -> Result<&'a str, Stop>
     }
 }
 
-pub(crate) fn pull_name<'a>(reader: &mut Reader<'a>) -> Result<&'a str, Stop>
+/// The next text, which is a name of the version.
+pub(crate) fn pull_name<'a>(reader: &mut Reader<'a>, version: u8) -> Result<&'a str, Stop>
     ensures { IfOk result (λ text. (reader.old ≡ token.string text.now ∷ reader.new)
-        × (is_name text.now ≡ true)) }
+        × (is_name version text.now ≡ true)) }
 {
     let text = pull_text(reader)?;
-    if is_name(text) {
+    if is_name(version, text) {
         Ok(text)
     } else {
         Err(Stop::OtherForm)
@@ -213,14 +214,15 @@ pub(crate) fn pull_some_key<'a>(reader: &mut Reader<'a>) -> Result<&'a str, Stop
 /// The arguments of a call, up to the end of the operation's array.
 fn pull_arguments(
     alloc: Global,
+    version: u8,
     verb: Verb,
     reader: &mut Reader<'_>,
     numbering: &mut Numbering,
 ) -> Result<Call, Stop>
     ensures { IfOk result (λ call. (rest : Items) × ReadsItems 0 reader.old rest reader.new
-        × ((version : ℕ) (scope : Scope) (o c : List ℕ) (counts : Counts)
+        × ((scope : Scope) (o c : List ℕ) (counts : Counts)
         → IsMet counts (arguments_asked version scope verb (op_array o c rest)) counts)
-        × ((version : ℕ) (scope : Scope) (o c : List ℕ)
+        × ((scope : Scope) (o c : List ℕ)
         → (Template.Given call, numbers_of numbering.new)
         ≡ template_of version scope verb (numbers_of numbering.old) (op_array o c rest))) }
 {
@@ -231,14 +233,14 @@ fn pull_arguments(
             Ok(verb.call(amount))
         }
         Verb::OfItem(verb) => {
-            let name = pull_name(reader)?;
+            let name = pull_name(reader, version)?;
             pull_end_array(reader)?;
             let item = item_of(alloc, name, numbering)?;
             Ok(verb.call(item))
         }
         Verb::OfPair(verb) => {
-            let key_name = pull_name(reader)?;
-            let name = pull_name(reader)?;
+            let key_name = pull_name(reader, version)?;
+            let name = pull_name(reader, version)?;
             pull_end_array(reader)?;
             let key = item_of(alloc, key_name, numbering)?;
             let item = item_of(alloc, name, numbering)?;
@@ -287,10 +289,11 @@ pub(crate) fn pull_operation(
     let call = pull_text(reader)?;
     state.counts.one_more_operation(declared.version)?;
     let (object, verb) = target_of(object, call, declared, &state.counts)?;
-    let call = pull_arguments(alloc, verb, reader, &mut state.numbering)?;
+    let call = pull_arguments(alloc, declared.version, verb, reader, &mut state.numbering)?;
     let label = pull_label(reader)?;
     add_new_label(
         alloc,
+        declared.version,
         label,
         Subject::Reply(verb),
         &mut state.labels,

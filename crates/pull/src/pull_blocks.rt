@@ -30,7 +30,7 @@ use crate::pull_heads::{begin_parallel, end_parallel, new_sub_step, pull_if_head
 use crate::stop::Stop;
 use batch::{Block, Handler, Step, Subaction, Test};
 use json::{Reader, Token};
-use rules::{NameRule, Rule, Subject, fits_item, fits_number, fits_word};
+use rules::{NameRule, Subject, fits_item, fits_number, fits_word};
 use serde_json::Map;
 use spelling::arguments::item_of;
 use spelling::declared::Declared;
@@ -66,7 +66,8 @@ fn pull_handler(
 ) -> Result<Handler, Stop>
     requires few { levels ≤ MAX_DEPTH }
     ensures { IfOk result (λ handler. (d : Data) × ReadsValue (5 * levels) reader.old d reader.new
-        × AreMet state.old.counts (member_placed (block_placed (setting_of declared.now) levels)
+        × AreMet state.old.counts (member_placed declared.now.version
+        (block_placed (setting_of declared.now) levels)
         (scope_of state.old.labels.entries) reason.now d nothing) state.new.counts
         × ((handler_view handler, numbers_of state.new.numbering)
         ≡ member_of (block_of (setting_of declared.now) levels) (scope_of state.old.labels.entries)
@@ -77,7 +78,8 @@ fn pull_handler(
     let number = reason_number(
         alloc,
         reason,
-        Rule::Name(NameRule::Handlers),
+        declared.version,
+        NameRule::Handlers,
         &state.counts,
         reasons,
     )?;
@@ -99,7 +101,8 @@ fn pull_ascending(
 ) -> Result<Vec<Handler>, Stop>
     requires few { levels ≤ MAX_DEPTH }
     ensures { IfOk result (λ handlers. (hs : Members) × ReadsMembers (5 * levels) no_members reader.old hs reader.new
-        × AreMet state.old.counts (members_placed (block_placed (setting_of declared.now) levels)
+        × AreMet state.old.counts (members_placed declared.now.version
+        (block_placed (setting_of declared.now) levels)
         (scope_of state.old.labels.entries) hs) state.new.counts
         × ((map handler_view handlers.items, numbers_of state.new.numbering)
         ≡ members_of (block_of (setting_of declared.now) levels) (scope_of state.old.labels.entries)
@@ -129,7 +132,8 @@ fn pull_sorted(
 ) -> Result<Vec<Handler>, Stop>
     requires few { levels ≤ MAX_DEPTH }
     ensures { IfOk result (λ handlers. (hs : Members) × ReadsMembers (5 * levels) no_members reader.old hs reader.new
-        × AreMet state.old.counts (members_placed (block_placed (setting_of declared.now) levels)
+        × AreMet state.old.counts (members_placed declared.now.version
+        (block_placed (setting_of declared.now) levels)
         (scope_of state.old.labels.entries) hs) state.new.counts
         × ((map handler_view handlers.items, numbers_of state.new.numbering)
         ≡ members_of (block_of (setting_of declared.now) levels) (scope_of state.old.labels.entries)
@@ -153,7 +157,8 @@ fn pull_handlers(
     requires few { levels ≤ MAX_DEPTH }
     ensures { IfOk result (λ handlers. (hs : Members) × ReadsValue (5 * levels + 1) reader.old (object hs) reader.new
         × (3 ≤ declared.now.version)
-        × AreMet state.old.counts (members_placed (block_placed (setting_of declared.now) levels)
+        × AreMet state.old.counts (members_placed declared.now.version
+        (block_placed (setting_of declared.now) levels)
         (scope_of state.old.labels.entries) hs) state.new.counts
         × ((map handler_view handlers.items, numbers_of state.new.numbering)
         ≡ members_of (block_of (setting_of declared.now) levels) (scope_of state.old.labels.entries)
@@ -233,7 +238,8 @@ fn pull_sub<'a>(
     ensures { IfOk result (λ read. (d : Data)
         × ReadsValue (5 * levels + 2) (token.begin_object ∷ token.key (codes "sub") ∷ reader.old) d reader.new
         × ((earlier : Scope) → IsMet state.new.counts
-        (label_asked (scope_of state.old.labels.entries) earlier (label_in d)) state.new.counts
+        (label_asked declared.now.version (scope_of state.old.labels.entries) earlier (label_in d))
+        state.new.counts
         → AreMet state.old.counts (sub_placed declared.now.version (block_placed (setting_of
         declared.now) levels)
         (scope_of state.old.labels.entries) earlier d) state.new.counts)
@@ -272,7 +278,14 @@ fn pull_sub_step(
         × (scope_of state.new.labels.entries ≡ scope_after (setting_of declared.now) (scope_of state.old.labels.entries) d)) }
 {
     let (read, label) = pull_sub(alloc, reader, levels, declared, state)?;
-    let step = new_sub_step(alloc, read, label, &mut state.labels, &state.counts)?;
+    let step = new_sub_step(
+        alloc,
+        declared.version,
+        read,
+        label,
+        &mut state.labels,
+        &state.counts,
+    )?;
     Ok(step)
 }
 
@@ -306,7 +319,14 @@ fn pull_children(
         pull_begin_object(reader)?;
         pull_key(reader, "sub")?;
         let (child, label) = pull_sub(alloc, reader, levels, declared, state)?;
-        add_new_label(alloc, label, Subject::Outcome, earlier, &state.counts)?;
+        add_new_label(
+            alloc,
+            declared.version,
+            label,
+            Subject::Outcome,
+            earlier,
+            &state.counts,
+        )?;
         children.push(child)?;
     }
     children.shrink_to_fit();
@@ -344,6 +364,7 @@ fn pull_parallel(
 /// The test of an `if` against what its label is of, where the test comes next.
 pub(crate) fn pull_test(
     alloc: Global,
+    version: u8,
     subject: Subject,
     reader: &mut Reader<'_>,
     numbering: &mut Numbering,
@@ -352,7 +373,7 @@ pub(crate) fn pull_test(
         × ((k : ℕ) (found ms : Members) (new : List token.Token) → ReadsMembers k (put (test_key key) v found) reader.new ms new
         → ReadsMembers k found reader.old ms new)
         × ((label : List ℕ) (first : Data) (second : Option Data) (counts : Counts)
-        → IsMet counts (test_asked subject (if_step label key v first second)) counts)
+        → IsMet counts (test_asked version subject (if_step label key v first second)) counts)
         × ((label : List ℕ) (first : Data) (second : Option Data)
         → (test, numbers_of numbering.new) ≡ test_of subject (numbers_of numbering.old) (if_step label key v first second))) }
 {
@@ -377,7 +398,7 @@ pub(crate) fn pull_test(
             if !fits_item(subject) {
                 return Err(Stop::OtherForm);
             }
-            let name = pull_name(reader)?;
+            let name = pull_name(reader, version)?;
             let item = item_of(alloc, name, numbering)?;
             Ok(Test::IsItem(item))
         }
@@ -483,7 +504,7 @@ fn pull_abort(
 {
     let reason = pull_reason(reader, declared.version)?;
     state.counts.one_more_node(declared.version)?;
-    let number = read_reason(alloc, reason, NameRule::Reason, state)?;
+    let number = read_reason(alloc, reason, declared.version, NameRule::Reason, state)?;
     Ok(Step::Abort(number))
 }
 

@@ -45,7 +45,8 @@ pub(crate) fn pull_if_head(
         × IsMet state.old.counts (one_more_node version ∷ []) state.new.counts
         × IsMet state.new.counts (seen_asked (scope_of state.old.labels.entries) name) state.new.counts
         × ((first : Data) (second : Option Data) → IsMet state.new.counts
-        (test_asked (subject_of name (scope_of state.old.labels.entries)) (if_step name key v first second)) state.new.counts)
+        (test_asked version (subject_of name (scope_of state.old.labels.entries))
+        (if_step name key v first second)) state.new.counts)
         × ((first : Data) (second : Option Data) → (head.test, numbers_of state.new.numbering)
         ≡ test_of (subject_of name (scope_of state.old.labels.entries)) (numbers_of state.old.numbering) (if_step name key v first second))
         × (head.label ≡ label_number name (scope_of state.old.labels.entries))
@@ -54,7 +55,7 @@ pub(crate) fn pull_if_head(
     let name = pull_text(reader)?;
     state.counts.one_more_node(version)?;
     let (label, subject) = seen_label(name, &state.labels, &state.counts)?;
-    let test = pull_test(alloc, subject, reader, &mut state.numbering)?;
+    let test = pull_test(alloc, version, subject, reader, &mut state.numbering)?;
     pull_key(reader, "then")?;
     Ok(PulledIf { label, test })
 }
@@ -62,18 +63,20 @@ pub(crate) fn pull_if_head(
 /// A subaction as a step, if its label is a new one. The label is then seen.
 pub(crate) fn new_sub_step(
     alloc: Global,
+    version: u8,
     child: Subaction,
     label: Option<&str>,
     labels: &mut Labels,
     counts: &Counts,
 ) -> Result<Step, Stop>
-    ensures met { IfOk result (λ _. IsMet counts.now (label_asked (scope_of labels.old.entries) []
+    ensures met { IfOk result (λ _. IsMet counts.now
+        (label_asked version (scope_of labels.old.entries) []
         (option_map (λ text. text.now) label.entry)) counts.now) }
     ensures value { IfOk result (λ step. step_view step ≡ sub_step (subaction_view child)) }
     ensures labels { IfOk result (λ _. scope_of labels.new.entries
         ≡ with_label (option_map (λ text. text.now) label.entry) Subject.Outcome (scope_of labels.old.entries)) }
 {
-    add_new_label(alloc, label, Subject::Outcome, labels, counts)?;
+    add_new_label(alloc, version, label, Subject::Outcome, labels, counts)?;
     Ok(Step::Sub(Box::new(alloc, child)?))
 }
 

@@ -83,12 +83,12 @@ fn pull_entry(
     numbering: &mut Numbering,
 ) -> Result<Item, Stop>
     ensures { IfOk result (λ item. (name : List ℕ) × (reader.old ≡ token.string name ∷ reader.new)
-        × (is_name name ≡ true)
+        × (is_name version name ≡ true)
         × IsMet counts.old (one_more_start version ∷ []) counts.new
         × (item ≡ item_of name (numbers_of numbering.old))
         × (numbers_of numbering.new ≡ with_item name (numbers_of numbering.old))) }
 {
-    let name = pull_name(reader)?;
+    let name = pull_name(reader, version)?;
     counts.one_more_start(version)?;
     let item = item_of(alloc, name, numbering)?;
     Ok(item)
@@ -139,14 +139,14 @@ fn pull_set(
 }
 
 /// The names of a key and its item, with the end of their array.
-fn pull_pair_names<'a>(reader: &mut Reader<'a>) -> Result<(&'a str, &'a str), Stop>
+fn pull_pair_names<'a>(reader: &mut Reader<'a>, version: u8) -> Result<(&'a str, &'a str), Stop>
     ensures { IfOk result (λ pair. (reader.old ≡ token.begin_array
         ∷ token.string pair.0.now ∷ token.string pair.1.now ∷ token.end_array ∷ reader.new)
-        × (is_name pair.0.now ≡ true) × (is_name pair.1.now ≡ true)) }
+        × (is_name version pair.0.now ≡ true) × (is_name version pair.1.now ≡ true)) }
 {
     pull_begin_array(reader)?;
-    let key = pull_name(reader)?;
-    let item = pull_name(reader)?;
+    let key = pull_name(reader, version)?;
+    let item = pull_name(reader, version)?;
     pull_end_array(reader)?;
     Ok((key, item))
 }
@@ -161,13 +161,13 @@ fn pull_pair(
 ) -> Result<(Item, Item), Stop>
     ensures { IfOk result (λ pair. (k : List ℕ) × (s : List ℕ) × (reader.old
         ≡ token.begin_array ∷ token.string k ∷ token.string s ∷ token.end_array ∷ reader.new)
-        × (is_name k ≡ true) × (is_name s ≡ true)
+        × (is_name version k ≡ true) × (is_name version s ≡ true)
         × IsMet counts.old (one_more_start version ∷ []) counts.new
         × (pair.0 ≡ item_of k (numbers_of numbering.old))
         × (pair.1 ≡ item_of s (with_item k (numbers_of numbering.old)))
         × (numbers_of numbering.new ≡ with_item s (with_item k (numbers_of numbering.old)))) }
 {
-    let (key_name, bound_name) = pull_pair_names(reader)?;
+    let (key_name, bound_name) = pull_pair_names(reader, version)?;
     counts.one_more_start(version)?;
     let key = item_of(alloc, key_name, numbering)?;
     let bound = item_of(alloc, bound_name, numbering)?;
@@ -309,7 +309,7 @@ fn pull_declaration(
     match open_object(alloc, reader)? {
         Opened::Common(name, kind) => {
             let kind = kind_of_text(version, kind).ok_or(Stop::OtherForm)?;
-            add_name(alloc, name, names, counts)?;
+            add_name(alloc, name, version, names, counts)?;
             let start = pull_start(alloc, reader, kind, version, counts, numbering)?;
             pull_end_object(reader)?;
             Ok(start)

@@ -54,30 +54,30 @@ if_asked version asks scope d =
     if_shape_asked d
     ++ one_more_node version ∷ []
     ++ seen_asked scope (if_label d)
-    ++ test_asked (subject_of (if_label d) scope) d
+    ++ test_asked version (subject_of (if_label d) scope) d
     ++ asks scope (part (codes "then") d)
     ++ block_asked_if asks scope (get (codes "else") d)
 
 -- each reason is a name, and its block is one
-abbrev pub member_asked : Asks → Scope → List ℕ → Data → List Demand
-member_asked asks scope reason d = holds (is_name reason) (Name Handlers) ∷ asks scope d
+abbrev pub member_asked : ℕ → Asks → Scope → List ℕ → Data → List Demand
+member_asked version asks scope reason d = holds (is_name version reason) (Name version Handlers) ∷ asks scope d
 
-abbrev pub members_asked : Asks → Scope → Members → List Demand
-members_asked asks scope no_members = []
-members_asked asks scope (member reason d ds) = member_asked asks scope reason d ++ members_asked asks scope ds
+abbrev pub members_asked : ℕ → Asks → Scope → Members → List Demand
+members_asked version asks scope no_members = []
+members_asked version asks scope (member reason d ds) = member_asked version asks scope reason d ++ members_asked version asks scope ds
 
-unfoldable pub handlers_asked : Asks → Scope → Option Members → List Demand
-handlers_asked asks scope None = []
-handlers_asked asks scope (Some ds) = members_asked asks scope ds
+unfoldable pub handlers_asked : ℕ → Asks → Scope → Option Members → List Demand
+handlers_asked version asks scope None = []
+handlers_asked version asks scope (Some ds) = members_asked version asks scope ds
 
 -- a subaction, or a child whose earlier siblings have these labels
 unfoldable pub sub_asked : ℕ → Asks → Scope → Scope → Data → List Demand
 sub_asked version asks scope earlier d =
     sub_shape_asked version d
     ++ one_more_node version ∷ []
-    ++ label_asked scope earlier (label_in d)
+    ++ label_asked version scope earlier (label_in d)
     ++ asks scope (part (codes "sub") d)
-    ++ handlers_asked asks scope (handlers_in d)
+    ++ handlers_asked version asks scope (handlers_in d)
     ++ block_asked_if asks scope (get (codes "handler") d)
 
 -- the children, where their earlier siblings have these labels
@@ -147,7 +147,7 @@ start_asked version kind.Max d = holds (is_some (number_start d)) (Start (Of kin
 unfoldable pub object_asked : ℕ → Table → Data → List Demand
 object_asked version names d =
     object_shape_asked version d
-    ++ object_name_asked names (object_name d)
+    ++ object_name_asked version names (object_name d)
     ++ start_asked version (kind_in version d) (part (codes "start") d)
 
 -- the objects, where these names come before them
@@ -232,22 +232,24 @@ module _ (places : Places) (asks : Asks) (same : Agrees places asks) where
   unfolding if_placed if_asked
   if_same version scope d = rw (same, block_if_same, append-nil)
       (six (if_shape_asked d) (one_more_node version ∷ []) (seen_asked scope (if_label d))
-      (test_asked (subject_of (if_label d) scope) d) _ _)
+      (test_asked version (subject_of (if_label d) scope) d) _ _)
 
-  members_same : (scope : Scope) (ds : Members) → demands_of (members_placed places scope ds) ≡ members_asked asks scope ds
-  members_same scope no_members = refl
-  members_same scope (member reason d ds) = rw (same, members_same scope ds) refl
+  members_same : (version : ℕ) (scope : Scope) (ds : Members) → demands_of (members_placed version places scope ds)
+      ≡ members_asked version asks scope ds
+  members_same version scope no_members = refl
+  members_same version scope (member reason d ds) = rw (same, members_same version scope ds) refl
 
-  handlers_same : (scope : Scope) (o : Option Members) → demands_of (handlers_placed places scope o) ≡ handlers_asked asks scope o
+  handlers_same : (version : ℕ) (scope : Scope) (o : Option Members) → demands_of (handlers_placed version places scope o)
+      ≡ handlers_asked version asks scope o
   unfolding handlers_placed handlers_asked
-  handlers_same scope None = refl
-  handlers_same scope (Some ds) = members_same scope ds
+  handlers_same version scope None = refl
+  handlers_same version scope (Some ds) = members_same version scope ds
 
   sub_same : (version : ℕ) (scope earlier : Scope) (d : Data) → demands_of (sub_placed version places scope earlier d)
       ≡ sub_asked version asks scope earlier d
   unfolding sub_placed sub_asked
   sub_same version scope earlier d = rw (same, handlers_same, block_if_same, append-nil)
-      (six (sub_shape_asked version d) (one_more_node version ∷ []) (label_asked scope earlier (label_in d)) _ _ _)
+      (six (sub_shape_asked version d) (one_more_node version ∷ []) (label_asked version scope earlier (label_in d)) _ _ _)
 
   children_same : (version : ℕ) (scope earlier : Scope) (i : ℕ) (ds : Items)
       → demands_of (children_placed version places scope earlier i ds)
@@ -331,7 +333,8 @@ start_same version kind.Max d = refl
 
 object_same : (version : ℕ) (names : Table) (d : Data) → demands_of (object_placed version names d) ≡ object_asked version names d
 unfolding object_placed object_asked
-object_same version names d = rw (start_same, append-nil) (three (object_shape_asked version d) (object_name_asked names (object_name d)) _)
+object_same version names d = rw (start_same, append-nil)
+    (three (object_shape_asked version d) (object_name_asked version names (object_name d)) _)
 
 pub objects_same : (version : ℕ) (names : Table) (i : ℕ) (ds : Items) → demands_of (objects_placed version names i ds)
     ≡ objects_asked version names ds

@@ -234,7 +234,7 @@ object_new : (version : ℕ) (names : Table) (d : Data) → AllMet (object_asked
 unfolding object_asked object_name_asked
 object_new version names d met =
     let A = object_shape_asked version d in
-    let B = object_name_asked names (object_name d) in
+    let B = object_name_asked version names (object_name d) in
     let C = start_asked version (kind_in version d) (part (codes "start") d) in
     not-true _ (rest_met A B (first_met (A ++ B) C met)).1.0
 

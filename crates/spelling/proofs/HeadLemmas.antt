@@ -34,7 +34,7 @@ if_placed-is version places scope d c =
     let shape = if_shape_asked d in
     let node = one_more_node version ∷ [] in
     let named = seen_asked scope (if_label d) in
-    let tested = test_asked (subject_of (if_label d) scope) d in
+    let tested = test_asked version (subject_of (if_label d) scope) d in
     own_both c shape node (itself named (itself tested branches))
     ∙ own_both c (shape ++ node) named (itself tested branches)
     ∙ own_both c (shape ++ node ++ named) tested branches
@@ -42,16 +42,16 @@ if_placed-is version places scope d c =
 sub_placed-is : (version : ℕ) (places : Places) (scope earlier : Scope) (d : Data) (c : Counts)
     → seek c (sub_placed version places scope earlier d)
     ≡ seek c (itself (sub_head_asked version scope earlier d) (inside (member_named (codes "sub")) (places scope (part (codes "sub") d))
-    (inside (member_named (codes "handlers")) (handlers_placed places scope (handlers_in d))
+    (inside (member_named (codes "handlers")) (handlers_placed version places scope (handlers_in d))
     (inside (member_named (codes "handler")) (block_placed_if places scope (get (codes "handler") d)) nothing))))
 unfolding sub_placed sub_head_asked
 sub_placed-is version places scope earlier d c =
     let blocks = inside (member_named (codes "sub")) (places scope (part (codes "sub") d))
-    (inside (member_named (codes "handlers")) (handlers_placed places scope (handlers_in d))
+    (inside (member_named (codes "handlers")) (handlers_placed version places scope (handlers_in d))
     (inside (member_named (codes "handler")) (block_placed_if places scope (get (codes "handler") d)) nothing)) in
     let shape = sub_shape_asked version d in
     let node = one_more_node version ∷ [] in
-    let named = label_asked scope earlier (label_in d) in
+    let named = label_asked version scope earlier (label_in d) in
     own_both c shape node (itself named blocks) ∙ own_both c (shape ++ node) named blocks
 
 parallel_placed-is : (version : ℕ) (places : Places) (scope : Scope) (d : Data) (c : Counts)
@@ -65,8 +65,8 @@ parallel_placed-is version places scope d c = own_both c (parallel_shape_asked d
 pub operation_asked-is : (setting : Setting) (scope : Scope) (d : Data) → operation_asked setting scope d
     ≡ operation_head_asked setting d
     ++ arguments_asked setting.version scope (verb_in setting (part (codes "op") d)) (part (codes "op") d)
-    ++ reason_asked named_rule.Else (else_reason d)
-    ++ label_asked scope [] (label_in d)
+    ++ reason_asked setting.version named_rule.Else (else_reason d)
+    ++ label_asked setting.version scope [] (label_in d)
 unfolding operation_asked operation_head_asked
 operation_asked-is setting scope d = refl
 
@@ -92,10 +92,10 @@ module _ (setting : Setting) (scope : Scope) (d : Data) (start : Counts) where
   arguments = arguments_asked setting.version scope (verb_in setting (part (codes "op") d)) (part (codes "op") d)
 
   abbrev refusal : List Demand
-  refusal = reason_asked named_rule.Else (else_reason d)
+  refusal = reason_asked setting.version named_rule.Else (else_reason d)
 
   abbrev operation_label : List Demand
-  operation_label = label_asked scope [] (label_in d)
+  operation_label = label_asked setting.version scope [] (label_in d)
 
   -- the first rule that isn't kept is before the arguments
   pub operation_head_failed : (e : Failure) → check start operation_head ≡ Err e → check start (operation_asked setting scope d) ≡ Err e
@@ -198,7 +198,7 @@ module _ (version : ℕ) (places : Places) (scope earlier : Scope) (d : Data) (s
   body = inside (member_named (codes "sub")) (places scope (part (codes "sub") d))
 
   abbrev handlers : Placed → Placed
-  handlers = inside (member_named (codes "handlers")) (handlers_placed places scope (handlers_in d))
+  handlers = inside (member_named (codes "handlers")) (handlers_placed version places scope (handlers_in d))
 
   abbrev handler : Placed
   handler = inside (member_named (codes "handler")) (block_placed_if places scope (get (codes "handler") d)) nothing
@@ -230,13 +230,13 @@ module _ (version : ℕ) (places : Places) (scope earlier : Scope) (d : Data) (s
   pub sub_handlers_failed : (next after : Counts) (found : Found) → check start sub_head ≡ Ok next → seek next (body nothing) ≡ Ok after
       → seek after (handlers nothing) ≡ Err found → seek start (sub_placed version places scope earlier d) ≡ Err found
   sub_handlers_failed next after found met also failed = sub_after_body next after met also
-      ∙ inside_unmet after found (member_named (codes "handlers")) (handlers_placed places scope (handlers_in d)) handler failed
+      ∙ inside_unmet after found (member_named (codes "handlers")) (handlers_placed version places scope (handlers_in d)) handler failed
 
   -- the handler decides
   sub_after_handlers : (next after last : Counts) → check start sub_head ≡ Ok next → seek next (body nothing) ≡ Ok after
       → seek after (handlers nothing) ≡ Ok last → seek start (sub_placed version places scope earlier d) ≡ seek last handler
   sub_after_handlers next after last met also taken = sub_after_body next after met also
-      ∙ inside_met after last (member_named (codes "handlers")) (handlers_placed places scope (handlers_in d)) handler taken
+      ∙ inside_met after last (member_named (codes "handlers")) (handlers_placed version places scope (handlers_in d)) handler taken
 
   -- it is in the handler
   pub sub_handler_failed : (next after last : Counts) (found : Found) → check start sub_head ≡ Ok next → seek next (body nothing) ≡ Ok after
@@ -308,7 +308,7 @@ module _ (version : ℕ) (scope : Scope) (d : Data) (start : Counts) where
   named = seen_asked scope (if_label d)
 
   abbrev tested : List Demand
-  tested = test_asked (subject_of (if_label d) scope) d
+  tested = test_asked version (subject_of (if_label d) scope) d
 
   -- the shape of an `if` is wrong
   pub if_shape_failed : (e : Failure) → check start shape ≡ Err e → check start (if_head_asked version scope d) ≡ Err e
@@ -352,7 +352,7 @@ module _ (version : ℕ) (scope earlier : Scope) (d : Data) (start : Counts) whe
   sub_node = one_more_node version ∷ []
 
   abbrev sub_named : List Demand
-  sub_named = label_asked scope earlier (label_in d)
+  sub_named = label_asked version scope earlier (label_in d)
 
   -- the shape of a subaction is wrong
   pub sub_shape_failed : (e : Failure) → check start sub_shape ≡ Err e → check start (sub_head_asked version scope earlier d) ≡ Err e
@@ -384,7 +384,7 @@ module _ (version : ℕ) (scope earlier : Scope) (d : Data) (start : Counts) whe
 
 -- the first rule that isn't kept is one on the names
 pub pair_names_failed : (version : ℕ) (earlier : Table) (d : Data) (start : Counts) (e : Failure)
-    → check start (pair_names_asked d) ≡ Err e → check start (pair_asked version earlier d) ≡ Err e
+    → check start (pair_names_asked version d) ≡ Err e → check start (pair_asked version earlier d) ≡ Err e
 unfolding pair_asked pair_names_asked new_start_asked
 pair_names_failed version earlier d start e failed =
-    check_failed start e (pair_names_asked d) (new_start_asked version (Start NewKey) earlier (key_of d)) failed
+    check_failed start e (pair_names_asked version d) (new_start_asked version (Start NewKey) earlier (key_of d)) failed

@@ -179,19 +179,20 @@ seen_once_added name a scope = by (is_named name scope) refl
     by false e = is_named-append name scope ((name, a) ∷ []) ∙ rw (e, itself) refl
 
 -- a child's label that is no earlier sibling's may be set where none of the children's labels is seen
-pub child_label_met : (scope earlier : Scope) (label : Option (List ℕ)) (ds : Items) (counts : Counts)
+pub child_label_met : (version : ℕ) (scope earlier : Scope) (label : Option (List ℕ)) (ds : Items) (counts : Counts)
     → AreUnseen (labels_of (with_label label Outcome earlier) ds) scope
-    → IsMet counts (label_asked earlier [] label) counts → IsMet counts (label_asked scope earlier label) counts
+    → IsMet counts (label_asked version earlier [] label) counts
+    → IsMet counts (label_asked version scope earlier label) counts
 unfolding label_asked
-child_label_met scope earlier None ds counts unseen met = refl
-child_label_met scope earlier (Some name) ds counts unseen met =
+child_label_met version scope earlier None ds counts unseen met = refl
+child_label_met version scope earlier (Some name) ds counts unseen met =
     let added = with_label (Some name) Outcome earlier in
     let new : is_named name scope ≡ false = unseen name (seen_after name added (labels_of added ds) (labels_of-extends added ds)
     (seen_once_added name Outcome earlier)) in
-    by (is_name name) (is_named name earlier) (is_named name scope) new met
+    by (is_name version name) (is_named name earlier) (is_named name scope) new met
   where
-    by : (a b s : Bool) → s ≡ false → check counts (holds a (Name Label) ∷ holds (not (b || false)) NewLabel ∷ []) ≡ Ok counts
-        → check counts (holds a (Name Label) ∷ holds (not (s || b)) NewLabel ∷ []) ≡ Ok counts
+    by : (a b s : Bool) → s ≡ false → check counts (holds a (Name version Label) ∷ holds (not (b || false)) NewLabel ∷ []) ≡ Ok counts
+        → check counts (holds a (Name version Label) ∷ holds (not (s || b)) NewLabel ∷ []) ≡ Ok counts
     by true false false n e = refl
     by true true s n e = cc
     by true false true n e = cc

@@ -79,15 +79,17 @@ over_unmet (Ok n) found token part rest failed = inside_unmet n found token part
 over_unmet (Err e) found token part rest failed = failed
 
 -- the same of a handler by reason
-module _ (c : Counts) (places : Places) (scope : Scope) (reason : List ℕ) (d : Data) (rest : Placed) where
-  pub member_met : (next : Counts) → seek c (member_placed places scope reason d nothing) ≡ Ok next
-      → seek c (member_placed places scope reason d rest) ≡ seek next rest
-  member_met next met = over_met (check c (holds (is_name reason) (Name Handlers) ∷ [])) next (member_named reason) (places scope d) rest met
+module _ (c : Counts) (version : ℕ) (places : Places) (scope : Scope) (reason : List ℕ) (d : Data) (rest : Placed) where
+  pub member_met : (next : Counts) → seek c (member_placed version places scope reason d nothing) ≡ Ok next
+      → seek c (member_placed version places scope reason d rest) ≡ seek next rest
+  member_met next met =
+      over_met (check c (holds (is_name version reason) (Name version Handlers) ∷ [])) next (member_named reason) (places scope d) rest met
 
-  pub member_unmet : (found : Found) → seek c (member_placed places scope reason d nothing) ≡ Err found
-      → seek c (member_placed places scope reason d rest) ≡ Err found
+  pub member_unmet : (found : Found) → seek c (member_placed version places scope reason d nothing) ≡ Err found
+      → seek c (member_placed version places scope reason d rest) ≡ Err found
   member_unmet found failed =
-      over_unmet (check c (holds (is_name reason) (Name Handlers) ∷ [])) found (member_named reason) (places scope d) rest failed
+      over_unmet (check c (holds (is_name version reason) (Name version Handlers) ∷ [])) found (member_named reason) (places scope d)
+      rest failed
 
 -- ---- what is returned of a demand that is not met
 

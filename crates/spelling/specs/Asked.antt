@@ -58,16 +58,16 @@ abbrev pub label_in : Data → Option (List ℕ)
 label_in d = text_member (codes "as") d
 
 -- a label is a name, and is neither seen nor an earlier sibling's
-unfoldable pub label_asked : Scope → Scope → Option (List ℕ) → List Demand
-label_asked scope earlier None = []
-label_asked scope earlier (Some name) = holds (is_name name) (rule.Name named.Label)
+unfoldable pub label_asked : ℕ → Scope → Scope → Option (List ℕ) → List Demand
+label_asked version scope earlier None = []
+label_asked version scope earlier (Some name) = holds (is_name version name) (rule.Name version named.Label)
     ∷ holds (not (is_named name scope || is_named name earlier)) rule.NewLabel
     ∷ []
 
 -- a reason, where there is one, is a name, by this rule
-unfoldable pub reason_asked : NameRule → Option (List ℕ) → List Demand
-reason_asked which None = []
-reason_asked which (Some reason) = holds (is_name reason) (rule.Name which) ∷ []
+unfoldable pub reason_asked : ℕ → NameRule → Option (List ℕ) → List Demand
+reason_asked version which None = []
+reason_asked version which (Some reason) = holds (is_name version reason) (rule.Name version which) ∷ []
 
 -- what a label is of, once it is seen
 abbrev pub subject_of : List ℕ → Scope → Subject
@@ -115,9 +115,9 @@ source_asked scope fits fit place op =
     ∷ holds (fits (subject_of name scope)) (rule.Source place (fit (subject_of name scope)))
     ∷ []
 
-unfoldable pub item_asked : Place → Data → List Demand
-item_asked place op = holds (is_some (text_item (index_of place) op)) (rule.Argument (argument.Item place))
-    ∷ holds (is_name (name_item (index_of place) op)) (rule.Name (named.Argument place))
+unfoldable pub item_asked : ℕ → Place → Data → List Demand
+item_asked version place op = holds (is_some (text_item (index_of place) op)) (rule.Argument (argument.Item place))
+    ∷ holds (is_name version (name_item (index_of place) op)) (rule.Name version (named.Argument place))
     ∷ []
 
 unfoldable pub amount_asked : ℕ → Scope → Data → List Demand
@@ -128,7 +128,7 @@ amount_asked version scope op =
 -- an item, or a label that gives one
 unfoldable pub argument_asked : ℕ → Scope → Place → Data → List Demand
 argument_asked version scope place op =
-    if is_source version (index_of place) op then source_asked scope fits_item source.Item place op else item_asked place op
+    if is_source version (index_of place) op then source_asked scope fits_item source.Item place op else item_asked version place op
 
 unfoldable pub arguments_asked : ℕ → Scope → Verb → Data → List Demand
 arguments_asked version scope (OfAmount v) op = holds (has_count 3 op) (rule.Argument (argument.Count (OfAmount v)))
@@ -187,8 +187,8 @@ operation_asked setting scope d =
     ++ one_more_operation setting.version ∷ []
     ++ target_asked setting (object_of (part (codes "op") d)) (call_named (part (codes "op") d))
     ++ arguments_asked setting.version scope (verb_in setting (part (codes "op") d)) (part (codes "op") d)
-    ++ reason_asked named.Else (else_reason d)
-    ++ label_asked scope [] (label_in d)
+    ++ reason_asked setting.version named.Else (else_reason d)
+    ++ label_asked setting.version scope [] (label_in d)
 
 -- ---- the other steps
 
@@ -216,16 +216,16 @@ holds_number subject d = holds (fits_number subject) (rule.Condition (condition.
     ∷ holds (is_some (whole_member (codes "atleast") d)) (rule.Condition condition.AtLeast)
     ∷ []
 
-abbrev pub holds_item : Subject → Data → List Demand
-holds_item subject d = holds (fits_item subject) (rule.Condition (condition.HasItem subject))
+abbrev pub holds_item : ℕ → Subject → Data → List Demand
+holds_item version subject d = holds (fits_item subject) (rule.Condition (condition.HasItem subject))
     ∷ holds (is_some (text_member (codes "item") d)) (rule.Condition condition.TestedItem)
-    ∷ holds (is_name (or_empty (text_member (codes "item") d))) (rule.Name named.TestedItem)
+    ∷ holds (is_name version (or_empty (text_member (codes "item") d))) (rule.Name version named.TestedItem)
     ∷ []
 
 -- the test of an `if`, against what its label is of
-unfoldable pub test_asked : Subject → Data → List Demand
-test_asked subject d = if has (codes "is") d then holds_word subject d else if has (codes "atleast") d then holds_number subject
-    d else holds_item subject d
+unfoldable pub test_asked : ℕ → Subject → Data → List Demand
+test_asked version subject d = if has (codes "is") d then holds_word subject d else if has (codes "atleast") d then holds_number subject
+    d else holds_item version subject d
 
 unfoldable pub if_shape_asked : Data → List Demand
 if_shape_asked d =
@@ -271,7 +271,7 @@ abort_shape_asked version d = holds (has_only (member_names form.Abort) d) (rule
     ∷ []
 
 unfoldable pub abort_asked : ℕ → Data → List Demand
-abort_asked version d = abort_shape_asked version d ++ reason_asked named.Reason (as_str (part (codes "abort") d))
+abort_asked version d = abort_shape_asked version d ++ reason_asked version named.Reason (as_str (part (codes "abort") d))
 
 unfoldable pub parallel_shape_asked : Data → List Demand
 parallel_shape_asked d = holds (has_only (member_names form.Parallel) d) (rule.Shape (shape.Members form.Parallel))
@@ -320,14 +320,14 @@ text_of d = or_empty (as_str d)
 
 unfoldable pub entry_asked : ℕ → Data → List Demand
 entry_asked version d = holds (is_some (as_str d)) (rule.Start start.Entry)
-    ∷ holds (is_name (text_of d)) (rule.Name named.Entry)
+    ∷ holds (is_name version (text_of d)) (rule.Name version named.Entry)
     ∷ one_more_start version
     ∷ []
 
 unfoldable pub element_asked : ℕ → Table → Data → List Demand
 element_asked version earlier d =
     holds (is_some (as_str d)) (rule.Start start.Entry)
-    ∷ holds (is_name (text_of d)) (rule.Name named.Entry)
+    ∷ holds (is_name version (text_of d)) (rule.Name version named.Entry)
     ∷ holds (not (is_listed (text_of d) earlier)) (rule.Start start.NewEntry)
     ∷ one_more_start version
     ∷ []
@@ -343,8 +343,8 @@ pair_asked version earlier d =
     holds (has_count 2 d) (rule.Start start.Pair)
     ∷ holds (is_some (text_item 0 d)) (rule.Start start.PairKey)
     ∷ holds (is_some (text_item 1 d)) (rule.Start start.PairItem)
-    ∷ holds (is_name (key_of d)) (rule.Name named.PairKey)
-    ∷ holds (is_name (value_of d)) (rule.Name named.PairItem)
+    ∷ holds (is_name version (key_of d)) (rule.Name version named.PairKey)
+    ∷ holds (is_name version (value_of d)) (rule.Name version named.PairItem)
     ∷ holds (not (is_listed (key_of d) earlier)) (rule.Start start.NewKey)
     ∷ one_more_start version
     ∷ []
@@ -378,8 +378,10 @@ object_shape_asked version d =
     ∷ []
 
 -- the name is a name, and no earlier object has it
-unfoldable pub object_name_asked : Table → List ℕ → List Demand
-object_name_asked names name = holds (is_name name) (rule.Name named.Object) ∷ holds (not (is_listed name names)) rule.NewObject ∷ []
+unfoldable pub object_name_asked : ℕ → Table → List ℕ → List Demand
+object_name_asked version names name = holds (is_name version name) (rule.Name version named.Object)
+    ∷ holds (not (is_listed name names)) rule.NewObject
+    ∷ []
 
 abbrev pub names_of : Items → Table
 names_of no_items = []

@@ -26,14 +26,14 @@ if_head_asked version scope d =
     if_shape_asked d
     ++ one_more_node version ∷ []
     ++ seen_asked scope (if_label d)
-    ++ test_asked (subject_of (if_label d) scope) d
+    ++ test_asked version (subject_of (if_label d) scope) d
 
 -- of a subaction, or a child whose earlier siblings have these labels: its shape and its label
 unfoldable pub sub_head_asked : ℕ → Scope → Scope → Data → List Demand
 sub_head_asked version scope earlier d =
     sub_shape_asked version d
     ++ one_more_node version ∷ []
-    ++ label_asked scope earlier (label_in d)
+    ++ label_asked version scope earlier (label_in d)
 
 -- of a parallel step: its shape
 unfoldable pub parallel_head_asked : ℕ → Data → List Demand
@@ -46,11 +46,11 @@ unfoldable pub new_start_asked : ℕ → Rule → Table → List ℕ → List De
 new_start_asked version rule earlier name = holds (not (is_listed name earlier)) rule ∷ one_more_start version ∷ []
 
 -- of a key and its item: their names
-unfoldable pub pair_names_asked : Data → List Demand
-pair_names_asked d =
+unfoldable pub pair_names_asked : ℕ → Data → List Demand
+pair_names_asked version d =
     holds (has_count 2 d) (Start Pair)
     ∷ holds (is_some (text_item 0 d)) (Start PairKey)
     ∷ holds (is_some (text_item 1 d)) (Start PairItem)
-    ∷ holds (is_name (key_of d)) (Name named.PairKey)
-    ∷ holds (is_name (value_of d)) (Name named.PairItem)
+    ∷ holds (is_name version (key_of d)) (Name version named.PairKey)
+    ∷ holds (is_name version (value_of d)) (Name version named.PairItem)
     ∷ []

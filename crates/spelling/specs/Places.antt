@@ -10,6 +10,7 @@ use Rattle.batch.specs.Names.{is_name}
 use Rattle.meaning.specs.declared.limits.TheConstants.{MAX_DEPTH}
 use Rattle.faults.specs.declared.fault.Fault.{Fault}
 use Rattle.rules.specs.Failures.{fault_of}
+use Rattle.rules.specs.Pointers.{pointer_token}
 use Rattle.rules.specs.declared.failure.Failure.{Failure}
 use Rattle.rules.specs.declared.rule.Rule.{Rule}
 use Rattle.rules.specs.declared.rule.NameRule.TheVariants.{Handlers}
@@ -47,9 +48,8 @@ pub record Found : Type 0 where
   pub failure : Failure
   pub pointer : List ℕ
 
--- A name has neither `~` nor `/`, and so stands for itself in a pointer.
 abbrev pub token_text : Token → List ℕ
-token_text (member_named name) = name
+token_text (member_named name) = pointer_token name
 token_text (item_at index) = decimal index
 
 abbrev pub found_here : Failure → Found
@@ -100,31 +100,33 @@ if_placed version places scope d =
     itself (if_shape_asked d)
     (itself (one_more_node version ∷ [])
     (itself (seen_asked scope (if_label d))
-    (itself (test_asked (subject_of (if_label d) scope) d)
+    (itself (test_asked version (subject_of (if_label d) scope) d)
     (inside (member_named (codes "then")) (places scope (part (codes "then") d))
     (inside (member_named (codes "else")) (block_placed_if places scope (get (codes "else") d))
     nothing)))))
 
 -- A reason that is no name is a fault of the handlers, not of its block.
-abbrev pub member_placed : Places → Scope → List ℕ → Data → Placed → Placed
-member_placed places scope reason d rest = itself (holds (is_name reason) (Name Handlers) ∷ []) (inside (member_named reason) (places scope d) rest)
+abbrev pub member_placed : ℕ → Places → Scope → List ℕ → Data → Placed → Placed
+member_placed version places scope reason d rest =
+    itself (holds (is_name version reason) (Name version Handlers) ∷ []) (inside (member_named reason) (places scope d) rest)
 
-abbrev pub members_placed : Places → Scope → Members → Placed
-members_placed places scope no_members = nothing
-members_placed places scope (member reason d ds) = member_placed places scope reason d (members_placed places scope ds)
+abbrev pub members_placed : ℕ → Places → Scope → Members → Placed
+members_placed version places scope no_members = nothing
+members_placed version places scope (member reason d ds) =
+    member_placed version places scope reason d (members_placed version places scope ds)
 
-unfoldable pub handlers_placed : Places → Scope → Option Members → Placed
-handlers_placed places scope None = nothing
-handlers_placed places scope (Some ds) = members_placed places scope ds
+unfoldable pub handlers_placed : ℕ → Places → Scope → Option Members → Placed
+handlers_placed version places scope None = nothing
+handlers_placed version places scope (Some ds) = members_placed version places scope ds
 
 -- a subaction, or a child whose earlier siblings have these labels
 unfoldable pub sub_placed : ℕ → Places → Scope → Scope → Data → Placed
 sub_placed version places scope earlier d =
     itself (sub_shape_asked version d)
     (itself (one_more_node version ∷ [])
-    (itself (label_asked scope earlier (label_in d))
+    (itself (label_asked version scope earlier (label_in d))
     (inside (member_named (codes "sub")) (places scope (part (codes "sub") d))
-    (inside (member_named (codes "handlers")) (handlers_placed places scope (handlers_in d))
+    (inside (member_named (codes "handlers")) (handlers_placed version places scope (handlers_in d))
     (inside (member_named (codes "handler")) (block_placed_if places scope (get (codes "handler") d))
     nothing)))))
 
@@ -198,7 +200,7 @@ start_placed version kind.Max d = itself (holds (is_some (number_start d)) (Star
 unfoldable pub object_placed : ℕ → Table → Data → Placed
 object_placed version names d =
     itself (object_shape_asked version d)
-    (itself (object_name_asked names (object_name d))
+    (itself (object_name_asked version names (object_name d))
     (inside (member_named (codes "start")) (start_placed version (kind_in version d) (part (codes "start") d))
     nothing))
 

@@ -62,15 +62,24 @@ fn index_of(place: Place) -> usize
 
 /// The name of the item at a place of an operation's array.
 #[tactic(auto, unfolding(crate::specs::Asked::item_asked))]
-fn name_at<'v>(op: &'v Value, place: Place, counts: &Counts) -> Result<&'v str, Failure>
-    ensures met { OnOk result (IsMet counts.now (item_asked place (view op.now)) counts.now) }
-    ensures first { IfErr result (IsFirst counts.now (item_asked place (view op.now))) }
+fn name_at<'v>(
+    version: u8,
+    op: &'v Value,
+    place: Place,
+    counts: &Counts,
+) -> Result<&'v str, Failure>
+    ensures met { OnOk result (IsMet counts.now (item_asked version place (view op.now))
+        counts.now) }
+    ensures first { IfErr result (IsFirst counts.now (item_asked version place (view op.now))) }
     ensures value { IfOk result (λ name. name.now ≡ name_item (index_of place) (view op.now)) }
 {
     let Some(name) = text_item(op, index_of(place)) else {
         return Err(counts.broken(Rule::Argument(ArgumentRule::Item(place))));
     };
-    counts.demand(is_name(name), Rule::Name(NameRule::Argument(place)))?;
+    counts.demand(
+        is_name(version, name),
+        Rule::Name(version, NameRule::Argument(place)),
+    )?;
     Ok(name)
 }
 
@@ -229,7 +238,7 @@ fn read_argument(
     if is_source(seen.version, op, index_of(place)) {
         return Ok(Argument::From(item_source(op, place, seen)?));
     }
-    let name = name_at(op, place, seen.counts)?;
+    let name = name_at(seen.version, op, place, seen.counts)?;
     Ok(Argument::Is(item_of(alloc, name, numbering)?))
 }
 
@@ -310,12 +319,13 @@ pub(crate) fn is_else(version: u8, step: &Value) -> bool
 pub(crate) fn read_refusal(
     alloc: Global,
     step: &Value,
+    version: u8,
     state: &mut State,
 ) -> Result<Refusal, Failure>
     ensures met { OnOk result (IsMet state.old.counts
-        (reason_asked NameRule.Else (else_reason (view step.now))) state.new.counts) }
+        (reason_asked version NameRule.Else (else_reason (view step.now))) state.new.counts) }
     ensures first { IfErr result (IsFirst state.old.counts
-        (reason_asked NameRule.Else (else_reason (view step.now)))) }
+        (reason_asked version NameRule.Else (else_reason (view step.now)))) }
     ensures value { IfOk result (λ read. (read, numbers_of state.new.numbering)
         ≡ refusal_of (numbers_of state.old.numbering) (view step.now)) }
     ensures labels { OnOk result
@@ -325,5 +335,5 @@ pub(crate) fn read_refusal(
         return Ok(Refusal::GoesOn);
     }
     let reason = text_member(step, "else");
-    Ok(Refusal::Aborts(read_reason(alloc, reason, NameRule::Else, state)?))
+    Ok(Refusal::Aborts(read_reason(alloc, reason, version, NameRule::Else, state)?))
 }

@@ -76,13 +76,15 @@ fn tested_word(subject: Subject, step: &Value) -> Option<Word>
 #[tactic(auto, unfolding(crate::specs::Asked::test_asked, crate::specs::Spelled::test_of))]
 pub(crate) fn read_test(
     alloc: Global,
+    version: u8,
     subject: Subject,
     step: &Value,
     counts: &Counts,
     numbering: &mut Numbering,
 ) -> Result<Test, Failure>
-    ensures met { OnOk result (IsMet counts.now (test_asked subject (view step.now)) counts.now) }
-    ensures first { IfErr result (IsFirst counts.now (test_asked subject (view step.now))) }
+    ensures met { OnOk result (IsMet counts.now (test_asked version subject (view step.now))
+        counts.now) }
+    ensures first { IfErr result (IsFirst counts.now (test_asked version subject (view step.now))) }
     ensures value { IfOk result (λ test. (test, numbers_of numbering.new) ≡ test_of subject (numbers_of numbering.old) (view step.now)) }
 {
     if has(step, "is") {
@@ -108,7 +110,10 @@ pub(crate) fn read_test(
     let Some(name) = text_member(step, "item") else {
         return Err(counts.broken(Rule::Condition(ConditionRule::TestedItem)));
     };
-    counts.demand(is_name(name), Rule::Name(NameRule::TestedItem))?;
+    counts.demand(
+        is_name(version, name),
+        Rule::Name(version, NameRule::TestedItem),
+    )?;
     let item = item_of(alloc, name, numbering)?;
     Ok(Test::IsItem(item))
 }

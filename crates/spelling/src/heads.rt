@@ -54,7 +54,14 @@ pub(crate) fn if_head<'v>(
     let shape = if_shape_of(step, &state.counts)?;
     state.counts.one_more_node(version)?;
     let (label, subject) = seen_label(shape.label, &state.labels, &state.counts)?;
-    let test = read_test(alloc, subject, step, &state.counts, &mut state.numbering)?;
+    let test = read_test(
+        alloc,
+        version,
+        subject,
+        step,
+        &state.counts,
+        &mut state.numbering,
+    )?;
     Ok(IfHead {
         label,
         test,
@@ -106,7 +113,7 @@ pub(crate) fn sub_head<'v>(
 {
     let shape = sub_shape_of(step, version, counts)?;
     counts.one_more_node(version)?;
-    check_label(shape.label, labels, earlier, counts)?;
+    check_label(version, shape.label, labels, earlier, counts)?;
     Ok(shape)
 }
 

@@ -43,21 +43,24 @@ pub(crate) fn is_seen(labels: &Labels, name: &str) -> bool
 /// That a label is a name, and is neither seen yet nor an earlier sibling's, where there are any.
 #[tactic(auto, unfolding(crate::specs::Asked::label_asked))]
 pub(crate) fn check_label(
+    version: u8,
     label: Option<&str>,
     labels: &Labels,
     earlier: Option<&Labels>,
     counts: &Counts,
 ) -> Result<(), Failure>
     ensures { MatchResult result
-        (λ _. IsMet counts.now (label_asked (scope_of labels.now.entries) (unwrap_or (option_map (λ labels. scope_of labels.now.entries) earlier.entry) [])
+        (λ _. IsMet counts.now (label_asked version (scope_of labels.now.entries)
+        (unwrap_or (option_map (λ labels. scope_of labels.now.entries) earlier.entry) [])
         (option_map (λ text. text.now) label.entry)) counts.now)
-        (IsFirst counts.now (label_asked (scope_of labels.now.entries) (unwrap_or (option_map (λ labels. scope_of labels.now.entries) earlier.entry) [])
+        (IsFirst counts.now (label_asked version (scope_of labels.now.entries)
+        (unwrap_or (option_map (λ labels. scope_of labels.now.entries) earlier.entry) [])
         (option_map (λ text. text.now) label.entry))) }
 {
     let Some(name) = label else {
         return Ok(());
     };
-    counts.demand(is_name(name), Rule::Name(NameRule::Label))?;
+    counts.demand(is_name(version, name), Rule::Name(version, NameRule::Label))?;
     let earlier_has_it = match earlier {
         Some(earlier) => is_seen(earlier, name),
         None => false,
@@ -91,14 +94,17 @@ fn insert_label(
 #[tactic(auto, unfolding(crate::specs::Asked::label_asked))]
 pub fn add_new_label(
     alloc: Global,
+    version: u8,
     label: Option<&str>,
     subject: Subject,
     labels: &mut Labels,
     counts: &Counts,
 ) -> Result<(), Failure>
-    ensures met { OnOk result (IsMet counts.now (label_asked (scope_of labels.old.entries) []
+    ensures met { OnOk result (IsMet counts.now
+        (label_asked version (scope_of labels.old.entries) []
         (option_map (λ text. text.now) label.entry)) counts.now) }
-    ensures first { IfErr result (IsFirst counts.now (label_asked (scope_of labels.old.entries) []
+    ensures first { IfErr result (IsFirst counts.now
+        (label_asked version (scope_of labels.old.entries) []
         (option_map (λ text. text.now) label.entry))) }
     ensures labels { OnOk result (scope_of labels.new.entries
         ≡ with_label (option_map (λ text. text.now) label.entry) subject (scope_of labels.old.entries)) }
@@ -106,7 +112,7 @@ pub fn add_new_label(
     let Some(name) = label else {
         return Ok(());
     };
-    counts.demand(is_name(name), Rule::Name(NameRule::Label))?;
+    counts.demand(is_name(version, name), Rule::Name(version, NameRule::Label))?;
     let new = insert_label(alloc, name, subject, labels)?;
     counts.demand(new, Rule::NewLabel)?;
     Ok(())

@@ -177,9 +177,16 @@ pub fn read_operation(
         counts: &state.counts,
     };
     let template = read_arguments(alloc, head.verb, head.op, &seen, &mut state.numbering)?;
-    let refusal = read_refusal(alloc, step, state)?;
+    let refusal = read_refusal(alloc, step, declared.version, state)?;
     let subject = Subject::Reply(head.verb);
-    add_new_label(alloc, head.label, subject, &mut state.labels, &state.counts)?;
+    add_new_label(
+        alloc,
+        declared.version,
+        head.label,
+        subject,
+        &mut state.labels,
+        &state.counts,
+    )?;
     Ok(operation_step(alloc, head.object, template, head.label.is_some(), refusal)?)
 }
 

@@ -70,7 +70,7 @@ fn read_entry(
     let Some(name) = value.as_str() else {
         return Err(counts.broken(Rule::Start(StartRule::Entry)));
     };
-    counts.demand(is_name(name), Rule::Name(NameRule::Entry))?;
+    counts.demand(is_name(version, name), Rule::Name(version, NameRule::Entry))?;
     counts.one_more_start(version)?;
     let item = item_of(alloc, name, numbering)?;
     Ok(item)
@@ -142,7 +142,7 @@ fn read_element(
     let Some(name) = value.as_str() else {
         return Err(counts.broken(Rule::Start(StartRule::Entry)));
     };
-    counts.demand(is_name(name), Rule::Name(NameRule::Entry))?;
+    counts.demand(is_name(version, name), Rule::Name(version, NameRule::Entry))?;
     add_start(
         alloc,
         name,
@@ -203,9 +203,14 @@ fn read_set(
 
 /// The names of a key and its item.
 #[tactic(auto, unfolding(crate::specs::Heads::pair_names_asked))]
-fn pair_names<'v>(value: &'v Value, counts: &Counts) -> Result<(&'v str, &'v str), Failure>
-    ensures met { OnOk result (IsMet counts.now (pair_names_asked (view value.now)) counts.now) }
-    ensures first { IfErr result (IsFirst counts.now (pair_names_asked (view value.now))) }
+fn pair_names<'v>(
+    value: &'v Value,
+    version: u8,
+    counts: &Counts,
+) -> Result<(&'v str, &'v str), Failure>
+    ensures met { OnOk result (IsMet counts.now (pair_names_asked version (view value.now))
+        counts.now) }
+    ensures first { IfErr result (IsFirst counts.now (pair_names_asked version (view value.now))) }
     ensures key { IfOk result (λ pair. pair.0.now ≡ key_of (view value.now)) }
     ensures value { IfOk result (λ pair. pair.1.now ≡ value_of (view value.now)) }
 {
@@ -216,8 +221,14 @@ fn pair_names<'v>(value: &'v Value, counts: &Counts) -> Result<(&'v str, &'v str
     let Some(bound) = text_item(value, 1) else {
         return Err(counts.broken(Rule::Start(StartRule::PairItem)));
     };
-    counts.demand(is_name(key), Rule::Name(NameRule::PairKey))?;
-    counts.demand(is_name(bound), Rule::Name(NameRule::PairItem))?;
+    counts.demand(
+        is_name(version, key),
+        Rule::Name(version, NameRule::PairKey),
+    )?;
+    counts.demand(
+        is_name(version, bound),
+        Rule::Name(version, NameRule::PairItem),
+    )?;
     Ok((key, bound))
 }
 
@@ -238,7 +249,7 @@ fn check_pair<'v>(
     ensures value { IfOk result (λ pair. pair.1.now ≡ value_of (view value.now)) }
     ensures earlier { OnOk result (texts_of earlier.new.keys ≡ with_text (key_of (view value.now)) (texts_of earlier.old.keys)) }
 {
-    let (key, bound) = pair_names(value, counts)?;
+    let (key, bound) = pair_names(value, version, counts)?;
     add_start(
         alloc,
         key,
@@ -468,14 +479,20 @@ fn kind_member(value: &Value, version: u8) -> Option<Kind>
 pub fn add_name(
     alloc: Global,
     name: &str,
+    version: u8,
     names: &mut Texts,
     counts: &Counts,
 ) -> Result<(), Failure>
-    ensures met { OnOk result (IsMet counts.now (object_name_asked (texts_of names.old.keys) name.now) counts.now) }
-    ensures first { IfErr result (IsFirst counts.now (object_name_asked (texts_of names.old.keys) name.now)) }
+    ensures met { OnOk result (IsMet counts.now
+        (object_name_asked version (texts_of names.old.keys) name.now) counts.now) }
+    ensures first { IfErr result (IsFirst counts.now
+        (object_name_asked version (texts_of names.old.keys) name.now)) }
     ensures names { OnOk result (texts_of names.new.keys ≡ texts_of names.old.keys ++ name.now ∷ []) }
 {
-    counts.demand(is_name(name), Rule::Name(NameRule::Object))?;
+    counts.demand(
+        is_name(version, name),
+        Rule::Name(version, NameRule::Object),
+    )?;
     let new = add_text(alloc, names, name)?;
     counts.demand(new, Rule::NewObject)?;
     Ok(())
@@ -501,7 +518,7 @@ pub fn read_object(
     ensures names { OnOk result (texts_of names.new.keys ≡ texts_of names.old.keys ++ object_name (view value.now) ∷ []) }
 {
     let shape = shape_of(value, version, counts)?;
-    add_name(alloc, shape.name, names, counts)?;
+    add_name(alloc, shape.name, version, names, counts)?;
     match read_start(alloc, shape.kind, shape.start, version, counts, numbering) {
         Ok(start) => Ok(start),
         Err(unmet) => Err(unmet.in_member(alloc, "start")),

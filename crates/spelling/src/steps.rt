@@ -85,17 +85,19 @@ fn is_abort(version: u8, value: &Value) -> bool
 pub fn reason_number(
     alloc: Global,
     reason: &str,
-    rule: Rule,
+    version: u8,
+    rule: NameRule,
     counts: &Counts,
     reasons: &mut Texts,
 ) -> Result<u32, Failure>
-    ensures met { OnOk result (is_name reason.now ≡ true) }
+    ensures met { OnOk result (is_name version reason.now ≡ true) }
     ensures first { IfErr result (λ failure. failure ≢ Failure.NoMemory
-        → (is_name reason.now ≡ false) × (failure ≡ broken_at rule counts.now)) }
+        → (is_name version reason.now ≡ false)
+        × (failure ≡ broken_at (Rule.Name version rule) counts.now)) }
     ensures number { IfOk result (λ number. number ≡ number_of reason.now (texts_of reasons.old.keys)) }
     ensures table { OnOk result (texts_of reasons.new.keys ≡ with_text reason.now (texts_of reasons.old.keys)) }
 {
-    counts.demand(is_name(reason), rule)?;
+    counts.demand(is_name(version, reason), Rule::Name(version, rule))?;
     let number = number_of(alloc, reasons, reason)?;
     Ok(number)
 }
@@ -105,11 +107,15 @@ pub fn reason_number(
 pub fn read_reason(
     alloc: Global,
     reason: Option<&str>,
+    version: u8,
     rule: NameRule,
     state: &mut State,
 ) -> Result<Option<u32>, Failure>
-    ensures met { OnOk result (IsMet state.old.counts (reason_asked rule (option_map (λ text. text.now) reason.entry)) state.new.counts) }
-    ensures first { IfErr result (IsFirst state.old.counts (reason_asked rule (option_map (λ text. text.now) reason.entry))) }
+    ensures met { OnOk result (IsMet state.old.counts
+        (reason_asked version rule (option_map (λ text. text.now) reason.entry))
+        state.new.counts) }
+    ensures first { IfErr result (IsFirst state.old.counts
+        (reason_asked version rule (option_map (λ text. text.now) reason.entry))) }
     ensures value { IfOk result (λ number. (number, numbers_of state.new.numbering)
         ≡ reason_of (numbers_of state.old.numbering) (option_map (λ text. text.now) reason.entry)) }
     ensures labels { OnOk result (scope_of state.new.labels.entries ≡ scope_of state.old.labels.entries) }
@@ -118,7 +124,7 @@ pub fn read_reason(
         return Ok(None);
     };
     let reasons = &mut state.numbering.reasons;
-    let number = reason_number(alloc, name, Rule::Name(rule), &state.counts, reasons)?;
+    let number = reason_number(alloc, name, version, rule, &state.counts, reasons)?;
     Ok(Some(number))
 }
 
@@ -159,7 +165,7 @@ fn read_abort(alloc: Global, step: &Value, version: u8, state: &mut State) -> Re
     ensures labels { OnOk result (scope_of state.new.labels.entries ≡ scope_of state.old.labels.entries) }
 {
     let reason = abort_of(step, version, &mut state.counts)?;
-    let number = read_reason(alloc, reason, NameRule::Reason, state)?;
+    let number = read_reason(alloc, reason, version, NameRule::Reason, state)?;
     Ok(Step::Abort(number))
 }
 
@@ -291,11 +297,11 @@ fn read_handler(
     declared: &Declared,
     state: &mut State,
 ) -> Result<Handler, Unmet>
-    ensures met { OnOk result (AreMet state.old.counts (member_placed (block_placed (setting_of
-        declared.now) levels)
+    ensures met { OnOk result (AreMet state.old.counts (member_placed declared.now.version
+        (block_placed (setting_of declared.now) levels)
         (scope_of state.old.labels.entries) reason.now (view value.now) nothing) state.new.counts) }
-    ensures unmet { IfErr result (IsFound state.old.counts (member_placed (block_placed (setting_of
-        declared.now) levels)
+    ensures unmet { IfErr result (IsFound state.old.counts (member_placed declared.now.version
+        (block_placed (setting_of declared.now) levels)
         (scope_of state.old.labels.entries) reason.now (view value.now) nothing)) }
     ensures value { IfOk result (λ read. (handler_view read, numbers_of state.new.numbering)
         ≡ member_of (block_of (setting_of declared.now) levels) (scope_of state.old.labels.entries)
@@ -306,7 +312,8 @@ fn read_handler(
     let number = reason_number(
         alloc,
         reason,
-        Rule::Name(NameRule::Handlers),
+        declared.version,
+        NameRule::Handlers,
         &state.counts,
         reasons,
     )?;
@@ -328,11 +335,11 @@ pub fn read_members(
     declared: &Declared,
     state: &mut State,
 ) -> Result<Vec<Handler>, Unmet>
-    ensures met { OnOk result (AreMet state.old.counts (members_placed (block_placed (setting_of
-        declared.now) levels)
+    ensures met { OnOk result (AreMet state.old.counts (members_placed declared.now.version
+        (block_placed (setting_of declared.now) levels)
         (scope_of state.old.labels.entries) (members_view members.now.entries)) state.new.counts) }
-    ensures unmet { IfErr result (IsFound state.old.counts (members_placed (block_placed (setting_of
-        declared.now) levels)
+    ensures unmet { IfErr result (IsFound state.old.counts (members_placed declared.now.version
+        (block_placed (setting_of declared.now) levels)
         (scope_of state.old.labels.entries) (members_view members.now.entries))) }
     ensures value { IfOk result (λ read. (map handler_view read.items, numbers_of state.new.numbering)
         ≡ members_of (block_of (setting_of declared.now) levels) (scope_of state.old.labels.entries)
@@ -356,11 +363,13 @@ fn read_handlers(
     state: &mut State,
 ) -> Result<Option<Vec<Handler>>, Unmet>
     ensures met { OnOk result (AreMet state.old.counts (inside (member_named (codes "handlers"))
-        (handlers_placed (block_placed (setting_of declared.now) levels) (scope_of
+        (handlers_placed declared.now.version
+        (block_placed (setting_of declared.now) levels) (scope_of
         state.old.labels.entries) (option_map (λ members. members_view members.now.entries)
         handlers.entry)) nothing) state.new.counts) }
     ensures unmet { IfErr result (IsFound state.old.counts (inside (member_named (codes "handlers"))
-        (handlers_placed (block_placed (setting_of declared.now) levels) (scope_of
+        (handlers_placed declared.now.version
+        (block_placed (setting_of declared.now) levels) (scope_of
         state.old.labels.entries) (option_map (λ members. members_view members.now.entries)
         handlers.entry)) nothing)) }
     ensures value { IfOk result (λ read. (option_map (λ list. map handler_view list.items) read, numbers_of state.new.numbering)

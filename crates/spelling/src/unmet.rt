@@ -4,7 +4,7 @@ ghost use Rattle.spelling.specs.Answer.{found_of, pointer_text};
 ghost use Rattle.spelling.specs.Places.{found_inside, item_at, member_named};
 
 use batch::NoMemory;
-use rules::Failure;
+use rules::{Failure, pointer_token};
 use std::alloc::{AllocError, AllocFailed, Global};
 
 /// A demand that is not met: the rule that isn't kept, and the pointer from a value to the part
@@ -71,13 +71,10 @@ impl Unmet {
             // No place is asked for, which would take memory.
             return Unmet::from(Failure::NoMemory);
         }
-        let Ok(pointer) = in_front(alloc, name, self.pointer) else {
+        let Ok(token) = pointer_token(alloc, name) else {
             return Unmet::from(Failure::NoMemory);
         };
-        Unmet {
-            failure: self.failure,
-            pointer: Some(pointer),
-        }
+        self.below(alloc, token.as_str())
     }
 
     /// As one of the value whose item at that index it is of.
@@ -90,21 +87,35 @@ impl Unmet {
         if matches!(self.failure, Failure::NoMemory) {
             return Unmet::from(Failure::NoMemory);
         }
-        let Ok(name) = format!(in alloc; "{index}") else {
+        let Ok(token) = format!(in alloc; "{index}") else {
             return Unmet::from(Failure::NoMemory);
         };
-        self.in_member(alloc, name.as_str())
+        self.below(alloc, token.as_str())
+    }
+
+    // As one of the value from which this token leads to it.
+    fn below(self, alloc: Global, token: &str) -> Unmet
+        ensures { result.failure ≢ Failure.NoMemory → (result.failure ≡ self.failure)
+            × (pointer_text result.pointer ≡ codes "/" ++ token.now ++ pointer_text self.pointer) }
+    {
+        let Ok(pointer) = in_front(alloc, token, self.pointer) else {
+            return Unmet::from(Failure::NoMemory);
+        };
+        Unmet {
+            failure: self.failure,
+            pointer: Some(pointer),
+        }
     }
 }
 
-/// The pointer with one more name before the others.
-fn in_front(alloc: Global, name: &str, pointer: Option<String>) -> Result<String, AllocError>
-    ensures { IfOk result (λ text. string_bytes text ≡ codes "/" ++ name.now ++ pointer_text
-        pointer) }
+/// The pointer with one more token before the others.
+fn in_front(alloc: Global, token: &str, pointer: Option<String>) -> Result<String, AllocError>
+    ensures { IfOk result (λ text. string_bytes text ≡ codes "/" ++ token.now
+        ++ pointer_text pointer) }
 {
     let rest = match &pointer {
         Some(rest) => rest.as_str(),
         None => "",
     };
-    format!(in alloc; "/{name}{rest}")
+    format!(in alloc; "/{token}{rest}")
 }

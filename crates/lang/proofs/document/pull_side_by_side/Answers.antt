@@ -18,7 +18,7 @@ batch_of-requires g c =
     let last = numbers_of c.pull_at_once.new.state.numbering in
     let read = same_document d parts.declared.objects (map block_view parts.transactions.items) last
     (setting_of parts.declared) _ c.new-state.ensures.numbers done.3 done.4 in
-    subst (λ (shown : Document). IsBatch shown.start shown.texts shown.transactions) (sym read)
+    subst (λ (shown : Document). IsBatch shown.version shown.start shown.texts shown.transactions) (sym read)
     (faultless_is_batch d (met_first _ _ (placed d) c.new-state.ensures.counts done.2))
 
 pub returns : goal.returns

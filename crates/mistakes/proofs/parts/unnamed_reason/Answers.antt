@@ -7,5 +7,5 @@ use Rattle.mistakes.proofs.parts.unnamed_reason.Goals as goal
 pub loop-key-init : goal.loop-key-init
 loop-key-init c =
     rw (c.into_iter-key-iterator.ensures.into_iter_gives, c.keys-key-items.ensures.rest)
-    (ap (λ o. option_and_then first_unnamed o) (sym c.in_ok-members.ensures)
-    ∙ first_unnamed-keys c.in_ok-members.members.now.entries)
+    (ap (λ o. option_and_then (first_unnamed c.args.version) o) (sym c.in_ok-members.ensures)
+    ∙ first_unnamed-keys c.args.version c.in_ok-members.members.now.entries)

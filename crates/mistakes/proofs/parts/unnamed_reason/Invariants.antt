@@ -5,4 +5,4 @@ use Rattle.mistakes.proofs.Keys.{unnamed_key}
 use Rattle.mistakes.proofs.parts.unnamed_reason.Given as goal
 
 abbrev pub invariant-loop-key : goal.invariant-loop-key
-invariant-loop-key l = unnamed_reason (view l.part) ≡ unnamed_key l.key-iterator
+invariant-loop-key l = unnamed_reason l.version (view l.part) ≡ unnamed_key l.version l.key-iterator

@@ -15,8 +15,8 @@ returns-in_ok-pull_end_array-in-Alone c =
     let v = c.in-Alone.verb in (
       no_items,
       subst (λ ts. ReadsItems 0 ts no_items new) (sym all) (reads_no_items 0 _ new refl),
-      λ version scope o n counts. rw c.in-Alone.is (lone_met version scope o n v counts),
-      λ version scope o n. rw (c.in-Alone.is, c.call-in-Alone.ensures) (lone_spelled version scope o n v (numbers_of c.args.numbering.now)),
+      λ scope o n counts. rw c.in-Alone.is (lone_met c.args.version scope o n v counts),
+      λ scope o n. rw (c.in-Alone.is, c.call-in-Alone.ensures) (lone_spelled c.args.version scope o n v (numbers_of c.args.numbering.now)),
     )
 
 pub returns-in_ok-pull_end_array-in-OfAmount : goal.returns-in_ok-pull_end_array-in-OfAmount
@@ -31,8 +31,8 @@ returns-in_ok-pull_end_array-in-OfAmount c =
       rest,
       subst (λ ts. ReadsItems 0 ts rest new) (sym all)
           (reads_item 0 _ _ new _ _ refl (reads_number 0 n.0 (unsigned a.value) _ n.2) (reads_no_items 0 _ new refl)),
-      λ version scope o w counts. rw c.in-OfAmount.is (amount_met version scope o w v a counts),
-      λ version scope o w. rw (c.in-OfAmount.is, c.call.ensures) (amount_spelled version scope o w v a (numbers_of c.args.numbering.now)),
+      λ scope o w counts. rw c.in-OfAmount.is (amount_met c.args.version scope o w v a counts),
+      λ scope o w. rw (c.in-OfAmount.is, c.call.ensures) (amount_spelled c.args.version scope o w v a (numbers_of c.args.numbering.now)),
     )
 
 pub returns-in_ok-item-in-OfItem : goal.returns-in_ok-item-in-OfItem
@@ -49,9 +49,9 @@ returns-in_ok-item-in-OfItem c =
     let rest = item (string s) no_items in (
       rest,
       subst (λ ts. ReadsItems 0 ts rest new) (sym all) (reads_item 0 _ _ new _ _ refl (reads_string 0 s _) (reads_no_items 0 _ new refl)),
-      λ version scope o w counts. rw c.in-OfItem.is (item_met version scope o w v s counts c.in_ok-name-in-OfItem.ensures.1),
-      λ version scope o w. rw (c.in-OfItem.is, c.call-in-OfItem.ensures)
-          (item_spelled version scope o w v s x (numbers_of c.args.numbering.now) after numbered.0 numbered.1),
+      λ scope o w counts. rw c.in-OfItem.is (item_met c.args.version scope o w v s counts c.in_ok-name-in-OfItem.ensures.1),
+      λ scope o w. rw (c.in-OfItem.is, c.call-in-OfItem.ensures)
+          (item_spelled c.args.version scope o w v s x (numbers_of c.args.numbering.now) after numbered.0 numbered.1),
     )
 
 pub returns-in_ok-item-in-OfPair : goal.returns-in_ok-item-in-OfPair
@@ -76,8 +76,8 @@ returns-in_ok-item-in-OfPair c =
       subst (λ ts. ReadsItems 0 ts rest new) (sym all)
           (reads_item 0 _ _ new _ _ refl (reads_string 0 k _)
           (reads_item 0 _ _ new _ _ refl (reads_string 0 s _) (reads_no_items 0 _ new refl))),
-      λ version scope o w counts. rw c.in-OfPair.is
-          (pair_met version scope o w v k s counts c.in_ok-key_name-in-OfPair.ensures.1 c.in_ok-name-in-OfPair.ensures.1),
-      λ version scope o w. rw (c.in-OfPair.is, c.call-in-OfPair.ensures)
-          (pair_spelled version scope o w v k s x y start mid after first.0 first.1 second.0 second.1),
+      λ scope o w counts. rw c.in-OfPair.is
+          (pair_met c.args.version scope o w v k s counts c.in_ok-key_name-in-OfPair.ensures.1 c.in_ok-name-in-OfPair.ensures.1),
+      λ scope o w. rw (c.in-OfPair.is, c.call-in-OfPair.ensures)
+          (pair_spelled c.args.version scope o w v k s x y start mid after first.0 first.1 second.0 second.1),
     )

@@ -48,15 +48,15 @@ returns c =
     let added : scope_of c.add_new_label.new.labels.entries ≡ with_label label (Reply c.in_ok-object-2.verb) scope = grind (arith, rules) in
     let shown : step_view (Op c.in_ok-object-2.object c.in_ok-call-2.call c.is_some.result)
     ≡ tree.Operation (target_of setting o) c.in_ok-call-2.call (is_some label) = rw (placed, has) (search (rules, the_lemmas)) in
-    let labels : IsMet next (label_asked scope [] label) next = grind (arith, rules) in (
+    let labels : IsMet next (label_asked setting.version scope [] label) next = grind (arith, rules) in (
       op_step label op,
       subst (λ ts. ReadsValue 2 (Token.begin_object ∷ Token.key (codes "op") ∷ ts) (op_step label op) new) (sym tokens)
           (reads_object 1 _ _ new members),
       λ places. operation_met setting scope label o w rest places start next counted target
-          (subst (λ v. IsMet next (arguments_asked setting.version scope v op) next) verb (given.2 setting.version scope o w next)) labels,
+          (subst (λ v. IsMet next (arguments_asked setting.version scope v op) next) verb (given.2 scope o w next)) labels,
       λ block. ap (λ (step : tree.Step). (step, after)) shown
           ∙ operation_spelled setting scope label o w rest block numbers after c.in_ok-call-2.call
           (subst (λ v. (Given c.in_ok-call-2.call, after) ≡ template_of setting.version scope v numbers op) verb
-          (given.3 setting.version scope o w)),
+          (given.3 scope o w)),
       added ∙ ap (λ v. with_label label (Reply v) scope) verb ∙ sym (operation_scope setting scope label o w rest),
     )

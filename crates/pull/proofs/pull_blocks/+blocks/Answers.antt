@@ -144,6 +144,7 @@ pull_block-returns t c =
 
 pub pull_handler-returns : goal.pull_handler-returns
 pull_handler-returns t c =
+    let version = c.args.declared.now.version in
     let setting = setting_of c.args.declared.now in
     let places = block_placed setting c.args.levels in
     let scope = scope_of c.args.state.now.labels.entries in
@@ -153,7 +154,7 @@ pull_handler-returns t c =
     let done = c.in_ok-block.ensures in
     let d = done.0 in
     let b = c.in_ok-block.block in
-    let named : is_name reason ≡ true = grind (arith, rules) in
+    let named : is_name version reason ≡ true = grind (arith, rules) in
     let numbered : c.in_ok-number.number ≡ number_of reason numbers.reasons = grind (arith, rules) in
     let joined : texts_of c.reason_number.new.reasons.keys ≡ with_text reason numbers.reasons = grind (arith, rules) in
     let after = numbers_of c.pull_block.new.state.numbering in
@@ -161,8 +162,8 @@ pull_handler-returns t c =
     let shown : handler_view (roll-Handler (record { reason = n; block = b })) ≡ (n, block_view b) = search (rules, handler_lemmas) in (
       d,
       done.1,
-      own_first start start (holds (is_name reason) (Name Handlers) ∷ []) (inside (member_named reason) (places scope d) nothing)
-          (rw named refl)
+      own_first start start (holds (is_name version reason) (Name version Handlers) ∷ [])
+          (inside (member_named reason) (places scope d) nothing) (rw named refl)
           ∙ part_met start c.pull_block.new.state.counts (member_named reason) (places scope d) nothing done.2,
       ap (λ (v : ℕ × tree.Block). (v, after)) shown ∙ ap (spelled_map (λ (x : tree.Block). (n, x))) done.3
           ∙ ap₂ (λ m (ts : Table). spelled_map (λ (x : tree.Block). (m, x)) (block_of setting c.args.levels scope (record {
@@ -195,6 +196,7 @@ pub pull_ascending-loop-handlers-preserved : goal.pull_ascending-loop-handlers-p
 pull_ascending-loop-handlers-preserved t c =
     let l = c.loop-handlers in
     let k = 5 * c.args.levels in
+    let version = c.args.declared.now.version in
     let setting = setting_of c.args.declared.now in
     let places = block_placed setting c.args.levels in
     let block = block_of setting c.args.levels in
@@ -212,7 +214,7 @@ pull_ascending-loop-handlers-preserved t c =
     let ascends : c.is_after.result ≡ true = grind (arith, rules) in
     let behind : IsAfter reason (option_map (λ text. text.now) l.before) = c.is_after.ensures ascends in
     let pushed : c.push.new.self.items ≡ l.handlers.items ++ x ∷ [] = grind (arith, rules) in
-    let met = subst (λ s. AreMet l.state.counts (member_placed places s reason d nothing) counts) l.invariant.5 done.2 in
+    let met = subst (λ s. AreMet l.state.counts (member_placed version places s reason d nothing) counts) l.invariant.5 done.2 in
     let value = subst (λ s. (handler_view x, after) ≡ member_of block s (numbers_of l.state.numbering) reason d) l.invariant.5 done.3 in
     let put_last = l.invariant.2 reason d no_members behind in (
       λ ds. l.invariant.0 (member reason d ds),
@@ -223,7 +225,7 @@ pull_ascending-loop-handlers-preserved t c =
           (after_both (option_map (λ text. text.now) l.before) reason next behind later)
           ∙ ap l.invariant.0 (put_after reason next d e ds later),
       λ ds. l.invariant.3 (member reason d ds)
-          ∙ member_met l.state.counts places scope reason d (members_placed places scope ds) counts met,
+          ∙ member_met l.state.counts version places scope reason d (members_placed version places scope ds) counts met,
       λ ds. l.invariant.4 (member reason d ds)
           ∙ ap (λ (p : (ℕ × tree.Block) × Numbers). in_front read
           (p.0 ∷ (members_of block scope p.1 ds).0, (members_of block scope p.1 ds).1))
@@ -331,6 +333,7 @@ pull_sub_rest-loop-handler-smaller-then-is_none-2 t c =
 pub pull_sub_rest-loop-handler-preserved : goal.pull_sub_rest-loop-handler-preserved
 pull_sub_rest-loop-handler-preserved t c =
     let l = c.loop-handler in
+    let version = c.args.declared.now.version in
     let setting = setting_of c.args.declared.now in
     let places = block_placed setting c.args.levels in
     let block = block_of setting c.args.levels in
@@ -344,7 +347,7 @@ pull_sub_rest-loop-handler-preserved t c =
     let named : c.in-Some.name.now ≡ codes "handlers" = grind (arith, rules) in
     let none : option_map block_view l.handler ≡ None = grind (arith, rules) in
     let empty : option_map {T = Vec Handler Global} (λ list. map handler_view list.items) l.handlers ≡ None = grind (arith, rules) in
-    let met = subst (λ s. AreMet l.state.counts (members_placed places s done.0) last) l.invariant.1 done.3 in
+    let met = subst (λ s. AreMet l.state.counts (members_placed version places s done.0) last) l.invariant.1 done.3 in
     let value = subst (λ s. (read, final) ≡ members_of block s (numbers_of l.state.numbering) done.0) l.invariant.1 done.4 in (
       tail_handlers _ _ places block _ _ _ _ _ l.reader l.state.counts (numbers_of l.state.numbering) _ _ done.0 read inside left last final
           (keyed ∙ ap (λ n. Some (Some n, inside)) named) done.1 (le-leb _ _ done.2) met value
@@ -396,7 +399,7 @@ pull_sub-returns t c =
       reads_deeper (suc k) (5 * c.args.levels + 2) _ (object ms) new (omega arith)
           (reads_object k (Token.key (codes "sub") ∷ old) ms new members),
       λ earlier labels. sub_met version places block scope b tail.reasons tail.every label earlier start counted inside tail.mid next
-          tail.allowed one done.2 tail.first tail.second (label_anywhere scope earlier (label_in (object ms)) next counted labels),
+          tail.allowed one done.2 tail.first tail.second (label_anywhere version scope earlier (label_in (object ms)) next counted labels),
       ap (λ (x : Tried). (x, last)) shown
           ∙ sub_spelled version places block scope b tail.reasons tail.every label numbers _ tail.between last
           (block_view c.in_ok-body.body) handlers handler done.3 tail.reasons_spelled tail.every_spelled,
@@ -407,6 +410,7 @@ pull_sub-returns t c =
 
 pub pull_sub_step-returns : goal.pull_sub_step-returns
 pull_sub_step-returns t c =
+    let version = c.args.declared.now.version in
     let setting = setting_of c.args.declared.now in
     let places = block_placed setting c.args.levels in
     let block = block_of setting c.args.levels in
@@ -419,13 +423,13 @@ pull_sub_step-returns t c =
     let d = done.0 in
     let label : option_map (λ text. text.now) c.in_ok-read.label ≡ label_in d = done.4 in
     let within : scope_of c.pull_sub.new.state.labels.entries ≡ scope = done.6 in
-    let named : IsMet next (label_asked (scope_of c.pull_sub.new.state.labels.entries) [] (option_map
+    let named : IsMet next (label_asked version (scope_of c.pull_sub.new.state.labels.entries) [] (option_map
     (λ text. text.now) c.in_ok-read.label)) next = grind (arith, rules) in
     let added : scope_of c.new_sub_step.new.labels.entries ≡ with_label (option_map (λ text. text.now) c.in_ok-read.label) Outcome
     (scope_of c.pull_sub.new.state.labels.entries) = grind (arith, rules) in
     let shown : step_view c.in_ok-step.step ≡ sub_step (subaction_view c.in_ok-read.read) = grind (arith, rules) in
-    let allowed = subst (λ s. IsMet next (label_asked s [] (label_in d)) next) within
-    (subst (λ o. IsMet next (label_asked (scope_of c.pull_sub.new.state.labels.entries) [] o) next) label named) in (
+    let allowed = subst (λ s. IsMet next (label_asked version s [] (label_in d)) next) within
+    (subst (λ o. IsMet next (label_asked version (scope_of c.pull_sub.new.state.labels.entries) [] o) next) label named) in (
       d,
       done.1,
       sub_step_met setting scope d places start next done.5 (done.2 [] allowed),
@@ -484,13 +488,13 @@ pull_children-loop-alloc-preserved t c =
     let pushed : c.push.new.self.items ≡ l.children.items ++ x ∷ [] = grind (arith, rules) in
     let index = length l.children.items in
     let after_it : length c.push.new.self.items ≡ index + 1 = ap length pushed ∙ length-append l.children.items (x ∷ []) in
-    let named : IsMet counts (label_asked earlier [] label) counts = grind (arith, rules) in
+    let named : IsMet counts (label_asked version earlier [] label) counts = grind (arith, rules) in
     let met : (ds : Items) → AreUnseen (labels_of (with_label (label_in d) Outcome earlier) ds) scope
     → AreMet l.state.counts (sub_placed version places scope earlier d) counts = λ ds unseen.
-    let allowed = child_label_met scope earlier (label_in d) ds counts unseen
-    (subst (λ o. IsMet counts (label_asked earlier [] o) counts) done.4 named) in
+    let allowed = child_label_met version scope earlier (label_in d) ds counts unseen
+    (subst (λ o. IsMet counts (label_asked version earlier [] o) counts) done.4 named) in
     subst (λ s. AreMet l.state.counts (sub_placed version places s earlier d) counts) l.invariant.5
-    (done.2 earlier (subst (λ s. IsMet counts (label_asked s earlier (label_in d)) counts) (sym l.invariant.5) allowed)) in
+    (done.2 earlier (subst (λ s. IsMet counts (label_asked version s earlier (label_in d)) counts) (sym l.invariant.5) allowed)) in
     let value = subst (λ s. (subaction_view x, after) ≡ sub_of block s (numbers_of l.state.numbering) d) l.invariant.5 done.3 in
     let added : next ≡ with_label label Outcome earlier = grind (arith, rules) in
     let follow = added ∙ ap (λ o. with_label o Outcome earlier) done.4 in (

@@ -119,8 +119,9 @@ invariant-pull_ascending-loop-handlers l =
     × ((reason : List ℕ) (d : Data) (ds : Members) → IsAfter reason (option_map (λ text. text.now) l.before)
     → put reason d (front ds) ≡ front (put reason d ds))
     × ((ds : Members) → seek l.initial.state.counts
-    (members_placed (block_placed (setting_of l.declared) l.levels) (scope_of l.initial.state.labels.entries) (front ds))
-    ≡ seek l.state.counts (members_placed (block_placed (setting_of l.declared) l.levels) (scope_of l.initial.state.labels.entries) ds))
+    (members_placed l.declared.version (block_placed (setting_of l.declared) l.levels) (scope_of l.initial.state.labels.entries) (front ds))
+    ≡ seek l.state.counts (members_placed l.declared.version (block_placed (setting_of l.declared) l.levels)
+    (scope_of l.initial.state.labels.entries) ds))
     × ((ds : Members) → members_of (block_of (setting_of l.declared) l.levels) (scope_of l.initial.state.labels.entries)
     (numbers_of l.initial.state.numbering) (front ds)
     ≡ in_front (map handler_view l.handlers.items)

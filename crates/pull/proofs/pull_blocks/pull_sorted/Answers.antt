@@ -18,7 +18,7 @@ returns c =
     let new = c.pull_members.new.reader in
     let none : members_view c.new.result.entries ≡ no_members = ap members_view c.new.ensures.empty in
     let members = subst (λ before. ReadsMembers k before c.args.reader.now hs new) none c.in_ok-members.ensures in
-    let met : AreMet c.args.state.now.counts (members_placed (block_placed setting c.args.levels) scope hs)
+    let met : AreMet c.args.state.now.counts (members_placed setting.version (block_placed setting c.args.levels) scope hs)
     c.read_members.new.state.counts =
     grind (arith, rules) in
     let value : (map handler_view c.in_ok-handlers.handlers.items, numbers_of c.read_members.new.state.numbering)

@@ -28,7 +28,7 @@ returns-then-fits_word c =
       λ k found ms new reads. subst (λ ts. ReadsMembers k found ts ms new) (sym all)
           (reads_member k found (codes "is") _ (Token.string s ∷ left) left new (string s) ms refl (omega arith)
           (reads_string k s left) reads),
-      λ label first second counts. word_met c.args.subject label first s w second counts meant fits,
+      λ label first second counts. word_met c.args.subject label first c.args.version s w second counts meant fits,
       λ label first second. word_spelled c.args.subject label first s w second (numbers_of c.args.numbering.now) meant fits,
     )
 
@@ -51,7 +51,7 @@ returns-then-fits_number c =
       λ k found ms new reads. subst (λ ts. ReadsMembers k found ts ms new) (sym all)
           (reads_member k found (codes "atleast") _ (Token.number s ∷ left) left new (number x) ms refl (omega arith)
           (reads_number k s x left told.3) reads),
-      λ label first second counts. least_met c.args.subject label first x n second counts told.4 fits,
+      λ label first second counts. least_met c.args.subject label first c.args.version x n second counts told.4 fits,
       λ label first second. ap (λ m. (AtLeast m, numbers)) same ∙ least_spelled c.args.subject label first x n second numbers told.4,
     )
 
@@ -74,6 +74,7 @@ returns-in_ok-item-in-Some-Key-item c =
       λ k found ms new reads. subst (λ ts. ReadsMembers k found ts ms new) (sym all)
           (reads_member k found (codes "item") _ (Token.string s ∷ left) left new (string s) ms refl (omega arith)
           (reads_string k s left) reads),
-      λ label first second counts. entry_met c.args.subject label first s second counts c.in_ok-name-in-Some-Key-item.ensures.1 fits,
+      λ label first second counts. entry_met c.args.subject label first c.args.version s second counts
+          c.in_ok-name-in-Some-Key-item.ensures.1 fits,
       λ label first second. entry_spelled c.args.subject label first s x second numbers after numbered.0 numbered.1,
     )

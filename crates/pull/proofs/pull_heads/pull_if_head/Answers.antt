@@ -42,7 +42,7 @@ returns c =
           (test.2 k m1 ms new (subst (λ ts. ReadsMembers k (put (test_key key) v m1) ts ms new) (sym keyed) later))),
       one,
       seen,
-      λ first second. subst (λ x. IsMet counted (test_asked x (if_step s key v first second)) counted) subject
+      λ first second. subst (λ x. IsMet counted (test_asked c.args.version x (if_step s key v first second)) counted) subject
           (test.3 s first second counted),
       λ first second. subst (λ x. (c.in_ok-test.test, tested) ≡ test_of x numbers (if_step s key v first second)) subject
           (test.4 s first second),

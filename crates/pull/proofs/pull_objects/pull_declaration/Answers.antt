@@ -29,7 +29,7 @@ returns-in_ok-pull_end_object-in-Common c =
     let opened = subst (IsOpened c.args.reader.now mid) c.in-Common.is c.in_ok-name.ensures in
     let ended : last ≡ end_object ∷ new = grind (arith, rules) in
     let known : kind_of_text version t ≡ Some k = grind (arith, rules) in
-    let named : IsMet start (object_name_asked names s) start = grind (arith, rules) in
+    let named : IsMet start (object_name_asked version names s) start = grind (arith, rules) in
     let joined : texts_of c.add_name.new.names.keys ≡ names ++ s ∷ [] = grind (arith, rules) in (
       declaration s t d,
       opened d new (subst (λ ts. ReadsValue 124 mid d ts) ended (reads_deeper 2 124 mid d last (omega arith) done.1)),

@@ -17,7 +17,7 @@ returns-in_err-shape-clause-unmet c =
     let e = c.in_err-shape.field-0.0 in
     let starts = inside (member_named (codes "start")) (start_placed version (kind_in version d) (part (codes "start") d)) nothing in
     raised c.from_residual.result start (object_placed version names d) e c.from_residual.ensures.1
-    (λ other. own_unmet start e (object_shape_asked version d) (itself (object_name_asked names (object_name d)) starts)
+    (λ other. own_unmet start e (object_shape_asked version d) (itself (object_name_asked version names (object_name d)) starts)
     (c.in_err-shape.ensures.first other))
 
 pub returns-in_err-add_name-clause-unmet : goal.returns-in_err-add_name-clause-unmet
@@ -31,8 +31,9 @@ returns-in_err-add_name-clause-unmet c =
     let e = c.in_err-add_name.field-0.0 in
     let starts = inside (member_named (codes "start")) (start_placed version (kind_in version d) (part (codes "start") d)) nothing in
     raised c.from_residual-in_err-add_name.result start (object_placed version names d) e c.from_residual-in_err-add_name.ensures.1
-    (λ other. own_first start start (object_shape_asked version d) (itself (object_name_asked names (object_name d)) starts) shape.met
-    ∙ own_unmet start e (object_name_asked names (object_name d)) starts (rw shape.name at (c.in_err-add_name.ensures.first other)))
+    (λ other. own_first start start (object_shape_asked version d) (itself (object_name_asked version names (object_name d)) starts)
+    shape.met
+    ∙ own_unmet start e (object_name_asked version names (object_name d)) starts (rw shape.name at (c.in_err-add_name.ensures.first other)))
 
 pub returns-in-Ok-clause-met : goal.returns-in-Ok-clause-met
 unfolding object_placed
@@ -44,8 +45,8 @@ returns-in-Ok-clause-met c =
     let shape = c.in_ok-shape.ensures in
     let started = start_placed version (kind_in version d) (part (codes "start") d) in
     let starts = inside (member_named (codes "start")) started nothing in
-    own_first start start (object_shape_asked version d) (itself (object_name_asked names (object_name d)) starts) shape.met
-    ∙ own_first start start (object_name_asked names (object_name d)) starts (rw shape.name at c.in_ok-add_name.ensures.met)
+    own_first start start (object_shape_asked version d) (itself (object_name_asked version names (object_name d)) starts) shape.met
+    ∙ own_first start start (object_name_asked version names (object_name d)) starts (rw shape.name at c.in_ok-add_name.ensures.met)
     ∙ part_met start c.read_start.new.counts (member_named (codes "start")) started nothing
     (rw (shape.kind, shape.start) at c.in-Ok.ensures.met)
 
@@ -59,8 +60,8 @@ returns-in-Err-clause-unmet c other =
     let shape = c.in_ok-shape.ensures in
     let started = start_placed version (kind_in version d) (part (codes "start") d) in
     let starts = inside (member_named (codes "start")) started nothing in
-    own_first start start (object_shape_asked version d) (itself (object_name_asked names (object_name d)) starts) shape.met
-    ∙ own_first start start (object_name_asked names (object_name d)) starts (rw shape.name at c.in_ok-add_name.ensures.met)
+    own_first start start (object_shape_asked version d) (itself (object_name_asked version names (object_name d)) starts) shape.met
+    ∙ own_first start start (object_name_asked version names (object_name d)) starts (rw shape.name at c.in_ok-add_name.ensures.met)
     ∙ found_in start (member_named (codes "start")) started nothing c.in-Err.unmet c.in_member.result c.in_member.ensures
     (rw (shape.kind, shape.start) at c.in-Err.ensures.unmet) other
 

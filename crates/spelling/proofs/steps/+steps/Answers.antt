@@ -204,37 +204,43 @@ read_children-loop-index-preserved t c =
 
 pub read_handler-returns-in_err-number-clause-unmet : goal.read_handler-returns-in_err-number-clause-unmet
 read_handler-returns-in_err-number-clause-unmet t c =
+    let version = c.args.declared.now.version in
     let places = block_placed (setting_of c.args.declared.now) c.args.levels in
     let scope = scope_of c.args.state.now.labels.entries in
     let reason = c.args.reason.now in
     let d = view c.args.value.now in
     let start = c.args.state.now.counts in
     let e = c.in_err-number.field-0.0 in
-    raised c.from_residual.result start (member_placed places scope reason d nothing) e c.from_residual.ensures.1
+    raised c.from_residual.result start (member_placed version places scope reason d nothing) e c.from_residual.ensures.1
     (λ other. let failed = c.in_err-number.ensures.first other in
-    own_unmet start e (holds (is_name reason) (Name Handlers) ∷ []) (inside (member_named reason) (places scope d) nothing)
+    own_unmet start e (holds (is_name version reason) (Name version Handlers) ∷ [])
+    (inside (member_named reason) (places scope d) nothing)
     (rw failed.0 (ap Err (sym failed.1))))
 
 pub read_handler-returns-in_err-block-clause-unmet : goal.read_handler-returns-in_err-block-clause-unmet
 read_handler-returns-in_err-block-clause-unmet t c =
+    let version = c.args.declared.now.version in
     let places = block_placed (setting_of c.args.declared.now) c.args.levels in
     let scope = scope_of c.args.state.now.labels.entries in
     let reason = c.args.reason.now in
     let d = view c.args.value.now in
     let start = c.args.state.now.counts in
-    passed_on c.from_residual-in_err-block.result (IsFound start (member_placed places scope reason d nothing))
+    passed_on c.from_residual-in_err-block.result (IsFound start (member_placed version places scope reason d nothing))
     c.in_err-block.field-0.0 c.from_residual-in_err-block.ensures.1
-    (λ other. own_first start start (holds (is_name reason) (Name Handlers) ∷ []) (inside (member_named reason) (places scope d) nothing)
+    (λ other. own_first start start (holds (is_name version reason) (Name version Handlers) ∷ [])
+    (inside (member_named reason) (places scope d) nothing)
     (rw c.in_ok-number.ensures.met refl) ∙ c.in_err-block.ensures.unmet other)
 
 pub read_handler-returns-clause-met : goal.read_handler-returns-clause-met
 read_handler-returns-clause-met t c =
+    let version = c.args.declared.now.version in
     let places = block_placed (setting_of c.args.declared.now) c.args.levels in
     let scope = scope_of c.args.state.now.labels.entries in
     let reason = c.args.reason.now in
     let start = c.args.state.now.counts in
-    own_first start start (holds (is_name reason) (Name Handlers) ∷ [])
-    (inside (member_named reason) (places scope (view c.args.value.now)) nothing) (rw c.in_ok-number.ensures.met refl) ∙ c.in_ok-block.ensures.met
+    own_first start start (holds (is_name version reason) (Name version Handlers) ∷ [])
+    (inside (member_named reason) (places scope (view c.args.value.now)) nothing) (rw c.in_ok-number.ensures.met refl)
+    ∙ c.in_ok-block.ensures.met
 
 pub read_handler-returns-clause-value : goal.read_handler-returns-clause-value
 read_handler-returns-clause-value t c =
@@ -254,6 +260,7 @@ read_handler-returns-clause-value t c =
 
 pub read_members-returns-in_err-read_handler-clause-unmet : goal.read_members-returns-in_err-read_handler-clause-unmet
 read_members-returns-in_err-read_handler-clause-unmet t c =
+    let version = c.args.declared.now.version in
     let l = c.loop-reason in
     let places = block_placed (setting_of c.args.declared.now) c.args.levels in
     let scope = scope_of c.args.state.now.labels.entries in
@@ -261,14 +268,16 @@ read_members-returns-in_err-read_handler-clause-unmet t c =
     let d = view c.in-Some.value.now in
     let rest = members_view c.next.new.self in
     passed_on c.from_residual-in_err-read_handler.result
-    (IsFound c.args.state.now.counts (members_placed places scope (members_view c.args.members.now.entries)))
+    (IsFound c.args.state.now.counts (members_placed version places scope (members_view c.args.members.now.entries)))
     c.in_err-read_handler.field-0.0 c.from_residual-in_err-read_handler.ensures.1
-    (λ other. l.invariant.asked ∙ ap (λ es. seek l.state.counts (members_placed places scope (members_view es))) c.in-Some.ensures.steps
-    ∙ member_unmet l.state.counts places scope reason d (members_placed places scope rest) _
+    (λ other. l.invariant.asked
+    ∙ ap (λ es. seek l.state.counts (members_placed version places scope (members_view es))) c.in-Some.ensures.steps
+    ∙ member_unmet l.state.counts version places scope reason d (members_placed version places scope rest) _
     (rw (l.invariant.labels, c.as_str.ensures.value) at (c.in_err-read_handler.ensures.unmet other)))
 
 pub read_members-loop-reason-preserved : goal.read_members-loop-reason-preserved
 read_members-loop-reason-preserved t c =
+    let version = c.args.declared.now.version in
     let l = c.loop-reason in
     let setting = setting_of c.args.declared.now in
     let places = block_placed setting c.args.levels in
@@ -285,8 +294,10 @@ read_members-loop-reason-preserved t c =
     let read = map handler_view l.handlers.items in
     let later : List (ℕ × tree.Block) × Numbers = members_of block scope after rest in
     record {
-      asked = l.invariant.asked ∙ ap (λ es. seek l.state.counts (members_placed places scope (members_view es))) c.in-Some.ensures.steps
-          ∙ member_met l.state.counts places scope reason d (members_placed places scope rest) c.read_handler.new.state.counts met;
+      asked = l.invariant.asked
+          ∙ ap (λ es. seek l.state.counts (members_placed version places scope (members_view es))) c.in-Some.ensures.steps
+          ∙ member_met l.state.counts version places scope reason d (members_placed version places scope rest)
+          c.read_handler.new.state.counts met;
       spelled = l.invariant.spelled ∙ ap (λ es. in_front read (members_of block scope numbers (members_view es))) c.in-Some.ensures.steps
           ∙ ap (λ (p : (ℕ × tree.Block) × Numbers). in_front read
           (p.0 ∷ (members_of block scope p.1 rest).0, (members_of block scope p.1 rest).1)) (sym value)

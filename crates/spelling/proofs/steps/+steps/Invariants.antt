@@ -77,10 +77,10 @@ invariant-read_children-loop-index l = record {
 
 abbrev pub invariant-read_members-loop-reason : goal.invariant-read_members-loop-reason
 invariant-read_members-loop-reason l = record {
-  asked : seek l.initial.state.counts (members_placed (block_placed (setting_of l.declared) l.levels)
+  asked : seek l.initial.state.counts (members_placed l.declared.version (block_placed (setting_of l.declared) l.levels)
       (scope_of l.initial.state.labels.entries) (members_view l.members.entries))
-      ≡ seek l.state.counts (members_placed (block_placed (setting_of l.declared) l.levels) (scope_of l.initial.state.labels.entries)
-      (members_view l.reason-iterator));
+      ≡ seek l.state.counts (members_placed l.declared.version (block_placed (setting_of l.declared) l.levels)
+      (scope_of l.initial.state.labels.entries) (members_view l.reason-iterator));
   spelled : members_of (block_of (setting_of l.declared) l.levels) (scope_of l.initial.state.labels.entries)
       (numbers_of l.initial.state.numbering) (members_view l.members.entries)
       ≡ in_front (map handler_view l.handlers.items) (members_of (block_of (setting_of l.declared) l.levels)
