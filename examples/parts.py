@@ -21,7 +21,7 @@ from sharing import shared_out
 from writing import steps_in
 
 LINE = re.compile(r"^([TOISA]) ([1-9][0-9]*)([. ].*\n)", re.M)
-END = re.compile(r"(= [^ ]+ (?:set|directory) \{)(.*)(\}\n)")
+END = re.compile(r"(= [^ ]+ (set|directory) \{)(.*)(\}\n)")
 
 
 def items_of(document):
@@ -83,16 +83,16 @@ def read_report(file, transactions, objects):
 def joined(folder):
     """The report of the whole: the parts' blocks with the whole's numbers, and entries in the whole's order."""
     index = json.loads((folder / "parts.json").read_text())
-    objects = collections.Counter(part for _, part in index["objects"])
-    transactions = collections.Counter(index["transactions"])
+    objects, transactions = collections.Counter(part for _, part in index["objects"]), collections.Counter(index["transactions"])
     reports = [read_report(folder / ("part-%d.txt" % (part + 1)), transactions[part], objects[part])
                for part in range(max([*objects, *transactions], default=0) + 1)]
     for number, part in enumerate(index["transactions"], 1):
         yield LINE.sub(r"\1 %d\3" % number, "".join(next(reports[part][0])))
     order = {item: place for place, item in enumerate(index["items"])}
-    sort = lambda entries: sorted(entries, key=lambda entry: order[entry.split(":")[0]])
+    first = lambda kind, entry: entry if kind == "set" else entry.split("=" if "=" in entry else ":")[0]
+    sort = lambda found: sorted(found[3].split(), key=lambda entry: order[first(found[2], entry)])
     for _, part in index["objects"]:
-        yield END.sub(lambda found: found[1] + " ".join(sort(found[2].split())) + found[3], next(reports[part][1]))
+        yield END.sub(lambda found: found[1] + " ".join(sort(found)) + found[4], next(reports[part][1]))
 
 
 def main():

@@ -11,9 +11,8 @@ import re
 
 from reading import Fault, convert
 
-NAME = re.compile(r"[A-Za-z0-9_-]{1,32}")
-UUID = re.compile(r"[0-9a-f]{8}(?:-[0-9a-f]{4}){3}-[0-9a-f]{12}", re.I)
-OTHERS = re.compile(r"[^A-Za-z0-9_-]+")
+NAME = re.compile(r"[A-Za-z0-9_.:/@+#%-]{1,128}")
+OTHERS = re.compile(r"[^A-Za-z0-9_.:/@+#%-]+")
 
 # What a document has at most; `steps` are those that are no operations, and children.
 LIMITS = {"objects": 1_000_000, "transactions": 1_000_000, "operations": 9_000_000, "steps": 9_000_000}
@@ -28,10 +27,10 @@ class Names:
 
     def of(self, field):
         if field.text not in self.names:
-            name = text = field.text.replace("-", "").lower() if UUID.fullmatch(field.text) else field.text
+            name = text = field.text
             if not NAME.fullmatch(text):
                 shown, digest = OTHERS.sub("-", text), hashlib.sha256(text.encode()).hexdigest()[:12]
-                name = "%s-%s" % (shown if len(shown) <= 19 else shown[:9] + "-" + shown[-9:], digest)
+                name = "%s-%s" % (shown if len(shown) <= 115 else shown[:57] + "-" + shown[-57:], digest)
             if self.texts.setdefault(name, text) != text:
                 raise Fault(field, "%r and %r both get the name %s" % (self.texts[name], text, name))
             self.names[field.text] = name

@@ -122,14 +122,16 @@ def try_limits(program):
             program.expect_fault_everywhere(
                 "100,001 starting entries", given, 12, 0)
 
-    for length, fault in ((32, None), (33, 3)):
-        given = document(
-            ['{"name":"%s","kind":"account","start":0}' % ("n" * length)], [])
-        if fault is None:
-            program.expect("a name of 32 bytes", ["check"], given,
-                           b"ok objects 1 transactions 0 operations 0\n")
-        else:
-            program.expect_fault_everywhere("a name of 33 bytes", given, 3, 0)
+    for version, most in ((1, 32), (4, 32), (5, 128)):
+        for length in (most, most + 1):
+            given = document(
+                ['{"name":"%s","kind":"account","start":0}' % ("n" * length)], [], version)
+            told = "a name of %d bytes in version %d" % (length, version)
+            if length == most:
+                program.expect(told, ["check"], given,
+                               b"ok objects 1 transactions 0 operations 0\n")
+            else:
+                program.expect_fault_everywhere(told, given, 3, 0)
 
 
 # For each limit of version 5: its name, how much it is, a document with so much, and what `check` prints of it but the count.

@@ -9,7 +9,7 @@ import interpreter
 import randoms
 
 CASES = pathlib.Path(__file__).with_name("cases")
-DOCUMENTS, SEED = 400, 5
+DOCUMENTS, SEED = 400, 6
 # How `randoms.py` is asked for many arguments from labels, and for aborts whose reasons have handlers.
 OPTIONS = {"version": 5, "most": 6, "steps": 4, "weight": 4, "reasons": randoms.NAMES[:2]}
 

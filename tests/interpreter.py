@@ -199,6 +199,11 @@ def entries_of(kind, value, places):
     return [[key, value[key]] for key in entries] if kind == "directory" else entries
 
 
+def bound(key, item):
+    """An entry of a directory; no name has `=`."""
+    return ("=" if ":" in key + item else ":").join((key, item))
+
+
 def ends(document, values):
     """The lines of the objects at the end."""
     places = first_places(document)
@@ -206,7 +211,7 @@ def ends(document, values):
         kind, value = one["kind"], values[one["name"]]
         if kind in VALUES:
             entries = entries_of(kind, value, places)
-            value = SHOWN[kind] % " ".join(":".join(entry) if kind == "directory" else entry for entry in entries)
+            value = SHOWN[kind] % " ".join(bound(*entry) if kind == "directory" else entry for entry in entries)
         yield line("=", one["name"], kind, value)
 
 

@@ -11,6 +11,7 @@ SET = {"name": "s", "kind": "set", "start": []}
 DIRECTORY = {"name": "d", "kind": "directory", "start": []}
 OBJECTS = [ACCOUNT, COUNTER, QUEUE, SET, DIRECTORY]
 NAME = ' is no name: a name has 1 to 32 ASCII letters, digits, "_" and "-"'
+LONG_NAME = ' is no name: a name has 1 to 128 ASCII letters, digits and signs of "_-.:/@+#%"'
 TEXT = ", and has to be a text"
 ONE_OF = ' one of "op", "if", "sub", "abort" and "parallel"'
 SOURCE = 'an argument that a label gives is written {"from": "LABEL"}'
@@ -98,6 +99,13 @@ MISTAKES = (
      'the kind "max" is of a later version than 1', objects({"name": "m", "kind": "max", "start": 0}, version=2)),
     ("Shape.ObjectStart", 2, objects({"name": "s", "kind": "set"}), "/objects/0", '"start" is missing', objects(SET)),
     ("Name.Object", 3, objects({**SET, "name": "my set"}), "/objects/0", '"my set"' + NAME, objects({**SET, "name": "my-set"})),
+    ("Name.Object", 3, objects({**SET, "name": "a.b"}), "/objects/0", '"a.b"' + NAME, objects({**SET, "name": "a.b"}, version=5)),
+    ("Name.Object", 3, objects({**SET, "name": "a b"}, version=5), "/objects/0", '"a b"' + LONG_NAME,
+     objects({**SET, "name": "a+b"}, version=5)),
+    ("Name.Handlers", 3, steps({"sub": [], "handlers": {"a/b": [], "a~b": []}}, version=5), FIRST + "/handlers/a~0b",
+     '"a~b"' + LONG_NAME, steps({"sub": [], "handlers": {"a/b": [], "a.b": []}}, version=5)),
+    ("Shape.Sort", 2, steps({"sub": [], "handlers": {"a/b": [{}]}}, version=5), FIRST + "/handlers/a~1b/0",
+     "a step has" + ONE_OF, steps({"sub": [], "handlers": {"a/b": [GOOD]}}, version=5)),
     ("NewObject", 4, objects(SET, SET), "/objects/1", 'an earlier object has the name "s"', objects(SET, {**SET, "name": "t"})),
     ("Start.Of", 13, objects({**ACCOUNT, "start": -1}), "/objects/0/start",
      "an account can't start with -1: it starts with a whole number from 0 to 1,000,000,000,000,000", objects(ACCOUNT)),
@@ -185,7 +193,7 @@ MISTAKES = (
      steps({**GOOD, "else": True}, version=5)),
     ("Shape.Else", 2, steps({**GOOD, "else": "late"}), FIRST + "/else", '"else" is of version 5 on, and this document is of version 4',
      steps({**GOOD, "else": "late"}, version=5)),
-    ("Name.Else", 3, steps({**GOOD, "else": "too late"}, version=5), FIRST + "/else", '"too late"' + NAME,
+    ("Name.Else", 3, steps({**GOOD, "else": "too late"}, version=5), FIRST + "/else", '"too late"' + LONG_NAME,
      steps({**GOOD, "else": "too-late"}, version=5)),
     ("Source.Label", 7, given({"form": "n"}), LATER + "/op/2", SOURCE + '; did you mean "from"?', given({"from": "n"})),
     ("Source.Label", 7, given({"from": 7}), LATER + "/op/2", SOURCE, given({"from": "n"})),
@@ -254,7 +262,7 @@ def try_mistake(program, number, document, path, words, mended):
 def rules():
     """The names of the rules that there are, each after what is wrong where it isn't kept."""
     source = (ROOT / "crates" / "rules" / "src" / "rule.rt").read_text()
-    enums = {name: re.findall(r"^    (\w+)(?:\((?:Place, )?(\w+)\))?", body, re.MULTILINE)
+    enums = {name: re.findall(r"^    (\w+)(?:\((?:Place, |u8, )?(\w+)\))?", body, re.MULTILINE)
              for name, body in re.findall(r"^pub enum (\w+) \{\n(.*?)^\}", source, re.MULTILINE | re.DOTALL)}
     return {"%s.%s" % (rule, one) if held in enums else rule
             for rule, held in enums["Rule"] for one, _ in enums.get(held, [("", "")])}

@@ -1,6 +1,7 @@
 """Random documents that `check` takes, and random faults in them."""
 
 import copy
+import re
 
 # For each kind the version that has it, random starts, and its operations: version, arguments, words or the other test.
 KINDS = {
@@ -23,7 +24,8 @@ MEMBERS = ("ordtx", "objects", "transactions", "name", "kind", "start", "op", "f
            "sub", "handlers", "handler", "abort", "parallel")
 NAMES = ("a", "b-1", "C_2", "0", "n" * 32)
 NUMBERS = (0, -1, 1, 10 ** 12, 10 ** 12 + 1, 10 ** 15 + 1, -10 ** 15 - 1, 2 ** 63 - 1, 2 ** 63, -2 ** 63, -2 ** 63 - 1, 2 ** 64, 0.5)
-OTHERS = (None, True, False, 3, "x", "", "a b", "ä", "a\n", "n" * 33, [], {}, [[]], ["a"], ["a", "b"])
+OTHERS = (None, True, False, 3, "x", "", "a b", "ä", "a\n", "a.b", "n" * 33, "n" * 129, [], {}, [[]], ["a"], ["a", "b"])
+SHORT = re.compile(r"a|b-1|C_2|0|n{32}|[on][0-9]+")
 
 
 def name(chance, among=NAMES):
@@ -112,6 +114,15 @@ class Writer:
         return {"parallel": children}
 
 
+def renamed(value):
+    """The same with names that no version before 5 has."""
+    if isinstance(value, str):
+        return "Assets:%s/@+#%%." % value if SHORT.fullmatch(value) else value
+    if isinstance(value, dict):
+        return {renamed(name): renamed(part) for name, part in value.items()}
+    return [renamed(part) for part in value] if isinstance(value, list) else value
+
+
 def whole(chance, version=None, most=3, **options):
     """A document that `check` takes, with at most so many objects and transactions, and options of the `Writer`."""
     version = version or chance.randrange(1, 6)
@@ -122,7 +133,8 @@ def whole(chance, version=None, most=3, **options):
         objects.append({"name": "o%d" % number, "kind": kind, "start": KINDS[kind][1](chance)})
     writer = Writer(chance, version, objects, **options)
     transactions = [writer.block(3, {}) for _ in range(chance.randrange(most + 1))]
-    return {"ordtx": version, "objects": objects, "transactions": transactions}
+    document = {"ordtx": version, "objects": objects, "transactions": transactions}
+    return renamed(document) if version > 4 and chance.random() < 0.5 else document
 
 
 def long(chance, transactions, steps, apart=False):
