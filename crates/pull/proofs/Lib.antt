@@ -1,5 +1,6 @@
 pub mod DocumentLemmas
 pub mod PulledLemmas
+pub mod PulledArguments
 pub mod PulledSteps
 pub mod PulledSubs
 pub mod PulledTests

@@ -12,7 +12,10 @@ use Rattle.spelling.specs.declared.counts.Counts.{Counts}
 use Rattle.spelling.specs.Answer.{AreMet}
 use Rattle.spelling.specs.Places.{Places, block_placed_if, handlers_placed}
 use Rattle.spelling.specs.Scope.{Numbers, Scope}
-use Rattle.spelling.specs.Spelled.{Spelling, block_of_if, handlers_spelled}
+use Rattle.spelling.specs.Spelled.{Spelling, block_of_if, handlers_spelled, reason_of, spelled_map}
+use Rattle.spelling.specs.Asked.{has_fills}
+use Rattle.meaning.specs.declared.template.Refusal.{Refusal}
+use Rattle.meaning.specs.declared.template.Refusal.TheVariants.{GoesOn, Aborts}
 
 -- of the tokens `old`, the first make the value d, which nests no deeper than k, and `new` are left
 abbrev pub ReadsValue : ℕ → List Token → Data → List Token → Type 0
@@ -33,9 +36,30 @@ abbrev pub labelled : Option (List ℕ) → Members → Members
 labelled None ms = ms
 labelled (Some name) ms = put (codes "as") (string name) ms
 
--- an operation by its array and its label
-abbrev pub op_step : Option (List ℕ) → Data → Data
-op_step label op = object (labelled label (member (codes "op") op no_members))
+-- a step's members, once it is said whether its refusal aborts, and for which reason, where there is one
+abbrev pub with_abort : Option (Option (List ℕ)) → Members → Members
+with_abort None ms = ms
+with_abort (Some None) ms = put (codes "else") (boolean true) ms
+with_abort (Some (Some reason)) ms = put (codes "else") (string reason) ms
+
+-- a version may have it
+abbrev pub may_abort : ℕ → Option (Option (List ℕ)) → Bool
+may_abort version None = true
+may_abort version (Some reason) = has_fills version
+
+-- its reason
+abbrev pub reason_in : Option (Option (List ℕ)) → Option (List ℕ)
+reason_in None = None
+reason_in (Some reason) = reason
+
+-- what the refusal does, with the numbers after it
+abbrev pub refusal_told : Numbers → Option (Option (List ℕ)) → Refusal × Numbers
+refusal_told numbers None = (GoesOn, numbers)
+refusal_told numbers (Some reason) = spelled_map Aborts (reason_of numbers reason)
+
+-- an operation by its array, its label and whether its refusal aborts
+abbrev pub op_step : Option (List ℕ) → Option (Option (List ℕ)) → Data → Data
+op_step label abort op = object (with_abort abort (labelled label (member (codes "op") op no_members)))
 
 -- an operation's array by its object, its call and what follows
 abbrev pub op_array : List ℕ → List ℕ → Items → Data

@@ -11,38 +11,41 @@ ghost use Rattle.std.specs.Prelude.{◌≡◌, ℕ, Bool, List, ◌∷◌, ◌++
 ghost use Rattle.json.specs.Token as token;
 ghost use Rattle.fast_float.specs.Text.{with_sign};
 ghost use Rattle.serde_json.specs.Data.{Data, Items, Members, Num, member, negative, number, object, unsigned};
-ghost use Rattle.serde_json.specs.Find.{as_i64, of_integer};
+ghost use Rattle.serde_json.specs.Find.{as_i64, at, of_integer};
 ghost use Rattle.serde_json.specs.Read.{number_of};
 ghost use Rattle.serde_json.specs.View.{items_view, members_view, view};
 ghost use Rattle.batch.specs.Views.{step_view};
-ghost use Rattle.spelling.specs.Asked.{arguments_asked, scope_after};
+ghost use Rattle.spelling.specs.Asked.{amount_asked, argument_asked, arguments_asked, has_fills, index_of, reason_asked, scope_after, subject_of};
 ghost use Rattle.spelling.specs.Places.{Places, step_placed};
 ghost use Rattle.spelling.specs.Answer.{AreMet, IsMet};
-ghost use Rattle.pull.specs.Pulled.{Begins, ReadsItems, ReadsMembers, ReadsValue, in_order, labelled, op_array};
-ghost use Rattle.spelling.specs.Scope.{Scope, numbers_of, scope_of, setting_of};
-ghost use Rattle.spelling.specs.Spelled.{Spelling, step_of, template_of};
+ghost use Rattle.pull.specs.Pulled.{Begins, ReadsItems, ReadsMembers, ReadsValue, in_order, labelled, may_abort, op_array, reason_in, refusal_told, with_abort};
+ghost use Rattle.spelling.specs.Scope.{Numbers, is_named, label_number, numbers_of, scope_of, setting_of};
+ghost use Rattle.spelling.specs.Spelled.{Spelling, argument_of, step_of, template_of};
+ghost use Rattle.rules.specs.declared.rule.Place.{Place};
 ghost use Rattle.batch.specs.Names.{is_name};
 ghost use Rattle.rules.specs.Limits.{limits_of};
 ghost use Rattle.rules.specs.declared.limits.TheConstants.{LAST_VERSION};
 ghost use Rattle.cuts.specs.Whole.{is_left};
 
 use crate::stop::Stop;
-use batch::{Call, Step, is_name};
+use batch::{Step, is_name};
 use fast_float::Numeral;
 use json::{Reader, Token};
-use meaning::Template;
+use meaning::{Argument, Refusal, Template};
 use objects::Amount;
-use rules::{LAST_VERSION, Limits, Subject};
+use rules::{LAST_VERSION, Limits, NameRule, Subject, fits_item, fits_number};
 use serde_json::{Map, Value};
-use spelling::arguments::item_of;
+use spelling::arguments::{has_fills, item_of, item_template, pair_template};
 use spelling::counts::Counts;
 use spelling::declared::Declared;
-use spelling::labels::add_new_label;
+use spelling::hashing::Labels;
+use spelling::labels::{add_new_label, found_label};
 use spelling::numbers::number_of;
-use spelling::operations::target_of;
+use spelling::operations::{operation_step, target_of};
 use spelling::state::{Numbering, State};
+use spelling::steps::read_reason;
 use std::alloc::Global;
-use words::Verb;
+use words::{AmountVerb, Verb};
 
 /// How deep an object or a transaction may nest.
 pub const PART_DEPTH: usize = 125;
@@ -133,16 +136,6 @@ pub(crate) fn pull_whole(reader: &mut Reader<'_>) -> Result<i64, Stop>
     }
 }
 
-fn pull_amount(reader: &mut Reader<'_>) -> Result<Amount, Stop>
-    ensures { IfOk result (λ amount. (s : List ℕ) × (reader.old ≡ token.number s ∷ reader.new)
-        × (number_of s ≡ Some (unsigned amount.value))) }
-{
-    match reader.next() {
-        Some(Token::Number(text)) => amount_of(text).ok_or(Stop::OtherForm),
-        _ => Err(Stop::OtherForm),
-    }
-}
-
 pub(crate) fn pull_begin_object(reader: &mut Reader<'_>) -> Result<(), Stop>
     ensures { IfOk result (λ _. reader.old ≡ token.begin_object ∷ reader.new) }
 {
@@ -211,61 +204,232 @@ pub(crate) fn pull_some_key<'a>(reader: &mut Reader<'a>) -> Result<&'a str, Stop
 
 // ---- operations
 
+/// The number of the label that gives an argument, and what it is of, if the version has such
+/// arguments and the label is seen. The bracket that begins the argument has been read.
+fn pull_source(
+    version: u8,
+    labels: &Labels,
+    reader: &mut Reader<'_>,
+) -> Result<(u32, Subject), Stop>
+    ensures { IfOk result (λ label. (name : List ℕ)
+        × (reader.old
+        ≡ token.key (codes "from") ∷ token.string name ∷ token.end_object ∷ reader.new)
+        × (has_fills version ≡ true) × (is_named name (scope_of labels.now.entries) ≡ true)
+        × (label.0 ≡ label_number name (scope_of labels.now.entries))
+        × (label.1 ≡ subject_of name (scope_of labels.now.entries))) }
+{
+    if !has_fills(version) {
+        return Err(Stop::OtherForm);
+    }
+    pull_key(reader, "from")?;
+    let name = pull_text(reader)?;
+    pull_end_object(reader)?;
+    found_label(name, labels).ok_or(Stop::OtherForm)
+}
+
+/// A call with the next amount, or with a label that gives one.
+fn pull_amount_call(
+    version: u8,
+    verb: AmountVerb,
+    labels: &Labels,
+    reader: &mut Reader<'_>,
+) -> Result<Template, Stop>
+    ensures { IfOk result (λ template. (d : Data) × ReadsValue 1 reader.old d reader.new
+        × ((op : Data) (counts : Counts) → at 2 op ≡ Some d
+        → IsMet counts (amount_asked version (scope_of labels.now.entries) op) counts)
+        × ((op : Data) (numbers : Numbers) → at 2 op ≡ Some d → (template, numbers)
+        ≡ template_of version (scope_of labels.now.entries) (Verb.OfAmount verb) numbers op)) }
+{
+    match reader.next() {
+        Some(Token::Number(text)) => {
+            let amount = amount_of(text).ok_or(Stop::OtherForm)?;
+            Ok(Template::Given(verb.call(amount)))
+        }
+        Some(Token::BeginObject) => {
+            let (label, subject) = pull_source(version, labels, reader)?;
+            if fits_number(subject) {
+                Ok(Template::OfAmount(verb, label))
+            } else {
+                Err(Stop::OtherForm)
+            }
+        }
+        _ => Err(Stop::OtherForm),
+    }
+}
+
+/// The next item, or the label that gives one.
+fn pull_argument(
+    alloc: Global,
+    version: u8,
+    labels: &Labels,
+    reader: &mut Reader<'_>,
+    numbering: &mut Numbering,
+) -> Result<Argument, Stop>
+    ensures { IfOk result (λ argument. (d : Data) × ReadsValue 1 reader.old d reader.new
+        × ((place : Place) (op : Data) (counts : Counts) → at (index_of place) op ≡ Some d
+        → IsMet counts (argument_asked version (scope_of labels.now.entries) place op) counts)
+        × ((place : Place) (op : Data) → at (index_of place) op ≡ Some d
+        → (argument, numbers_of numbering.new)
+        ≡ argument_of version (scope_of labels.now.entries) (index_of place)
+        (numbers_of numbering.old) op)) }
+{
+    match reader.next() {
+        Some(Token::String(name)) => {
+            if !is_name(version, name) {
+                return Err(Stop::OtherForm);
+            }
+            Ok(Argument::Is(item_of(alloc, name, numbering)?))
+        }
+        Some(Token::BeginObject) => {
+            let (label, subject) = pull_source(version, labels, reader)?;
+            if fits_item(subject) {
+                Ok(Argument::From(label))
+            } else {
+                Err(Stop::OtherForm)
+            }
+        }
+        _ => Err(Stop::OtherForm),
+    }
+}
+
 /// The arguments of a call, up to the end of the operation's array.
 fn pull_arguments(
     alloc: Global,
     version: u8,
     verb: Verb,
+    labels: &Labels,
     reader: &mut Reader<'_>,
     numbering: &mut Numbering,
-) -> Result<Call, Stop>
-    ensures { IfOk result (λ call. (rest : Items) × ReadsItems 0 reader.old rest reader.new
-        × ((scope : Scope) (o c : List ℕ) (counts : Counts)
-        → IsMet counts (arguments_asked version scope verb (op_array o c rest)) counts)
-        × ((scope : Scope) (o c : List ℕ)
-        → (Template.Given call, numbers_of numbering.new)
-        ≡ template_of version scope verb (numbers_of numbering.old) (op_array o c rest))) }
+) -> Result<Template, Stop>
+    ensures { IfOk result (λ template. (rest : Items) × ReadsItems 1 reader.old rest reader.new
+        × ((o c : List ℕ) (counts : Counts) → IsMet counts
+        (arguments_asked version (scope_of labels.now.entries) verb (op_array o c rest)) counts)
+        × ((o c : List ℕ) → (template, numbers_of numbering.new)
+        ≡ template_of version (scope_of labels.now.entries) verb (numbers_of numbering.old)
+        (op_array o c rest))) }
 {
     match verb {
         Verb::OfAmount(verb) => {
-            let amount = pull_amount(reader)?;
+            let template = pull_amount_call(version, verb, labels, reader)?;
             pull_end_array(reader)?;
-            Ok(verb.call(amount))
+            Ok(template)
         }
         Verb::OfItem(verb) => {
-            let name = pull_name(reader, version)?;
+            let item = pull_argument(alloc, version, labels, reader, numbering)?;
             pull_end_array(reader)?;
-            let item = item_of(alloc, name, numbering)?;
-            Ok(verb.call(item))
+            Ok(item_template(verb, item))
         }
         Verb::OfPair(verb) => {
-            let key_name = pull_name(reader, version)?;
-            let name = pull_name(reader, version)?;
+            let key = pull_argument(alloc, version, labels, reader, numbering)?;
+            let item = pull_argument(alloc, version, labels, reader, numbering)?;
             pull_end_array(reader)?;
-            let key = item_of(alloc, key_name, numbering)?;
-            let item = item_of(alloc, name, numbering)?;
-            Ok(verb.call(key, item))
+            Ok(pair_template(verb, key, item))
         }
         Verb::Alone(verb) => {
             pull_end_array(reader)?;
-            Ok(verb.call())
+            Ok(Template::Given(verb.call()))
         }
     }
 }
 
-/// The label of a step whose other members have been read, if it has one, and the step's end.
-fn pull_label<'a>(reader: &mut Reader<'a>) -> Result<Option<&'a str>, Stop>
-    ensures { IfOk result (λ label. (found : Members)
-        → ReadsMembers 0 found reader.old (labelled (option_map (λ text. text.now) label) found) reader.new) }
+/// The reason of an `else` whose key has been read, where it has one and the version has `else`,
+/// and the operation's end.
+fn pull_else_reason<'a>(reader: &mut Reader<'a>, version: u8) -> Result<Option<&'a str>, Stop>
+    ensures { IfOk result (λ reason. (has_fills version ≡ true) × ((found : Members)
+        → ReadsMembers 0 found (token.key (codes "else") ∷ reader.old)
+        (with_abort (Some (option_map (λ text. text.now) reason)) found) reader.new)) }
+{
+    if !has_fills(version) {
+        return Err(Stop::OtherForm);
+    }
+    match reader.next() {
+        Some(Token::Bool(true)) => {
+            pull_end_object(reader)?;
+            Ok(None)
+        }
+        Some(Token::String(reason)) => {
+            pull_end_object(reader)?;
+            Ok(Some(reason))
+        }
+        _ => Err(Stop::OtherForm),
+    }
+}
+
+/// Whether a refusal aborts, with its reason where it has one, and the operation's end.
+fn pull_else<'a>(reader: &mut Reader<'a>, version: u8) -> Result<Option<Option<&'a str>>, Stop>
+    ensures { IfOk result (λ abort.
+        let told = option_map (λ reason. option_map (λ text. text.now) reason) abort in
+        (may_abort version told ≡ true) × ((found : Members)
+        → ReadsMembers 0 found reader.old (with_abort told found) reader.new)) }
 {
     match reader.next() {
         Some(Token::EndObject) => Ok(None),
+        Some(Token::Key("else")) => Ok(Some(pull_else_reason(reader, version)?)),
+        _ => Err(Stop::OtherForm),
+    }
+}
+
+/// What comes after an operation's array.
+#[derive(Clone, Copy, Drop)]
+struct OperationRest<'a> {
+    label: Option<&'a str>,
+    /// Whether its refusal aborts, with the reason where it has one.
+    abort: Option<Option<&'a str>>,
+}
+
+/// The label of an operation, if it has one, its `else`, if it has one, and its end.
+fn pull_operation_rest<'a>(reader: &mut Reader<'a>, version: u8) -> Result<OperationRest<'a>, Stop>
+    ensures { IfOk result (λ rest.
+        let label = option_map (λ text. text.now) rest.label in
+        let told = option_map (λ reason. option_map (λ text. text.now) reason) rest.abort in
+        (may_abort version told ≡ true) × ((found : Members)
+        → ReadsMembers 0 found reader.old (with_abort told (labelled label found)) reader.new)) }
+{
+    match reader.next() {
+        Some(Token::EndObject) => Ok(OperationRest {
+            label: None,
+            abort: None,
+        }),
         Some(Token::Key("as")) => {
             let label = pull_text(reader)?;
-            pull_end_object(reader)?;
-            Ok(Some(label))
+            let abort = pull_else(reader, version)?;
+            Ok(OperationRest {
+                label: Some(label),
+                abort,
+            })
+        }
+        Some(Token::Key("else")) => {
+            let reason = pull_else_reason(reader, version)?;
+            Ok(OperationRest {
+                label: None,
+                abort: Some(reason),
+            })
         }
         _ => Err(Stop::OtherForm),
+    }
+}
+
+/// What a refusal does: whether it aborts, and the number of its reason, where it has one.
+fn refusal_of(
+    alloc: Global,
+    abort: Option<Option<&str>>,
+    version: u8,
+    state: &mut State,
+) -> Result<Refusal, Stop>
+    ensures { IfOk result (λ refusal.
+        let told = option_map (λ reason. option_map (λ text. text.now) reason) abort.entry in
+        IsMet state.old.counts (reason_asked version NameRule.Else (reason_in told))
+        state.new.counts
+        × ((refusal, numbers_of state.new.numbering)
+        ≡ refusal_told (numbers_of state.old.numbering) told)
+        × (scope_of state.new.labels.entries ≡ scope_of state.old.labels.entries)) }
+{
+    match abort {
+        Some(reason) => {
+            let number = read_reason(alloc, reason, version, NameRule::Else, state)?;
+            Ok(Refusal::Aborts(number))
+        }
+        None => Ok(Refusal::GoesOn),
     }
 }
 
@@ -276,7 +440,7 @@ pub(crate) fn pull_operation(
     declared: &Declared,
     state: &mut State,
 ) -> Result<Step, Stop>
-    ensures { IfOk result (λ step. (d : Data) × ReadsValue 2 (token.begin_object ∷ token.key (codes "op") ∷ reader.old) d reader.new
+    ensures { IfOk result (λ step. (d : Data) × ReadsValue 3 (token.begin_object ∷ token.key (codes "op") ∷ reader.old) d reader.new
         × ((places : Places) → AreMet state.old.counts
         (step_placed places (setting_of declared.now) (scope_of state.old.labels.entries) d)
         state.new.counts)
@@ -289,21 +453,25 @@ pub(crate) fn pull_operation(
     let call = pull_text(reader)?;
     state.counts.one_more_operation(declared.version)?;
     let (object, verb) = target_of(object, call, declared, &state.counts)?;
-    let call = pull_arguments(alloc, declared.version, verb, reader, &mut state.numbering)?;
-    let label = pull_label(reader)?;
+    let template = pull_arguments(
+        alloc,
+        declared.version,
+        verb,
+        &state.labels,
+        reader,
+        &mut state.numbering,
+    )?;
+    let rest = pull_operation_rest(reader, declared.version)?;
+    let refusal = refusal_of(alloc, rest.abort, declared.version, state)?;
     add_new_label(
         alloc,
         declared.version,
-        label,
+        rest.label,
         Subject::Reply(verb),
         &mut state.labels,
         &state.counts,
     )?;
-    Ok(Step::Op {
-        object,
-        call,
-        labelled: label.is_some(),
-    })
+    Ok(operation_step(alloc, object, template, rest.label.is_some(), refusal)?)
 }
 
 // ---- values

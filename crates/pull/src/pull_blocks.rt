@@ -1,9 +1,9 @@
 //! Reads the steps of a block straight from their tokens, where they are in the common form.
 //!
-//! The common form, member by member: an operation's `op`, with no argument that a label gives, and
-//! its `as`; a subaction's or a child's `sub`, and then its `as` at any place, its `handlers` and, after
-//! them, its `handler`; `parallel` alone; `if`, one of `is`, `atleast` and `item`, then `then`, and
-//! `else`; `abort` alone. What may be left out may be left out, and no member comes twice.
+//! The common form, member by member: an operation's `op`, then its `as`, and its `else`; a
+//! subaction's or a child's `sub`, and then its `as` at any place, its `handlers` and, after them,
+//! its `handler`; `parallel` alone; `if`, one of `is`, `atleast` and `item`, then `then`, and `else`;
+//! `abort` alone. What may be left out may be left out, and no member comes twice.
 //!
 //! Of a step whose first member is another, a small tree is made and read as in any other document. So
 //! texts are numbered in the same order. Handlers by reason are read in the order of the reasons' bytes:

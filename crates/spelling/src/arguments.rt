@@ -34,7 +34,7 @@ pub(crate) struct Seen<'s> {
 }
 
 /// Whether the operations of a version may have arguments that labels give, and `else`.
-fn has_fills(version: u8) -> bool
+pub fn has_fills(version: u8) -> bool
     ensures { result ≡ has_fills version }
 {
     version >= 5
@@ -242,7 +242,8 @@ fn read_argument(
     Ok(Argument::Is(item_of(alloc, name, numbering)?))
 }
 
-fn item_template(verb: ItemVerb, item: Argument) -> Template
+/// The call of an item, or of one that a label gives.
+pub fn item_template(verb: ItemVerb, item: Argument) -> Template
     ensures { result ≡ item_template verb item }
 {
     match item {
@@ -251,7 +252,8 @@ fn item_template(verb: ItemVerb, item: Argument) -> Template
     }
 }
 
-fn pair_template(verb: PairVerb, key: Argument, item: Argument) -> Template
+/// The call of a key and an item, each of which a label may give.
+pub fn pair_template(verb: PairVerb, key: Argument, item: Argument) -> Template
     ensures { result ≡ pair_template verb key item }
 {
     match (key, item) {

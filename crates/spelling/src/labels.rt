@@ -179,7 +179,7 @@ pub fn seen_label(name: &str, labels: &Labels, counts: &Counts) -> Result<(u32, 
 
 /// The number of a label and what it is of, if it is seen.
 #[tactic(auto, using(crate::proofs::LabelLemmas::all_labels))]
-pub(crate) fn found_label(name: &str, labels: &Labels) -> Option<(u32, Subject)>
+pub fn found_label(name: &str, labels: &Labels) -> Option<(u32, Subject)>
     ensures seen { is_some result ≡ is_named name.now (scope_of labels.now.entries) }
     ensures number { IfSome result (λ label. label.0 ≡ label_number name.now (scope_of labels.now.entries)) }
     ensures subject { IfSome result (λ label. label.1 ≡ subject_of name.now (scope_of labels.now.entries)) }

@@ -191,7 +191,7 @@ pub fn read_operation(
 }
 
 /// The step of an operation: a plain one, where its call is given and its refusal does nothing.
-fn operation_step(
+pub fn operation_step(
     alloc: Global,
     object: u32,
     template: Template,

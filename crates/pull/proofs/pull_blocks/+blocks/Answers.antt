@@ -682,7 +682,7 @@ pull_step-returns-in-op t c =
     (λ step w. (
       w.0,
       subst (λ ts. ReadsValue k ts w.0 c.pull_operation.new.reader) (sym begun)
-          (reads_deeper 2 k _ w.0 c.pull_operation.new.reader (omega arith) w.1),
+          (reads_deeper 3 k _ w.0 c.pull_operation.new.reader (omega arith) w.1),
       w.2 places,
       w.3 block,
       w.4,
