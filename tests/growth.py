@@ -172,20 +172,15 @@ STEPS = (
      % op("a", "deposit", 1), 6),
     ("children", '{"parallel":[{"sub":[%s]},{"sub":[]}]}'
      % op("a", "deposit", 1), 8),
-)
-
-
-# Operations whose calls are made are read by a tree of their transaction, and have a box each.
-TREES = (
-    ("calls of replies", '{"op":["a","deposit",{"from":"n"}]}', 10),
-    ("refusals", '{"op":["a","withdraw",1],"else":"r"}', 9),
+    ("calls of replies", '{"op":["a","deposit",{"from":"n"}]}', 1),
+    ("refusals", '{"op":["a","withdraw",1],"else":"r"}', 1),
 )
 
 
 def try_reading(program, library):
     """Most steps are read straight from the text, not by trees of their members."""
     first = '{"op":["a","balance"],"as":"n"}'
-    for name, step, most in STEPS + TREES:
+    for name, step, most in STEPS:
         words = ["check"]
         got, made, _ = preloaded.run(
             library, 0, words, program.path,

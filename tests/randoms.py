@@ -69,9 +69,9 @@ class Writer:
             one for one in KINDS[target["kind"]][2] if one[1] <= self.version
             for _ in range(self.weight if one[3] == "atleast" or "item" in one[3] else 1)])
         step = {"op": [target["name"], verb, *(self.argument(one, seen) for one in arguments)]}
-        if self.version > 4 and chance.random() < 0.3:
-            step["else"] = chance.choice((True, name(chance, self.reasons)))
-        return self.label(step, tests, seen)
+        aborts = {"else": chance.choice((True, name(chance, self.reasons)))} if self.version > 4 and chance.random() < 0.3 else {}
+        # After `as`, or before it.
+        return {**self.label({**step, **aborts} if chance.random() < 0.3 else step, tests, seen), **aborts}
 
     def argument(self, sort, seen):
         """An amount or an item, or, in a version that has it, a label that may give one."""
