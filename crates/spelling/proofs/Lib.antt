@@ -10,3 +10,4 @@ pub mod ListLemmas
 pub mod BlockLemmas
 pub mod MetLemmas
 pub mod DistinctTexts
+pub mod DigestLemmas

@@ -2,16 +2,13 @@
 use Rattle.std.proofs.Common.{◌≡◌, ◌<◌, ◌+◌, ◌||◌, ℕ, suc, Bool, true, false, not, cond, List, [], ◌∷◌, ◌++◌, Some, None, String, Global}
 use Rattle.std.proofs.Common.{string_bytes, get_or, refl, ap, ap₂, sym, ◌∙◌, arith}
 use Rattle.std.proofs.lemmas.Bool.{false_from_ne_true, ltb-true}
-use Rattle.std.specs.Prelude.{nat_lt, position, length, slice_get, option_map}
+use Rattle.std.specs.Prelude.{nat_lt, position, length}
 use Rattle.std.specs.List.{IsDistinct, list_any, position_or_len}
 use Rattle.std.specs.Str.{bytes_eq}
 use Rattle.std.specs.String.{string_eq}
 use Rattle.std.proofs.lemmas.List.Sums.{position_or_len_is}
 use Rattle.std.proofs.lemmas.Map.Keys.{apart_from_distinct}
-use Rattle.std.proofs.lemmas.Option.{slice_get-map}
 use Rattle.std.proofs.lemmas.Slice.Eq.{bytes_eq-Decides}
-use Rattle.objects.specs.Objects.{kind_of_value}
-use Rattle.objects.specs.Entries.{State, kinds}
 use Rattle.batch.specs.Names.{texts_of}
 use Rattle.spelling.specs.Scope.{Table, place_of, is_listed, with_text}
 
@@ -122,7 +119,3 @@ place_of_key text keys i k distinct within here is =
     (λ j before. other_key text k (get_or keys j k) is (rw here at (apart_from_distinct string_eq keys j i k distinct before lt)))
     (λ _. ap test here ∙ (bytes_eq-Decides text (string_bytes k)).1 (sym ((bytes_eq-Decides (string_bytes k) text).0 is))) in
     place_of-keys text keys ∙ ap (λ n. cond (nat_lt n (length keys)) (Some n) None) first ∙ ap (λ b. cond b (Some i) None) within
-
--- the kind of the object at a place
-pub kind_at : (objects : State) (i : ℕ) → slice_get (kinds objects) i ≡ option_map kind_of_value (slice_get objects i)
-kind_at objects i = slice_get-map kind_of_value objects i

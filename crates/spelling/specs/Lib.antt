@@ -7,3 +7,4 @@ pub mod Heads
 pub mod Places
 pub mod Spelled
 pub mod Answer
+pub mod Digests

@@ -3,6 +3,7 @@ ghost use Rattle.std.specs.Prelude.{◌≡◌, ◌<◌, is_some, length, IfSome}
 ghost use Rattle.batch.specs.Names.{texts_of};
 ghost use Rattle.spelling.specs.Scope.{is_listed, place_of};
 
+use crate::digests::{Digest, Outline};
 use crate::hashing::Texts;
 use crate::state::fit;
 use batch::NoMemory;
@@ -14,36 +15,16 @@ const MIXER: u64 = 0x9E37_79B9_7F4A_7C15;
 /// By slot, one more than the place of the last name that fell on it, or 0. There are at least four
 /// times as many slots as names.
 ///
-/// A hint saves the hashing of a name, and promises nothing: whoever takes one compares the names.
+/// A hint saves the hashing of a name, and promises nothing: whoever takes one compares the names,
+/// or digests that are whole.
 #[derive(Drop)]
 pub(crate) struct Hints {
     ends: Vec<u32>,
 }
 
-/// The last 8 bytes of a name as a number, or all of a shorter one.
-fn ending_of(name: &[u8]) -> u64 {
-    if let Some((_, last)) = name.split_last_chunk::<8>() {
-        return u64::from_le_bytes(*last);
-    }
-    if let Some((rest, last)) = name.split_last_chunk::<4>() {
-        return (short_of(rest) << 32) | u64::from(u32::from_le_bytes(*last));
-    }
-    short_of(name)
-}
-
-/// Three bytes or fewer as a number.
-fn short_of(bytes: &[u8]) -> u64 {
-    let mut number = 0;
-    for byte in bytes {
-        number = (number << 8) | u64::from(*byte);
-    }
-    number
-}
-
-/// The slot of a name, by its length and its last 8 bytes.
-fn slot_of(name: &str, slots: usize) -> usize {
-    let bytes = name.as_bytes();
-    let once = (ending_of(bytes) ^ bytes.len() as u64).wrapping_mul(MIXER);
+/// The slot of a name with this digest.
+fn slot_of(digest: Digest, slots: usize) -> usize {
+    let once = (digest.ending ^ u64::from(digest.length)).wrapping_mul(MIXER);
     let twice = (once ^ (once >> 32)).wrapping_mul(MIXER);
     ((twice >> 32).wrapping_mul(slots as u64) >> 32) as usize
 }
@@ -56,18 +37,30 @@ impl Hints {
         }
     }
 
-    /// Hints at the places of these names.
-    pub(crate) fn of(alloc: Global, names: &Texts) -> Result<Hints, NoMemory> {
-        let ends = vec![in alloc; 0u32; names.len().saturating_mul(8)]?;
-        let mut hints = Hints { ends };
-        for (place, name) in names.as_slice().iter().enumerate() {
-            hints.note(name.as_str(), place);
+    /// Hints at the places of the objects with these outlines.
+    pub(crate) fn of_objects(alloc: Global, outlines: &[Outline]) -> Result<Hints, NoMemory> {
+        let mut hints = Hints::with_room(alloc, outlines.len())?;
+        for (place, outline) in outlines.iter().enumerate() {
+            hints.note(outline.digest(), place);
         }
         Ok(hints)
     }
 
-    fn note(&mut self, name: &str, place: usize) {
-        let slot = slot_of(name, self.ends.len());
+    fn of_names(alloc: Global, names: &Texts) -> Result<Hints, NoMemory> {
+        let mut hints = Hints::with_room(alloc, names.len())?;
+        for (place, name) in names.as_slice().iter().enumerate() {
+            hints.note(Digest::of(name.as_str()), place);
+        }
+        Ok(hints)
+    }
+
+    fn with_room(alloc: Global, count: usize) -> Result<Hints, NoMemory> {
+        let ends = vec![in alloc; 0u32; count.saturating_mul(8)]?;
+        Ok(Hints { ends })
+    }
+
+    fn note(&mut self, digest: Digest, place: usize) {
+        let slot = slot_of(digest, self.ends.len());
         if let Some(end) = self.ends.get_mut(slot) {
             *end = fit(place.saturating_add(1));
         }
@@ -83,17 +76,17 @@ impl Hints {
         names: &Texts,
     ) -> Result<(), NoMemory> {
         if self.ends.len() / 4 < names.len() {
-            *self = Hints::of(alloc, names)?;
+            *self = Hints::of_names(alloc, names)?;
         } else {
-            self.note(name, place);
+            self.note(Digest::of(name), place);
         }
         Ok(())
     }
 
-    /// The place at which the name may be. It may also be another name's. None where no name fell on
-    /// its slot.
-    pub(crate) fn place(&self, name: &str) -> Option<usize> {
-        let slot = slot_of(name, self.ends.len());
+    /// The place at which the name with this digest may be. It may also be another name's. None
+    /// where no name fell on its slot.
+    pub(crate) fn place(&self, digest: Digest) -> Option<usize> {
+        let slot = slot_of(digest, self.ends.len());
         let place = self.ends.get(slot)?.checked_sub(1)?;
         Some(place as usize)
     }

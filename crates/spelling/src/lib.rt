@@ -6,6 +6,7 @@ pub mod arguments;
 mod conditions;
 pub mod counts;
 pub mod declared;
+mod digests;
 pub mod hashing;
 pub mod heads;
 mod hints;

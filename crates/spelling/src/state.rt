@@ -5,6 +5,7 @@ ghost use Rattle.spelling.specs.Demand.{no_counts};
 ghost use Rattle.spelling.specs.Scope.{fit, is_listed, no_numbers, number_of, numbers_of, place_of, scope_of, with_item, with_text};
 
 use crate::counts::Counts;
+use crate::digests::Digest;
 use crate::hashing::{Labels, NameHashing, Texts};
 use crate::hints::{Hints, place_in};
 use batch::NoMemory;
@@ -98,7 +99,7 @@ pub fn number_of(alloc: Global, table: &mut Texts, text: &str) -> Result<u32, No
 fn known_item(numbering: &Numbering, name: &str) -> Option<usize>
     ensures { IfSome result (λ place. place_of name.now (texts_of numbering.now.items.keys) ≡ Some place) }
 {
-    let guess = numbering.hints.place(name)?;
+    let guess = numbering.hints.place(Digest::of(name))?;
     place_in(&numbering.items, name, guess)
 }
 
