@@ -1,3 +1,4 @@
+pub mod DigitLemmas
 pub mod DocumentLemmas
 pub mod PulledLemmas
 pub mod PulledArguments

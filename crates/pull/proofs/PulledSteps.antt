@@ -1,9 +1,16 @@
 -- Steps that were pulled from tokens, as what is asked and spelled of their data.
-use Rattle.std.proofs.Common.{◌≡◌, ℕ, true, List, [], ◌∷◌, ◌++◌, Option, None, Some, refl, ap, ◌∙◌}
+use Rattle.std.proofs.Common.{◌≡◌, ℕ, true, false, List, [], ◌∷◌, ◌++◌, Option, None, Some, refl, ap, sym, subst, ◌∙◌, arith, rules}
 use Rattle.std.specs.Prelude.{codes, is_some}
-use Rattle.serde_json.specs.Data.{Data, Items}
+use Rattle.json.specs.Token.{Token}
+use Rattle.serde_json.specs.Data.{Data, Items, Members, member, no_members, string}
+use Rattle.meaning.specs.Trees as tree
 use Rattle.meaning.specs.declared.template.Template.{Template}
+use Rattle.meaning.specs.declared.template.Template.TheVariants.{Given}
 use Rattle.meaning.specs.declared.template.Refusal.{Refusal}
+use Rattle.meaning.specs.declared.template.Refusal.TheVariants.{GoesOn}
+use Rattle.objects.specs.declared.call.Call.{Call}
+use Rattle.batch.specs.declared.tree.Step.{Step, the_lemmas}
+use Rattle.batch.specs.Views.{step_view}
 use Rattle.spelling.specs.declared.counts.Counts.{Counts}
 use Rattle.rules.specs.declared.rule.NameRule.TheVariants.{Else}
 use Rattle.rules.specs.declared.subject.Subject.TheVariants.{Reply}
@@ -12,7 +19,9 @@ use Rattle.spelling.specs.Asked.{arguments_asked, else_reason, label_asked, labe
 use Rattle.spelling.specs.Asked.{operation_asked, operation_verb, part, reason_asked, scope_after, sort_of, target_asked}
 use Rattle.spelling.specs.Asked.{operation_shape_asked}
 use Rattle.spelling.specs.Demand.{one_more_operation}
-use Rattle.pull.specs.Pulled.{may_abort, op_array, op_step, reason_in, refusal_told}
+use Rattle.pull.specs.Pulled.{ReadsItems, ReadsMembers, ReadsValue, labelled, may_abort, op_array, op_step, reason_in}
+use Rattle.pull.specs.Pulled.{refusal_told, with_abort}
+use Rattle.pull.proofs.PulledLemmas.{reads_array, reads_item, reads_member, reads_object, reads_string}
 use Rattle.spelling.specs.Scope.{Numbers, Scope, Setting, with_label}
 use Rattle.spelling.specs.Spelled.{Spelling, operation_of, operation_step, refusal_of, spelled_map, step_of, target_of, template_of}
 use Rattle.spelling.specs.declared.steps.Sort.TheVariants.{Operation}
@@ -60,6 +69,11 @@ pub no_reason_met : (version : ℕ) (counts : Counts) → IsMet counts (reason_a
 unfolding reason_asked
 no_reason_met version counts = refl
 
+-- and of no label
+pub no_label_met : (version : ℕ) (scope : Scope) (counts : Counts) → IsMet counts (label_asked version scope [] None) counts
+unfolding label_asked
+no_label_met version scope counts = refl
+
 -- what its refusal does is found too
 op_refusal : (label : Option (List ℕ)) (abort : Option (Option (List ℕ))) (op : Data) (numbers : Numbers)
     → refusal_of numbers (op_step label abort op) ≡ refusal_told numbers abort
@@ -82,6 +96,26 @@ op_shape version None (Some (Some reason)) o c rest counts may = rw may refl
 op_shape version (Some name) (Some (Some reason)) o c rest counts may = rw may refl
 
 -- ---- the operation
+
+-- a step whose call is given, without a label
+pub plain_shown : (object target : ℕ) (call : Call) (template : Template) → object ≡ target → template ≡ Given call
+    → step_view (Step.Op object call false) ≡ operation_step target template false GoesOn
+plain_shown object target call template placed given = rw (placed, given) (search (rules, the_lemmas))
+
+-- its tokens are those of its array, and then of what follows the array
+pub operation_reads : (label : Option (List ℕ)) (abort : Option (Option (List ℕ))) (o c : List ℕ) (rest : Items)
+    (old args mid new : List Token)
+    → old ≡ Token.begin_array ∷ Token.string o ∷ Token.string c ∷ args → ReadsItems 1 args rest mid
+    → ((found : Members) → ReadsMembers 0 found mid (with_abort abort (labelled label found)) new)
+    → ReadsValue 3 (Token.begin_object ∷ Token.key (codes "op") ∷ old) (op_step label abort (op_array o c rest)) new
+operation_reads label abort o c rest old args mid new tokens given after =
+    let op = op_array o c rest in
+    let call = reads_item 1 _ _ _ (string c) _ refl (reads_string 1 c _) given in
+    let list = reads_item 1 _ _ _ (string o) _ refl (reads_string 1 o _) call in
+    let members = reads_member 2 no_members (codes "op") _ _ mid new op _ refl (omega arith) (reads_array 1 _ _ _ list)
+    (λ depth n le enough. after (member (codes "op") op no_members) depth n (omega arith) enough) in
+    subst (λ ts. ReadsValue 3 (Token.begin_object ∷ Token.key (codes "op") ∷ ts) (op_step label abort op) new) (sym tokens)
+    (reads_object 2 _ _ new members)
 
 module _ (setting : Setting) (scope : Scope) (label : Option (List ℕ)) (abort : Option (Option (List ℕ)))
     (o c : List ℕ) (rest : Items) where
@@ -112,14 +146,14 @@ module _ (setting : Setting) (scope : Scope) (label : Option (List ℕ)) (abort 
       rw (op_sort label abort op, op_part label abort op, op_label label abort op, op_reason label abort op)
       (own_met start last (shape ++ one ++ named ++ given ++ reasons ++ named_last) fifth)
 
-  pub operation_spelled : (block : Spelling) (numbers mid after : Numbers) (template : Template) (refusal : Refusal) → (template, mid)
-      ≡ template_of setting.version scope (operation_verb setting o c) numbers op
+  pub operation_spelled : (block : Spelling) (numbers mid after : Numbers) (template : Template) (refusal : Refusal) (step : tree.Step)
+      → step ≡ operation_step (target_of setting o) template (is_some label) refusal
+      → (template, mid) ≡ template_of setting.version scope (operation_verb setting o c) numbers op
       → (refusal, after) ≡ refusal_told mid abort
-      → (operation_step (target_of setting o) template (is_some label) refusal, after)
-      ≡ step_of block setting scope numbers (op_step label abort op)
+      → (step, after) ≡ step_of block setting scope numbers (op_step label abort op)
   unfolding step_of operation_of
-  operation_spelled block numbers mid after template refusal e told =
-      rw (op_sort label abort op, op_part label abort op, op_label label abort op, ← e, op_refusal label abort op mid)
+  operation_spelled block numbers mid after template refusal step shown e told =
+      rw (op_sort label abort op, op_part label abort op, op_label label abort op, ← e, op_refusal label abort op mid, shown)
       (ap (spelled_map (operation_step (target_of setting o) template (is_some label))) told)
 
   pub operation_scope : scope_after setting scope (op_step label abort op)

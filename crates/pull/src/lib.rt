@@ -2,6 +2,7 @@
 //! batch. Where it stops, `lang` reads the values again and finds the fault.
 #![tactic(auto)]
 
+mod digits;
 pub mod notes;
 pub mod pass;
 pub mod pull;

@@ -8,6 +8,7 @@
 //! members as `pull_objects` says, and a step's as `pull_blocks` says; in steps, numbers without a
 //! point or an exponent.
 ghost use Rattle.std.specs.Prelude.{◌≡◌, ℕ, Bool, List, ◌∷◌, ◌++◌, [], codes, length, option_map, false, true, Some, None, IfOk, IfSome, OnOk, ◌<◌, ◌+◌, ◌≤◌};
+ghost use Rattle.json.specs.Reads.{token_of};
 ghost use Rattle.json.specs.Token as token;
 ghost use Rattle.fast_float.specs.Text.{with_sign};
 ghost use Rattle.serde_json.specs.Data.{Data, Items, Members, Num, member, negative, number, object, unsigned};
@@ -27,6 +28,7 @@ ghost use Rattle.rules.specs.Limits.{limits_of};
 ghost use Rattle.rules.specs.declared.limits.TheConstants.{LAST_VERSION};
 ghost use Rattle.cuts.specs.Whole.{is_left};
 
+use crate::digits::{FEW_DIGITS, few_digits};
 use crate::stop::Stop;
 use batch::{Step, is_name};
 use fast_float::Numeral;
@@ -84,6 +86,9 @@ fn unsigned_of(text: &str) -> Option<u64>
     let bytes = text.as_bytes();
     if bytes.is_empty() || bytes[0] == b'-' {
         return None;
+    }
+    if bytes.len() <= FEW_DIGITS {
+        return few_digits(bytes);
     }
     Numeral::scan(bytes).to_u64()
 }
@@ -377,20 +382,26 @@ struct OperationRest<'a> {
     abort: Option<Option<&'a str>>,
 }
 
-/// The label of an operation, if it has one, its `else`, if it has one, and its end.
-fn pull_operation_rest<'a>(reader: &mut Reader<'a>, version: u8) -> Result<OperationRest<'a>, Stop>
+/// The label of an operation, if it has one, its `else`, if it has one, and its end. The first token
+/// of these has been read.
+fn pull_operation_rest<'a>(
+    first: Token<'a>,
+    reader: &mut Reader<'a>,
+    version: u8,
+) -> Result<OperationRest<'a>, Stop>
     ensures { IfOk result (λ rest.
         let label = option_map (λ text. text.now) rest.label in
         let told = option_map (λ reason. option_map (λ text. text.now) reason) rest.abort in
         (may_abort version told ≡ true) × ((found : Members)
-        → ReadsMembers 0 found reader.old (with_abort told (labelled label found)) reader.new)) }
+        → ReadsMembers 0 found (token_of first.entry ∷ reader.old)
+        (with_abort told (labelled label found)) reader.new)) }
 {
-    match reader.next() {
-        Some(Token::EndObject) => Ok(OperationRest {
+    match first {
+        Token::EndObject => Ok(OperationRest {
             label: None,
             abort: None,
         }),
-        Some(Token::Key("as")) => {
+        Token::Key("as") => {
             let label = pull_text(reader)?;
             let abort = pull_else(reader, version)?;
             Ok(OperationRest {
@@ -398,7 +409,7 @@ fn pull_operation_rest<'a>(reader: &mut Reader<'a>, version: u8) -> Result<Opera
                 abort,
             })
         }
-        Some(Token::Key("else")) => {
+        Token::Key("else") => {
             let reason = pull_else_reason(reader, version)?;
             Ok(OperationRest {
                 label: None,
@@ -461,7 +472,17 @@ pub(crate) fn pull_operation(
         reader,
         &mut state.numbering,
     )?;
-    let rest = pull_operation_rest(reader, declared.version)?;
+    let Some(first) = reader.next() else {
+        return Err(Stop::OtherForm);
+    };
+    if let (Token::EndObject, Template::Given(call)) = (first, template) {
+        return Ok(Step::Op {
+            object,
+            call,
+            labelled: false,
+        });
+    }
+    let rest = pull_operation_rest(first, reader, declared.version)?;
     let refusal = refusal_of(alloc, rest.abort, declared.version, state)?;
     add_new_label(
         alloc,
