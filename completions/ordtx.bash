@@ -22,8 +22,9 @@ _ordtx() {
     case $command in
         '') options='--help --version -h -V' words='run serial carry check locate help' ;;
         run) options='--workers --cut --audit --why --progress --help --version -h -V' ;;
-        carry) options='--into --help --version -h -V' ;;
-        serial | check | locate) options='--help --version -h -V' ;;
+        carry) options='--workers --into --help --version -h -V' ;;
+        serial | check) options='--workers --help --version -h -V' ;;
+        locate) options='--help --version -h -V' ;;
         help) words='run serial carry check locate help' ;;
     esac
     if [[ $option == --workers ]]; then

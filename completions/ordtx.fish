@@ -17,7 +17,7 @@ complete -c ordtx -n __fish_use_subcommand -a help -d 'Print help'
 complete -c ordtx -n '__ordtx_command help' -a 'run serial carry check locate help'
 
 complete -c ordtx -n '__ordtx_command run serial carry check locate' -F
-complete -c ordtx -n '__ordtx_command run' -l workers -x -a '1 2 4 8 16 32 64' -d 'How many workers there are, 1 to 64'
+complete -c ordtx -n '__ordtx_command run serial carry check' -l workers -x -a '1 2 4 8 16 32 64' -d 'How many workers there are, 1 to 64'
 complete -c ordtx -n '__ordtx_command run' -l cut -x -a '1 4 16 64 256 1000' -d 'How many transactions a worker takes at a time'
 complete -c ordtx -n '__ordtx_command run' -l audit -d 'Print also how often each transaction was run'
 complete -c ordtx -n '__ordtx_command run' -l why -d 'Print also which operations ended each round'

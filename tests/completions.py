@@ -45,7 +45,7 @@ def try_file(program, shell, commands, options):
 
 def try_bash(program, commands, options):
     rows = [([""], commands), (["r"], ["run"]), (["help", "s"], ["serial"]), (["run", "day.json", ""], []),
-            (["run", "--workers", "6"], ["64"]), (["run", "--cut", "=", "25"], ["256"]), (["--"], long(options[""])),
+            (["run", "--workers", "6"], ["64"]), (["serial", "--workers", "3"], ["32"]), (["run", "--cut", "=", "25"], ["256"]), (["--"], long(options[""])),
             (["run", "--cut", "1", "day.json", "--a"], ["--audit"]), (["carry", "day.json", "--i"], ["--into"]),
             (["carry", "day.json", "--into", "day."], ["day.json"])]
     for command in ("run", "serial", "carry", "check", "locate"):

@@ -145,22 +145,24 @@ def try_rendering(program, library):
               (1_800, "subactions of one transaction", lambda count: [block(*[child] * count)]))
     for count, name, made_of in shapes:
         for size, workers, expected in ((count, "1", 0), (count, "2", 1), (count, "4", 3), (count // 9, "4", 0)):
-            words = ["run", "--workers", workers]
             deposits = document([ACCOUNT], made_of(size))
-            got, _, started = preloaded.run(library, 0, words, program.path, deposits, together=True)
-            program.compare("threads of a report of %d %s: %d" % (size, name, started), words,
-                            (got[1], started, None), (0, expected, None))
+            for command in ("run", "serial"):
+                words = [command, "--workers", workers]
+                got, _, started = preloaded.run(library, 0, words, program.path, deposits, together=True)
+                program.compare("threads of a report of %d %s: %d" % (size, name, started), words,
+                                (got[1], started, None), (0, expected, None))
 
 
 def try_reading_at_once(program, library):
     """Each worker reads a part of a long document. With a fault at its end nothing is run, and no report is written."""
     deposits = block(*[op("a", "deposit", 1)] * 5)
     for size, workers, expected in ((9_900, "1", 0), (9_900, "2", 1), (9_900, "4", 3), (3_000, "4", 0)):
-        words = ["run", "--workers", workers]
         faulty = document([ACCOUNT], [deposits] * size + [block(op("a", "other"))])
-        got, _, started = preloaded.run(library, 0, words, program.path, faulty, together=True)
-        program.compare("threads that read %d transactions: %d" % (size, started), words,
-                        (got[1], started, None), (1, expected, None))
+        for command in ("run", "serial", "carry", "check"):
+            words = [command, "--workers", workers]
+            got, _, started = preloaded.run(library, 0, words, program.path, faulty, together=True)
+            program.compare("threads that read %d transactions: %d" % (size, started), words,
+                            (got[1], started, None), (1, expected, None))
 
 
 # A step, and how many requests for memory its reading may take. By a tree it takes three times as many.

@@ -95,12 +95,13 @@ def try_carry(program, library, case):
 def try_long_report(program, library):
     """The last requests, in which four workers render a long report."""
     deposits = documents.document([documents.ACCOUNT], ['[{"op":["a","deposit",1]}]'] * 9_000)
-    words = ["run", "--workers", "4"]
-    (report, _, _), made = refuse(library, 0, words, program.path, deposits)
-    for number in range(made - 40, made + 1):
-        got, _ = refuse(library, number, words, program.path, deposits)
-        program.compare("a long report, request %d refused" % number, words, got,
-                        FAULT if got[1] == 1 else (report, 0, b""))
+    for command in ("run", "serial"):
+        words = [command, "--workers", "4"]
+        (report, _, _), made = refuse(library, 0, words, program.path, deposits)
+        for number in range(made - 40, made + 1):
+            got, _ = refuse(library, number, words, program.path, deposits)
+            program.compare("a long report, request %d refused" % number, words, got,
+                            FAULT if got[1] == 1 else (report, 0, b""))
 
 
 def try_reasons(program, library):

@@ -64,11 +64,12 @@ def try_same(program, name, objects, listed, commands=("check", "serial", "locat
 
 
 def try_workers(program, name, whole):
-    """The report is the same, however many threads read the document."""
-    wanted = program.run(["run", "--workers", "1"], whole)
-    for workers in ("2", "3", "7", "64"):
-        words = ["run", "--workers", workers]
-        program.compare(name, words, program.run(words, whole), wanted)
+    """What is printed is the same, however many threads read the document."""
+    for command in ("run", "serial", "check", "carry"):
+        wanted = program.run([command, "--workers", "1"], whole)
+        for workers in ("2", "3", "7", "64"):
+            words = [command, "--workers", workers]
+            program.compare(name, words, program.run(words, whole), wanted)
 
 
 def try_faults(program, listed):

@@ -16,15 +16,18 @@ REFUSED = (
     ["run", "--cut", "1", "--cut", "2"],
     ["run", "--audit", "--audit"],
     ["run", "--fast"],
-    ["serial", "--workers", "1"],
+    ["serial", "--workers", "0"],
+    ["serial", "--cut", "1"],
     ["serial", "--audit"],
-    ["carry", "--workers", "1"],
+    ["carry", "--workers", "65"],
+    ["carry", "--cut", "1"],
     ["carry", "a", "b"],
     ["carry", "--into"],
     ["carry", "--into", "-"],
     ["carry", "-", "--into", "-"],
     ["carry", "--into", "a", "--into", "b"],
     ["serial", "--into", "a"],
+    ["check", "--workers", "two"],
     ["check", "--cut", "1"],
     ["check", "--audit"],
     ["locate", "--workers", "1"],
@@ -107,5 +110,9 @@ def try_all(program, case):
     for command in ("check", "locate"):
         program.expect("a file", [command, file], b"",
                        case.with_suffix(".check").read_bytes())
+    program.expect("workers that read", ["check", "--workers", "64", file], b"",
+                   case.with_suffix(".check").read_bytes())
+    program.expect("workers that render", ["serial", file, "--workers=3"], b"",
+                   report[:report.rindex(b"rounds ")])
     try_messages(program, document)
     try_help(program)

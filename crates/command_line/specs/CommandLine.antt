@@ -40,13 +40,17 @@ flag_rule name = record (new_rule name) { long = Some name; action = Some SetTru
 abbrev pub file_app : Text → App
 file_app name = with_rule (new_app name) file_rule
 
+-- a command that takes a file, and how many workers there are
+abbrev pub shared_app : Text → App
+shared_app name = with_rule (file_app name) (number_rule (codes "workers") (pos MAX_WORKERS))
+
 abbrev pub run_app : App
 run_app =
-    with_rule (with_rule (with_rule (with_rule (with_rule (file_app (codes "run")) (number_rule (codes "workers") (pos MAX_WORKERS)))
+    with_rule (with_rule (with_rule (with_rule (shared_app (codes "run"))
     (number_rule (codes "cut") (pos MAX_CUT))) (flag_rule (codes "audit"))) (flag_rule (codes "why"))) (flag_rule (codes "progress"))
 
 abbrev pub carry_app : App
-carry_app = with_rule (file_app (codes "carry")) (text_rule (codes "into"))
+carry_app = with_rule (shared_app (codes "carry")) (text_rule (codes "into"))
 
 abbrev pub titled : App → App
 titled app = record app { top = record app.top { has_version = true; propagate_version = true; subcommand_required = true } }
@@ -54,7 +58,7 @@ titled app = record app { top = record app.top { has_version = true; propagate_v
 abbrev pub ordtx_app : App
 ordtx_app =
     with_subcommand (with_subcommand (with_subcommand (with_subcommand (with_subcommand (titled (new_app (codes "ordtx"))) run_app.top)
-    (file_app (codes "serial")).top) carry_app.top) (file_app (codes "check")).top) (file_app (codes "locate")).top
+    (shared_app (codes "serial")).top) carry_app.top) (shared_app (codes "check")).top) (file_app (codes "locate")).top
 
 abbrev pub command_name : Command → Text
 command_name Run = codes "run"
@@ -71,12 +75,17 @@ abbrev pub HoldsNumber : Option Text → ℕ → ℕ → Type 0
 HoldsNumber None default n = n ≡ default
 HoldsNumber (Some text) default n = IsNumeral 10 (without_leading_plus text) × (n ≡ digits_value 10 (without_leading_plus text))
 
+-- how many workers a command has where the words don't say
+abbrev pub default_workers : Command → ℕ
+default_workers Run = 4
+default_workers _ = 1
+
 -- the line has what the matches of its command hold
 pub record HoldsLine (name : Text) (rows : List Row) (line : Line) : Type 0 where
   pub command : name ≡ command_name line.command
   pub file : option_map (λ file. string_bytes file) line.file ≡ first_of (codes "file") rows
   pub into : option_map (λ file. string_bytes file) line.into ≡ first_of (codes "into") rows
-  pub workers : HoldsNumber (one_of (codes "workers") rows) 4 line.plan.workers
+  pub workers : HoldsNumber (one_of (codes "workers") rows) (default_workers line.command) line.plan.workers
   pub cut : HoldsNumber (one_of (codes "cut") rows) 16 line.plan.cut
   pub audit : IsTrue line.audit ↔ first_of (codes "audit") rows ≡ Some (codes "true")
   pub why : IsTrue line.why ↔ first_of (codes "why") rows ≡ Some (codes "true")

@@ -30,8 +30,8 @@ pub struct Line {
     pub file: Option<String>,
     /// The file of the next document, into which `carry` carries the objects.
     pub into: Option<String>,
-    /// How many workers there are, and how many transactions a piece of their work has. The
-    /// commands without workers have the default plan.
+    /// How many workers there are, and how many transactions a piece of their work has. Where the
+    /// words don't say, `run` has 4 workers, and each other command has one.
     pub plan: Plan,
     /// Whether the report says how often each transaction was run.
     pub audit: bool,

@@ -1,8 +1,8 @@
 //! Reading the command line.
-ghost use Rattle.std.specs.Prelude.{◌≡◌, ◌↔◌, [], Some, codes, map, option_map, pos, IfErr, IfOk, IsTrue, OnOk, OnSome, false, string_bytes};
+ghost use Rattle.std.specs.Prelude.{◌≡◌, ◌≤◌, ◌↔◌, [], Some, codes, map, option_map, pos, IfErr, IfOk, IsTrue, OnOk, OnSome, false, string_bytes};
 ghost use Rattle.clap.specs.Words.{IsAmong, app_of, first_of, found_of, kind_of, new_app, one_of, rows_of, rule_of, with_rule, with_subcommand};
 ghost use Rattle.clap.specs.declared.builder.command.Command.TheViews.{out-Command};
-ghost use Rattle.command_line.specs.CommandLine.{CanBeMatched, HoldsFrom1, HoldsLine, HoldsNumber, IsAboutHelp, IsLineOf, IsRefusalBy, IsRefusalOf, IsTaken, NamesCommand, carry_app, command_name, faults_of, file_app, flag_rule, number_rule, ordtx_app, run_app, text_rule, titled};
+ghost use Rattle.command_line.specs.CommandLine.{CanBeMatched, HoldsFrom1, HoldsLine, HoldsNumber, IsAboutHelp, IsLineOf, IsRefusalBy, IsRefusalOf, IsTaken, NamesCommand, carry_app, command_name, default_workers, faults_of, file_app, flag_rule, number_rule, ordtx_app, run_app, shared_app, text_rule, titled};
 ghost use Rattle.plan.specs.declared.plan.TheConstants.{MAX_CUT, MAX_WORKERS};
 
 use crate::asked::{Command, Line, Refused};
@@ -12,8 +12,8 @@ use clap::{Arg, ArgAction, ArgMatches};
 use plan::{MAX_CUT, MAX_WORKERS, Plan};
 use std::alloc::{AllocError, Global};
 
-/// How many workers there are where the command line doesn't say.
-const DEFAULT_WORKERS: u32 = 4;
+/// The help on the number of workers of a command that runs nothing on them.
+const ONE_WORKER: &str = "How many workers read and render a long document, 1 to 64 [default: 1]";
 
 /// How many transactions a piece of their work has where the command line doesn't say.
 const DEFAULT_CUT: u32 = 16;
@@ -84,7 +84,7 @@ fn line_of(alloc: Global, name: &str, held: &ArgMatches<'_>) -> Result<Line, All
     let command = command_named(name);
     let file = held_text(alloc, held, "file")?;
     let into = held_text(alloc, held, "into")?;
-    let plan = held_plan(held);
+    let plan = held_plan(held, default_workers(command));
     let audit = is_held(held, "audit");
     let why = is_held(held, "why");
     let progress = is_held(held, "progress");
@@ -122,14 +122,26 @@ fn held_text(alloc: Global, held: &ArgMatches<'_>, id: &str) -> Result<Option<St
     }
 }
 
-// The plan of the numbers that are held.
-fn held_plan(held: &ArgMatches<'_>) -> Plan
+// How many workers a command has where the command line doesn't say.
+fn default_workers(command: Command) -> u32
+    ensures is { result ≡ default_workers command }
+    ensures within { (1 ≤ result) × (result ≤ MAX_WORKERS) }
+{
+    match command {
+        Command::Run => 4,
+        Command::Serial | Command::Carry | Command::Check | Command::Locate => 1,
+    }
+}
+
+// The plan of the numbers that are held, with so many workers where none is.
+fn held_plan(held: &ArgMatches<'_>, workers: u32) -> Plan
+    requires default { (1 ≤ workers) × (workers ≤ MAX_WORKERS) }
     requires workers { HoldsFrom1 (codes "workers") MAX_WORKERS (rows_of (found_of held.now)) }
     requires cut { HoldsFrom1 (codes "cut") MAX_CUT (rows_of (found_of held.now)) }
-    ensures workers { HoldsNumber (one_of (codes "workers") (rows_of (found_of held.now))) 4 result.workers }
+    ensures workers { HoldsNumber (one_of (codes "workers") (rows_of (found_of held.now))) workers result.workers }
     ensures cut { HoldsNumber (one_of (codes "cut") (rows_of (found_of held.now))) 16 result.cut }
 {
-    let workers = held_number(held, "workers", DEFAULT_WORKERS);
+    let workers = held_number(held, "workers", workers);
     let cut = held_number(held, "cut", DEFAULT_CUT);
     match Plan::new(workers, cut) {
         Some(plan) => plan,
@@ -235,33 +247,32 @@ fn ordtx_command<'a>(alloc: Global) -> Result<clap::Command<'a>, AllocError>
     ensures { IfOk result (λ command. app_of command ≡ ordtx_app) }
 {
     let carry = command_to_carry(alloc)?;
-    let check = add_file_command(
+    let check = carry.subcommand(shared_command(
         alloc,
-        carry,
         "check",
         "Reads a document, and prints how many objects, transactions and operations it has",
-    )?;
-    add_file_command(
+        ONE_WORKER,
+    )?)?;
+    check.subcommand(file_command(
         alloc,
-        check,
         "locate",
         "Reads a document, and prints where its first fault is; without a fault, what check prints",
-    )
+    )?)
 }
 
 // The program's command with those that run a document.
 fn command_to_carry<'a>(alloc: Global) -> Result<clap::Command<'a>, AllocError>
     ensures { IfOk result (λ command. app_of command
-        ≡ with_subcommand (with_subcommand (with_subcommand (titled (new_app (codes "ordtx"))) run_app.top) (file_app (codes "serial")).top)
-        carry_app.top) }
+        ≡ with_subcommand (with_subcommand (with_subcommand (titled (new_app (codes "ordtx"))) run_app.top)
+        (shared_app (codes "serial")).top) carry_app.top) }
 {
     let run = command_to_run(alloc)?;
-    let serial = add_file_command(
+    let serial = run.subcommand(shared_command(
         alloc,
-        run,
         "serial",
         "Runs the transactions by number on one thread, and prints the report without the rounds",
-    )?;
+        ONE_WORKER,
+    )?)?;
     serial.subcommand(carry_command(alloc)?)
 }
 
@@ -269,10 +280,11 @@ fn carry_command<'a>(alloc: Global) -> Result<clap::Command<'a>, AllocError>
     ensures app { IfOk result (λ command. app_of command ≡ carry_app) }
     ensures local { IfOk result (λ command. (out-Command command).has_globals ≡ false) }
 {
-    file_command(
+    shared_command(
         alloc,
         "carry",
         "Runs the transactions by number on one thread, and prints a document of the objects as they end",
+        ONE_WORKER,
     )?
     .arg(text_argument(
         alloc,
@@ -317,22 +329,15 @@ fn run_command<'a>(alloc: Global) -> Result<clap::Command<'a>, AllocError>
 // The command `run` with the options of its plan.
 fn planned_command<'a>(alloc: Global) -> Result<clap::Command<'a>, AllocError>
     ensures app { IfOk result (λ command. app_of command
-        ≡ with_rule (with_rule (file_app (codes "run")) (number_rule (codes "workers") (pos MAX_WORKERS)))
-        (number_rule (codes "cut") (pos MAX_CUT))) }
+        ≡ with_rule (shared_app (codes "run")) (number_rule (codes "cut") (pos MAX_CUT))) }
     ensures local { IfOk result (λ command. (out-Command command).has_globals ≡ false) }
 {
-    file_command(
+    shared_command(
         alloc,
         "run",
         "Runs the transactions of a document on workers, and prints the report",
-    )?
-    .arg(number_argument(
-        alloc,
-        "workers",
-        "N",
-        MOST_WORKERS,
         "How many workers there are, 1 to 64 [default: 4]",
-    ))?
+    )?
     .arg(number_argument(
         alloc,
         "cut",
@@ -342,16 +347,23 @@ fn planned_command<'a>(alloc: Global) -> Result<clap::Command<'a>, AllocError>
     ))
 }
 
-// Adds a command that takes a file.
-fn add_file_command<'a>(
+// A command that takes a file and the number of workers, of which the help says this.
+fn shared_command<'a>(
     alloc: Global,
-    command: clap::Command<'a>,
     name: &'a str,
     about: &'a str,
+    help: &'a str,
 ) -> Result<clap::Command<'a>, AllocError>
-    ensures { IfOk result (λ added. app_of added ≡ with_subcommand (app_of command.entry) (file_app name.entry.now).top) }
+    ensures app { IfOk result (λ command. app_of command ≡ shared_app name.entry.now) }
+    ensures local { IfOk result (λ command. (out-Command command).has_globals ≡ false) }
 {
-    command.subcommand(file_command(alloc, name, about)?)
+    file_command(alloc, name, about)?.arg(number_argument(
+        alloc,
+        "workers",
+        "N",
+        MOST_WORKERS,
+        help,
+    ))
 }
 
 // A command that takes a file.

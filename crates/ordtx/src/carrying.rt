@@ -7,19 +7,21 @@ ghost use Rattle.lang.specs.Reading.{document_of, reading};
 ghost use Rattle.ordtx.specs.Answers.{IsCarriedIntoOf, IsCarriedOf, IsCarryFaultOf, IsCarryIntoFaultOf, fault_of, name_at, of_object, refusal_of, unfit_wrong, wrong_start};
 ghost use Rattle.ordtx.specs.Texts.{GivesCarried};
 
-use crate::texts::batch_of;
+use crate::texts::{batch_at_once, free};
 use batch::Batch;
 use carry::{
     NamedObjects, Start, Unfit, carried, carried_into, carried_version, first_clash, first_misfit,
     first_unfit, join, name_table, start_name,
 };
-use lang::{Code, Fault, Wrong, read};
+use lang::{Code, Fault, Wrong, read_at_once};
 use objects::{NoMemory, Objects};
 use report::object_name;
+use rounds::Plan;
 use rules::Limits;
 use speculate::plain;
 use spelling::hashing::{NameHashing, Texts};
 use std::alloc::Global;
+use std::thread::Threads;
 
 /// Why no objects are carried.
 #[derive(Debug, Drop)]
@@ -66,11 +68,18 @@ impl From<NoMemory> for Uncarried {
 }
 
 // The document of the objects at the end.
-pub(crate) fn carried_of(alloc: Global, document: Vec<u8>) -> Result<String, Uncarried>
+pub(crate) fn carried_of<T: Threads + Sync>(
+    threads: &T,
+    alloc: Global,
+    document: Vec<u8>,
+    plan: Plan,
+) -> Result<String, Uncarried>
     ensures { GivesCarried (IsCarriedOf document.items) (IsCarryFaultOf document.items) result }
 {
-    let batch = batch_of(alloc, document)?;
-    carried_of_batch(alloc, &batch)
+    let batch = batch_at_once(threads, alloc, plan.workers, document)?;
+    let text = carried_of_batch(alloc, &batch)?;
+    free(batch, plan);
+    Ok(text)
 }
 
 // The same of a batch that was read.
@@ -116,17 +125,19 @@ fn wrong_of(unfit: Unfit) -> Wrong
 }
 
 // The next document with the objects at the end of the first.
-pub(crate) fn carried_into_of(
+pub(crate) fn carried_into_of<T: Threads + Sync>(
+    threads: &T,
     alloc: Global,
     first: Vec<u8>,
     next: Vec<u8>,
+    plan: Plan,
 ) -> Result<String, Uncarried>
     ensures { GivesCarried (IsCarriedIntoOf first.items next.items)
         (IsCarryIntoFaultOf first.items next.items) result }
 {
     let hashing = NameHashing::of(first.as_slice());
-    let batch = batch_of(alloc, first)?;
-    let next_batch = match read(alloc, next.as_slice()) {
+    let batch = batch_at_once(threads, alloc, plan.workers, first)?;
+    let next_batch = match read_at_once(threads, alloc, plan.workers, next.as_slice()) {
         Ok(batch) => batch,
         Err(fault) => return Err(Uncarried::Next(fault)),
     };

@@ -8,7 +8,10 @@ ghost use Rattle.ordtx.specs.declared.carrying.Uncarried.TheVariants as uncarrie
 
 use crate::carrying::{Uncarried, carried_into_of, carried_of};
 use crate::location::{Located, location_of};
-use crate::texts::{audit_of, check_of, explanation_of, plain_report_of, report_of};
+use crate::texts::{
+    audit_of, check_at_once_of, check_of, explanation_of, plain_parts_of, plain_report_of,
+    report_of,
+};
 use devices::{Sink, Source, read_input, write_text, write_texts};
 use lang::Fault;
 use rounds::Plan;
@@ -121,17 +124,42 @@ pub fn serial_stream<R: Source, W: Sink>(
     write_text(sink, text.as_bytes())
 }
 
-/// Does as [`serial_stream`], and writes a document of the objects at the end, without a transaction,
+/// Does as [`serial_stream`]. As many threads as the plan has workers read a long document, and render
+/// a long report. The transactions are run on one of them.
+///
+/// The errors are those of [`run_stream`], and leave the same.
+pub fn serial_at_once_stream<T: Threads + Sync, R: Source, W: Sink>(
+    threads: &T,
+    alloc: Global,
+    source: &mut R,
+    sink: &mut W,
+    plan: Plan,
+) -> Result<(), Fault>
+    requires unended { R.has_ended source.old ≡ false }
+    requires unread { R.has_failed source.old ≡ false }
+    requires unwritten { W.has_failed sink.old ≡ false }
+    // The report of one thread of what was read is written.
+    ensures { AnswersStream IsPlainReportOf IsFaultOf (λ fault. fault)
+        R.Source source.old source.new W.Sink sink.old sink.new result }
+{
+    let document = read_input(alloc, source, MOST_READ)?;
+    let parts = plain_parts_of(threads, alloc, document, plan)?;
+    write_texts(sink, &parts)
+}
+
+/// Does as [`serial_at_once_stream`], and writes a document of the objects at the end, without a transaction,
 /// in place of the report. A next batch can start with it.
 ///
 /// The error [`Uncarried::Object`] is of the first object at the end that no document may start with:
 /// `Start` where its number is too large for a start, and `TooMany` where there are more entries with
 /// it than a document may start with. The source was read, and nothing was written. The other errors
 /// are [`Uncarried::First`] of those of [`run_stream`], and leave the same.
-pub fn carry_stream<R: Source, W: Sink>(
+pub fn carry_stream<T: Threads + Sync, R: Source, W: Sink>(
+    threads: &T,
     alloc: Global,
     source: &mut R,
     sink: &mut W,
+    plan: Plan,
 ) -> Result<(), Uncarried>
     requires unended { R.has_ended source.old ≡ false }
     requires unread { R.has_failed source.old ≡ false }
@@ -141,7 +169,7 @@ pub fn carry_stream<R: Source, W: Sink>(
         R.Source source.old source.new W.Sink sink.old sink.new result }
 {
     let document = read_input(alloc, source, MOST_READ)?;
-    let text = carried_of(alloc, document)?;
+    let text = carried_of(threads, alloc, document, plan)?;
     write_text(sink, text.as_bytes())?;
     Ok(())
 }
@@ -162,11 +190,13 @@ pub fn carry_stream<R: Source, W: Sink>(
 ///   two kinds. `TooMany`: there are too many objects or entries with it. `Start`: its number is too large.
 ///
 /// After `Output` a beginning was written, after any other error nothing.
-pub fn carry_into_stream<R: Source, S: Source, W: Sink>(
+pub fn carry_into_stream<T: Threads + Sync, R: Source, S: Source, W: Sink>(
+    threads: &T,
     alloc: Global,
     source: &mut R,
     next: &mut S,
     sink: &mut W,
+    plan: Plan,
 ) -> Result<(), Uncarried>
     requires unended { R.has_ended source.old ≡ false }
     requires unread { R.has_failed source.old ≡ false }
@@ -191,7 +221,7 @@ pub fn carry_into_stream<R: Source, S: Source, W: Sink>(
         Ok(document) => document,
         Err(fault) => return Err(Uncarried::Next(fault)),
     };
-    let text = carried_into_of(alloc, first, next)?;
+    let text = carried_into_of(threads, alloc, first, next, plan)?;
     write_text(sink, text.as_bytes())?;
     Ok(())
 }
@@ -214,6 +244,28 @@ pub fn check_stream<R: Source, W: Sink>(
 {
     let document = read_input(alloc, source, MOST_READ)?;
     let text = check_of(alloc, document.as_slice())?;
+    write_text(sink, text.as_bytes())
+}
+
+/// Does as [`check_stream`]. As many threads as the plan has workers read a long document.
+///
+/// The errors are those of [`run_stream`], and leave the same.
+pub fn check_at_once_stream<T: Threads + Sync, R: Source, W: Sink>(
+    threads: &T,
+    alloc: Global,
+    source: &mut R,
+    sink: &mut W,
+    plan: Plan,
+) -> Result<(), Fault>
+    requires unended { R.has_ended source.old ≡ false }
+    requires unread { R.has_failed source.old ≡ false }
+    requires unwritten { W.has_failed sink.old ≡ false }
+    // The line of counts of what was read is written.
+    ensures { AnswersStream IsCheckOf IsFaultOf (λ fault. fault)
+        R.Source source.old source.new W.Sink sink.old sink.new result }
+{
+    let document = read_input(alloc, source, MOST_READ)?;
+    let text = check_at_once_of(threads, alloc, document, plan)?;
     write_text(sink, text.as_bytes())
 }
 

@@ -8,7 +8,7 @@ ghost use Rattle.ordtx.specs.Answers.{IsAuditOf, IsCheckOf, IsExplainedOf, IsFau
 
 use batch::Batch;
 use lang::{Fault, read, read_at_once};
-use report::{render_audit_parts, render_check, render_parts, render_plain};
+use report::{render_audit_parts, render_check, render_parts, render_plain, render_plain_parts};
 use rounds::{Plan, execute, execute_ahead};
 use speculate::{Gate, NoMemory, plain};
 use std::alloc::Global;
@@ -26,7 +26,7 @@ pub(crate) fn batch_of(alloc: Global, document: Vec<u8>) -> Result<Batch, Fault>
 }
 
 // The same, where threads read the ranges of a long document.
-fn batch_at_once<T: Threads + Sync>(
+pub(crate) fn batch_at_once<T: Threads + Sync>(
     threads: &T,
     alloc: Global,
     workers: u32,
@@ -40,7 +40,7 @@ fn batch_at_once<T: Threads + Sync>(
 }
 
 // Frees a value, or leaves its memory to the end of the program, which comes after a last call.
-fn free<T: Drop>(value: T, plan: Plan) {
+pub(crate) fn free<T: Drop>(value: T, plan: Plan) {
     if plan.last {
         forget(value);
     }
@@ -157,6 +157,37 @@ fn plain_report_of_batch(alloc: Global, batch: &Batch) -> Result<String, NoMemor
     render_plain(alloc, batch, &answer)
 }
 
+// The report of one thread in parts, where threads read a long document and render a long report.
+pub(crate) fn plain_parts_of<T: Threads + Sync>(
+    threads: &T,
+    alloc: Global,
+    document: Vec<u8>,
+    plan: Plan,
+) -> Result<Vec<String>, Fault>
+    ensures { GivesParts IsPlainReportOf document.items result }
+{
+    let batch = batch_at_once(threads, alloc, plan.workers, document)?;
+    let parts = plain_parts_of_batch(threads, alloc, &batch, plan)?;
+    free(batch, plan);
+    Ok(parts)
+}
+
+// The same of a batch that was read.
+fn plain_parts_of_batch<T: Threads + Sync>(
+    threads: &T,
+    alloc: Global,
+    batch: &Batch,
+    plan: Plan,
+) -> Result<Vec<String>, NoMemory>
+    ensures { IfOk result (λ parts. (bytes : List ℕ) → reading bytes ≡ Ok (document_of batch.now)
+        → IsPlainReportOf bytes (flat_map string_bytes parts.items)) }
+{
+    let answer = plain(alloc, batch)?;
+    let parts = render_plain_parts(threads, alloc, plan.workers, batch, &answer)?;
+    free(answer, plan);
+    Ok(parts)
+}
+
 // How much a document holds.
 pub(crate) fn check_of(alloc: Global, document: &[u8]) -> Result<String, Fault>
     ensures { GivesText IsCheckOf document.now result }
@@ -164,4 +195,19 @@ pub(crate) fn check_of(alloc: Global, document: &[u8]) -> Result<String, Fault>
     let batch = read(alloc, document)?;
     let text = render_check(alloc, &batch)?;
     Ok(text)
+}
+
+// The same, where threads read a long document.
+pub(crate) fn check_at_once_of<T: Threads + Sync>(
+    threads: &T,
+    alloc: Global,
+    document: Vec<u8>,
+    plan: Plan,
+) -> Result<String, Fault>
+    ensures { GivesText IsCheckOf document.items result }
+{
+    let batch = batch_at_once(threads, alloc, plan.workers, document)?;
+    let counts = render_check(alloc, &batch)?;
+    free(batch, plan);
+    Ok(counts)
 }

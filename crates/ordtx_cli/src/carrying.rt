@@ -3,15 +3,21 @@ ghost use Rattle.std.specs.Prelude.{◌≡◌, false};
 
 use crate::arguments::shown;
 use crate::input::{is_standard, open, tell_refused};
-use ordtx::{Code, Fault, Marked, Source, Uncarried, Wrong, carry_into_stream, carry_stream};
+use ordtx::{Code, Fault, Marked, Plan, Source, Uncarried, Wrong, carry_into_stream, carry_stream};
+use std::thread::Threads;
 
 /// Carries the objects at the end of a document.
-pub fn carry_alone<R: Source>(rt: &HostRuntime, source: &mut R) -> Result<(), Fault>
+pub fn carry_alone<T: Threads + Sync, R: Source>(
+    rt: &HostRuntime,
+    threads: &T,
+    source: &mut R,
+    plan: Plan,
+) -> Result<(), Fault>
     requires unended { R.has_ended source.old ≡ false }
     requires unread { R.has_failed source.old ≡ false }
 {
     let mut sink = Marked::new(rt.stdout());
-    match carry_stream(rt.alloc(), source, &mut sink) {
+    match carry_stream(threads, rt.alloc(), source, &mut sink, plan) {
         Ok(()) => Ok(()),
         Err(refused) => {
             if let Uncarried::Object(fault, name) = &refused {
@@ -24,11 +30,13 @@ pub fn carry_alone<R: Source>(rt: &HostRuntime, source: &mut R) -> Result<(), Fa
 
 /// Carries the objects at the end of a document, whose input has this name, into the document of
 /// another input.
-pub fn carry_into<R: Source>(
+pub fn carry_into<T: Threads + Sync, R: Source>(
     rt: &HostRuntime,
+    threads: &T,
     first: Option<&str>,
     source: &mut R,
     next: &str,
+    plan: Plan,
 ) -> Result<(), Fault>
     requires unended { R.has_ended source.old ≡ false }
     requires unread { R.has_failed source.old ≡ false }
@@ -37,7 +45,14 @@ pub fn carry_into<R: Source>(
     let size = input.size();
     let mut next_source = Marked::expecting(input, size);
     let mut sink = Marked::new(rt.stdout());
-    let answer = carry_into_stream(rt.alloc(), source, &mut next_source, &mut sink);
+    let answer = carry_into_stream(
+        threads,
+        rt.alloc(),
+        source,
+        &mut next_source,
+        &mut sink,
+        plan,
+    );
     tell_refused(rt, Some(next), &next_source.into_inner());
     match answer {
         Ok(()) => Ok(()),

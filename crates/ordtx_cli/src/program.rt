@@ -7,7 +7,7 @@ use crate::input::{is_standard, open, tell_refused};
 use crate::progress::ProgressLine;
 use ordtx::{
     Code, Command, Fault, Gate, Line, Located, Marked, NoGate, Refused, Sink, Source, audit_stream,
-    check_stream, explain_stream, line, locate_stream, run_stream, serial_stream,
+    check_at_once_stream, explain_stream, line, locate_stream, run_stream, serial_at_once_stream,
 };
 use std::alloc::{AllocError, Global};
 use std::process::ExitCode;
@@ -41,7 +41,9 @@ fn asked(rt: &HostRuntime) -> Result<Line, Refused> {
     let alloc = rt.alloc();
     let texts = word_texts(rt, alloc)?;
     let words: Vec<&str> = texts.iter().map(|word| word.as_str()).collect(alloc)?;
-    let asked = line(alloc, words.as_slice())?;
+    let mut asked = line(alloc, words.as_slice())?;
+    // The program ends after the call.
+    asked.plan = asked.plan.of_last_call();
     if asked.into.is_some()
         && is_standard(text_in(&asked.file))
         && is_standard(text_in(&asked.into))
@@ -76,7 +78,9 @@ fn answer_line<T: Threads + Sync>(
     let size = input.size();
     let mut source = Marked::expecting(input, size);
     let answer = match text_in(&line.into) {
-        Some(next) => carry_into(rt, name, &mut source, next).map(|()| ExitCode::SUCCESS),
+        Some(next) => {
+            carry_into(rt, threads, name, &mut source, next, line.plan).map(|()| ExitCode::SUCCESS)
+        }
         None => answer_source(rt, threads, line, &mut source),
     };
     tell_refused(rt, name, &source.into_inner());
@@ -98,6 +102,7 @@ fn answer_source<T: Threads + Sync, R: Source>(
 {
     let alloc = rt.alloc();
     let mut sink = Marked::new(rt.stdout());
+    let plan = line.plan;
     match line.command {
         Command::Run if line.progress => {
             let shown = ProgressLine::new(rt);
@@ -106,9 +111,9 @@ fn answer_source<T: Threads + Sync, R: Source>(
             answer?;
         }
         Command::Run => run_seen(threads, alloc, line, source, &mut sink, &NoGate)?,
-        Command::Serial => serial_stream(alloc, source, &mut sink)?,
-        Command::Carry => carry_alone(rt, source)?,
-        Command::Check => check_stream(alloc, source, &mut sink)?,
+        Command::Serial => serial_at_once_stream(threads, alloc, source, &mut sink, plan)?,
+        Command::Carry => carry_alone(rt, threads, source, plan)?,
+        Command::Check => check_at_once_stream(threads, alloc, source, &mut sink, plan)?,
         Command::Locate => {
             if locate_stream(alloc, source, &mut sink)? == Located::Faulty {
                 return Ok(ExitCode::FAILURE);
@@ -131,8 +136,7 @@ fn run_seen<T: Threads + Sync, R: Source, W: Sink, G: Gate>(
     requires unread { R.has_failed source.old ≡ false }
     requires unwritten { W.has_failed sink.old ≡ false }
 {
-    // The program ends after this call.
-    let plan = line.plan.of_last_call();
+    let plan = line.plan;
     if line.why {
         return explain_stream(threads, alloc, source, sink, plan, line.audit, gate);
     }

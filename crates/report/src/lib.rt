@@ -15,5 +15,5 @@ pub use answer::{render, render_audit, render_check, render_plain};
 pub use batch::{Batch, NoMemory, Outcome, Plain};
 pub use calls::{write_call, write_reply};
 pub use names::{item_name, object_name, reason_name};
-pub use parts::{render_audit_parts, render_parts};
+pub use parts::{render_audit_parts, render_parts, render_plain_parts};
 pub use paths::{branch_path, handler_place, part_path, reason_of};

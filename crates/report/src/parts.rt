@@ -8,8 +8,8 @@ ghost use Rattle.report.specs.Parts.{AreCuts, IsPart, last_cut, lines_from};
 
 use crate::answer::{last_cut, render_between, write_counts};
 use crate::cuts::{Cut, cuts_of};
-use batch::{Batch, Outcome};
-use objects::NoMemory;
+use batch::{Batch, Outcome, Plain, Record};
+use objects::{NoMemory, Objects};
 use std::alloc::Global;
 use std::thread::{Threads, map_indices};
 
@@ -27,7 +27,8 @@ pub fn render_parts<R: Threads + Sync>(
     requires { length outcome.now.objects < 2 ^ 32 }
     ensures { IfOk result (λ parts. flat_map string_bytes parts.items ≡ text (names_of batch.now.names) (map block_view batch.now.transactions.items) (map record_view outcome.now.records.items) outcome.now.objects outcome.now.rounds) }
 {
-    let mut parts = render_entry_parts(threads, alloc, workers, batch, outcome)?;
+    let (records, objects) = (&outcome.records, &outcome.objects);
+    let mut parts = render_entry_parts(threads, alloc, workers, batch, records, objects)?;
     let mut last = take_last(alloc, &mut parts);
     let rounds = outcome.rounds;
     write!(&mut last, "rounds {rounds}\n")?;
@@ -55,6 +56,31 @@ pub fn render_audit_parts<R: Threads + Sync>(
     Ok(parts)
 }
 
+/// The report of [`render_plain`](crate::render_plain) in parts, as [`render_parts`] makes them.
+///
+/// Returns `NoMemory` where a request for memory was refused.
+pub fn render_plain_parts<R: Threads + Sync>(
+    threads: &R,
+    alloc: Global,
+    workers: u32,
+    batch: &Batch,
+    plain: &Plain,
+) -> Result<Vec<String>, NoMemory>
+    requires { length plain.now.objects < 2 ^ 32 }
+    ensures { IfOk result (λ parts. flat_map string_bytes parts.items
+        ≡ plain_text (names_of batch.now.names) (map block_view batch.now.transactions.items)
+        (map record_view plain.now.records.items) plain.now.objects) }
+{
+    render_entry_parts(
+        threads,
+        alloc,
+        workers,
+        batch,
+        &plain.records,
+        &plain.objects,
+    )
+}
+
 // Takes the last part away, to be written on.
 fn take_last(alloc: Global, parts: &mut Vec<String>) -> String
     ensures { flat_map string_bytes parts.new.items ++ string_bytes result ≡ flat_map string_bytes parts.old.items }
@@ -71,14 +97,17 @@ fn render_entry_parts<R: Threads + Sync>(
     alloc: Global,
     workers: u32,
     batch: &Batch,
-    outcome: &Outcome,
+    records: &[Record],
+    objects: &Objects,
 ) -> Result<Vec<String>, NoMemory>
-    requires { length outcome.now.objects < 2 ^ 32 }
-    ensures { IfOk result (λ parts. flat_map string_bytes parts.items ≡ plain_text (names_of batch.now.names) (map block_view batch.now.transactions.items) (map record_view outcome.now.records.items) outcome.now.objects) }
+    requires { length objects.now < 2 ^ 32 }
+    ensures { IfOk result (λ parts. flat_map string_bytes parts.items
+        ≡ plain_text (names_of batch.now.names) (map block_view batch.now.transactions.items)
+        (map record_view records.now) objects.now) }
 {
-    let last = last_cut(batch, &outcome.records, &outcome.objects);
-    let cuts = cuts_of(alloc, &outcome.records, &outcome.objects, last, workers)?;
-    let made = render_each(threads, alloc, batch, outcome, &cuts)?;
+    let last = last_cut(batch, records, objects);
+    let cuts = cuts_of(alloc, records, objects, last, workers)?;
+    let made = render_each(threads, alloc, batch, records, objects, &cuts)?;
     gathered(alloc, made)
 }
 
@@ -87,29 +116,26 @@ fn render_each<R: Threads + Sync>(
     threads: &R,
     alloc: Global,
     batch: &Batch,
-    outcome: &Outcome,
+    records: &[Record],
+    objects: &Objects,
     cuts: &[Cut],
 ) -> Result<Vec<Result<String, NoMemory>>, NoMemory>
-    requires few { length outcome.now.objects < 2 ^ 32 }
-    requires cuts { AreCuts (last_cut batch.now.transactions.items outcome.now.records.items outcome.now.objects) cuts.now }
+    requires few { length objects.now < 2 ^ 32 }
+    requires cuts { AreCuts (last_cut batch.now.transactions.items records.now objects.now)
+        cuts.now }
     ensures count { IfOk result (λ made. length made.items + 1 ≡ length cuts.now) }
     ensures each { IfOk result (λ made. (i : ℕ) (d : _) → i < length made.items
-        → IfOk (slice_index_or made.items i d) (λ t. IsPart (lines_from (names_of batch.now.names) batch.now.transactions.items outcome.now.records.items outcome.now.objects) cuts.now i (string_bytes t))) }
+        → IfOk (slice_index_or made.items i d) (λ t. IsPart (lines_from
+        (names_of batch.now.names) batch.now.transactions.items records.now objects.now)
+        cuts.now i (string_bytes t))) }
 {
     let render = |part: usize| -> Result<String, NoMemory>
-        requires { (length outcome.now.objects < 2 ^ 32) × (part + 1 < length cuts.now)
-            × AreCuts (last_cut batch.now.transactions.items outcome.now.records.items outcome.now.objects) cuts.now }
-        ensures { IfOk result (λ t. IsPart (lines_from (names_of batch.entry.now.names) batch.entry.now.transactions.items outcome.entry.now.records.items outcome.entry.now.objects) cuts.entry.now part (string_bytes t)) }
-    {
-        render_between(
-            alloc,
-            batch,
-            &outcome.records,
-            &outcome.objects,
-            cuts[part],
-            cuts[part + 1],
-        )
-    };
+        requires { (length objects.now < 2 ^ 32) × (part + 1 < length cuts.now)
+            × AreCuts (last_cut batch.now.transactions.items records.now objects.now) cuts.now }
+        ensures { IfOk result (λ t. IsPart (lines_from (names_of batch.entry.now.names)
+            batch.entry.now.transactions.items records.entry.now objects.entry.now)
+            cuts.entry.now part (string_bytes t)) }
+    { render_between(alloc, batch, records, objects, cuts[part], cuts[part + 1]) };
     let made = map_indices(threads, alloc, cuts.len() - 1, &render)?;
     Ok(made)
 }

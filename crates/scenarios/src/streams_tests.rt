@@ -5,7 +5,8 @@ use crate::Meeting;
 use crate::memory::{TestSink, TestSource};
 use ordtx::{
     Code, Fault, Marked, NoGate, Plan, Sink, Source, Uncarried, Wrong, audit_stream,
-    carry_into_stream, carry_stream, check_stream, run_stream, serial_stream,
+    carry_into_stream, carry_stream, check_at_once_stream, check_stream, run_stream,
+    serial_at_once_stream, serial_stream,
 };
 use std::alloc::AllocGlobal;
 use std::io;
@@ -115,16 +116,66 @@ fn writes_how_much_a_document_has(rt: HostRuntime) {
 }
 
 #[test]
+fn answers_by_workers(rt: HostRuntime) {
+    let plan = Plan::new(2, 16).expect(&rt, "a plan");
+    let mut source = Marked::new(DOCUMENT);
+    let mut sink = TestSink::new(&rt, 9, ALWAYS);
+    assert!(rt; serial_at_once_stream(&rt, rt.alloc(), &mut source, &mut sink, plan).is_ok());
+    assert!(rt; sink.taken() == PLAIN);
+}
+
+#[test]
+fn writes_by_workers_how_much_a_document_has(rt: HostRuntime) {
+    let plan = Plan::new(2, 16).expect(&rt, "a plan");
+    let mut source = Marked::new(DOCUMENT);
+    let mut sink = TestSink::new(&rt, ALWAYS, ALWAYS);
+    assert!(rt; check_at_once_stream(&rt, rt.alloc(), &mut source, &mut sink, plan).is_ok());
+    assert!(rt; sink.taken() == HELD);
+}
+
+/// Carries the objects of a document over by two workers.
+fn carry<W: Sink>(
+    rt: &(impl Threads + Sync + Abort + AllocGlobal),
+    document: &[u8],
+    sink: &mut W,
+) -> Result<(), Uncarried>
+    requires unwritten { W.has_failed sink.old ≡ false }
+{
+    let plan = Plan::new(2, 16).expect(rt, "a plan");
+    carry_stream(rt, rt.alloc(), &mut Marked::new(document), sink, plan)
+}
+
+/// Carries the objects of the document into a next one by two workers.
+fn carry_into<W: Sink>(
+    rt: &(impl Threads + Sync + Abort + AllocGlobal),
+    next: &[u8],
+    sink: &mut W,
+) -> Result<(), Uncarried>
+    requires unwritten { W.has_failed sink.old ≡ false }
+{
+    let plan = Plan::new(2, 16).expect(rt, "a plan");
+    let mut first = Marked::new(DOCUMENT);
+    carry_into_stream(
+        rt,
+        rt.alloc(),
+        &mut first,
+        &mut Marked::new(next),
+        sink,
+        plan,
+    )
+}
+
+#[test]
 fn carries_objects_over(rt: HostRuntime) {
     let mut sink = TestSink::new(&rt, ALWAYS, ALWAYS);
-    assert!(rt; carry_stream(rt.alloc(), &mut Marked::new(DOCUMENT), &mut sink).is_ok());
+    assert!(rt; carry(&rt, DOCUMENT, &mut sink).is_ok());
     assert!(rt; sink.taken() == CARRIED);
 }
 
 #[test]
 fn carries_no_unfit_object(rt: HostRuntime) {
     let mut sink = TestSink::new(&rt, ALWAYS, ALWAYS);
-    let answer = carry_stream(rt.alloc(), &mut Marked::new(UNFIT), &mut sink);
+    let answer = carry(&rt, UNFIT, &mut sink);
     refuses_object(&rt, answer, Wrong::Start);
     assert!(rt; sink.taken().is_empty());
 }
@@ -141,8 +192,7 @@ fn refuses_object(rt: &impl Abort, answer: Result<(), Uncarried>, wrong: Wrong) 
 #[test]
 fn carries_objects_into_the_next_document(rt: HostRuntime) {
     let mut sink = TestSink::new(&rt, ALWAYS, ALWAYS);
-    let mut first = Marked::new(DOCUMENT);
-    let answer = carry_into_stream(rt.alloc(), &mut first, &mut Marked::new(NEXT), &mut sink);
+    let answer = carry_into(&rt, NEXT, &mut sink);
     assert!(rt; answer.is_ok());
     assert!(rt; sink.taken() == JOINED);
 }
@@ -150,8 +200,7 @@ fn carries_objects_into_the_next_document(rt: HostRuntime) {
 #[test]
 fn carries_no_object_of_two_kinds(rt: HostRuntime) {
     let mut sink = TestSink::new(&rt, ALWAYS, ALWAYS);
-    let mut first = Marked::new(DOCUMENT);
-    let answer = carry_into_stream(rt.alloc(), &mut first, &mut Marked::new(CLASH), &mut sink);
+    let answer = carry_into(&rt, CLASH, &mut sink);
     refuses_object(&rt, answer, Wrong::DuplicateObject);
     assert!(rt; sink.taken().is_empty());
 }

@@ -7,9 +7,9 @@ use Rattle.command_line.proofs.reading.carry_command.Goals as goal
 pub returns-clause-app : goal.returns-clause-app
 returns-clause-app c =
     IfOk-weaker c.arg.result _ _ (λ command added. added.shape c.text_argument.ensures.local
-    ∙ ap₂ with_rule c.in_ok-file_command.ensures.app c.text_argument.ensures.rule) c.arg.ensures
+    ∙ ap₂ with_rule c.in_ok-shared_command.ensures.app c.text_argument.ensures.rule) c.arg.ensures
 
 pub returns-clause-local : goal.returns-clause-local
 returns-clause-local c =
     IfOk-weaker c.arg.result _ _ (λ command added. added.globals
-    ∙ neither _ _ c.in_ok-file_command.ensures.local c.text_argument.ensures.local) c.arg.ensures
+    ∙ neither _ _ c.in_ok-shared_command.ensures.local c.text_argument.ensures.local) c.arg.ensures
