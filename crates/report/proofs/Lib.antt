@@ -3,6 +3,7 @@ pub mod Digits
 pub mod HandlerPlaces
 pub mod Joined
 pub mod NameLemmas
+pub mod PathLemmas
 pub mod SortedLemmas
 pub mod TextLemmas
 pub mod PartLemmas

@@ -1,6 +1,7 @@
 -- The lines that are left to write.
 use Rattle.std.proofs.Common.{◌≡◌, ℕ, ◌+◌, ◌<◌, ◌≤◌, List, [], ◌∷◌, ◌++◌, length, get_or, drop, map, Option, Some, None, refl, sym, ap, ◌∙◌}
-use Rattle.std.proofs.Common.{append-nil, append_assoc}
+use Rattle.std.proofs.Common.{append-nil, append_assoc, arith, inl, inr, min}
+use Rattle.std.proofs.lemmas.Bool.{cases_lt}
 use Rattle.std.proofs.Math.ListN.{drop_of_length-le}
 use Rattle.std.specs.Prelude.{codes}
 use Rattle.meaning.specs.declared.end.End.{End}
@@ -76,6 +77,14 @@ module _ (names : Names) (path : List ℕ) where
       ap (λ ts. steps_text names path (i + 1) (steps_view (drop i steps)) (before_end (map taken_view ts) (AtEnd outcome)))
       (drop_of_length-le taken le) ∙ end_text (i + 1) (steps_view (drop i steps)) outcome
 
+  -- no step is left that was taken
+  pub steps_from-shown : (i : ℕ) (steps : List Step) (taken : List Taken) (outcome : End) → min (length steps) (length taken) ≤ i
+      → steps_from names path i steps taken outcome ≡ []
+  steps_from-shown i steps taken outcome le = elim (cases_lt i (length steps)) [
+    | inl lt ↦ steps_from-end i steps taken outcome (omega (arith, lt, le))
+    | inr ge ↦ steps_from-no_step i steps taken outcome ge
+  ]
+
   -- the same for children
   pub rest_children_text : ℕ → List Subaction → List (Record × Option Record) → List ℕ
   rest_children_text i children tried = children_text names path (i + 1) (children_view (drop i children))
@@ -97,20 +106,28 @@ module _ (names : Names) (path : List ℕ) where
       ∙ ap (λ cs. children_text names path (i + 1) (children_view cs)
       (before_younger (map tried_view (y ∷ drop (i + 1) tried)) ShownChildren.NoChild)) (left children i x lt is)
 
-  pub rest_children_text-no_child : (i : ℕ) (children : List Subaction) (tried : List (Record × Option Record)) → length children ≤ i
+  rest_children_text-no_child : (i : ℕ) (children : List Subaction) (tried : List (Record × Option Record)) → length children ≤ i
       → rest_children_text i children tried ≡ []
   unfolding rest_children_text
   rest_children_text-no_child i children tried le =
       ap (λ cs. children_text names path (i + 1) (children_view cs) (before_younger (map tried_view (drop i tried)) ShownChildren.NoChild))
       (drop_of_length-le children le) ∙ no_children_text (i + 1) (before_younger (map tried_view (drop i tried)) ShownChildren.NoChild)
 
-  pub rest_children_text-end : (i : ℕ) (children : List Subaction) (tried : List (Record × Option Record)) → length tried ≤ i
+  rest_children_text-end : (i : ℕ) (children : List Subaction) (tried : List (Record × Option Record)) → length tried ≤ i
       → rest_children_text i children tried ≡ []
   unfolding rest_children_text
   rest_children_text-end i children tried le =
       ap (λ ts. children_text names path (i + 1) (children_view (drop i children))
       (before_younger (map tried_view ts) ShownChildren.NoChild)) (drop_of_length-le tried le)
       ∙ end_children_text (i + 1) (children_view (drop i children))
+
+  -- no child is left that was tried
+  pub rest_children_text-shown : (i : ℕ) (children : List Subaction) (tried : List (Record × Option Record))
+      → min (length children) (length tried) ≤ i → rest_children_text i children tried ≡ []
+  rest_children_text-shown i children tried le = elim (cases_lt i (length children)) [
+    | inl lt ↦ rest_children_text-end i children tried (omega (arith, lt, le))
+    | inr ge ↦ rest_children_text-no_child i children tried ge
+  ]
 
 -- texts written one after another
 pub after_text : (mid new text rest more all : List ℕ) → mid ++ rest ≡ all → new ≡ mid ++ text → rest ≡ text ++ more → new ++ more ≡ all

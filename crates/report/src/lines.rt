@@ -1,69 +1,100 @@
 //! The lines of a record.
-ghost use Rattle.std.specs.Prelude.{◌≡◌, ◌++◌, IfOk, OnOk, codes, option_copied, string_bytes};
-ghost use Rattle.meaning.specs.Words.{reply_text};
-ghost use Rattle.meaning.specs.Texts.{abort_line, line, part, refusal_text, outcome_text, choice_text, operation_line, steps_text, step_text, child_text, children_text};
+ghost use Rattle.std.specs.Prelude.{◌≡◌, ◌<◌, ◌∷◌, ◌++◌, OnOk, codes, option_copied, string_bytes};
+ghost use Rattle.std.specs.Fmt.{decimal};
+ghost use Rattle.meaning.specs.Words.{call_text, reply_text};
+ghost use Rattle.meaning.specs.Texts.{abort_line, line, reason_text, refusal_text, outcome_text, choice_text, steps_text, step_text, child_text, children_text};
 ghost use Rattle.batch.specs.Names.{names_of};
 ghost use Rattle.batch.specs.Views.{block_view, record_view, step_view, taken_view, subaction_view, tried_view, children_view, all_tried_view};
 
 use crate::calls::{write_call, write_natural, write_reply};
 use crate::names::{object_name, reason_name};
-use crate::paths::{branch_path, handler_place, longer_path, part_path, reason_of};
+use crate::paths::{branch_end, push_handler, push_part, reason_of};
 use batch::{Block, Names, Record, Step, Subaction, Taken, end_after, reason_for};
 use meaning::End;
 use objects::{
     AccountReply, Call, CounterReply, DirectoryReply, MaxReply, NoMemory, QueueReply, Reply,
 };
-use std::alloc::Global;
 
-// Writes the lines of the steps of a block at a path.
+// Writes the lines of the steps of a block, whose path is `path` and then `end`. The paths of its
+// steps are made in the text of `path`, which is as before after `Ok`.
 #[cycle(lines)]
 fn write_block(
-    alloc: Global,
     out: &mut String,
     names: &Names,
-    path: &str,
+    path: &mut String,
+    end: &str,
     block: &Block,
     done: &Record,
 ) -> Result<(), NoMemory>
-    ensures { OnOk result (string_bytes out.new ≡ string_bytes out.old ++ steps_text (names_of names.now) path.now 1 (block_view block.now) (record_view done.now)) }
+    ensures lines { OnOk result (string_bytes out.new ≡ string_bytes out.old
+        ++ steps_text (names_of names.now) (string_bytes path.old ++ end.now) 1
+        (block_view block.now) (record_view done.now)) }
+    ensures path { OnOk result (string_bytes path.new ≡ string_bytes path.old) }
 {
-    for (index, taken) in done.taken.iter().enumerate() {
-        if index >= block.steps.len() {
-            return Ok(());
-        }
-        let step = &block.steps[index];
-        write_step(alloc, out, names, path, index + 1, step, taken)?;
+    let length = path.len();
+    path.push_str(end)?;
+    path.push('.')?;
+    for index in 0..block.steps.len().min(done.taken.len()) {
+        let (step, taken) = (&block.steps[index], &done.taken[index]);
+        write_step(out, names, path, index + 1, step, taken)?;
     }
+    path.truncate(length);
     Ok(())
 }
 
-/// Writes the lines of the step of this number (from 1) below a path. An operation's own path is part
-/// of its line: no text is made for it.
+/// Writes the lines of the step of this number (from 1). `path` is the path of its block and a dot,
+/// and is as before after `Ok`. The path of an operation is not made there, since no step is below it.
 #[cycle(lines)]
 pub(crate) fn write_step(
-    alloc: Global,
     out: &mut String,
     names: &Names,
-    path: &str,
+    path: &mut String,
     number: usize,
     step: &Step,
     taken: &Taken,
 ) -> Result<(), NoMemory>
-    ensures { OnOk result (string_bytes out.new ≡ string_bytes out.old ++ step_text (names_of names.now) (part path.now number) (step_view step.now) (taken_view taken.now)) }
+    ensures lines { OnOk result (string_bytes out.new ≡ string_bytes out.old
+        ++ step_text (names_of names.now) (string_bytes path.old ++ decimal number)
+        (step_view step.now) (taken_view taken.now)) }
+    ensures path { OnOk result (string_bytes path.new ≡ string_bytes path.old) }
 {
     if let (Step::Op { object, call, .. }, Taken::Op(reply)) = (step, taken) {
-        return write_operation(out, names, path, number, *object, call, reply);
+        write_place(out, path, number)?;
+        return write_operation(out, names, *object, call, reply);
     }
-    let own_path = part_path(alloc, path, number)?;
-    let own = own_path.as_str();
+    let block_length = path.len();
+    write_natural(path, number as u64)?;
+    write_step_at(out, names, path, step, taken)?;
+    path.truncate(block_length);
+    Ok(())
+}
+
+// Writes the lines of the step at this path, which is as before after `Ok`.
+#[cycle(lines)]
+fn write_step_at(
+    out: &mut String,
+    names: &Names,
+    path: &mut String,
+    step: &Step,
+    taken: &Taken,
+) -> Result<(), NoMemory>
+    ensures lines { OnOk result (string_bytes out.new ≡ string_bytes out.old
+        ++ step_text (names_of names.now) (string_bytes path.old)
+        (step_view step.now) (taken_view taken.now)) }
+    ensures path { OnOk result (string_bytes path.new ≡ string_bytes path.old) }
+{
     match (step, taken) {
+        (Step::Op { object, call, .. }, Taken::Op(reply)) => {
+            begin_line(out, 'O', path)?;
+            write_operation(out, names, *object, call, reply)
+        }
         (Step::Fill(filling), Taken::Filled(made)) => {
-            let reply = &made.reply;
-            write_operation(out, names, path, number, filling.object, &made.call, reply)?;
-            write_refusal(out, names, own, end_after(filling.refusal, reply))
+            begin_line(out, 'O', path)?;
+            write_operation(out, names, filling.object, &made.call, &made.reply)?;
+            write_refusal(out, names, path, end_after(filling.refusal, &made.reply))
         }
         (Step::Fill(filling), Taken::Abort) => {
-            write_abort(out, names, own, reason_for(filling.refusal))
+            write_abort(out, names, path, reason_for(filling.refusal))
         }
         (
             Step::If {
@@ -73,76 +104,95 @@ pub(crate) fn write_step(
             },
             Taken::If(holds, record),
         ) => {
-            write_choice(out, own, *holds)?;
+            write_choice(out, path, *holds)?;
             let branch = if *holds { then } else { otherwise };
-            let branch_path = branch_path(alloc, own, *holds)?;
-            write_block(alloc, out, names, branch_path.as_str(), branch, record)
+            write_block(out, names, path, branch_end(*holds), branch, record)
         }
         (Step::Sub(child), Taken::Sub(body, handler)) => {
-            write_child(alloc, out, names, own, child, body, handler.as_deref())
+            write_child(out, names, path, child, body, handler.as_deref())
         }
-        (Step::Abort(reason), Taken::Abort) => write_abort(out, names, own, *reason),
+        (Step::Abort(reason), Taken::Abort) => write_abort(out, names, path, *reason),
         (Step::Parallel(children), Taken::Parallel(tried)) => {
-            write_children(alloc, out, names, own, children, tried)
+            write_children(out, names, path, children, tried)
         }
         _ => Ok(()),
     }
 }
 
+// Writes the lines of the subaction at this path, which is as before after `Ok`.
 #[cycle(lines)]
 fn write_child(
-    alloc: Global,
     out: &mut String,
     names: &Names,
-    path: &str,
+    path: &mut String,
     child: &Subaction,
     body: &Record,
     handler: Option<&Record>,
 ) -> Result<(), NoMemory>
-    ensures { OnOk result (let child = subaction_view child.now in
-        string_bytes out.new ≡ string_bytes out.old ++ child_text (names_of names.now) path.now child.body child.handlers (tried_view (body.now, option_copied handler.entry))) }
+    ensures lines { OnOk result (let child = subaction_view child.now in
+        string_bytes out.new ≡ string_bytes out.old
+        ++ child_text (names_of names.now) (string_bytes path.old) child.body child.handlers
+        (tried_view (body.now, option_copied handler.entry))) }
+    ensures path { OnOk result (string_bytes path.new ≡ string_bytes path.old) }
 {
     write_outcome(out, names, path, body.outcome)?;
-    let body_path = longer_path(alloc, path, ".b")?;
-    write_block(alloc, out, names, body_path.as_str(), &child.body, body)?;
+    write_block(out, names, path, ".b", &child.body, body)?;
     let Some(done) = handler else {
         return Ok(());
     };
-    let reason = reason_of(body.outcome);
-    let Some((handler_path, block)) = handler_place(alloc, names, path, child, reason)? else {
+    let length = path.len();
+    let Some(block) = push_handler(path, names, child, reason_of(body.outcome))? else {
         return Ok(());
     };
-    write_block(alloc, out, names, handler_path.as_str(), block, done)
+    write_block(out, names, path, "", block, done)?;
+    path.truncate(length);
+    Ok(())
 }
 
+// Writes the lines of the children of the step at this path, which is as before after `Ok`.
 #[cycle(lines)]
 fn write_children(
-    alloc: Global,
     out: &mut String,
     names: &Names,
-    path: &str,
+    path: &mut String,
     children: &[Subaction],
     all_tried: &[(Record, Option<Record>)],
 ) -> Result<(), NoMemory>
-    ensures { OnOk result (string_bytes out.new ≡ string_bytes out.old ++ children_text (names_of names.now) path.now 1 (children_view children.now) (all_tried_view all_tried.now)) }
+    ensures lines { OnOk result (string_bytes out.new ≡ string_bytes out.old
+        ++ children_text (names_of names.now) (string_bytes path.old) 1
+        (children_view children.now) (all_tried_view all_tried.now)) }
+    ensures path { OnOk result (string_bytes path.new ≡ string_bytes path.old) }
 {
-    for (index, tried) in all_tried.iter().enumerate() {
-        if index >= children.len() {
-            return Ok(());
-        }
-        let child = &children[index];
-        let child_path = part_path(alloc, path, index + 1)?;
-        let (body, handler) = tried;
-        write_child(
-            alloc,
-            out,
-            names,
-            child_path.as_str(),
-            child,
-            body,
-            handler.as_ref(),
-        )?;
+    let length = path.len();
+    for index in 0..children.len().min(all_tried.len()) {
+        let (body, handler) = &all_tried[index];
+        push_part(path, index + 1)?;
+        write_child(out, names, path, &children[index], body, handler.as_ref())?;
+        path.truncate(length);
     }
+    Ok(())
+}
+
+// Begins the line of the operation of this number, where `path` is that of its block and a dot.
+fn write_place(out: &mut String, path: &str, number: usize) -> Result<(), NoMemory>
+    ensures { OnOk result (string_bytes out.new
+        ≡ string_bytes out.old ++ (codes "O " ++ path.now ++ decimal number)) }
+{
+    out.push('O')?;
+    out.push(' ')?;
+    out.push_str(path)?;
+    write_natural(out, number as u64)
+}
+
+// Begins a line with its letter and a path.
+fn begin_line(out: &mut String, letter: char, path: &str) -> Result<(), NoMemory>
+    requires { letter < 128 }
+    ensures { OnOk result (string_bytes out.new
+        ≡ string_bytes out.old ++ (letter ∷ (codes " " ++ path.now))) }
+{
+    out.push(letter)?;
+    out.push(' ')?;
+    out.push_str(path)?;
     Ok(())
 }
 
@@ -157,19 +207,19 @@ fn write_refusal(out: &mut String, names: &Names, path: &str, end: End) -> Resul
     }
 }
 
-// Writes the line of an operation, which is the step of this number (from 1) below a path.
+// Writes what the line of an operation has after its path.
 fn write_operation(
     out: &mut String,
     names: &Names,
-    path: &str,
-    number: usize,
     object: u32,
     call: &Call,
     reply: &Reply,
 ) -> Result<(), NoMemory>
-    ensures { OnOk result (string_bytes out.new ≡ string_bytes out.old ++ operation_line (names_of names.now) (part path.now number) object call.now reply.now) }
+    ensures { OnOk result (let names = names_of names.now in
+        string_bytes out.new ≡ string_bytes out.old
+        ++ line (codes " " ++ names.object object ++ codes " " ++ call_text names call.now
+        ++ codes " = " ++ reply_text names reply.now)) }
 {
-    write_place(out, path, number)?;
     write_name(out, object_name(names, object))?;
     write_call(out, names, call)?;
     write_line_end(out, names, reply)
@@ -195,18 +245,6 @@ fn write_line_end(out: &mut String, names: &Names, reply: &Reply) -> Result<(), 
     Ok(())
 }
 
-// Begins the line of the operation of this number below a path.
-fn write_place(out: &mut String, path: &str, number: usize) -> Result<(), NoMemory>
-    ensures { OnOk result (string_bytes out.new
-        ≡ string_bytes out.old ++ (codes "O " ++ part path.now number)) }
-{
-    out.push('O')?;
-    out.push(' ')?;
-    out.push_str(path)?;
-    out.push('.')?;
-    write_natural(out, number as u64)
-}
-
 // Writes a name between two spaces.
 fn write_name(out: &mut String, name: &str) -> Result<(), NoMemory>
     ensures { OnOk result (string_bytes out.new
@@ -219,12 +257,14 @@ fn write_name(out: &mut String, name: &str) -> Result<(), NoMemory>
 }
 
 fn write_choice(out: &mut String, path: &str, holds: bool) -> Result<(), NoMemory>
-    ensures { OnOk result (string_bytes out.new ≡ string_bytes out.old ++ line (codes "I " ++ path.now ++ choice_text holds)) }
+    ensures { OnOk result (string_bytes out.new
+        ≡ string_bytes out.old ++ line (codes "I " ++ path.now ++ choice_text holds)) }
 {
+    begin_line(out, 'I', path)?;
     if holds {
-        write!(out, "I {path} then\n")?;
+        out.push_str(" then\n")?;
     } else {
-        write!(out, "I {path} else\n")?;
+        out.push_str(" else\n")?;
     }
     Ok(())
 }
@@ -235,36 +275,50 @@ fn write_abort(
     path: &str,
     reason: Option<u32>,
 ) -> Result<(), NoMemory>
-    ensures { OnOk result (string_bytes out.new ≡ string_bytes out.old ++ abort_line (names_of names.now) path.now reason) }
+    ensures { OnOk result (string_bytes out.new
+        ≡ string_bytes out.old ++ abort_line (names_of names.now) path.now reason) }
 {
-    match reason {
-        Some(reason) => {
-            let name = reason_name(names, reason);
-            write!(out, "A {path} {name}\n")?;
-        }
-        None => write!(out, "A {path}\n")?,
-    }
-    Ok(())
+    begin_line(out, 'A', path)?;
+    write_reason(out, names, reason)
 }
 
 fn write_outcome(out: &mut String, names: &Names, path: &str, outcome: End) -> Result<(), NoMemory>
-    ensures { OnOk result (string_bytes out.new ≡ string_bytes out.old ++ line (codes "S " ++ path.now ++ outcome_text (names_of names.now) outcome)) }
+    ensures { OnOk result (string_bytes out.new ≡ string_bytes out.old
+        ++ line (codes "S " ++ path.now ++ outcome_text (names_of names.now) outcome)) }
 {
-    write!(out, "S {path}")?;
+    begin_line(out, 'S', path)?;
     write_end(out, names, outcome)
 }
 
 /// Writes how a block ended, and ends the line.
 pub(crate) fn write_end(out: &mut String, names: &Names, outcome: End) -> Result<(), NoMemory>
-    ensures { OnOk result (string_bytes out.new ≡ string_bytes out.old ++ line (outcome_text (names_of names.now) outcome)) }
+    ensures { OnOk result (string_bytes out.new
+        ≡ string_bytes out.old ++ line (outcome_text (names_of names.now) outcome)) }
 {
     match outcome {
-        End::Ended => write!(out, " committed\n")?,
-        End::Aborted(None) => write!(out, " aborted\n")?,
-        End::Aborted(Some(reason)) => {
-            let name = reason_name(names, reason);
-            write!(out, " aborted {name}\n")?;
+        End::Ended => {
+            out.push_str(" committed\n")?;
+            Ok(())
         }
+        End::Aborted(reason) => {
+            out.push_str(" aborted")?;
+            write_reason(out, names, reason)
+        }
+    }
+}
+
+// Writes the reason of an abort, if there is one, and ends the line.
+fn write_reason(out: &mut String, names: &Names, reason: Option<u32>) -> Result<(), NoMemory>
+    ensures { OnOk result (string_bytes out.new
+        ≡ string_bytes out.old ++ line (reason_text (names_of names.now) reason)) }
+{
+    match reason {
+        Some(reason) => {
+            out.push(' ')?;
+            out.push_str(reason_name(names, reason))?;
+            out.push('\n')?;
+        }
+        None => out.push('\n')?,
     }
     Ok(())
 }

@@ -1,5 +1,6 @@
 //! The paths of the parts of a step, by which a report names them.
-ghost use Rattle.std.specs.Prelude.{◌≡◌, ◌++◌, ◌<◌, IfNone, IfOk, IfSome, option_map, string_bytes};
+ghost use Rattle.std.specs.Prelude.{◌≡◌, ◌++◌, ◌<◌, ℕ, List, IfNone, IfOk, IfSome, OnOk, codes, option_map, string_bytes};
+ghost use Rattle.std.specs.Fmt.{decimal};
 ghost use Rattle.std.specs.Option.{ForSome};
 ghost use Rattle.meaning.specs.Texts.{branch_path, handler_block, part, reason_of};
 ghost use Rattle.meaning.specs.Trees.{NoStep};
@@ -17,27 +18,47 @@ use meaning::End;
 use objects::NoMemory;
 use std::alloc::Global;
 
+/// Room for the path of a step, which mostly has no more bytes.
+const PATH: usize = 32;
+
 /// Room for a dot and a number, which mostly have no more bytes.
 const DOT_AND_NUMBER: usize = 8;
+
+/// Room for the part of a handler, which mostly has no more bytes.
+const HANDLER: usize = 24;
+
+// What the paths of a transaction's steps begin with: its number and a dot.
+pub(crate) fn begin_path(alloc: Global, number: usize) -> Result<String, NoMemory>
+    ensures { IfOk result (λ t. string_bytes t ≡ decimal number ++ codes ".") }
+{
+    let mut text = String::with_capacity(alloc, PATH)?;
+    write!(&mut text, "{number}.")?;
+    Ok(text)
+}
 
 /// The path of the step or the child of this number (from 1) below a path.
 pub fn part_path(alloc: Global, path: &str, number: usize) -> Result<String, NoMemory>
     ensures { IfOk result (λ t. string_bytes t ≡ part path.now number) }
 {
-    let mut text = String::with_capacity(alloc, path.len().saturating_add(DOT_AND_NUMBER))?;
-    text.push_str(path)?;
-    text.push('.')?;
-    write_natural(&mut text, number as u64)?;
+    let mut text = path_with_room(alloc, path, DOT_AND_NUMBER)?;
+    push_part(&mut text, number)?;
     Ok(text)
 }
 
-// A path, and this after it.
-pub(crate) fn longer_path(alloc: Global, path: &str, end: &str) -> Result<String, NoMemory>
-    ensures { IfOk result (λ t. string_bytes t ≡ path.now ++ end.now) }
+// Puts a dot and the number of a step or a child (from 1) after a path.
+pub(crate) fn push_part(path: &mut String, number: usize) -> Result<(), NoMemory>
+    ensures { OnOk result (string_bytes path.new ≡ part (string_bytes path.old) number) }
 {
-    let mut text = String::with_capacity(alloc, path.len().saturating_add(end.len()))?;
+    path.push('.')?;
+    write_natural(path, number as u64)
+}
+
+// A path, with room for so many bytes after it.
+fn path_with_room(alloc: Global, path: &str, room: usize) -> Result<String, NoMemory>
+    ensures { IfOk result (λ t. string_bytes t ≡ path.now) }
+{
+    let mut text = String::with_capacity(alloc, path.len().saturating_add(room))?;
     text.push_str(path)?;
-    text.push_str(end)?;
     Ok(text)
 }
 
@@ -45,11 +66,17 @@ pub(crate) fn longer_path(alloc: Global, path: &str, end: &str) -> Result<String
 pub fn branch_path(alloc: Global, path: &str, holds: bool) -> Result<String, NoMemory>
     ensures { IfOk result (λ t. string_bytes t ≡ branch_path path.now holds) }
 {
-    if holds {
-        longer_path(alloc, path, ".t")
-    } else {
-        longer_path(alloc, path, ".e")
-    }
+    let end = branch_end(holds);
+    let mut text = path_with_room(alloc, path, end.len())?;
+    text.push_str(end)?;
+    Ok(text)
+}
+
+// What the path of a branch has after the path of its `if`.
+pub(crate) fn branch_end(holds: bool) -> &'static str
+    ensures { (path : List ℕ) → path ++ result.now ≡ branch_path path holds }
+{
+    if holds { ".t" } else { ".e" }
 }
 
 /// The path and the block of what takes an abort for this reason, if a handler does.
@@ -66,13 +93,45 @@ pub fn handler_place<'b>(
     ensures none { IfOk result (λ found. IfNone found (handler_block (subaction_view child.now).handlers reason ≡ NoStep)) }
     ensures inside { IfOk result (λ found. ForSome found (λ p. size-Block p.1.now < size-Subaction child.now)) }
 {
+    let mut text = path_with_room(alloc, path, HANDLER)?;
+    match push_handler(&mut text, names, child, reason)? {
+        Some(block) => Ok(Some((text, block))),
+        None => Ok(None),
+    }
+}
+
+// Makes the path of a subaction that of what takes an abort for this reason, and returns its block.
+// Where no handler takes it, the path is as before.
+pub(crate) fn push_handler<'b>(
+    path: &mut String,
+    names: &Names,
+    child: &'b Subaction,
+    reason: Option<u32>,
+) -> Result<Option<&'b Block>, NoMemory>
+    ensures place { IfOk result (λ found. IfSome found (λ b.
+        (string_bytes path.new, block_view b.now)
+        ≡ handler_place (names_of names.now) (string_bytes path.old) reason
+        (subaction_view child.now).handlers)) }
+    ensures taken { IfOk result (λ found. option_map (λ b. block_view b.now) found
+        ≡ taker (subaction_view child.now).handlers reason) }
+    ensures none { IfOk result (λ found. IfNone found
+        (handler_block (subaction_view child.now).handlers reason ≡ NoStep)) }
+    ensures stays { IfOk result (λ found.
+        IfNone found (string_bytes path.new ≡ string_bytes path.old)) }
+    ensures inside { IfOk result (λ found.
+        ForSome found (λ b. size-Block b.now < size-Subaction child.now)) }
+{
     match handler_for(child, reason) {
         Some(handler) => {
-            let name = reason_name(names, handler.reason);
-            Ok(Some((format!(in alloc; "{path}.h:{name}")?, &handler.block)))
+            path.push_str(".h:")?;
+            path.push_str(reason_name(names, handler.reason))?;
+            Ok(Some(&handler.block))
         }
         None => match &child.otherwise {
-            Otherwise::Run(block) => Ok(Some((format!(in alloc; "{path}.h")?, block))),
+            Otherwise::Run(block) => {
+                path.push_str(".h")?;
+                Ok(Some(block))
+            }
             Otherwise::GoOn => Ok(None),
             Otherwise::Pass => Ok(None),
         },

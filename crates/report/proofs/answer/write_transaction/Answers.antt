@@ -1,4 +1,4 @@
-use Rattle.std.proofs.Common.{◌≡◌, ◌+◌, ◌<◌, ◌≤◌, ◌++◌, length, arith, ap, sym, ◌∙◌, string_bytes}
+use Rattle.std.proofs.Common.{◌≡◌, ◌+◌, ◌<◌, ◌≤◌, ◌++◌, length, arith, refl, ap, sym, ◌∙◌, string_bytes}
 use Rattle.std.specs.Prelude.{codes}
 use Rattle.std.specs.Fmt.{decimal}
 use Rattle.meaning.specs.Texts.{line, outcome_text}
@@ -8,6 +8,9 @@ use Rattle.report.proofs.AnswerLemmas.{transaction_from-own, transaction_from-st
 use Rattle.report.proofs.TextLemmas.{after_text}
 use Rattle.report.proofs.answer.write_transaction.Goals as goal
 use Rattle.report.proofs.answer.write_transaction.Goals.{then-line-eq0+in_ok-write_heading, else-line-eq0+in_ok-write_step}
+
+pub loop-line-init : goal.loop-line-init
+loop-line-init c = (refl, c.in_ok-path.ensures)
 
 pub loop-line-preserved : goal.loop-line-preserved
 loop-line-preserved c =
@@ -23,18 +26,23 @@ loop-line-preserved c =
     elim c.if-line-eq0.branch [
       | then-line-eq0+in_ok-write_heading w ↦
           let first : i ≡ 0 = omega (arith, w.if-line-eq0.true) in
-          let own = line (codes "T " ++ decimal (e + 1) ++ outcome_text names y.outcome) in
-          after_text _ _ _ _ _ _ c.loop-line.invariant (ap string_bytes w.out-is ∙ w.in_ok-write_heading.ensures)
-          (ap (transaction_from names blocks records e) first
-          ∙ transaction_from-own names e blocks records x y c.requires.blocks c.index.ensures c.requires.records c.index-records-from.is
-          ∙ ap (λ n. own ++ transaction_from names blocks records e (n + 1)) (sym first))
+          let own = line (codes "T " ++ decimal (e + 1) ++ outcome_text names y.outcome) in (
+            after_text _ _ _ _ _ _ c.loop-line.invariant.0 (ap string_bytes w.out-is ∙ w.in_ok-write_heading.ensures)
+                (ap (transaction_from names blocks records e) first
+                ∙ transaction_from-own names e blocks records x y c.requires.blocks c.index.ensures c.requires.records
+                c.index-records-from.is
+                ∙ ap (λ n. own ++ transaction_from names blocks records e (n + 1)) (sym first)),
+            ap string_bytes w.path-is ∙ c.loop-line.invariant.1,
+          )
       | else-line-eq0+in_ok-write_step w ↦
-          let some : 0 < i = omega (arith, w.if-line-eq0.false) in
-          let path : w.as_str.result.now ≡ decimal (e + 1) = w.as_str.ensures.value ∙ c.in_ok-path.ensures.ok in
-          after_text _ _ _ _ _ _ c.loop-line.invariant (ap string_bytes w.out-is ∙ rw path at w.in_ok-write_step.ensures)
-          (transaction_from-step names e blocks records x y c.requires.blocks c.index.ensures c.requires.records
-          c.index-records-from.is i _ _ some (omega (arith, some, below)) w.index-else-line-eq0.ensures (omega (arith, some, below'))
-          w.index-else-line-eq0-2.ensures)
+          let some : 0 < i = omega (arith, w.if-line-eq0.false) in (
+            after_text _ _ _ _ _ _ c.loop-line.invariant.0
+                (ap string_bytes w.out-is ∙ rw c.loop-line.invariant.1 at w.in_ok-write_step.ensures.lines)
+                (transaction_from-step names e blocks records x y c.requires.blocks c.index.ensures c.requires.records
+                c.index-records-from.is i _ _ some (omega (arith, some, below)) w.index-else-line-eq0.ensures (omega (arith, some, below'))
+                w.index-else-line-eq0-2.ensures),
+            ap string_bytes w.path-is ∙ w.in_ok-write_step.ensures.path ∙ c.loop-line.invariant.1,
+          )
     ]
 
 pub returns-then-line-len : goal.returns-then-line-len
@@ -44,7 +52,7 @@ returns-then-line-len c =
     c.requires.blocks c.index.ensures c.requires.records c.index-records-from.is in
     ap (λ text. string_bytes c.loop-line.out ++ text)
     (none c.args.to (omega (arith, c.loop-line-test.true, c.if-line-len.true, c.len.ensures, x.steps.ok.0))
-    ∙ sym (none c.loop-line.line (omega (arith, c.if-line-len.true, c.len.ensures, x.steps.ok.0)))) ∙ c.loop-line.invariant
+    ∙ sym (none c.loop-line.line (omega (arith, c.if-line-len.true, c.len.ensures, x.steps.ok.0)))) ∙ c.loop-line.invariant.0
 
 pub returns-then-line-len-2 : goal.returns-then-line-len-2
 returns-then-line-len-2 c =
@@ -53,4 +61,4 @@ returns-then-line-len-2 c =
     c.requires.records c.index-records-from.is in
     ap (λ text. string_bytes c.loop-line.out ++ text)
     (none c.args.to (omega (arith, c.loop-line-test.true, c.if-line-len-2.true, c.len-in-loop-line.ensures, y.taken.ok.0))
-    ∙ sym (none c.loop-line.line (omega (arith, c.if-line-len-2.true, c.len-in-loop-line.ensures, y.taken.ok.0)))) ∙ c.loop-line.invariant
+    ∙ sym (none c.loop-line.line (omega (arith, c.if-line-len-2.true, c.len-in-loop-line.ensures, y.taken.ok.0)))) ∙ c.loop-line.invariant.0
