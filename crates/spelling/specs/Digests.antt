@@ -1,4 +1,4 @@
--- What tells short names apart: how long a name is, and its last bytes as a number. And what is kept of each object.
+-- What distinguishes short names: how long a name is, and its last bytes as a number. And what is kept of each object.
 use Rattle.std.specs.Prelude.{ℕ, ◌+◌, ◌*◌, ◌-◌, min, List, [], ◌∷◌, drop, length}
 use Rattle.objects.specs.declared.kind.Kind.{Kind}
 use Rattle.spelling.specs.declared.digests.Digest.{Digest}

@@ -1,4 +1,4 @@
-//! What tells short names apart with no look at their bytes.
+//! What distinguishes short names, with no look at their bytes.
 ghost use Rattle.std.specs.Prelude.{◌≡◌, ◌+◌, ◌*◌, ◌^◌, ◌<◌, ◌≤◌, IsTrue, IfOk, length, slice_index};
 ghost use Rattle.objects.specs.Entries.{kinds};
 ghost use Rattle.batch.specs.Names.{texts_of};
