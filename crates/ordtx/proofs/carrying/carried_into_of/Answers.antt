@@ -6,13 +6,13 @@ use Rattle.ordtx.proofs.NamesApart.{names_apart}
 use Rattle.ordtx.proofs.carrying.carried_into_of.Goals as goal
 
 pub name_table-requires-clause-apart : goal.name_table-requires-clause-apart
-name_table-requires-clause-apart c = names_apart c.args.first.items (document_of c.in_ok-batch.batch) c.in_ok-batch.ensures.batch
+name_table-requires-clause-apart g c = names_apart c.args.first.items (document_of c.in_ok-batch.batch) c.in_ok-batch.ensures.batch
 
 pub name_table-requires-2-clause-apart : goal.name_table-requires-2-clause-apart
-name_table-requires-2-clause-apart c = names_apart c.as_slice-2.result.now (document_of c.in-Ok.batch) c.in-Ok.ensures.batch
+name_table-requires-2-clause-apart g c = names_apart c.as_slice-2.result.now (document_of c.in-Ok.batch) c.in-Ok.ensures.batch
 
 pub returns : goal.returns
-returns c =
+returns g c =
     let reads = subst (λ bytes. reading bytes ≡ Ok (document_of c.in-Ok.batch))
     (c.as_slice-2.ensures.value ∙ sym c.as_slice-4.ensures.value) c.in-Ok.ensures.batch in
     let first = c.in_ok-batch.ensures.batch in
