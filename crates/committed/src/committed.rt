@@ -16,6 +16,9 @@ use objects::{Entry, EntryHashing, NoMemory, commute};
 use std::alloc::Global;
 use std::marker::Model;
 
+/// For how many links of its index a list has memory at most that is kept when it is cleared.
+const MOST_KEPT: usize = 1024;
+
 /// The entries that committed runs leave, in the order in which they are committed, with an index
 /// by object, item and class. Entries that commute forward with all that was committed since their
 /// snapshot have the same replies after it (Weihl 1988).
@@ -67,6 +70,24 @@ impl Committed {
             index: Index::new(alloc, hashing),
             filter: Filter::new(alloc),
         }
+    }
+
+    /// Takes all entries out of the list. It keeps its memory for the next ones, unless that is
+    /// much. It is hashed as before.
+    pub fn clear(&mut self)
+        ensures { self.new ≡ [] }
+    {
+        // The filter is cleared in a time that grows with what was listed, but the index in one that
+        // grows with its memory. The next entries may be few. So where there is much memory, a new
+        // list is made, which takes none.
+        if self.index.capacity() > MOST_KEPT {
+            let alloc = *self.entries.allocator();
+            *self = Committed::hashed_by(alloc, self.index.hashing());
+            return;
+        }
+        self.filter.clear(&self.entries);
+        self.index.clear();
+        self.entries.clear();
     }
 
     /// Makes room for about so many more entries, so that the filter and the index need not grow with

@@ -62,6 +62,32 @@ impl Index {
         }
     }
 
+    /// For how many links it has memory. For headings it has memory for about as many at most.
+    pub fn capacity(&self) -> usize
+        ensures { result ≡ vec_capacity self.now.links }
+    {
+        self.links.capacity()
+    }
+
+    /// How its headings are hashed.
+    pub fn hashing(&self) -> EntryHashing
+        ensures { result ≡ hasher_of self.now.last }
+    {
+        *self.last.hasher()
+    }
+
+    /// Takes all entries out of the index, and keeps its memory. It takes a time that grows with
+    /// that memory.
+    pub fn clear(&mut self)
+        ensures index { IsIndexOf [] self.new }
+        ensures listed { self.new.listed ≡ 0 }
+        ensures hashing { hasher_of self.new.last ≡ hasher_of self.old.last }
+    {
+        self.last.clear();
+        self.links.clear();
+        self.listed = 0;
+    }
+
     /// How many entries are listed, from the first on.
     pub fn listed(&self) -> usize
         ensures { result ≡ self.now.listed }

@@ -294,6 +294,35 @@ fn grown_lists_are_searched(rt: HostRuntime) -> Result<(), Fail> {
 }
 
 #[test]
+fn a_cleared_list_is_used_again(rt: HostRuntime) -> Result<(), Fail> {
+    let balance = Entry {
+        object: 0,
+        call: Call::Account(AccountCall::Balance),
+        reply: Reply::Account(AccountReply::Number(5)),
+    };
+    let deposit = Entry {
+        object: 0,
+        call: Call::Account(AccountCall::Deposit(amount(&rt, 1))),
+        reply: Reply::Account(AccountReply::Ok),
+    };
+    let mut committed = Committed::new(rt.alloc());
+    for count in [1, 2000, 2] {
+        for _ in 0..count {
+            committed.append(&[balance])?;
+        }
+        refuted_in(&rt, &committed, &[deposit], 1);
+        committed.clear();
+        assert_eq!(rt; committed.len(), 0);
+        committed.append(&[deposit])?;
+        valid_in(&rt, &committed, &[deposit], 1);
+        refuted_in(&rt, &committed, &[balance], 1);
+        committed.clear();
+        valid_in(&rt, &committed, &[balance], 0);
+    }
+    Ok(())
+}
+
+#[test]
 fn entries_of_one_hash_are_told_apart(rt: HostRuntime) -> Result<(), Fail> {
     let put = |object: u32, key: u32, value: u32| -> Entry {
         Entry {

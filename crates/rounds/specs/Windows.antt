@@ -1,5 +1,5 @@
 -- Openings, with the runs that the rounds have come to. No public contract names it.
-use Rattle.std.specs.Prelude.{◌≡◌, ◌≢◌, ◌⊎◌, ℕ, ◌-◌, ◌+◌, ◌<◌, ◌≤◌, Bool, true, false, List, ◌++◌, suc, length, take, slice_index_or}
+use Rattle.std.specs.Prelude.{◌≡◌, ◌≢◌, ◌⊎◌, ℕ, ◌-◌, ◌+◌, ◌<◌, ◌≤◌, Bool, true, false, List, [], ◌++◌, suc, length, take, slice_index_or}
 use Rattle.objects.specs.Entries.{State}
 use Rattle.objects.specs.declared.entry.Entry.{Entry}
 use Rattle.objects.specs.Entries.{AllCommute}
@@ -119,11 +119,13 @@ pub record IsRoundSeen (batch : Batch) (b : ℕ) (window : Window) (nets : List 
   pub listed : IsListedTo batch b seen.first window (take seen.upto nets)
   pub reached : seen.first ≤ length window.runs.items
 
--- what is at hand at an opening: the objects are those after the first transactions, whose records are those of one thread
+-- What is at hand at an opening: the objects are those after the first transactions, whose records are those of one thread. The
+-- list that the next round uses again is empty.
 pub record IsOpening (batch : Batch) (at : Opening) : Type 0 where
   pub within : at.opened ≤ length (blocks_of batch)
   pub objects : at.objects ≡ state_at (start_of batch) (blocks_of batch) at.opened
   pub window : IsWindowAt batch at.opened at.objects at.window
+  pub cleared : at.reused.nets ≡ []
   pub reached : at.opened ≤ length at.window.runs.items
   pub committed : (i : ℕ) (d : PendingRun) → i < at.opened
       → record_view (slice_index_or at.window.runs.items i d).tree ≡ shown_of (answer (start_of batch) (blocks_of batch) i)

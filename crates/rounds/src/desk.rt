@@ -21,7 +21,7 @@ use std::thread::Threads;
 pub(crate) struct Desk<'s> {
     view: View<'s>,
     labels: Vec<Held>,
-    run: Run,
+    pub(crate) run: Run,
     /// For how many operations the lists of a run have room from the first.
     room: usize,
 }

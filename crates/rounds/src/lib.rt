@@ -10,6 +10,7 @@ pub mod laws;
 mod make;
 mod openings;
 mod pending_run;
+mod reused;
 mod seek;
 mod span;
 mod window;

@@ -15,10 +15,10 @@ ghost use Rattle.meaning.specs.declared.limits.TheConstants.{MAX_OBJECTS, MAX_TR
 use crate::committing::commit;
 use crate::crew::Crew;
 use crate::pending_run::PendingRun;
+use crate::reused::Reused;
 use crate::seek::seek;
 use crate::window::Window;
 use batch::{Batch, Outcome, Record};
-use intentions::Committed;
 use plan::Plan;
 use speculate::{Gate, NoMemory, Objects, Progress};
 use std::alloc::Global;
@@ -56,6 +56,7 @@ fn records_of(alloc: Global, runs: Vec<PendingRun>) -> Result<Vec<Record>, NoMem
 struct Opening {
     objects: Objects,
     window: Window,
+    reused: Reused,
     opened: usize,
     // How many runs the next round looks at first, and how many entries it is expected to list.
     ahead: usize,
@@ -72,6 +73,7 @@ fn begin(alloc: Global, batch: &Batch, plan: Plan) -> Result<Opening, NoMemory>
     Ok(Opening {
         objects: batch.objects.copy()?,
         window: Window::new(alloc),
+        reused: Reused::new(alloc, batch),
         opened: 0,
         ahead: 2 * plan.workers as usize * plan.cut as usize,
         listed: 0,
@@ -92,8 +94,7 @@ fn round<R: Threads + Sync, G: Gate>(
 {
     let opened = at.opened;
     let ahead = at.ahead.max(1);
-    let mut nets = Committed::hashed_by(crew.alloc, batch.hashing);
-    nets.expect(at.listed)?;
+    at.reused.nets.expect(at.listed)?;
     let seen = seek(
         crew,
         batch,
@@ -101,7 +102,7 @@ fn round<R: Threads + Sync, G: Gate>(
         opened,
         ahead,
         &mut at.window,
-        &mut nets,
+        &mut at.reused,
     )?;
     let first = seen.first;
     commit(
@@ -112,7 +113,8 @@ fn round<R: Threads + Sync, G: Gate>(
         &mut at.objects,
     )?;
     at.window.settle(crew.alloc, opened, first);
-    at.window.keep(crew, first, &nets, seen.upto)?;
+    at.window.keep(crew, first, &at.reused.nets, seen.upto)?;
+    at.reused.nets.clear();
     at.ahead = (first - opened).saturating_mul(2);
     at.listed = seen.upto;
     at.opened = first;

@@ -8,10 +8,12 @@ ghost use Rattle.rounds.specs.Windows.{AllValid, IsWindowAt, IsListedTo, IsBlock
 use crate::check::{Seen, check_at_once, stands_past};
 use crate::crew::{Crew, makers};
 use crate::desk::Desk;
+use crate::reused::Reused;
 use crate::window::Window;
 use batch::Batch;
 use intentions::Committed;
 use speculate::{Gate, NoMemory, Objects};
+use std::mem::swap;
 use std::thread::Threads;
 
 // Checks the runs of a block in order, and lists their nets, up to the first that conflicts. Those
@@ -109,7 +111,8 @@ fn check<R: Threads + Sync, G: Gate>(
 }
 
 /// Seeks the first conflict of a round in blocks of runs, and lists the nets of the runs before it.
-/// The first block has so many runs, and each later one twice as many as the one before it.
+/// The first block has so many runs, and each later one twice as many as the one before it. What the
+/// calling thread makes by itself, it makes in memory that the next round uses again.
 ///
 /// Returns `NoMemory` where a request for memory was refused.
 pub(crate) fn seek<R: Threads + Sync, G: Gate>(
@@ -119,34 +122,38 @@ pub(crate) fn seek<R: Threads + Sync, G: Gate>(
     opened: usize,
     expected: usize,
     window: &mut Window,
-    nets: &mut Committed,
+    reused: &mut Reused,
 ) -> Result<Seen, NoMemory>
     requires opening { objects.now ≡ state_at (start_of batch.now) (blocks_of batch.now) opened }
     requires within { opened ≤ length (blocks_of batch.now) }
     requires reached { opened ≤ length window.old.runs.items }
     requires window { IsWindowAt batch.now opened objects.now window.old }
     requires some { 1 ≤ expected }
-    requires none { nets.old ≡ [] }
+    requires none { reused.old.nets ≡ [] }
     ensures window { OnOk result (IsWindowAt batch.now opened objects.now window.new) }
     ensures grown { OnOk result (HasGrown opened window.old window.new) }
-    ensures seen { IfOk result (IsRoundSeen batch.now opened window.new nets.new) }
+    ensures seen { IfOk result (IsRoundSeen batch.now opened window.new reused.new.nets) }
 {
     let count = batch.transactions.len();
     let mut desk = Desk::open(crew.alloc, objects, crew.operations_each)?;
+    swap(&mut desk.run, &mut reused.run);
     let mut from = opened;
     let mut block = expected;
     'looking: while from < count {
         let end = from.saturating_add(block).min(count);
         window.reach(crew.alloc, batch, opened, objects, end)?;
+        let nets = &mut reused.nets;
         let seen = check(
             crew, batch, opened, objects, from, end, &mut desk, window, nets,
         )?;
         if seen.first < end {
+            reused.take_back(&mut desk.run);
             return Ok(seen);
         }
         from = end;
         block = block.saturating_mul(2);
     }
-    let upto = nets.len();
+    reused.take_back(&mut desk.run);
+    let upto = reused.nets.len();
     Ok(Seen { first: from, upto })
 }

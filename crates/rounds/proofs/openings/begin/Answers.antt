@@ -11,6 +11,7 @@ returns-clause-opening c = record {
   within = omega arith;
   objects = c.in_ok-copy.ensures;
   window = empty_window c.args.batch.now c.in_ok-copy.field-0 c.new.result c.new.ensures.runs c.new.ensures.valid;
+  cleared = c.new-2.ensures;
   reached = omega arith;
   committed = λ i d lt. absurd (omega arith);
   few_rounds = omega arith;

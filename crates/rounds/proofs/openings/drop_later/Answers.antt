@@ -18,6 +18,7 @@ returns-clause-at c batch here =
       objects = here.objects;
       window = shortened batch c.args.at.now.opened c.args.at.now.objects old new end here.window c.shorten.ensures.runs
           c.shorten.ensures.valid;
+      cleared = here.cleared;
       reached = reached_still old new c.args.at.now.opened end here.reached low c.shorten.ensures.runs;
       committed = λ i d lt. ap (λ rs. record_view (get_or rs i d).tree) c.shorten.ensures.runs
           ∙ (ap (λ r. record_view r.tree) (get_or-take end old.runs.items i d (omega arith)) ∙ here.committed i d lt);

@@ -16,7 +16,7 @@ commit-requires-clause-spans g c κs within =
     let saw = c.in_ok-seen.ensures.seen in
     let opened = c.args.at.now.opened in
     subst (λ rs. AreSpanned (blocks_of c.args.batch.now) opened (take (seen.first - opened) (drop opened rs))) (sym c.deref.ensures.value)
-    (commits c.args.batch.now opened seen.first c.args.at.now.objects c.seek.new.window (take seen.upto c.seek.new.nets) c.requires.at.objects
+    (commits c.args.batch.now opened seen.first c.args.at.now.objects c.seek.new.window (take seen.upto c.seek.new.reused.nets) c.requires.at.objects
     c.requires.at.within c.in_ok-seen.ensures.window saw.reached saw.listed).2
 
 pub commit-requires-clause-legal : goal.commit-requires-clause-legal
@@ -26,7 +26,7 @@ commit-requires-clause-legal g c κs within =
     let opened = c.args.at.now.opened in
     subst (λ rs. AreLegal c.args.at.now.objects (own_nets (blocks_of c.args.batch.now) opened (take (seen.first - opened) (drop opened rs))))
     (sym c.deref.ensures.value)
-    (commits c.args.batch.now opened seen.first c.args.at.now.objects c.seek.new.window (take seen.upto c.seek.new.nets) c.requires.at.objects
+    (commits c.args.batch.now opened seen.first c.args.at.now.objects c.seek.new.window (take seen.upto c.seek.new.reused.nets) c.requires.at.objects
     c.requires.at.within c.in_ok-seen.ensures.window saw.reached saw.listed).0
 
 pub commit-requires-clause-room : goal.commit-requires-clause-room
@@ -36,7 +36,7 @@ commit-requires-clause-room g c κs within =
     let opened = c.args.at.now.opened in
     subst (λ rs. AllHaveRoom c.args.at.now.objects (own_nets (blocks_of c.args.batch.now) opened (take (seen.first - opened) (drop opened rs))))
     (sym c.deref.ensures.value)
-    (commits c.args.batch.now opened seen.first c.args.at.now.objects c.seek.new.window (take seen.upto c.seek.new.nets) c.requires.at.objects
+    (commits c.args.batch.now opened seen.first c.args.at.now.objects c.seek.new.window (take seen.upto c.seek.new.reused.nets) c.requires.at.objects
     c.requires.at.within c.in_ok-seen.ensures.window saw.reached saw.listed).1
 
 pub returns-clause-at : goal.returns-clause-at
@@ -48,7 +48,7 @@ returns-clause-at g c =
     let opened = c.args.at.now.opened in
     let rounds = c.args.at.now.rounds in
     let state = c.args.at.now.objects in
-    let listed = take seen.upto c.seek.new.nets in
+    let listed = take seen.upto c.seek.new.reused.nets in
     let window = c.seek.new.window in
     let on = comes_on (start_of batch) (blocks_of batch) opened seen.first (omega (arith, blocks, c.requires.going)) saw.opening in
     let next = moved_on batch opened seen.first state window listed c.requires.at.objects c.requires.at.within c.in_ok-seen.ensures.window
@@ -61,6 +61,7 @@ returns-clause-at g c =
       window = kept_window batch opened seen.first state window listed c.requires.at.objects c.requires.at.within
           c.in_ok-seen.ensures.window saw.reached saw.listed c.commit.new.objects c.settle.new.self c.keep.new.self next c.settle.ensures
           c.in_ok-keep.ensures;
+      cleared = c.clear.ensures;
       reached =
           let inside = saw.reached in
           let one = c.settle.ensures.runs in
@@ -84,7 +85,7 @@ returns-clause-round g c =
     let saw = c.in_ok-seen.ensures.seen in
     let opened = c.args.at.now.opened in
     let state = c.args.at.now.objects in
-    let listed = take seen.upto c.seek.new.nets in
+    let listed = take seen.upto c.seek.new.reused.nets in
     let window = c.seek.new.window in
     let next = moved_on batch opened seen.first state window listed c.requires.at.objects c.requires.at.within c.in_ok-seen.ensures.window
     saw.reached saw.listed c.commit.new.objects

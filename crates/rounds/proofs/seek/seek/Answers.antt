@@ -1,8 +1,9 @@
-use Rattle.std.proofs.Common.{◌≡◌, length, sym, subst, arith}
+use Rattle.std.proofs.Common.{◌≡◌, length, sym, ap, ◌∙◌, subst, arith}
 use Rattle.std.proofs.lemmas.List.{length-map}
 use Rattle.batch.specs.Views.{block_view}
 use Rattle.rounds.specs.Views.{start_of, blocks_of}
-use Rattle.rounds.specs.Windows.{IsListedTo}
+use Rattle.rounds.specs.Windows.{IsListedTo, IsRoundSeen}
+use Rattle.rounds.specs.declared.check.Seen.{Seen}
 use Rattle.rounds.proofs.Firsts.{all_taken}
 use Rattle.rounds.proofs.Listing.{grown_on, not_grown, none_listed, still_listed, opens_at_conflict, opens_at_end}
 use Rattle.rounds.proofs.seek.seek.Goals as goal
@@ -11,7 +12,7 @@ pub looking-init : goal.looking-init
 looking-init g c = record {
   window = c.requires.window;
   grown = not_grown c.args.opened c.args.window.now;
-  listed = none_listed c.args.batch.now c.args.opened c.args.window.now c.args.nets.now c.requires.none;
+  listed = none_listed c.args.batch.now c.args.opened c.args.window.now c.args.reused.now.nets c.requires.none;
   ready = record { opened = c.in_ok-desk.ensures.opened; unlabelled = c.in_ok-desk.ensures.unlabelled };
   within = c.requires.within;
   reached = c.requires.reached;
@@ -20,7 +21,7 @@ looking-init g c = record {
 
 pub check-requires-clause-listed : goal.check-requires-clause-listed
 check-requires-clause-listed g c κs within =
-    still_listed c.args.batch.now c.args.opened c.looking.from c.looking.window c.reach.new.self c.looking.nets c.in_ok-reach.ensures.grown
+    still_listed c.args.batch.now c.args.opened c.looking.from c.looking.window c.reach.new.self c.looking.reused.nets c.in_ok-reach.ensures.grown
     c.looking.invariant.listed
 
 pub returns-then-seen-end-clause-seen : goal.returns-then-seen-end-clause-seen
@@ -34,13 +35,13 @@ returns-then-seen-end-clause-seen g c =
     let inside = saw.within in
     let within = c.in_ok-seen.ensures.window.within in
     let end = c.in_ok-reach.ensures.reached in
-    record {
+    subst (λ listed. IsRoundSeen batch opened c.check.new.window listed seen) (sym c.take_back.ensures) (record {
       opening = opens_at_conflict (start_of batch) (blocks_of batch) opened seen.first saw.listed.from (omega arith) saw.listed.keep
           (saw.conflict c.if-seen-end.true);
       upto = saw.upto;
       listed = saw.listed;
       reached = omega arith;
-    }
+    })
 
 pub looking-preserved : goal.looking-preserved
 looking-preserved g c =
@@ -76,11 +77,13 @@ returns-clause-seen g c =
     let over = c.looking-test.false in
     let count = c.len-count.ensures in
     let within = so_far.within in
-    let nets = c.looking.nets in
-    record {
+    let nets = c.looking.reused.nets in
+    let size : c.len-upto.result ≡ length nets = c.len-upto.ensures ∙ ap length c.take_back-2.ensures in
+    let seen : Seen = record { first = c.looking.from; upto = c.len-upto.result } in
+    subst (λ listed. IsRoundSeen batch opened c.looking.window listed seen) (sym c.take_back-2.ensures) (record {
       opening = opens_at_end (start_of batch) (blocks_of batch) opened c.looking.from (omega arith) so_far.listed.keep;
-      upto = let size = c.len-upto.ensures in omega arith;
-      listed = subst (IsListedTo batch opened c.looking.from c.looking.window) (sym (all_taken nets c.len-upto.result c.len-upto.ensures))
+      upto = omega arith;
+      listed = subst (IsListedTo batch opened c.looking.from c.looking.window) (sym (all_taken nets c.len-upto.result size))
           so_far.listed;
       reached = so_far.reached;
-    }
+    })

@@ -8,7 +8,7 @@ abbrev pub invariant-looking : goal.invariant-looking
 invariant-looking g l = record {
   window : IsWindowAt l.batch l.opened l.objects l.window;
   grown : HasGrown l.opened l.initial.window l.window;
-  listed : IsListedTo l.batch l.opened l.from l.window l.nets;
+  listed : IsListedTo l.batch l.opened l.from l.window l.reused.nets;
   ready : IsDeskOn l.objects l.desk;
   within : l.from ≤ length (blocks_of l.batch);
   reached : l.from ≤ length l.window.runs.items;
