@@ -57,12 +57,12 @@ pub struct Filling {
 pub struct Subaction {
     /// The steps of the subaction.
     pub body: Block,
+    /// Whether the subaction has a label.
+    pub labelled: bool,
     /// The handlers of some reasons, tried in this order.
     pub handlers: Vec<Handler>,
     /// What comes of an abort that no handler is for.
     pub otherwise: Otherwise,
-    /// Whether the subaction has a label.
-    pub labelled: bool,
 }
 
 /// A handler: the block that takes aborts for a reason.
