@@ -15,3 +15,4 @@ pub mod PartTried
 pub mod LeftParts
 pub mod LeftRest
 pub mod LeftNets
+pub mod PackedLemmas

@@ -1,4 +1,5 @@
 pub mod Names
+pub mod Packed
 pub mod Views
 pub mod Named
 pub mod NamedProps

@@ -11,6 +11,7 @@ mod labels;
 pub mod laws;
 mod left;
 mod names;
+mod packed;
 mod record;
 mod tree;
 mod tried;

@@ -98,7 +98,10 @@ fn unfit_is(rt: &impl Abort, version: u8, objects: &Objects, misfit: Option<Misf
 fn carries(rt: &(impl Abort + AllocGlobal), objects: &Objects, document: &str) {
     assert!(rt; objects.len() <= MAX_OBJECTS);
     let named = texts(rt, &["a", "c", "s", "q", "d", "m", "none"]);
-    let names = Names::new(named, texts(rt, &["x", "y"]), Vec::new(rt.alloc()));
+    let items = texts(rt, &["x", "y"]);
+    let Ok(names) = Names::new(rt.alloc(), &named, &items, &[]) else {
+        panic!(rt; "no memory")
+    };
     let Ok(text) = carried(rt.alloc(), VERSION, &names, objects) else {
         panic!(rt; "no memory")
     };
