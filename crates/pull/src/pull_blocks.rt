@@ -28,7 +28,7 @@ use crate::pull::{
 };
 use crate::pull_heads::{begin_parallel, end_parallel, new_sub_step, pull_if_head};
 use crate::stop::Stop;
-use batch::{Block, Handler, Step, Subaction, Test};
+use batch::{Block, Handler, NoMemory, Step, Subaction, Test};
 use json::{Reader, Token};
 use rules::{NameRule, Subject, fits_item, fits_number, fits_word};
 use serde_json::Map;
@@ -572,6 +572,43 @@ fn pull_step(
     }
 }
 
+/// Up to how many steps of a block are moved into memory that has room for no more. A longer list
+/// gives back what it doesn't need.
+const MOST_MOVED: usize = 32;
+
+/// An empty list, in the memory of a spare one where there is one.
+fn spare_list(alloc: Global, spares: &mut Vec<Vec<Step>>) -> Vec<Step>
+    ensures { result.items ≡ [] }
+{
+    match spares.pop() {
+        Some(mut spare) => {
+            spare.clear();
+            spare
+        }
+        None => Vec::new(alloc),
+    }
+}
+
+/// The steps in a list with room for no more. Where they are few, the list that they were read into
+/// becomes a spare one. So the blocks lie one after the other, with no gaps that growing lists leave.
+fn exact_list(
+    alloc: Global,
+    steps: Vec<Step>,
+    spares: &mut Vec<Vec<Step>>,
+) -> Result<Vec<Step>, NoMemory>
+    ensures { IfOk result (λ list. list.items ≡ steps.items) }
+{
+    let mut steps = steps;
+    if MOST_MOVED < steps.len() {
+        steps.shrink_to_fit();
+        return Ok(steps);
+    }
+    let mut exact = Vec::with_capacity(alloc, steps.len())?;
+    exact.append(&mut steps)?;
+    spares.push(steps)?;
+    Ok(exact)
+}
+
 /// The steps of a block up to its end, each of which sees the labels of those before it.
 #[cycle(blocks)]
 fn pull_steps(
@@ -590,12 +627,11 @@ fn pull_steps(
         (scope_of state.old.labels.entries) (numbers_of state.old.numbering) ds)
         × Extends (scope_of state.old.labels.entries) (scope_of state.new.labels.entries)) }
 {
-    let mut steps = Vec::new(alloc);
+    let mut steps = spare_list(alloc, &mut state.spares);
     while !reader.take_end_array() {
         steps.push(pull_step(alloc, reader, levels, declared, state)?)?;
     }
-    steps.shrink_to_fit();
-    Ok(steps)
+    Ok(exact_list(alloc, steps, &mut state.spares)?)
 }
 
 /// A block within so many more levels. Its labels are no longer seen after it.

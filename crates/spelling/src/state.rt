@@ -8,7 +8,7 @@ use crate::counts::Counts;
 use crate::digests::Digest;
 use crate::hashing::{Labels, NameHashing, Texts};
 use crate::hints::{Hints, place_in};
-use batch::NoMemory;
+use batch::{NoMemory, Step};
 use indexmap::{IndexMap, IndexSet};
 use std::alloc::Global;
 
@@ -35,6 +35,8 @@ pub struct State {
     pub numbering: Numbering,
     pub labels: Labels,
     pub order: ReasonOrder,
+    /// Empty lists, in whose memory the steps of the next blocks are read.
+    pub spares: Vec<Vec<Step>>,
 }
 
 impl State {
@@ -58,6 +60,7 @@ impl State {
             },
             labels: IndexMap::with_hasher(alloc, hashing),
             order: ReasonOrder::Ascending,
+            spares: Vec::new(alloc),
         }
     }
 }

@@ -40,9 +40,9 @@ use Rattle.spelling.specs.Places.{members_placed, nothing, seek, step_placed, st
 use Rattle.spelling.proofs.PlaceLemmas.{member_met, own_first, part_met}
 use Rattle.pull.proofs.pull_blocks.+blocks.Goals as goal
 
-pub pull_steps-loop-alloc-init : goal.pull_steps-loop-alloc-init
-pull_steps-loop-alloc-init t c =
-    let none : c.new-steps.result.items ≡ [] = c.new-steps.ensures.items in (
+pub pull_steps-loop-steps-init : goal.pull_steps-loop-steps-init
+pull_steps-loop-steps-init t c =
+    let none : c.spare_list-steps.result.items ≡ [] = c.spare_list-steps.ensures in (
       λ ds. ds,
       λ ds new reads. reads,
       λ ds. ap (λ (vs : List _). seek c.args.state.now.counts (steps_placed (block_placed (setting_of c.args.declared.now) c.args.levels)
@@ -53,16 +53,16 @@ pull_steps-loop-alloc-init t c =
       ([], sym (append-nil _)),
     )
 
-pub pull_steps-loop-alloc-smaller : goal.pull_steps-loop-alloc-smaller
-pull_steps-loop-alloc-smaller t c =
-    let going : (after_end_array c.loop-alloc.reader ≡ None) × (c.take_end_array.new.self ≡ c.loop-alloc.reader) = grind arith in
+pub pull_steps-loop-steps-smaller : goal.pull_steps-loop-steps-smaller
+pull_steps-loop-steps-smaller t c =
+    let going : (after_end_array c.loop-steps.reader ≡ None) × (c.take_end_array.new.self ≡ c.loop-steps.reader) = grind arith in
     let done = c.in_ok-pull_step.ensures in
     let less = reads_shorter (5 * c.args.levels + 4) _ done.0 _ done.1 in
     omega (arith, less, ap length going.1)
 
-pub pull_steps-loop-alloc-preserved : goal.pull_steps-loop-alloc-preserved
-pull_steps-loop-alloc-preserved t c =
-    let l = c.loop-alloc in
+pub pull_steps-loop-steps-preserved : goal.pull_steps-loop-steps-preserved
+pull_steps-loop-steps-preserved t c =
+    let l = c.loop-steps in
     let k = 5 * c.args.levels + 4 in
     let setting = setting_of c.args.declared.now in
     let places = block_placed setting c.args.levels in
@@ -98,14 +98,14 @@ pull_steps-loop-alloc-preserved t c =
 
 pub pull_steps-returns : goal.pull_steps-returns
 pull_steps-returns t c =
-    let l = c.loop-alloc in
+    let l = c.loop-steps in
     let k = 5 * c.args.levels + 4 in
     let setting = setting_of c.args.declared.now in
     let closed : after_end_array l.reader ≡ Some c.take_end_array.new.self = grind arith in (
       l.invariant.0 no_items,
       l.invariant.1 no_items _ (reads_no_items k l.reader _ closed),
       l.invariant.2 no_items,
-      ap (λ (vs : List _). (map step_view vs, numbers_of l.state.numbering)) c.shrink_to_fit.ensures.items
+      ap (λ (vs : List _). (map step_view vs, numbers_of l.state.numbering)) c.in_ok-exact_list.ensures
           ∙ sym (l.invariant.3 no_items ∙ in_front_none (map step_view l.steps.items) (numbers_of l.state.numbering)),
       l.invariant.4,
     )

@@ -11,8 +11,8 @@ use Rattle.spelling.specs.Places.{block_placed, children_placed, members_placed,
 use Rattle.pull.proofs.pull_blocks.+blocks.Given as goal
 
 -- what was read comes before any items that follow
-abbrev pub invariant-pull_steps-loop-alloc : goal.invariant-pull_steps-loop-alloc
-invariant-pull_steps-loop-alloc l =
+abbrev pub invariant-pull_steps-loop-steps : goal.invariant-pull_steps-loop-steps
+invariant-pull_steps-loop-steps l =
     (before : Items → Items)
     × ((ds : Items) (new : List Token) → ReadsItems (5 * l.levels + 4) l.reader ds new
     → ReadsItems (5 * l.levels + 4) l.initial.reader (before ds) new)
@@ -28,8 +28,8 @@ invariant-pull_steps-loop-alloc l =
     (numbers_of l.state.numbering) ds))
     × Extends (scope_of l.initial.state.labels.entries) (scope_of l.state.labels.entries)
 
-abbrev pub decreases-pull_steps-loop-alloc : goal.decreases-pull_steps-loop-alloc
-decreases-pull_steps-loop-alloc l = length l.reader
+abbrev pub decreases-pull_steps-loop-steps : goal.decreases-pull_steps-loop-steps
+decreases-pull_steps-loop-steps l = length l.reader
 
 abbrev pub decreases-pull_steps : goal.decreases-pull_steps
 decreases-pull_steps l = 11 * l.levels + 10
