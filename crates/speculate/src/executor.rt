@@ -16,7 +16,7 @@ use crate::ahead::{Ahead, Fork, Shared, both_halves, list_since};
 use crate::gate::Gate;
 use crate::reached::Reached;
 use crate::spare::{Spare, boxed, list_of, make_room, put_at, record_of, spare_at};
-use crate::step::{branch_of, forget, perform, perform_filled, undo};
+use crate::step::{branch_of, forget, perform_filled, undo};
 use batch::{Block, Record, Step, Subaction, Taken, Tried, handled, test_holds};
 use intentions::{Committed, NoMemory, View};
 use meaning::{End, Held};
@@ -85,7 +85,10 @@ fn run_steps<T: Threads + Sync, G: Gate>(
             labelled,
         } = step
         {
-            let reply = perform(*object, call, *labelled, labels, view)?;
+            let reply = view.perform(*object, call)?;
+            if *labelled {
+                labels.push(Held::Replied(reply))?;
+            }
             put_at(&mut taken, place, Taken::Op(reply))?;
             continue;
         }
