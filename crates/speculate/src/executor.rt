@@ -17,7 +17,9 @@ use crate::gate::Gate;
 use crate::reached::Reached;
 use crate::spare::{Spare, boxed, list_of, make_room, put_at, record_of, spare_at};
 use crate::step::{branch_of, forget, perform_filled, undo};
-use batch::{Block, Record, Step, Subaction, Taken, Tried, handled, test_holds};
+use batch::{
+    Block, Record, Step, Subaction, Taken, Tried, add_label, handled, test_holds,
+};
 use intentions::{Committed, NoMemory, View};
 use meaning::{End, Held};
 use std::alloc::Global;
@@ -86,9 +88,7 @@ fn run_steps<T: Threads + Sync, G: Gate>(
         } = step
         {
             let reply = view.perform(*object, call)?;
-            if *labelled {
-                labels.push(Held::Replied(reply))?;
-            }
+            add_label(labels, *labelled, Held::Replied(reply))?;
             put_at(&mut taken, place, Taken::Op(reply))?;
             continue;
         }

@@ -59,10 +59,10 @@ run_steps-loop-place-preserved-in-Op g t c = record {
   part = rw c.in_ok-put_at.ensures.put
       (part_run-more ground c.args.steps.now c.args.labels.now.items c.args.view.now c.loop-place.place
       (take c.loop-place.place c.loop-place.taken.items) c.loop-place.labels.items c.loop-place.view
-      c.index-steps-place.result _ _ c.perform.new.labels.items c.perform.new.view
+      c.index-steps-place.result _ _ c.add_label.new.labels.items c.perform.new.self
       c.loop-place.invariant.part c.loop-place-test.true c.index-steps-place.is
-      (op-shows ground c.index-steps-place.result _ _ _ _ _ _ _ _ c.in-Op.is c.in_ok-reply.ensures.reply c.in_ok-reply.ensures.view
-      c.in_ok-reply.ensures.labels) refl (_, c.in_ok-reply.ensures.labels));
+      (op-shows ground c.index-steps-place.result _ _ _ _ _ _ _ _ c.in-Op.is c.in_ok-reply.ensures.reply c.in_ok-reply.ensures.ok
+      c.in_ok-add_label.ensures.ok) refl (_, c.in_ok-add_label.ensures.ok));
 }
 
 pub run_steps-returns-clause-shows : goal.run_steps-returns-clause-shows
