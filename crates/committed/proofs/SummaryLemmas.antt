@@ -1,11 +1,11 @@
 -- Entries that stand for many: what commutes forward with them.
-use Rattle.std.proofs.Common.{◌≡◌, ℕ, suc, zero, ◌<◌, ◌≤◌, ◌↔◌, arith, List, [], ◌∷◌, ◌++◌, length, set, get_or, sym, ap, ◌∙◌, subst}
-use Rattle.std.proofs.lemmas.List.{get_or-map, get_or-set_other, length-map, length-set, map-set}
+use Rattle.std.proofs.Common.{◌≡◌, ℕ, suc, zero, ◌+◌, ◌<◌, ◌≤◌, ◌↔◌, arith, List, [], ◌∷◌, ◌++◌, length, take, set, get_or, sym, ap, ◌∙◌, subst}
+use Rattle.std.proofs.lemmas.List.{get_or-map, get_or-set_other, length-map, length-set, length-take, map-append, map-set, take-append-le, take_more}
 use Rattle.objects.specs.declared.entry.Entry.{Entry}
 use Rattle.committed.specs.declared.marks.MarkedEntry.{MarkedEntry}
 use Rattle.objects.specs.Entries.{CommutesWith, AllCommute, CommuteForward}
 use Rattle.objects.proofs.ListLemmas.{all_commute_none}
-use Rattle.committed.specs.Strictness.{AreAsStrict}
+use Rattle.committed.specs.Strictness.{AreAsStrict, IsCovered}
 use Rattle.committed.specs.Summaries.{entries_of, IsSummary}
 use Rattle.committed.proofs.StandsLemmas.{commute_turned, one_commutes}
 
@@ -164,6 +164,27 @@ pub summary_more : (summary more entries : List Entry) (e : Entry) → more ≡ 
     → IsSummary more (entries ++ e ∷ [])
 summary_more summary more entries e is sums = subst (λ xs. IsSummary xs (entries ++ e ∷ [])) (sym is)
     (summary-append summary entries (e ∷ []) (e ∷ []) sums (summary_itself (e ∷ [])))
+
+-- an entry is left out that the summary covers
+pub summary_covered : (summary entries : List Entry) (e : Entry) → IsCovered summary e → IsSummary summary entries
+    → IsSummary summary (entries ++ e ∷ [])
+summary_covered summary entries e covered sums = record {
+  same = λ other. (
+    λ h. commutes_both other entries (e ∷ []) ((sums.same other).0 h) (covered other h, tt),
+    λ h. (sums.same other).1 (commutes_first other entries (e ∷ []) h),
+  );
+}
+
+-- the entries up to the next one
+pub entries_next : (marked : List MarkedEntry) (n : ℕ) (m : MarkedEntry) → n < length marked → m ≡ get_or marked n m
+    → entries_of (take (n + 1) marked) ≡ entries_of (take n marked) ++ m.entry ∷ []
+entries_next marked n m within is = ap entries_of (take_more marked n m within ∙ ap (λ x. take n marked ++ x ∷ []) (sym is))
+    ∙ map-append (λ (k : MarkedEntry). k.entry) (take n marked) (m ∷ [])
+
+-- what a list began with stays where more is put at its end
+pub begins_still : (start xs ys : List Entry) → take (length start) xs ≡ start → take (length start) (xs ++ ys) ≡ start
+begins_still start xs ys begins =
+    take-append-le (length start) xs ys (omega (arith, ap length begins, length-take (length start) xs)) ∙ begins
 
 -- ---- a summary that leaves nothing out
 

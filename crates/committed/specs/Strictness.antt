@@ -1,5 +1,5 @@
 -- Which of two entries commutes forward with less. No public contract names it.
-use Rattle.std.specs.Prelude.{ℕ, ◌+◌, ◌&&◌, ◌==◌, Bool, nat_le, if◌then◌else◌, IsTrue}
+use Rattle.std.specs.Prelude.{List, ℕ, ◌+◌, ◌&&◌, ◌==◌, Bool, nat_le, if◌then◌else◌, IsTrue}
 use Rattle.atoms.specs.Account.{account_effect}
 use Rattle.atoms.specs.Counter.{counter_effect}
 use Rattle.atoms.specs.ItemSet.{set_effect}
@@ -24,7 +24,7 @@ use Rattle.objects.specs.declared.call.Call.TheVariants as call
 use Rattle.objects.specs.declared.call.Reply.{Reply}
 use Rattle.objects.specs.declared.call.Reply.TheVariants as reply
 use Rattle.objects.specs.declared.entry.Entry.{Entry}
-use Rattle.objects.specs.Entries.{CommuteForward}
+use Rattle.objects.specs.Entries.{CommuteForward, CommutesWith}
 use Rattle.committed.specs.declared.strength.Strength.{Strength}
 use Rattle.committed.specs.declared.strength.Topic.{Topic}
 
@@ -35,6 +35,10 @@ IsAsStrict first second = (e : Entry) → CommuteForward e first → CommuteForw
 -- what commutes forward with the first and the second commutes forward with the third
 abbrev pub AreAsStrict : Entry → Entry → Entry → Type 0
 AreAsStrict first second third = (e : Entry) → CommuteForward e first → CommuteForward e second → CommuteForward e third
+
+-- what commutes forward with all of these entries commutes forward with this one
+abbrev pub IsCovered : List Entry → Entry → Type 0
+IsCovered entries e = (other : Entry) → CommutesWith other entries → CommuteForward other e
 
 -- the same of effects, by their table
 abbrev pub EffectsAreAsStrict : {Effect : Type 0} → (Effect → Effect → Bool) → Effect → Effect → Effect → Type 0

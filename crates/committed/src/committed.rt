@@ -2,7 +2,8 @@
 ghost use Rattle.std.specs.Prelude.{◌≡◌, ◌↔◌, ◌+◌, ◌<◌, ◌≤◌, ℕ, [], ◌++◌, length, take, slice_index_or, vec_len, vec_capacity, IsTrue, OnOk, OnErr};
 ghost use Rattle.objects.specs.Entries.{CommutesWith, AllCommute, CommuteForward};
 ghost use Rattle.committed.specs.Marks.{mark_of};
-ghost use Rattle.committed.specs.Summaries.{entries_of};
+ghost use Rattle.committed.specs.Strictness.{IsCovered};
+ghost use Rattle.committed.specs.Summaries.{entries_of, IsSummary};
 ghost use Rattle.committed.specs.Filter.{IsFilterOf, Meets};
 ghost use Rattle.committed.specs.Index.{IsIndexOf, IsAllListed, IndexHasRoom};
 
@@ -138,6 +139,29 @@ impl Committed {
             entries,
         );
         Ok(())
+    }
+
+    /// Appends those of these entries that no listed one is known to be as strict as. What commutes
+    /// forward with all of the list then commutes forward with all of these, too. On `NoMemory` some
+    /// of them may have been appended.
+    pub fn append_new(&mut self, entries: &[MarkedEntry]) -> Result<(), NoMemory>
+        ensures summary { OnOk result (IsSummary self.new (self.old ++ entries_of entries.now)) }
+        ensures kept { take (length self.old) self.new ≡ self.old }
+    {
+        for marked in entries {
+            if !self.covers(marked) {
+                self.append_marked(&[*marked])?;
+            }
+        }
+        Ok(())
+    }
+
+    /// Whether a listed entry is known to be as strict as this one. Where none is, the filter mostly
+    /// says so without a look at the index.
+    fn covers(&self, marked: &MarkedEntry) -> bool
+        ensures { IsTrue result → IsCovered self.now marked.now.entry }
+    {
+        self.filter.may_have(&marked.mark) && self.index.covers(&marked.entry, &self.entries)
     }
 
     /// Whether each of these entries commutes forward, over all states, with each of the first

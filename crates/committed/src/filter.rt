@@ -119,6 +119,12 @@ impl Filter {
         met & (self.set(mark.of_item) | !Class::BY_ITEM)
     }
 
+    /// Whether an entry of the same class and with the same hashes may be marked.
+    pub fn may_have(&self, mark: &Mark) -> bool {
+        let met = self.set(mark.of_object) & self.set(mark.of_item);
+        met & mark.class == mark.class
+    }
+
     /// The classes that entries with this hash may have.
     fn set(&self, hash: u32) -> u16
         ensures { result ≡ set_at self.now hash }

@@ -8,6 +8,7 @@
 ghost use Rattle.std.specs.Prelude.{◌≡◌, ◌<◌, ◌≤◌, ◌+◌, ◌-◌, ◌^◌, ℕ, [], min, length, vec_len, vec_capacity, IsTrue, OnOk};
 ghost use Rattle.indexmap.specs.IndexMap.{hasher_of, spare};
 ghost use Rattle.committed.specs.declared.index.TheConstants.{MOST_LISTED};
+ghost use Rattle.committed.specs.Strictness.{IsCovered};
 ghost use Rattle.committed.specs.Index.{number_of, link_at, IsBehind, IsLastOf, AreUpTo, IsNextLink, IsNextSpan, AreLinks, AreSpans, HasLasts, IsLinked, KeepsLinked, IsListedAt, IsIndexOf, StaysIndex, IndexHasRoom, IsLastBelow, CommutesUnder};
 
 use crate::heading::Heading;
@@ -255,6 +256,17 @@ impl Index {
         } else {
             (last, 0)
         }
+    }
+
+    /// Whether a listed entry is known to be as strict as this one. It looks at the strictest of the
+    /// last span of the entry's heading only.
+    pub fn covers(&self, entry: &Entry, entries: &[Entry]) -> bool
+        requires lasts { HasLasts self.now }
+        requires spans { AreSpans entries.now self.now.links.items }
+        ensures { IsTrue result → IsCovered entries.now entry.now }
+    {
+        let at = self.last.get(&Heading::of(entry)).copied().unwrap_or(0);
+        at != 0 && is_as_strict(&entries[self.get(at).strictest as usize], entry)
     }
 
     /// Whether the entry commutes forward with each of the first `upto` entries that is listed

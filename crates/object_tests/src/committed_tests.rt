@@ -322,6 +322,48 @@ fn a_cleared_list_is_used_again(rt: HostRuntime) -> Result<(), Fail> {
     Ok(())
 }
 
+/// Appends these entries where none that is as strict is listed. Stops the test where the list has
+/// another length then.
+fn append_new_gives(
+    rt: &(impl Abort + AllocGlobal),
+    committed: &mut Committed,
+    entries: &[Entry],
+    expected: usize,
+) {
+    let Ok(marked) = mark_all(rt.alloc(), entries) else {
+        panic!(rt; "no memory")
+    };
+    let Ok(()) = committed.append_new(&marked) else {
+        panic!(rt; "no memory")
+    };
+    assert_eq!(rt; committed.len(), expected);
+}
+
+#[test]
+fn entries_are_left_out_where_one_is_as_strict(rt: HostRuntime) -> Result<(), Fail> {
+    let account = |call: AccountCall, reply: AccountReply| -> Entry {
+        Entry {
+            object: 4,
+            call: Call::Account(call),
+            reply: Reply::Account(reply),
+        }
+    };
+    let deposit = account(AccountCall::Deposit(amount(&rt, 5)), AccountReply::Ok);
+    let another = account(AccountCall::Deposit(amount(&rt, 9)), AccountReply::Ok);
+    let smaller = account(AccountCall::Withdraw(amount(&rt, 5)), AccountReply::Ok);
+    let larger = account(AccountCall::Withdraw(amount(&rt, 9)), AccountReply::Ok);
+    let elsewhere = Entry {
+        object: 5,
+        ..deposit
+    };
+    let mut committed = Committed::new(rt.alloc());
+    append_new_gives(&rt, &mut committed, &[deposit, another, deposit], 1);
+    append_new_gives(&rt, &mut committed, &[elsewhere, larger, another], 3);
+    append_new_gives(&rt, &mut committed, &[smaller, larger, elsewhere], 4);
+    assert!(rt; committed.entries().last() == Some(&smaller));
+    Ok(())
+}
+
 #[test]
 fn entries_of_one_hash_are_told_apart(rt: HostRuntime) -> Result<(), Fail> {
     let put = |object: u32, key: u32, value: u32| -> Entry {

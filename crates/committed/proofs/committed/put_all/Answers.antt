@@ -1,11 +1,11 @@
 use Rattle.std.proofs.Common.{◌≡◌, ◌++◌, ◌∷◌, [], arith, get_or, length, take, refl, sym, ap, ◌∙◌, ◌+◌, ◌-◌, subst, inl, inr}
 use Rattle.std.proofs.lemmas.Bool.{cases_lt}
-use Rattle.std.proofs.lemmas.List.{append_assoc, map-append, length-append, take_more, get_or_append_left, get_or-append_right}
-use Rattle.committed.specs.declared.marks.MarkedEntry.{MarkedEntry}
+use Rattle.std.proofs.lemmas.List.{append_assoc, length-append, get_or_append_left, get_or-append_right}
 use Rattle.committed.specs.Filter.{IsMarked}
 use Rattle.committed.specs.Index.{IsIndexOf}
 use Rattle.committed.specs.Summaries.{entries_of}
 use Rattle.committed.proofs.IndexLemmas.{index_more}
+use Rattle.committed.proofs.SummaryLemmas.{entries_next}
 use Rattle.committed.proofs.committed.put_all.Goals as goal
 
 pub push-requires-clause-index : goal.push-requires-clause-index
@@ -20,15 +20,13 @@ loop-marked-preserved c =
     let more = c.args.more.now in
     let at = c.loop-marked.marked-index in
     let m = c.marked-item.result in
-    let read : get_or more at m ≡ m = sym c.marked-item.is in
     let was = c.loop-marked.invariant in
     let longer : length c.push_reserved.new.self.items ≡ length es + 1 = ap length c.push_reserved.ensures.items
     ∙ length-append es (e ∷ []) in
     record {
       entries = c.push_reserved.ensures.items ∙ ap (λ xs. xs ++ e ∷ []) was.entries
           ∙ append_assoc c.args.entries.now.items (entries_of (take at more)) (e ∷ [])
-          ∙ ap (λ xs. c.args.entries.now.items ++ xs) (sym (map-append (λ (k : MarkedEntry). k.entry) (take at more) (m ∷ []))
-          ∙ ap entries_of (ap (λ x. take at more ++ x ∷ []) (sym read) ∙ sym (take_more more at m c.loop-marked-test.true)));
+          ∙ ap (λ xs. c.args.entries.now.items ++ xs) (sym (entries_next more at m c.loop-marked-test.true c.marked-item.is));
       room = omega (arith, was.room, c.push_reserved.ensures.len, c.push_reserved.ensures.capacity, c.loop-marked-test.true);
       index_room = c.push.ensures.room _
           (omega (arith, was.index_room.0, c.loop-marked-test.true), omega (arith, was.index_room.1, c.loop-marked-test.true));
