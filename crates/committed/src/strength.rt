@@ -113,6 +113,17 @@ pub struct Topic {
     variant: u8,
 }
 
+impl Topic {
+    /// A slot for it, where there are so many, which is a power of two.
+    pub fn slot(&self, slots: usize) -> usize {
+        let number = (self.object as u64)
+            .wrapping_mul(8)
+            .wrapping_add(self.variant as u64)
+            .wrapping_add(self.item.wrapping_mul(0x9E37_79B9_7F4A_7C15));
+        number as usize & slots.saturating_sub(1)
+    }
+}
+
 fn digest(object: u32, kind: u8, variant: u8, item: u64, least: u64, most: u64) -> Strength
     ensures { result ≡ digest object kind variant item least most }
 {

@@ -16,7 +16,13 @@ use std::mem::replace;
 const ROOM: usize = 32;
 
 /// Up to how many entries a summary keeps all of them. For so few a table costs more than it saves.
-pub const FEW_ENTRIES: usize = 8;
+pub const FEW_ENTRIES: usize = 32;
+
+/// How many slots a table has for so many entries or more.
+const MANY_SLOTS: usize = 1024;
+
+/// How many it has for fewer.
+const FEW_SLOTS: usize = 32;
 
 /// The entries with their marks, in order. Returns `NoMemory` where a request for memory was
 /// refused.
@@ -82,6 +88,8 @@ struct Places {
 #[derive(Drop)]
 struct Table {
     places: IndexMap<Topic, Places, EntryHashing>,
+    /// In the slot of a topic the last places that were put there, mostly its own.
+    slots: Vec<Places>,
     summary: Vec<MarkedEntry>,
     /// The strengths of the entries of the summary.
     strengths: Vec<Strength>,
@@ -103,8 +111,14 @@ impl Table {
         let room = count.min(ROOM);
         summary.reserve_exact(room)?;
         let strengths = Vec::with_capacity(alloc, room)?;
+        let slots = if count < MANY_SLOTS {
+            FEW_SLOTS
+        } else {
+            MANY_SLOTS
+        };
         Ok(Table {
             places: IndexMap::with_capacity_and_hasher(alloc, room, hashing)?,
+            slots: vec![in alloc; Places { last: 0, before: 0 }; slots]?,
             summary,
             strengths,
         })
@@ -153,7 +167,11 @@ impl Table {
         let last = self.summary.len();
         let before = places.map_or(last, |places| places.last);
         let topic = strength.topic();
-        self.places.insert(topic, Places { last, before })?;
+        let places = Places { last, before };
+        self.places.insert(topic, places)?;
+        if let Some(slot) = self.slots.get_mut(topic.slot(self.slots.len())) {
+            *slot = places;
+        }
         self.summary.push_reserved(MarkedEntry::of(entry));
         self.strengths.push_reserved(strength);
         Ok(())
@@ -164,11 +182,20 @@ impl Table {
         ensures ordered { IfSome result (λ found. found.before ≤ found.last) }
         ensures within { IfSome result (λ found. found.last < length self.now.summary.items) }
     {
-        let places = *self.places.get(topic)?;
+        let places = self.found(topic)?;
         if places.before <= places.last && places.last < self.summary.len() {
             Some(places)
         } else {
             None
+        }
+    }
+
+    /// The places that are in the slot of a topic, where they are its own, or else those under it.
+    fn found(&self, topic: &Topic) -> Option<Places> {
+        let places = *self.slots.get(topic.slot(self.slots.len()))?;
+        match self.strengths.get(places.last) {
+            Some(strength) if strength.topic() == *topic => Some(places),
+            _ => self.places.get(topic).copied(),
         }
     }
 
