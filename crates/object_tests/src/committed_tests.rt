@@ -505,14 +505,13 @@ fn a_third_of_an_item_is_left_out(rt: HostRuntime) {
     let present = of_set(SetCall::Has(item), SetReply::Yes);
     let removed = of_set(SetCall::Remove(item), SetReply::Removed);
     let absent = of_set(SetCall::Has(item), SetReply::No);
-    summary_has(
-        &rt,
-        &[
-            added, present, removed, absent, added, present, removed, absent, added, present,
-            removed, absent,
-        ],
-        2,
-    );
+    let mut entries = Vec::new(rt.alloc());
+    for _ in 0..25 {
+        for entry in [added, present, removed, absent] {
+            entries.push(entry).ok().expect(&rt, "memory");
+        }
+    }
+    summary_has(&rt, &entries, 2);
 }
 
 /// A put of a value under a key of a directory.
