@@ -1,9 +1,8 @@
 -- Drafts in a table whose places may be stale.
-use Rattle.std.proofs.Common.{◌≡◌, ◌≢◌, ℕ, zero, suc, ◌<◌, List, [], ◌∷◌, ◌++◌, Some, None, Option, length, Bool, true, false, cond, refl}
+use Rattle.std.proofs.Common.{◌≡◌, ◌≢◌, ℕ, zero, suc, List, [], ◌∷◌, ◌++◌, Some, None, Option, length, Bool, true, false, cond, refl}
 use Rattle.std.proofs.Common.{inl, inr, sym, ap, ◌∙◌, subst}
-use Rattle.std.specs.Prelude.{◌⊎◌, nat_eq, slice_get, slice_set, option_map, option_and_then, IsSomeAnd, get_or, if◌then◌else◌}
-use Rattle.std.proofs.lemmas.Bool.{eqb-true, eqb-false, eq-eqb}
-use Rattle.std.proofs.lemmas.Option.{slice_get-get_or}
+use Rattle.std.specs.Prelude.{nat_eq, slice_get, slice_set, option_map, option_and_then, IsSomeAnd, get_or, if◌then◌else◌}
+use Rattle.std.proofs.lemmas.Bool.{eqb-true, eq-eqb}
 use Rattle.objects.specs.declared.value.Value.{Value}
 use Rattle.drafts.specs.History.{History}
 use Rattle.intentions.specs.declared.draft_table.Drafted.{Drafted}

@@ -31,14 +31,20 @@ pub struct DraftTable<'s> {
 }
 
 impl<'s> DraftTable<'s> {
-    /// A table with no draft. It takes no memory.
-    pub fn new(alloc: Global) -> DraftTable<'s>
+    /// A table with no draft, in the memory of these places. It takes no other memory.
+    pub fn new(alloc: Global, places: PagedPlaces) -> DraftTable<'s>
         ensures { (object : ℕ) → drafts_of result object ≡ None }
     {
+        // Without drafts, all places are stale.
         DraftTable {
-            places: PagedPlaces::new(alloc),
+            places,
             drafts: Vec::new(alloc),
         }
+    }
+
+    /// The memory of its places.
+    pub fn into_places(self) -> PagedPlaces {
+        self.places
     }
 
     /// Frees all drafts. This takes no time that grows with the number of objects.

@@ -9,6 +9,7 @@ ghost use Rattle.intentions.specs.DraftTables.{drafts_of};
 ghost use Rattle.intentions.specs.Layers.{States, histories, drafts_rewound};
 
 use crate::draft_table::DraftTable;
+use crate::places::PagedPlaces;
 use drafts::Shown;
 use objects::{Call, Entry, NoMemory, Objects, Reply};
 use std::alloc::Global;
@@ -49,16 +50,21 @@ impl<'s> Model for Layers<'s> {
 }
 
 impl<'s> Layers<'s> {
-    /// Layers that show the snapshot, with no level.
-    pub fn open(alloc: Global, snapshot: &'s Objects) -> Layers<'s>
+    /// Layers that show the snapshot, with no level, in the memory of these places.
+    pub fn open(alloc: Global, snapshot: &'s Objects, places: PagedPlaces) -> Layers<'s>
         ensures { result ≡ record { shown = snapshot.now; begun = [] } }
     {
         Layers {
             snapshot,
-            drafts: DraftTable::new(alloc),
+            drafts: DraftTable::new(alloc, places),
             journal: Vec::new(alloc),
             starts: Vec::new(alloc),
         }
+    }
+
+    /// The memory of its places.
+    pub fn into_places(self) -> PagedPlaces {
+        self.drafts.into_places()
     }
 
     /// Shows this snapshot, with no level, as if it had just been opened. The lists keep their

@@ -5,6 +5,7 @@ ghost use Rattle.intentions.specs.Levels.{shown_values, opened, with_entry, begu
 ghost use Rattle.objects.specs.Entries.{after, AreLegal};
 
 use crate::layers::Layers;
+use crate::places::PagedPlaces;
 use objects::{Call, Entry, NoMemory, Objects, Reply};
 use std::alloc::Global;
 use std::marker::Model;
@@ -83,13 +84,25 @@ impl<'s> View<'s> {
         ensures succeeds { IsOk result }
         ensures opened { IfOk result (λ view. view ≡ opened snapshot.now) }
     {
-        Ok(View {
+        Ok(View::open_in(alloc, snapshot, PagedPlaces::new(alloc)))
+    }
+
+    /// The same view, in memory that another one left.
+    pub fn open_in(alloc: Global, snapshot: &'s Objects, places: PagedPlaces) -> View<'s>
+        ensures { result ≡ opened snapshot.now }
+    {
+        View {
             snapshot,
-            layers: Layers::open(alloc, snapshot),
+            layers: Layers::open(alloc, snapshot, places),
             entries: Vec::new(alloc),
             net: Vec::new(alloc),
             marks: Vec::new(alloc),
-        })
+        }
+    }
+
+    /// Memory for the next view, of these objects or of others.
+    pub fn into_places(self) -> PagedPlaces {
+        self.layers.into_places()
     }
 
     /// The number of open levels, without the base.

@@ -1,4 +1,4 @@
-use Rattle.std.proofs.Common.{◌≡◌, ◌∷◌, ◌++◌, [], Some, cond, length, subst, ap, ◌∙◌}
+use Rattle.std.proofs.Common.{◌∷◌, ◌++◌, [], Some, cond, length, subst, ap, ◌∙◌}
 use Rattle.std.specs.Prelude.{nat_eq, option_and_then, slice_get}
 use Rattle.drafts.specs.History.{History, unchanged}
 use Rattle.objects.specs.declared.value.Value.{Value}
