@@ -23,6 +23,10 @@ module _ {Z : Type 0} (before now : String Z) (more : List ℕ) (n : ℕ) (at : 
   pub cut_back : take n (string_bytes now) ≡ string_bytes before
   cut_back = ap (take n) is ∙ ap (λ k. take k (string_bytes before ++ more)) at_length ∙ take-append_seam (string_bytes before) more
 
+  -- it is what is left and what is cut off
+  pub cut_both : string_bytes now ≡ take n (string_bytes now) ++ more
+  cut_both = is ∙ ap (λ front. front ++ more) (sym cut_back)
+
   -- it may be cut there
   pub cut_place : IsSplitPoint (string_bytes now) n
   cut_place =

@@ -13,7 +13,7 @@ ghost use Rattle.report.specs.Parts.{IsBefore, last_cut, lines_from, objects_fro
 use crate::cuts::{Cut, least_lines};
 use crate::lines::{write_end, write_step};
 use crate::names::object_name;
-use crate::paths::begin_path;
+use crate::paths::{begin_path, count_up, push_tens};
 use crate::values::write_value;
 use batch::{Batch, Names, Outcome, Plain, Record};
 use meaning::End;
@@ -196,6 +196,8 @@ fn write_transaction(
     let (block, done) = (&batch.transactions[from.entry], &records[from.entry]);
     let number = from.entry + 1;
     let mut path = begin_path(alloc, number)?;
+    let start = path.len();
+    push_tens(&mut path, from.line.saturating_sub(1))?;
     for line in from.line..to {
         if line > block.steps.len() {
             return Ok(());
@@ -207,6 +209,7 @@ fn write_transaction(
             write_heading(out, &batch.names, number, done.outcome)?;
         } else {
             let (step, taken) = (&block.steps[line - 1], &done.taken[line - 1]);
+            count_up(&mut path, start, line)?;
             write_step(out, &batch.names, &mut path, line, step, taken)?;
         }
     }

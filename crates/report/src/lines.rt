@@ -1,5 +1,5 @@
 //! The lines of a record.
-ghost use Rattle.std.specs.Prelude.{◌≡◌, ◌<◌, ◌∷◌, ◌++◌, OnOk, codes, option_copied, string_bytes};
+ghost use Rattle.std.specs.Prelude.{◌≡◌, ◌<◌, ◌∷◌, ◌++◌, ◌%◌, OnOk, codes, option_copied, string_bytes};
 ghost use Rattle.std.specs.Fmt.{decimal};
 ghost use Rattle.meaning.specs.Words.{call_text, reply_text};
 ghost use Rattle.meaning.specs.Texts.{abort_line, line, reason_text, refusal_text, outcome_text, choice_text, steps_text, step_text, child_text, children_text};
@@ -8,7 +8,7 @@ ghost use Rattle.batch.specs.Views.{block_view, record_view, step_view, taken_vi
 
 use crate::calls::{write_call, write_natural, write_reply};
 use crate::names::{object_name, reason_name};
-use crate::paths::{branch_end, push_handler, push_part, reason_of};
+use crate::paths::{branch_end, count_up, push_handler, push_part, reason_of};
 use batch::{Block, Names, Record, Step, Subaction, Taken, end_after, reason_for};
 use meaning::End;
 use objects::{
@@ -34,16 +34,18 @@ fn write_block(
     let length = path.len();
     path.push_str(end)?;
     path.push('.')?;
+    let start = path.len();
     for index in 0..block.steps.len().min(done.taken.len()) {
         let (step, taken) = (&block.steps[index], &done.taken[index]);
+        count_up(path, start, index + 1)?;
         write_step(out, names, path, index + 1, step, taken)?;
     }
     path.truncate(length);
     Ok(())
 }
 
-/// Writes the lines of the step of this number (from 1). `path` is the path of its block and a dot,
-/// and is as before after `Ok`. The path of an operation is not made there, since no step is below it.
+/// Writes the lines of the step of this number (from 1). `path` is the path of its block, a dot, and
+/// the number without its last digit. It is as before after `Ok`.
 #[cycle(lines)]
 pub(crate) fn write_step(
     out: &mut String,
@@ -54,16 +56,12 @@ pub(crate) fn write_step(
     taken: &Taken,
 ) -> Result<(), NoMemory>
     ensures lines { OnOk result (string_bytes out.new ≡ string_bytes out.old
-        ++ step_text (names_of names.now) (string_bytes path.old ++ decimal number)
+        ++ step_text (names_of names.now) (string_bytes path.old ++ decimal (number % 10))
         (step_view step.now) (taken_view taken.now)) }
     ensures path { OnOk result (string_bytes path.new ≡ string_bytes path.old) }
 {
-    if let (Step::Op { object, call, .. }, Taken::Op(reply)) = (step, taken) {
-        write_place(out, path, number)?;
-        return write_operation(out, names, *object, call, reply);
-    }
     let block_length = path.len();
-    write_natural(path, number as u64)?;
+    write_natural(path, (number % 10) as u64)?;
     write_step_at(out, names, path, step, taken)?;
     path.truncate(block_length);
     Ok(())
@@ -171,17 +169,6 @@ fn write_children(
         path.truncate(length);
     }
     Ok(())
-}
-
-// Begins the line of the operation of this number, where `path` is that of its block and a dot.
-fn write_place(out: &mut String, path: &str, number: usize) -> Result<(), NoMemory>
-    ensures { OnOk result (string_bytes out.new
-        ≡ string_bytes out.old ++ (codes "O " ++ path.now ++ decimal number)) }
-{
-    out.push('O')?;
-    out.push(' ')?;
-    out.push_str(path)?;
-    write_natural(out, number as u64)
 }
 
 // Begins a line with its letter and a path.

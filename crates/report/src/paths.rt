@@ -1,5 +1,5 @@
 //! The paths of the parts of a step, by which a report names them.
-ghost use Rattle.std.specs.Prelude.{◌≡◌, ◌++◌, ◌<◌, ℕ, List, IfNone, IfOk, IfSome, OnOk, codes, option_map, string_bytes};
+ghost use Rattle.std.specs.Prelude.{◌≡◌, ◌++◌, ◌-◌, ◌<◌, ◌≤◌, ℕ, List, IfNone, IfOk, IfSome, OnOk, codes, option_map, string_bytes, take};
 ghost use Rattle.std.specs.Fmt.{decimal};
 ghost use Rattle.std.specs.Option.{ForSome};
 ghost use Rattle.meaning.specs.Texts.{branch_path, handler_block, part, reason_of};
@@ -9,7 +9,8 @@ ghost use Rattle.batch.specs.declared.tree.Subaction.{size-Subaction};
 ghost use Rattle.batch.specs.Names.{names_of};
 ghost use Rattle.batch.specs.Taking.{taker};
 ghost use Rattle.batch.specs.Views.{block_view, subaction_view};
-ghost use Rattle.report.specs.Paths.{handler_place};
+ghost use Rattle.std.specs.String.Boundary.{IsSplitPoint};
+ghost use Rattle.report.specs.Paths.{handler_place, tens};
 
 use crate::calls::write_natural;
 use crate::names::reason_name;
@@ -51,6 +52,33 @@ pub(crate) fn push_part(path: &mut String, number: usize) -> Result<(), NoMemory
 {
     path.push('.')?;
     write_natural(path, number as u64)
+}
+
+// Puts a number without its last digit after a path.
+pub(crate) fn push_tens(path: &mut String, number: usize) -> Result<(), NoMemory>
+    ensures { OnOk result (string_bytes path.new ≡ string_bytes path.old ++ tens number) }
+{
+    if number >= 10 {
+        write_natural(path, (number / 10) as u64)?;
+    }
+    Ok(())
+}
+
+// Makes a path that ends in the number before this one, without its last digit, end in this one. Most
+// numbers differ from the one before by the last digit alone.
+pub(crate) fn count_up(path: &mut String, start: usize, number: usize) -> Result<(), NoMemory>
+    requires some { 1 ≤ number }
+    requires cut { IsSplitPoint (string_bytes path.old) start }
+    requires before { string_bytes path.old
+        ≡ take start (string_bytes path.old) ++ tens (number - 1) }
+    ensures { OnOk result (string_bytes path.new
+        ≡ take start (string_bytes path.old) ++ tens number) }
+{
+    if number % 10 == 0 {
+        path.truncate(start);
+        push_tens(path, number)?;
+    }
+    Ok(())
 }
 
 // A path, with room for so many bytes after it.

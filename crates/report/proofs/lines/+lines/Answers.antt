@@ -1,11 +1,13 @@
-use Rattle.std.proofs.Common.{◌≡◌, ◌<◌, ◌≤◌, ◌+◌, ◌++◌, length, min, refl, sym, ap, ◌∙◌, arith, append-nil, append_assoc, string_bytes}
+use Rattle.std.proofs.Common.{◌≡◌, ◌<◌, ◌≤◌, ◌+◌, ◌-◌, ◌%◌, ◌++◌, length, min, take, refl, sym, ap, ◌∙◌, arith, append-nil, append_assoc, string_bytes}
 use Rattle.std.specs.Prelude.{[], codes, option_copied}
 use Rattle.std.specs.Fmt.{decimal}
 use Rattle.meaning.specs.Texts.{handler_block, handler_path, part, reason_of, steps_text}
 use Rattle.batch.specs.Names.{names_of}
 use Rattle.batch.specs.Views.{block_view, record_view, subaction_view}
 use Rattle.batch.proofs.ViewLemmas.{block_view-is, record_view-is, step_view-Parallel, taken_view-Parallel}
-use Rattle.report.proofs.PathLemmas.{cut_back, cut_place, handler_path-after}
+use Rattle.report.specs.Paths.{tens}
+use Rattle.report.proofs.Digits.{tens-none, tens_digit}
+use Rattle.report.proofs.PathLemmas.{cut_back, cut_both, cut_place, handler_path-after}
 use Rattle.report.proofs.TextLemmas.{steps_from-start, steps_from-more, steps_from-shown, rest_children_text-start}
 use Rattle.report.proofs.TextLemmas.{rest_children_text-more, rest_children_text-shown, after_text, after_two}
 use Rattle.report.proofs.TextLemmas.{body_lines, child_text-body, child_text-handler, child_text-untaken}
@@ -14,11 +16,30 @@ use Rattle.report.proofs.lines.+lines.Goals as goal
 -- ---- steps one after the other
 
 pub write_block-loop-index-init : goal.write_block-loop-index-init
-write_block-loop-index-init t c = (
-  rw (steps_from-start, record_view-is c.args.done.now, block_view-is c.args.block.now) refl,
-  c.in_ok-push.ensures.bytes ∙ ap (λ dot. string_bytes c.push_str.new.self ++ dot) (c.in_ok-push.ensures.ascii (omega arith))
-      ∙ ap (λ text. text ++ codes ".") c.in_ok-push_str.ensures.bytes,
-)
+write_block-loop-index-init t c =
+    let dot = c.in_ok-push.ensures.bytes ∙ ap (λ dot. string_bytes c.push_str.new.self ++ dot) (c.in_ok-push.ensures.ascii (omega arith))
+    ∙ ap (λ text. text ++ codes ".") c.in_ok-push_str.ensures.bytes in (
+      rw (steps_from-start, record_view-is c.args.done.now, block_view-is c.args.block.now) refl,
+      dot ∙ sym (append-nil _) ∙ ap (λ none. ((string_bytes c.args.path.now ++ c.args.end.now) ++ codes ".") ++ none)
+          (sym (tens-none 0 (omega arith))),
+    )
+
+pub write_block-count_up-requires-clause-cut : goal.write_block-count_up-requires-clause-cut
+write_block-count_up-requires-clause-cut t c =
+    let dot = c.in_ok-push.ensures.bytes ∙ ap (λ dot. string_bytes c.push_str.new.self ++ dot) (c.in_ok-push.ensures.ascii (omega arith))
+    ∙ ap (λ text. text ++ codes ".") c.in_ok-push_str.ensures.bytes in
+    cut_place c.push.new.self c.loop-index.path (tens c.loop-index.index) c.len-start.result c.len-start.ensures
+    (c.loop-index.invariant.1 ∙ ap (λ front. front ++ tens c.loop-index.index) (sym dot))
+
+pub write_block-count_up-requires-clause-before : goal.write_block-count_up-requires-clause-before
+write_block-count_up-requires-clause-before t c =
+    let i = c.loop-index.index in
+    let dot = c.in_ok-push.ensures.bytes ∙ ap (λ dot. string_bytes c.push_str.new.self ++ dot) (c.in_ok-push.ensures.ascii (omega arith))
+    ∙ ap (λ text. text ++ codes ".") c.in_ok-push_str.ensures.bytes in
+    let same : i ≡ i + 1 - 1 = omega arith in
+    cut_both c.push.new.self c.loop-index.path (tens i) c.len-start.result c.len-start.ensures
+    (c.loop-index.invariant.1 ∙ ap (λ front. front ++ tens i) (sym dot))
+    ∙ ap (λ n. take c.len-start.result (string_bytes c.loop-index.path) ++ tens n) same
 
 pub write_block-loop-index-preserved : goal.write_block-loop-index-preserved
 write_block-loop-index-preserved t c =
@@ -30,21 +51,40 @@ write_block-loop-index-preserved t c =
     let lt' : i < length taken.items =
     omega (arith, c.loop-index-test.true, c.min-index-end.ensures, c.len.ensures, c.len-2.ensures, taken.ok.0) in
     let path = string_bytes c.args.path.now ++ c.args.end.now in
+    let front = path ++ codes "." in
+    let dot : string_bytes c.push.new.self ≡ front =
+    c.in_ok-push.ensures.bytes ∙ ap (λ dot. string_bytes c.push_str.new.self ++ dot) (c.in_ok-push.ensures.ascii (omega arith))
+    ∙ ap (λ text. text ++ codes ".") c.in_ok-push_str.ensures.bytes in
+    let left : take c.len-start.result (string_bytes c.loop-index.path) ≡ front =
+    cut_back c.push.new.self c.loop-index.path (tens i) c.len-start.result c.len-start.ensures
+    (c.loop-index.invariant.1 ∙ ap (λ front. front ++ tens i) (sym dot)) ∙ dot in
+    let counted : string_bytes c.count_up.new.path ≡ front ++ tens (i + 1) =
+    c.in_ok-count_up.ensures ∙ ap (λ text. text ++ tens (i + 1)) left in
+    let own : string_bytes c.count_up.new.path ++ decimal ((i + 1) % 10) ≡ front ++ decimal (i + 1) =
+    ap (λ text. text ++ decimal ((i + 1) % 10)) counted ∙ append_assoc front (tens (i + 1)) (decimal ((i + 1) % 10))
+    ∙ ap (λ digits. front ++ digits) (tens_digit (i + 1) (omega (arith, c.min-index-end.ensures, c.loop-index-test.true, lt, steps.ok))) in
     let splits = steps_from-more _ path i steps.items taken.items c.args.done.now.outcome _ _ lt c.index.ensures lt'
     c.index-in-loop-index.ensures in (
-      after_text _ _ _ _ _ _ c.loop-index.invariant.0 (rw c.loop-index.invariant.1 at c.in_ok-write_step.ensures.lines) splits,
-      c.in_ok-write_step.ensures.path ∙ c.loop-index.invariant.1,
+      after_text _ _ _ _ _ _ c.loop-index.invariant.0 (rw own at c.in_ok-write_step.ensures.lines) splits,
+      c.in_ok-write_step.ensures.path ∙ counted,
     )
 
 pub write_block-truncate-requires : goal.write_block-truncate-requires
-write_block-truncate-requires t c = λ _. cut_place c.args.path.now c.loop-index.path (c.args.end.now ++ codes ".") c.len-length.result
-    c.len-length.ensures (c.loop-index.invariant.1 ∙ append_assoc (string_bytes c.args.path.now) c.args.end.now (codes "."))
+write_block-truncate-requires t c =
+    let path = string_bytes c.args.path.now in
+    let digits = tens c.loop-index.index in
+    λ _. cut_place c.args.path.now c.loop-index.path (c.args.end.now ++ (codes "." ++ digits)) c.len-length.result c.len-length.ensures
+    (c.loop-index.invariant.1 ∙ append_assoc (path ++ c.args.end.now) (codes ".") digits
+    ∙ append_assoc path c.args.end.now (codes "." ++ digits))
 
 pub write_block-returns-clause-path : goal.write_block-returns-clause-path
 write_block-returns-clause-path t c =
+    let path = string_bytes c.args.path.now in
+    let digits = tens c.loop-index.index in
     c.truncate.ensures.bytes
-    ∙ cut_back c.args.path.now c.loop-index.path (c.args.end.now ++ codes ".") c.len-length.result c.len-length.ensures
-    (c.loop-index.invariant.1 ∙ append_assoc (string_bytes c.args.path.now) c.args.end.now (codes "."))
+    ∙ cut_back c.args.path.now c.loop-index.path (c.args.end.now ++ (codes "." ++ digits)) c.len-length.result c.len-length.ensures
+    (c.loop-index.invariant.1 ∙ append_assoc (path ++ c.args.end.now) (codes ".") digits
+    ∙ append_assoc path c.args.end.now (codes "." ++ digits))
 
 pub write_block-returns-clause-lines : goal.write_block-returns-clause-lines
 write_block-returns-clause-lines t c =
@@ -58,13 +98,13 @@ write_block-returns-clause-lines t c =
 
 pub write_step-truncate-requires : goal.write_step-truncate-requires
 write_step-truncate-requires t c =
-    λ _. cut_place c.args.path.now c.write_step_at.new.path (decimal c.args.number) c.len-block_length.result c.len-block_length.ensures
+    λ _. cut_place c.args.path.now c.write_step_at.new.path (decimal (c.args.number % 10)) c.len-block_length.result c.len-block_length.ensures
     (c.in_ok-write_step_at.ensures.path ∙ c.in_ok-write_natural.ensures)
 
 pub write_step-returns-clause-path : goal.write_step-returns-clause-path
 write_step-returns-clause-path t c =
     c.truncate.ensures.bytes
-    ∙ cut_back c.args.path.now c.write_step_at.new.path (decimal c.args.number) c.len-block_length.result c.len-block_length.ensures
+    ∙ cut_back c.args.path.now c.write_step_at.new.path (decimal (c.args.number % 10)) c.len-block_length.result c.len-block_length.ensures
     (c.in_ok-write_step_at.ensures.path ∙ c.in_ok-write_natural.ensures)
 
 pub write_step_at-returns-in-Parallel-Parallel-clause-lines : goal.write_step_at-returns-in-Parallel-Parallel-clause-lines
