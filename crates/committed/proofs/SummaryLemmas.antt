@@ -76,6 +76,12 @@ summary-append s es t fs first second = record {
   );
 }
 
+-- a summary of a summary sums up all that it stands for
+pub summary_of_summary : (s t es : List Entry) → IsSummary s t → IsSummary t es → IsSummary s es
+summary_of_summary s t es first second = record {
+  same = λ other. (λ h. (second.same other).0 ((first.same other).0 h), λ h. (first.same other).1 ((second.same other).1 h));
+}
+
 -- ---- one entry more
 
 -- what commutes with a list and an entry commutes with the list where it stands for another

@@ -9,7 +9,7 @@ use Rattle.meaning.specs.OneThread.{one}
 use Rattle.meaning.specs.Batch.{net_of, block_at, state_at, alone, answer, nets}
 use Rattle.meaning.specs.Rounds.{Keeps, AllKeep, IsNextOpening}
 use Rattle.committed.specs.Summaries.{IsSummary}
-use Rattle.committed.proofs.SummaryLemmas.{summary-append, summary-nil}
+use Rattle.committed.proofs.SummaryLemmas.{summary_itself, summary-append, summary-nil, summary_of_summary}
 use Rattle.batch.specs.declared.batch.Batch.{Batch}
 use Rattle.rounds.specs.Views.{start_of, blocks_of}
 use Rattle.rounds.specs.declared.pending_run.PendingRun.{PendingRun}
@@ -50,10 +50,10 @@ module _ (batch : Batch) (b : ℕ) (state : State) (window : Window) (reached : 
       holds_past (start_of batch) (blocks_of batch) place b listed (nets (start_of batch) (blocks_of batch) b (place - b))
       (get_or window.runs.items place d) (alone_at place d so_far.from valid) so_far.nets
 
-  -- one more keeps, and its net is listed
+  -- one more keeps, and the list sums up its net, too
   pub listed_more : (place : ℕ) (d : PendingRun) (listed more : List Entry) → IsListedTo batch b place window listed
       → IsValid window place → Keeps (start_of batch) (blocks_of batch) place b
-      → more ≡ listed ++ left_by (get_or window.runs.items place d).sums → IsListedTo batch b (place + 1) window more
+      → IsSummary more (listed ++ left_by (get_or window.runs.items place d).sums) → IsListedTo batch b (place + 1) window more
   listed_more place d listed more so_far valid keeps pushed =
       let from = so_far.from in
       let size : (place + 1) - b ≡ suc (place - b) = omega arith in
@@ -74,8 +74,8 @@ module _ (batch : Batch) (b : ℕ) (state : State) (window : Window) (reached : 
           | yes lower ↦ so_far.valid i low lower
           | no last ↦ let is : place ≡ i = omega arith in subst (IsValid window) is valid
         ];
-        nets = subst (IsSummary more) (sym all) (subst (λ es. IsSummary es (nets (start_of batch) (blocks_of batch) b (place - b)
-            ++ net_of (answer (start_of batch) (blocks_of batch) place))) (sym pushed)
+        nets = subst (IsSummary more) (sym all) (summary_of_summary more (listed ++ left_by run.sums) (nets (start_of batch)
+            (blocks_of batch) b (place - b) ++ net_of (answer (start_of batch) (blocks_of batch) place)) pushed
             (summary-append listed (nets (start_of batch) (blocks_of batch) b (place - b)) (left_by run.sums)
             (net_of (answer (start_of batch) (blocks_of batch) place)) so_far.nets answers.sums.net_is));
       }
@@ -106,7 +106,7 @@ module _ (batch : Batch) (b : ℕ) (state : State) (window : Window) (reached : 
       ∙ ap (λ (r : PendingRun). (past ++ all_left (take k block)) ++ left_by r.sums) is) in
       subst (λ n. IsListedTo batch b n window (past ++ all_left (take (suc k) block))) next
       (listed_more (from + k) d (past ++ all_left (take k block)) (past ++ all_left (take (suc k) block)) before (valid k (omega arith))
-      keeps pushed))
+      keeps (subst (IsSummary (past ++ all_left (take (suc k) block))) pushed (summary_itself (past ++ all_left (take (suc k) block))))))
 
 -- what was listed stays so as more runs are made
 pub still_listed : (batch : Batch) (b place : ℕ) (old new : Window) (listed : List Entry) → HasGrown b old new

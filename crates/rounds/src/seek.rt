@@ -47,7 +47,7 @@ fn check_in_turn<R: Threads + Sync, G: Gate>(
         if !stands_past(&window.runs, place, nets, upto) {
             return Ok(Seen { first: place, upto });
         }
-        nets.append_marked(window.runs[place].sums.net())?;
+        nets.append_new(window.runs[place].sums.net())?;
     }
     let upto = nets.len();
     Ok(Seen { first: end, upto })

@@ -1,6 +1,7 @@
 use Rattle.std.proofs.Common.{◌≡◌, ◌++◌, get_or, sym, ap, ◌∙◌, subst, arith, rules}
 use Rattle.objects.specs.Entries.{kinds}
 use Rattle.intentions.specs.Levels.{Intentions as View}
+use Rattle.committed.specs.Summaries.{IsSummary}
 use Rattle.speculate.proofs.Room.{kinds_at}
 use Rattle.rounds.specs.Desks.{IsDeskOn}
 use Rattle.rounds.specs.PendingRuns.{HoldsPast, left_by}
@@ -85,9 +86,9 @@ loop-place-preserved g c =
       grown = grown_on opened c.args.window.now c.loop-place.window window c.loop-place.invariant.grown c.in_ok-make_at.ensures.grown;
       all = c.in_ok-make_at.ensures.reached ∙ c.loop-place.invariant.all;
       listed = listed_more batch opened state window (shown ∙ c.requires.opening) c.in_ok-make_at.ensures.window place run nets
-          c.append_marked.new.self so_far c.in_ok-make_at.ensures.valid keeps
-          (c.in_ok-append_marked.ensures.ok ∙ ap (λ es. nets ++ es) (c.net.ensures ∙ ap (λ (r : PendingRun). left_by r.sums)
-          c.index.ensures));
+          c.append_new.new.self so_far c.in_ok-make_at.ensures.valid keeps
+          (subst (λ es. IsSummary c.append_new.new.self (nets ++ es)) (c.net.ensures ∙ ap (λ (r : PendingRun). left_by r.sums)
+          c.index.ensures) c.in_ok-append_new.ensures.summary);
       ready = subst (λ s. IsDeskOn s c.make_at.new.desk) shown c.in_ok-make_at.ensures.ready;
     }
 
