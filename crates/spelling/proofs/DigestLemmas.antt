@@ -1,22 +1,23 @@
 -- Names of at most 8 bytes with the same digest are the same.
-use Rattle.std.proofs.Common.{◌≡◌, ◌≤◌, ◌<◌, ◌-◌, ◌∙◌, ℕ, zero, suc, ◌⊎◌, inl, inr, Bool, true, false, cond, List, [], ◌∷◌, ◌++◌}
-use Rattle.std.proofs.Common.{Some, String, Global, arith, ap, ap₂, drop, IsUtf8, length, lt-ltb, ltb-true, min, nat_lt}
+use Rattle.std.proofs.Common.{◌≡◌, ◌≤◌, ◌<◌, ◌+◌, ◌-◌, ◌∙◌, ℕ, zero, suc, ◌⊎◌, inl, inr, Bool, true, false, cond, List, [], ◌∷◌, ◌++◌}
+use Rattle.std.proofs.Common.{Some, String, Global, arith, ap, ap₂, drop, get_or, IsUtf8, length, lt-ltb, ltb-true, min, nat_lt}
 use Rattle.std.proofs.Common.{option_map, refl, slice_get, string_bytes, string_eq, subst, sym}
-use Rattle.std.specs.List.{AllByRecursion, IsDistinct}
+use Rattle.std.specs.List.{All, AllByRecursion, IsDistinct}
 use Rattle.std.proofs.lemmas.Bool.{and_parts}
-use Rattle.std.proofs.lemmas.List.{length-map}
-use Rattle.std.proofs.lemmas.Option.{get_or_from_slice_get, same_Some, slice_get_within}
+use Rattle.std.proofs.lemmas.List.Elements.{All-same}
+use Rattle.std.proofs.lemmas.Option.{get_or_from_slice_get, same_Some, slice_get-map, slice_get_within}
 use Rattle.std.proofs.lemmas.Slice.Eq.{bytes_eq-Decides}
 use Rattle.std.proofs.lemmas.Str.{IsUtf8-string_bytes}
 use lib.Utf8.{encode, encodes, scalar, scalar_cases, scalars}
 use Rattle.objects.specs.Entries.{State, kinds}
 use Rattle.objects.specs.Objects.{kind_of_value}
 use Rattle.objects.specs.declared.kind.Kind.{Kind}
+use Rattle.objects.specs.declared.value.Value.{Value}
 use Rattle.batch.specs.Names.{texts_of}
-use Rattle.spelling.specs.Digests.{digest_of, number_of_bytes, outline_of, outlines_of}
+use Rattle.spelling.specs.Digests.{digest_in, digest_of, number_of_bytes, AreRight, IsObject, IsRight}
 use Rattle.spelling.specs.Scope.{place_of}
 use Rattle.spelling.specs.declared.digests.Digest.{Digest}
-use Rattle.spelling.specs.declared.digests.Outline.{Outline}
+use Rattle.spelling.specs.declared.outlines.Outline.{Outline}
 use Rattle.spelling.proofs.TableLemmas.{place_of_key}
 
 -- ---- bytes
@@ -89,53 +90,58 @@ same_name a b is_a is_b short l e =
     same_bytes b a (utf8_bytes b is_b) (utf8_bytes a is_a) (omega arith)
     (sym (ap number_of_bytes (all_short b (omega arith))) ∙ e ∙ ap number_of_bytes (all_short a (omega arith)))
 
--- ---- outlines
+-- ---- objects
 
--- the key at a place, of which the outline is
-record Kept (keys : List (String Global)) (place : ℕ) (o : Outline) : Type 0 where
+-- the key at a place where there is a name with this digest
+record Named (keys : List (String Global)) (place : ℕ) (d : Digest) : Type 0 where
   key : String Global
   here : slice_get keys place ≡ Some key
-  is : o ≡ outline_of (string_bytes key) o.kind
+  is : digest_of (string_bytes key) ≡ d
 
--- each outline is that of the key at its place
-outline_at : (keys : List (String Global)) (ks : List Kind) (place : ℕ) (o : Outline)
-    → slice_get (outlines_of (texts_of keys) ks) place ≡ Some o → Kept keys place o
-outline_at [] ks place o at = cc
-outline_at (k ∷ keys) [] place o at = cc
-outline_at (k ∷ keys) (kind ∷ ks) zero o at =
-    let same = same_Some (outline_of (string_bytes k) kind) o at in
-    record { key = k; here = refl; is = sym same ∙ ap (outline_of (string_bytes k)) (ap (λ (x : Outline). x.kind) same) }
-outline_at (k ∷ keys) (kind ∷ ks) (suc place) o at =
-    let kept = outline_at keys ks place o at in
-    record { key = kept.key; here = kept.here; is = kept.is }
+name_at : (keys : List (String Global)) (place : ℕ) (d : Digest)
+    → option_map digest_of (slice_get (texts_of keys) place) ≡ Some d → Named keys place d
+name_at [] place d at = cc
+name_at (k ∷ keys) zero d at = record { key = k; here = refl; is = same_Some (digest_of (string_bytes k)) d at }
+name_at (k ∷ keys) (suc place) d at =
+    let named = name_at keys place d at in
+    record { key = named.key; here = named.here; is = named.is }
 
--- an object has the name whose digest is whole and that of its outline
-pub named_at : (keys : List (String Global)) (ks : List Kind) (place : ℕ) (o : Outline) (d : Digest) → IsDistinct string_eq keys
-    → slice_get (outlines_of (texts_of keys) ks) place ≡ Some o → d.length ≤ 8 → o.length ≡ d.length → o.ending ≡ d.ending
-    → (name : List ℕ) → IsUtf8 name → d ≡ digest_of name → place_of name (texts_of keys) ≡ Some place
-named_at keys ks place o d distinct at short l e name is of =
-    let kept = outline_at keys ks place o at in
-    let k = kept.key in
+-- an object whose name has a digest that is whole has each name with this digest
+pub object_named : (keys : List (String Global)) (ks : List Kind) (d : Digest) (found : ℕ × Kind) → IsDistinct string_eq keys
+    → IsObject (texts_of keys) ks d found → d.length ≤ 8
+    → (name : List ℕ) → IsUtf8 name → d ≡ digest_of name → place_of name (texts_of keys) ≡ Some found.0
+object_named keys ks d found distinct object short name is of =
+    let named = name_at keys found.0 d object.name in
+    let k = named.key in
+    let alike : digest_of (string_bytes k) ≡ digest_of name = named.is ∙ of in
     let long : d.length ≡ min (length name) 255 = ap (λ (x : Digest). x.length) of in
     let same : string_bytes k ≡ name = same_name name (string_bytes k) is (IsUtf8-string_bytes k) (omega arith)
-    (sym (ap (λ (x : Outline). x.length) kept.is) ∙ l ∙ long)
-    (sym (ap (λ (x : Outline). x.ending) kept.is) ∙ e ∙ ap (λ (x : Digest). x.ending) of) in
-    place_of_key name keys place k distinct (lt-ltb _ _ (slice_get_within keys place k kept.here))
-    (get_or_from_slice_get keys place k k kept.here) ((bytes_eq-Decides (string_bytes k) name).1 same)
+    (ap (λ (x : Digest). x.length) alike) (ap (λ (x : Digest). x.ending) alike) in
+    place_of_key name keys found.0 k distinct (lt-ltb _ _ (slice_get_within keys found.0 k named.here))
+    (get_or_from_slice_get keys found.0 k k named.here) ((bytes_eq-Decides (string_bytes k) name).1 same)
 
--- the kinds of the outlines, by place
-kind_of_each : (keys : List (String Global)) (ks : List Kind) (place : ℕ) → length keys ≡ length ks
-    → option_map (λ (o : Outline). o.kind) (slice_get (outlines_of (texts_of keys) ks) place) ≡ slice_get ks place
-kind_of_each [] [] place l = refl
-kind_of_each [] (kind ∷ ks) place l = absurd (omega arith)
-kind_of_each (k ∷ keys) [] place l = absurd (omega arith)
-kind_of_each (k ∷ keys) (kind ∷ ks) zero l = refl
-kind_of_each (k ∷ keys) (kind ∷ ks) (suc place) l = kind_of_each keys ks place (omega arith)
+-- ---- outlines
 
--- the kind of an outline is that of the object
-pub outline_kind : (keys : List (String Global)) (objects : State) (outlines : List Outline) (place : ℕ) → length keys ≡ length objects
-    → outlines ≡ outlines_of (texts_of keys) (kinds objects)
-    → slice_get (kinds objects) place ≡ option_map (λ (o : Outline). o.kind) (slice_get outlines place)
-outline_kind keys objects outlines place l is =
-    sym (kind_of_each keys (kinds objects) place (l ∙ sym (length-map objects kind_of_value)))
-    ∙ ap (λ os. option_map (λ (o : Outline). o.kind) (slice_get os place)) (sym is)
+-- the outline of the object at a place is right
+pub outline_right : (keys : List (String Global)) (objects : State) (place : ℕ) (k : String Global) (v : Value) (o : Outline)
+    → slice_get keys place ≡ Some k → slice_get objects place ≡ Some v → digest_in o ≡ digest_of (string_bytes k)
+    → o.kind ≡ kind_of_value v → o.end ≡ place + 1 → IsRight (texts_of keys) (kinds objects) o
+outline_right keys objects place k v o key value of kind at = λ end is.
+    let here : end ≡ place = omega arith in
+    subst (λ i. IsObject (texts_of keys) (kinds objects) (digest_in o) (i, o.kind)) (sym here)
+    (record {
+      name = ap (option_map digest_of) (slice_get-map string_bytes keys place ∙ ap (option_map string_bytes) key) ∙ ap Some (sym of);
+      kind = slice_get-map kind_of_value objects place ∙ ap (option_map kind_of_value) value ∙ ap Some (sym kind);
+    })
+
+-- an outline that is right has the place and the kind of its object
+pub outline_found : (names : List (List ℕ)) (ks : List Kind) (o : Outline) (d : Digest) (found : ℕ × Kind) → IsRight names ks o
+    → digest_in o ≡ d → o.end ≡ found.0 + 1 → o.kind ≡ found.1 → IsObject names ks d found
+outline_found names ks o d found right of at kind =
+    let object = right found.0 at in
+    record { name = object.name ∙ ap Some of; kind = object.kind ∙ ap Some kind }
+
+-- the outlines on a slot are right
+pub slot_right : (names : List (List ℕ)) (ks : List Kind) (slots : List (List Outline)) (slot : ℕ) (os : List Outline)
+    → slot < length slots → os ≡ get_or slots slot os → AreRight names ks slots → All (IsRight names ks) os
+slot_right names ks slots slot os within at all = All-same (IsRight names ks) os (get_or slots slot os) at (all slot os within)

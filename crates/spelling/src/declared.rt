@@ -5,11 +5,12 @@ ghost use Rattle.objects.specs.Entries.{kinds};
 ghost use Rattle.batch.specs.Names.{texts_of};
 ghost use Rattle.rules.specs.Limits.{limits_of};
 ghost use Rattle.meaning.specs.declared.limits.TheConstants.{MAX_OBJECTS};
-ghost use Rattle.spelling.specs.Digests.{outlines_of};
+ghost use Rattle.spelling.specs.Digests.{AreRight};
 
-use crate::digests::{Digest, Outline, outlines_of};
+use crate::digests::Digest;
 use crate::hashing::Texts;
-use crate::hints::Hints;
+use crate::hints::is_at;
+use crate::outlines::Outlines;
 use batch::{Block, Kind, NoMemory, Objects};
 use std::alloc::Global;
 
@@ -19,19 +20,16 @@ pub struct Declared {
     pub version: u8,
     pub names: Texts,
     pub objects: Objects,
-    pub(crate) hints: Hints,
-    outlines: Vec<Outline>,
+    outlines: Outlines,
     ghost named: { length names.keys ≡ length objects },
     ghost few: { length objects ≤ MAX_OBJECTS },
     ghost apart: { IsDistinct string_eq names.keys } by { IsDistinct-prop string_eq names.keys },
-    ghost outlined: { outlines.items ≡ outlines_of (texts_of names.keys) (kinds objects) },
+    ghost outlined: { AreRight (texts_of names.keys) (kinds objects) outlines.slots.items },
 }
 
 impl Declared {
-    ghost use Rattle.std.specs.Prelude.{IsTrue, IsUtf8, List, Some, slice_get, ℕ};
-    ghost use Rattle.spelling.specs.Digests.{digest_of};
+    ghost use Rattle.std.specs.Prelude.{IfSome, Some, slice_get};
     ghost use Rattle.spelling.specs.Scope.{place_of};
-    ghost use Rattle.std.specs.Option.{option_copied};
 
     /// The declared objects under these names.
     pub fn new(
@@ -46,40 +44,38 @@ impl Declared {
         ensures names { IfOk result (λ declared. declared.names.keys ≡ names.keys) }
         ensures objects { IfOk result (λ declared. declared.objects ≡ objects) }
     {
-        let outlines = outlines_of(alloc, &names, &objects)?;
-        let hints = Hints::of_objects(alloc, &outlines)?;
+        let outlines = Outlines::of(alloc, &names, &objects)?;
         Ok(Declared {
             version,
             names,
             objects,
-            hints,
             outlines,
         })
     }
 
-    /// Whether the name with this digest is surely that of the object at this place.
-    pub(crate) fn is_named(&self, place: usize, digest: Digest) -> bool
-        ensures { IsTrue result → (name : List ℕ) → IsUtf8 name → digest ≡ digest_of name
-            → place_of name (texts_of self.now.names.keys) ≡ Some place }
+    /// The place and the kind of the object of that name, if its outline is found. A name of at most
+    /// 8 bytes isn't compared byte by byte.
+    pub(crate) fn outlined(&self, name: &str) -> Option<(u32, Kind)>
+        ensures place { IfSome result (λ found.
+            place_of name.now (texts_of self.now.names.keys) ≡ Some found.0) }
+        ensures kind { IfSome result (λ found.
+            slice_get (kinds self.now.objects) found.0 ≡ Some found.1) }
     {
-        match self.outline(place) {
-            Some(outline) => outline.is_named(digest),
-            None => false,
+        let digest = Digest::of(name);
+        let found = self.outlines.find(digest)?;
+        if digest.is_whole() || is_at(&self.names, found.0 as usize, name) {
+            Some(found)
+        } else {
+            None
         }
     }
 
     /// The kind of the object at this place.
-    pub(crate) fn kind(&self, place: usize) -> Option<Kind>
+    pub(crate) fn kind(&self, place: u32) -> Option<Kind>
         ensures { result ≡ slice_get (kinds self.now.objects) place }
     {
-        let outline = self.outline(place)?;
-        Some(outline.kind)
-    }
-
-    fn outline(&self, place: usize) -> Option<&Outline>
-        ensures { option_copied result ≡ slice_get self.now.outlines.items place }
-    {
-        self.outlines.get(place)
+        let value = self.objects.value(place)?;
+        Some(value.kind())
     }
 }
 

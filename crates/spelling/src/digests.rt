@@ -1,12 +1,9 @@
 //! What distinguishes short names, with no look at their bytes.
-ghost use Rattle.std.specs.Prelude.{◌≡◌, ◌+◌, ◌*◌, ◌^◌, ◌<◌, ◌≤◌, IsTrue, IfOk, length, slice_index};
-ghost use Rattle.objects.specs.Entries.{kinds};
-ghost use Rattle.batch.specs.Names.{texts_of};
-ghost use Rattle.spelling.specs.Digests.{digest_of, ending_of, number_of_bytes, outline_of, outlines_of};
+ghost use Rattle.std.specs.Prelude.{◌≡◌, ◌<◌, ◌≤◌, IsTrue, length, slice_index};
+ghost use Rattle.spelling.specs.Digests.{digest_of, ending_of, number_of_bytes};
 
-use crate::hashing::Texts;
-use batch::{Kind, NoMemory, Objects};
-use std::alloc::Global;
+/// An odd number whose bits look random. A product by it mixes the bits of a number upwards.
+const MIXER: u64 = 0x9E37_79B9_7F4A_7C15;
 
 /// How long a name is, and its last 8 bytes as a number, or all of a shorter one.
 #[derive(Clone, Copy, Drop)]
@@ -30,10 +27,17 @@ impl Digest {
     }
 
     /// Whether it has all bytes of the name, so that only one name has it.
-    fn is_whole(self) -> bool
+    pub(crate) fn is_whole(self) -> bool
         ensures { IsTrue result → self.length ≤ 8 }
     {
         self.length <= 8
+    }
+
+    /// The slot, among so many, on which names with this digest fall.
+    pub(crate) fn slot(self, slots: usize) -> usize {
+        let once = (self.ending ^ u64::from(self.length)).wrapping_mul(MIXER);
+        let twice = (once ^ (once >> 32)).wrapping_mul(MIXER);
+        ((twice >> 32).wrapping_mul(slots as u64) >> 32) as usize
     }
 }
 
@@ -68,68 +72,4 @@ fn byte_at(bytes: &[u8], place: usize) -> u64
         Some(byte) => u64::from(*byte),
         None => 0,
     }
-}
-
-/// What is known of an object with no look at its name or its value: the digest of the name, and
-/// the kind. It takes 16 bytes.
-#[derive(Clone, Copy, Drop)]
-pub(crate) struct Outline {
-    ending: u64,
-    length: u8,
-    pub(crate) kind: Kind,
-}
-
-impl Outline {
-    /// The outline of an object with this name and kind.
-    fn of(name: &str, kind: Kind) -> Outline
-        ensures { result ≡ outline_of name.now kind }
-    {
-        let digest = Digest::of(name);
-        Outline {
-            ending: digest.ending,
-            length: digest.length,
-            kind,
-        }
-    }
-
-    /// The digest of the object's name.
-    pub(crate) fn digest(self) -> Digest {
-        Digest {
-            ending: self.ending,
-            length: self.length,
-        }
-    }
-
-    /// Whether the object surely has the name with this digest.
-    pub(crate) fn is_named(self, digest: Digest) -> bool
-        ensures whole { IsTrue result → digest.length ≤ 8 }
-        ensures long { IsTrue result → self.length ≡ digest.length }
-        ensures ending { IsTrue result → self.ending ≡ digest.ending }
-    {
-        digest.is_whole() && self.length == digest.length && self.ending == digest.ending
-    }
-}
-
-/// The outlines of the objects under these names, each at its place.
-///
-/// Returns `NoMemory` where a request for memory was refused.
-pub(crate) fn outlines_of(
-    alloc: Global,
-    names: &Texts,
-    objects: &Objects,
-) -> Result<Vec<Outline>, NoMemory>
-    requires named { length names.now.keys ≡ length objects.now }
-    requires few { length objects.now < 2 ^ 32 }
-    ensures { IfOk result (λ outlines. outlines.items
-        ≡ outlines_of (texts_of names.now.keys) (kinds objects.now)) }
-{
-    let names = names.as_slice();
-    let mut outlines = Vec::with_capacity(alloc, names.len())?;
-    for place in 0..objects.len() as u32 {
-        let Some(value) = objects.value(place) else {
-            return Ok(outlines);
-        };
-        outlines.push(Outline::of(names[place as usize].as_str(), value.kind()))?;
-    }
-    Ok(outlines)
 }

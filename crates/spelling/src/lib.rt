@@ -14,6 +14,7 @@ pub mod labels;
 pub mod look;
 pub mod numbers;
 pub mod operations;
+mod outlines;
 pub mod starts;
 pub mod state;
 pub mod steps;

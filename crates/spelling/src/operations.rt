@@ -13,8 +13,7 @@ ghost use Rattle.spelling.specs.Spelled.{operation_of, operation_step, target_of
 use crate::arguments::{Seen, is_else, read_arguments, read_refusal};
 use crate::counts::Counts;
 use crate::declared::Declared;
-use crate::digests::Digest;
-use crate::hints::place_in;
+use crate::hints::place_of;
 use crate::labels::{add_new_label, label_of};
 use crate::look::{has_only, text_item};
 use crate::state::State;
@@ -72,30 +71,19 @@ fn shape_of<'v>(step: &'v Value, version: u8, counts: &Counts) -> Result<Shape<'
 
 // ---- the operation
 
-/// The place of the object of that name. Where the hint is right, the name isn't hashed, and a
-/// short one isn't compared byte by byte.
-fn place_of(name: &str, declared: &Declared) -> Option<usize>
-    ensures place { result ≡ place_of name.now (texts_of declared.now.names.keys) }
-    ensures listed { is_some result ≡ is_listed name.now (texts_of declared.now.names.keys) }
-    ensures within { IfSome result (λ place. place < length declared.now.names.keys) }
-{
-    let digest = Digest::of(name);
-    let guess = declared.hints.place(digest).unwrap_or(0);
-    if declared.is_named(guess, digest) {
-        return Some(guess);
-    }
-    place_in(&declared.names, name, guess)
-}
-
-/// The place and the kind of the object of that name.
+/// The place and the kind of the object of that name. Where its outline is found, the name isn't
+/// hashed.
 fn find(name: &str, declared: &Declared) -> Option<(u32, Kind)>
     ensures place { option_map (λ found. found.0) result ≡ place_of name.now (texts_of declared.now.names.keys) }
     ensures kind { option_map (λ found. found.1) result ≡ kind_named name.now (setting_of declared.now) }
     ensures listed { is_some result ≡ is_listed name.now (texts_of declared.now.names.keys) }
 {
-    let place = place_of(name, declared)?;
+    if let Some(found) = declared.outlined(name) {
+        return Some(found);
+    }
+    let place = place_of(&declared.names, name)? as u32;
     let kind = declared.kind(place)?;
-    Some((place as u32, kind))
+    Some((place, kind))
 }
 
 /// The object's place and the call that an operation names.
