@@ -185,12 +185,12 @@ impl<'s> Draft<'s> {
         ensures { self.new ≡ unchanged self.old.value }
     {
         match &mut self.kept {
-            Kept::Account(draft) => draft.before.truncate(0),
-            Kept::Counter(draft) => draft.before.truncate(0),
+            Kept::Account(draft) => draft.forget(),
+            Kept::Counter(draft) => draft.forget(),
             Kept::Set(draft) => draft.forget(),
             Kept::Queue(draft) => draft.forget(),
             Kept::Directory(draft) => draft.forget(),
-            Kept::Max(draft) => draft.before.truncate(0),
+            Kept::Max(draft) => draft.forget(),
         }
     }
 

@@ -1,5 +1,5 @@
 //! Drafts of numbers.
-ghost use Rattle.std.specs.Prelude.{◌≡◌, IfOk, OnOk, OnErr};
+ghost use Rattle.std.specs.Prelude.{◌≡◌, None, IfOk, OnOk, OnErr};
 ghost use Rattle.drafts.specs.History.{unchanged, changed, undone};
 ghost use Rattle.drafts.specs.Numbers.{number_history};
 
@@ -7,13 +7,16 @@ use objects::NoMemory;
 use serial::Atom;
 use std::alloc::Global;
 
-/// The number of an account, a counter or a register, with what it was before each change.
+/// The number of an account, a counter or a register, with what it was before each change. A first
+/// change takes no memory.
 #[derive(Drop)]
 pub struct NumberDraft<T: Drop> {
     /// The number now.
     pub number: T,
-    /// The number before each change, the earliest first.
-    pub before: Vec<T>,
+    /// The number before the last change, if it isn't among the earlier ones.
+    pub last: Option<T>,
+    /// The numbers before the earlier changes, the earliest first.
+    pub earlier: Vec<T>,
 }
 
 impl<T: Copy + Drop> NumberDraft<T> {
@@ -23,7 +26,8 @@ impl<T: Copy + Drop> NumberDraft<T> {
     {
         NumberDraft {
             number,
-            before: Vec::new(alloc),
+            last: None,
+            earlier: Vec::new(alloc),
         }
     }
 
@@ -34,11 +38,24 @@ impl<T: Copy + Drop> NumberDraft<T> {
         ensures ok { OnOk result (number_history self.new ≡ changed (number_history self.old) (A.serial.after self.old.number call.now)) }
         ensures err { OnErr result (number_history self.new ≡ number_history self.old) }
     {
-        self.before.reserve(1)?;
+        self.make_room()?;
         let before = self.number;
         let reply = A::perform(&mut self.number, call)?;
-        self.before.push_reserved(before);
+        self.last = Some(before);
         Ok(reply)
+    }
+
+    /// Makes room for one more number before, by putting the last one to the earlier ones. On
+    /// `NoMemory` all is as before.
+    fn make_room(&mut self) -> Result<(), NoMemory>
+        ensures history { number_history self.new ≡ number_history self.old }
+        ensures room { OnOk result (self.new.last ≡ None) }
+    {
+        if let Some(last) = self.last {
+            self.earlier.push(last)?;
+            self.last = None;
+        }
+        Ok(())
     }
 
     /// Performs a call for good, and returns its reply: no change before it can be taken back. It
@@ -51,15 +68,26 @@ impl<T: Copy + Drop> NumberDraft<T> {
         ensures refused { OnErr result (A.MayGrow self.old.number call.now) }
     {
         let answer = A::perform(&mut self.number, call)?;
-        self.before.truncate(0);
+        self.forget();
         Ok(answer)
+    }
+
+    /// Forgets what the number was, so that no change can be taken back. It takes no memory.
+    pub fn forget(&mut self)
+        ensures { number_history self.new ≡ unchanged self.old.number }
+    {
+        self.last = None;
+        self.earlier.truncate(0);
     }
 
     /// Takes the last change back, if there is one. It takes no memory.
     pub fn undo(&mut self)
         ensures { number_history self.new ≡ undone (number_history self.old) }
     {
-        if let Some(before) = self.before.pop() {
+        if let Some(last) = self.last {
+            self.number = last;
+            self.last = None;
+        } else if let Some(before) = self.earlier.pop() {
             self.number = before;
         }
     }
