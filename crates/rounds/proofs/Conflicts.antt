@@ -14,9 +14,9 @@ use Rattle.meaning.specs.Batch.{net_of, block_at, state_at, alone, answer, nets}
 use Rattle.meaning.specs.Rounds.{Keeps}
 use Rattle.meaning.proofs.Batches.{standing_run}
 use Rattle.committed.specs.Summaries.{entries_of, IsSummary}
-use Rattle.committed.proofs.SummaryLemmas.{stands-summary, past-summary, summary-append, summary-nil}
+use Rattle.committed.proofs.SummaryLemmas.{stands-summary, past-summary}
 use Rattle.rounds.specs.declared.pending_run.PendingRun.{PendingRun}
-use Rattle.rounds.specs.PendingRuns.{left_by, AreSumsOf, IsPendingOf, net_in, IsListed, own_net, own_nets, all_left, HoldsPast, AreSpanned}
+use Rattle.rounds.specs.PendingRuns.{left_by, AreSumsOf, IsCommittable, IsPendingOf, net_in, IsListed, own_net, own_nets, HoldsPast, AreSpanned}
 use Rattle.rounds.specs.Spans.{AreIn}
 use Rattle.rounds.specs.declared.pending_run.Net.{Net}
 use Rattle.rounds.specs.declared.pending_run.Net.TheVariants.{Summed, Listed, Recorded}
@@ -31,11 +31,13 @@ moved r s made is taken outcome =
     let nets_are : net (record_of r) (outcome_of r) ≡ net (record_of s) (outcome_of s) =
     ap (λ t. net t (outcome_of r)) (sym taken) ∙ ap (λ o. net (record_of s) o) (sym outcome) in
     record {
-      tree = is.tree ∙ (ap (λ t. shown t (outcome_of r)) (sym taken) ∙ ap (λ o. shown (record_of s) o) (sym outcome));
-      net = λ listed. is.net listed ∙ nets_are;
+      committable = record {
+        tree = is.committable.tree ∙ (ap (λ t. shown t (outcome_of r)) (sym taken) ∙ ap (λ o. shown (record_of s) o) (sym outcome));
+        net = λ listed. is.committable.net listed ∙ nets_are;
+        span = subst (AreIn made.span) nets_are is.committable.span;
+      };
       sums = subst (λ ns. AreSumsOf made.sums (entries (record_of s)) ns) nets_are
           (subst (λ es. AreSumsOf made.sums es (net (record_of r) (outcome_of r))) (ap entries (sym taken)) is.sums);
-      span = subst (AreIn made.span) nets_are is.span;
     }
 
 -- where a run doesn't conflict there is one
@@ -50,8 +52,8 @@ net_at Summed summed recorded net listed told = listed tt
 net_at (Listed entries) summed recorded net listed told = listed tt
 net_at Recorded summed recorded net listed told = told
 
--- the net of a pending run is that of its meaning
-own_net_is : (block : Block) (state : State) (run : PendingRun) → IsPendingOf (one block [] state) run
+-- the net of a run that can be committed is that of its meaning
+own_net_is : (block : Block) (state : State) (run : PendingRun) → IsCommittable (one block [] state) run
     → own_net block run ≡ net_of (one block [] state)
 own_net_is block state run is =
     net_at run.net (left_by run.sums) (left_by_transaction block (record_view run.tree)) (net_of (one block [] state)) is.net
@@ -85,32 +87,29 @@ module _ (start : State) (blocks : List Block) where
 
   -- the first j runs leave what one thread leaves
   pub nets_agree : (b j : ℕ) (runs : List PendingRun) → j ≤ length runs
-      → ((k : ℕ) (d : PendingRun) → k < j → IsPendingOf (answer start blocks (b + k)) (get_or runs k d))
-      → (own_nets blocks b (take j runs) ≡ nets start blocks b j) × IsSummary (all_left (take j runs)) (nets start blocks b j)
+      → ((k : ℕ) (d : PendingRun) → k < j → IsCommittable (answer start blocks (b + k)) (get_or runs k d))
+      → own_nets blocks b (take j runs) ≡ nets start blocks b j
   unfolding nets
-  nets_agree b zero runs le answers = (refl, summary-nil)
+  nets_agree b zero runs le answers = refl
   nets_agree b (suc j) [] le answers = absurd (omega arith)
   nets_agree b (suc j) (run ∷ runs) le answers =
       let here : b + 0 ≡ b = omega arith in
-      let is : IsPendingOf (answer start blocks b) run = subst (λ i. IsPendingOf (answer start blocks i) run) here
+      let is : IsCommittable (answer start blocks b) run = subst (λ i. IsCommittable (answer start blocks i) run) here
       (answers 0 run (omega arith)) in
       let rest = nets_agree (suc b) j runs (omega arith) (λ k d lt. let there : b + suc k ≡ suc b + k = omega arith in
-      subst (λ i. IsPendingOf (answer start blocks i) (get_or runs k d)) there (answers (suc k) d (omega arith))) in (
-        ap (λ ns. ns ++ own_nets blocks (suc b) (take j runs)) (own_net_is (block_at blocks b) (state_at start blocks b) run is)
-            ∙ ap (λ ns. net_of (answer start blocks b) ++ ns) rest.0,
-        summary-append (left_by run.sums) (net_of (answer start blocks b)) (all_left (take j runs))
-            (nets start blocks (suc b) j) is.sums.net_is rest.1,
-      )
+      subst (λ i. IsCommittable (answer start blocks i) (get_or runs k d)) there (answers (suc k) d (omega arith))) in
+      ap (λ ns. ns ++ own_nets blocks (suc b) (take j runs)) (own_net_is (block_at blocks b) (state_at start blocks b) run is)
+      ∙ ap (λ ns. net_of (answer start blocks b) ++ ns) rest
 
-  -- each run was made on the state of opening b, by number from b on
-  abbrev pub AreAlone : ℕ → List PendingRun → Type 0
-  AreAlone b runs = (k : ℕ) (d : PendingRun) → k < length runs → IsPendingOf (alone start blocks (b + k) b) (get_or runs k d)
+  -- each run can be committed as one thread's, by number from b on
+  abbrev pub AreAnswers : ℕ → List PendingRun → Type 0
+  AreAnswers b runs = (k : ℕ) (d : PendingRun) → k < length runs → IsCommittable (answer start blocks (b + k)) (get_or runs k d)
 
   -- what each of them leaves is in its span
-  pub spanned : (b count : ℕ) (runs : List PendingRun) → AreAlone b runs → count ≤ length runs → AreSpanned blocks b (take count runs)
+  pub spanned : (b count : ℕ) (runs : List PendingRun) → AreAnswers b runs → count ≤ length runs → AreSpanned blocks b (take count runs)
   spanned b count runs are le k d lt =
       let size = length-take-le count runs le in
       let is = are k d (omega (arith, lt, size, le)) in
       subst (λ run. AreIn run.span (own_net (block_at blocks (b + k)) run)) (sym (get_or-take count runs k d (omega (arith, lt, size))))
       (subst (AreIn (get_or runs k d).span)
-      (sym (own_net_is (block_at blocks (b + k)) (state_at start blocks b) (get_or runs k d) is)) is.span)
+      (sym (own_net_is (block_at blocks (b + k)) (state_at start blocks (b + k)) (get_or runs k d) is)) is.span)

@@ -1,7 +1,7 @@
 -- What a round lists as it goes on leads to the next opening.
 use Rattle.std.proofs.Common.{◌≡◌, ℕ, zero, suc, ◌+◌, ◌-◌, ◌<◌, ◌≤◌, ◌↔◌, List, [], ◌++◌, length, get_or, take, refl, sym, ap, ◌∙◌}
 use Rattle.std.proofs.Common.{subst, arith, append_assoc, append-nil}
-use native.Mathlib.Decide.{dec_le}
+use native.Mathlib.Decide.{ℕ_discrete, dec_le}
 use Rattle.objects.specs.Entries.{State}
 use Rattle.objects.specs.declared.entry.Entry.{Entry}
 use Rattle.meaning.specs.Trees.{Block}
@@ -14,11 +14,11 @@ use Rattle.batch.specs.declared.batch.Batch.{Batch}
 use Rattle.rounds.specs.Views.{start_of, blocks_of}
 use Rattle.rounds.specs.declared.pending_run.PendingRun.{PendingRun}
 use Rattle.rounds.specs.declared.window.Window.{Window}
-use Rattle.rounds.specs.PendingRuns.{IsPendingOf, left_by, all_left, HoldsPast}
+use Rattle.rounds.specs.PendingRuns.{IsCommittable, IsPendingOf, left_by, all_left, HoldsPast}
 use Rattle.rounds.specs.Checks.{HoldsAfter}
 use Rattle.rounds.proofs.Firsts.{next_nets}
 use Rattle.std.proofs.lemmas.List.{get_or_default}
-use Rattle.rounds.specs.Windows.{IsValid, IsWindowAt, HasGrown, IsListedTo}
+use Rattle.rounds.specs.Windows.{IsValid, IsWindowAt, HasGrown, IsFreedAt, IsListedTo}
 use Rattle.rounds.proofs.Conflicts.{holds_past, keeps_answers, some_run}
 
 -- what one transaction more leaves
@@ -35,68 +35,73 @@ nets_more start blocks b (suc count) =
     ∙ ap (λ i. nets start blocks (suc b) count ++ net_of (answer start blocks i)) there)
     ∙ sym (append_assoc first (nets start blocks (suc b) count) (net_of (answer start blocks (b + suc count))))
 
-module _ (batch : Batch) (b : ℕ) (state : State) (window : Window) (reached : state ≡ state_at (start_of batch) (blocks_of batch) b)
-    (at : IsWindowAt batch b state window) where
+module _ (batch : Batch) (b from : ℕ) (state : State) (window : Window) (reached : state ≡ state_at (start_of batch) (blocks_of batch) b)
+    (at : IsWindowAt batch from state window) where
   -- a valid run is the run of its transaction at the opening
-  pub alone_at : (i : ℕ) (d : PendingRun) → b ≤ i → IsValid window i
+  pub alone_at : (i : ℕ) (d : PendingRun) → from ≤ i → IsValid window i
       → IsPendingOf (alone (start_of batch) (blocks_of batch) i b) (get_or window.runs.items i d)
   alone_at i d low valid = subst (λ s. IsPendingOf (one (block_at (blocks_of batch) i) [] s) (get_or window.runs.items i d)) reached
       (at.made i d low valid)
 
   -- a valid run holds past what was listed exactly where its transaction keeps
-  pub keeps_where_holds : (place : ℕ) (d : PendingRun) (listed : List Entry) → IsListedTo batch b place window listed → IsValid window place
-      → HoldsPast listed (get_or window.runs.items place d) ↔ Keeps (start_of batch) (blocks_of batch) place b
-  keeps_where_holds place d listed so_far valid =
+  pub keeps_where_holds : (place : ℕ) (d : PendingRun) (listed : List Entry) → from ≤ place → IsListedTo batch b place window listed
+      → IsValid window place → HoldsPast listed (get_or window.runs.items place d) ↔ Keeps (start_of batch) (blocks_of batch) place b
+  keeps_where_holds place d listed low so_far valid =
       holds_past (start_of batch) (blocks_of batch) place b listed (nets (start_of batch) (blocks_of batch) b (place - b))
-      (get_or window.runs.items place d) (alone_at place d so_far.from valid) so_far.nets
+      (get_or window.runs.items place d) (alone_at place d low valid) so_far.nets
 
   -- one more keeps, and the list sums up its net, too
-  pub listed_more : (place : ℕ) (d : PendingRun) (listed more : List Entry) → IsListedTo batch b place window listed
+  pub listed_more : (place : ℕ) (d : PendingRun) (listed more : List Entry) → from ≤ place → IsListedTo batch b place window listed
       → IsValid window place → Keeps (start_of batch) (blocks_of batch) place b
       → IsSummary more (listed ++ left_by (get_or window.runs.items place d).sums) → IsListedTo batch b (place + 1) window more
-  listed_more place d listed more so_far valid keeps pushed =
-      let from = so_far.from in
+  listed_more place d listed more low so_far valid keeps pushed =
+      let opened = so_far.from in
       let size : (place + 1) - b ≡ suc (place - b) = omega arith in
       let here : b + (place - b) ≡ place = omega arith in
       let run = get_or window.runs.items place d in
-      let answers = keeps_answers (start_of batch) (blocks_of batch) place b run from (alone_at place d from valid) keeps in
+      let answers : (o : PendingRun) → IsPendingOf (answer (start_of batch) (blocks_of batch) place) (get_or window.runs.items place o) =
+      λ o. keeps_answers (start_of batch) (blocks_of batch) place b (get_or window.runs.items place o) opened (alone_at place o low valid)
+      keeps in
       let all : nets (start_of batch) (blocks_of batch) b ((place + 1) - b)
       ≡ nets (start_of batch) (blocks_of batch) b (place - b) ++ net_of (answer (start_of batch) (blocks_of batch) place) =
       ap (nets (start_of batch) (blocks_of batch) b) size ∙ (nets_more (start_of batch) (blocks_of batch) b (place - b)
       ∙ ap (λ i. nets (start_of batch) (blocks_of batch) b (place - b) ++ net_of (answer (start_of batch) (blocks_of batch) i)) here) in
       record {
         from = omega arith;
-        keep = λ i low lt. elim (dec_le (suc i) place) [
-          | yes lower ↦ so_far.keep i low lower
+        keep = λ i first lt. elim (dec_le (suc i) place) [
+          | yes lower ↦ so_far.keep i first lower
           | no last ↦ let is : place ≡ i = omega arith in subst (λ j. Keeps (start_of batch) (blocks_of batch) j b) is keeps
         ];
-        valid = λ i low lt. elim (dec_le (suc i) place) [
-          | yes lower ↦ so_far.valid i low lower
-          | no last ↦ let is : place ≡ i = omega arith in subst (IsValid window) is valid
+        made = λ i o first lt. elim (dec_le (suc i) place) [
+          | yes lower ↦ so_far.made i o first lower
+          | no last ↦
+              let is : place ≡ i = omega arith in
+              subst (λ j. IsCommittable (answer (start_of batch) (blocks_of batch) j) (get_or window.runs.items j o)) is
+              (answers o).committable
         ];
         nets = subst (IsSummary more) (sym all) (summary_of_summary more (listed ++ left_by run.sums) (nets (start_of batch)
             (blocks_of batch) b (place - b) ++ net_of (answer (start_of batch) (blocks_of batch) place)) pushed
             (summary-append listed (nets (start_of batch) (blocks_of batch) b (place - b)) (left_by run.sums)
-            (net_of (answer (start_of batch) (blocks_of batch) place)) so_far.nets answers.sums.net_is));
+            (net_of (answer (start_of batch) (blocks_of batch) place)) so_far.nets (answers d).sums.net_is));
       }
 
   -- as far as the runs of a block hold past what is listed and what those before them leave, they keep, and are listed
-  pub listed_past : (from : ℕ) (past : List Entry) (block : List PendingRun)
+  pub listed_past : (past : List Entry) (block : List PendingRun)
       → ((k : ℕ) (d : PendingRun) → k < length block → get_or block k d ≡ get_or window.runs.items (from + k) d)
       → ((k : ℕ) → k < length block → IsValid window (from + k)) → IsListedTo batch b from window past → (k : ℕ) → k ≤ length block
       → ((j : ℕ) → j < k → HoldsAfter past block j) → IsListedTo batch b (from + k) window (past ++ all_left (take k block))
-  listed_past from past block same valid so_far zero le stand =
+  listed_past past block same valid so_far zero le stand =
       let here : from ≡ from + 0 = omega arith in
       subst (λ es. IsListedTo batch b (from + 0) window es) (sym (append-nil past))
       (subst (λ n. IsListedTo batch b n window past) here so_far)
-  listed_past from past block same valid so_far (suc k) le stand =
-      let before = listed_past from past block same valid so_far k (omega arith) (λ j lt. stand j (omega arith)) in
+  listed_past past block same valid so_far (suc k) le stand =
+      let before = listed_past past block same valid so_far k (omega arith) (λ j lt. stand j (omega arith)) in
       let next : (from + k) + 1 ≡ from + suc k = omega arith in
       let more : k + 1 ≡ suc k = omega arith in
       some_run (IsListedTo batch b (from + suc k) window (past ++ all_left (take (suc k) block))) block k (omega arith) (λ d.
       let run = get_or block k d in
       let is = same k d (omega arith) in
-      let keeps = (keeps_where_holds (from + k) d (past ++ all_left (take k block)) before (valid k (omega arith))).0
+      let keeps = (keeps_where_holds (from + k) d (past ++ all_left (take k block)) (omega arith) before (valid k (omega arith))).0
       (subst (HoldsPast (past ++ all_left (take k block))) is (stand k (omega arith) d)) in
       let pushed : past ++ all_left (take (suc k) block)
       ≡ (past ++ all_left (take k block)) ++ left_by (get_or window.runs.items (from + k) d).sums =
@@ -105,16 +110,35 @@ module _ (batch : Batch) (b : ℕ) (state : State) (window : Window) (reached : 
       ∙ (sym (append_assoc past (all_left (take k block)) (left_by run.sums))
       ∙ ap (λ (r : PendingRun). (past ++ all_left (take k block)) ++ left_by r.sums) is) in
       subst (λ n. IsListedTo batch b n window (past ++ all_left (take (suc k) block))) next
-      (listed_more (from + k) d (past ++ all_left (take k block)) (past ++ all_left (take (suc k) block)) before (valid k (omega arith))
-      keeps (subst (IsSummary (past ++ all_left (take (suc k) block))) pushed (summary_itself (past ++ all_left (take (suc k) block))))))
+      (listed_more (from + k) d (past ++ all_left (take k block)) (past ++ all_left (take (suc k) block)) (omega arith) before
+      (valid k (omega arith)) keeps
+      (subst (IsSummary (past ++ all_left (take (suc k) block))) pushed (summary_itself (past ++ all_left (take (suc k) block))))))
 
 -- what was listed stays so as more runs are made
-pub still_listed : (batch : Batch) (b place : ℕ) (old new : Window) (listed : List Entry) → HasGrown b old new
-    → IsListedTo batch b place old listed → IsListedTo batch b place new listed
-still_listed batch b place old new listed grown so_far = record {
+pub still_listed : (batch : Batch) (b place : ℕ) (old new : Window) (listed : List Entry) → place ≤ length old.runs.items
+    → HasGrown place old new → IsListedTo batch b place old listed → IsListedTo batch b place new listed
+still_listed batch b place old new listed inside grown so_far = record {
   from = so_far.from;
   keep = so_far.keep;
-  valid = λ i low lt. grown.still i (so_far.valid i low lt);
+  made = λ i d low lt. subst (IsCommittable (answer (start_of batch) (blocks_of batch) i)) (sym (grown.same i d lt (omega arith)))
+      (so_far.made i d low lt);
+  nets = so_far.nets;
+}
+
+-- and where the summaries of a run were freed
+pub freed_listed : (batch : Batch) (b upto place : ℕ) (old new : Window) (listed : List Entry) → IsFreedAt place old new
+    → IsListedTo batch b upto old listed → IsListedTo batch b upto new listed
+freed_listed batch b upto place old new listed freed so_far = record {
+  from = so_far.from;
+  keep = so_far.keep;
+  made = λ i d low lt. elim (ℕ_discrete place i) [
+    | yes here ↦ subst (λ j. IsCommittable (answer (start_of batch) (blocks_of batch) i) (get_or new.runs.items j d)) here
+        (freed.here (answer (start_of batch) (blocks_of batch) i) d
+        (subst (λ j. IsCommittable (answer (start_of batch) (blocks_of batch) i) (get_or old.runs.items j d)) (sym here)
+        (so_far.made i d low lt)))
+    | no other ↦ subst (IsCommittable (answer (start_of batch) (blocks_of batch) i)) (sym (freed.others i d (λ is. other (sym is))))
+        (so_far.made i d low lt)
+  ];
   nets = so_far.nets;
 }
 
@@ -126,7 +150,7 @@ none_listed batch b window listed empty =
     record {
       from = omega arith;
       keep = λ i low lt. absurd (omega arith);
-      valid = λ i low lt. absurd (omega arith);
+      made = λ i d low lt. absurd (omega arith);
       nets = subst (λ n. IsSummary listed (nets (start_of batch) (blocks_of batch) b n)) (sym none)
           (subst (λ es. IsSummary es []) (sym empty) summary-nil);
     }
@@ -141,6 +165,14 @@ grown_on b one two three first second =
       same = λ i d lt inside. second.same i d lt (omega arith) ∙ first.same i d lt inside;
       still = λ i valid. second.still i (first.still i valid);
     }
+
+-- what stays before a place stays before an earlier one
+pub grown_before : (a b : ℕ) (old new : Window) → a ≤ b → HasGrown b old new → HasGrown a old new
+grown_before a b old new le grown = record {
+  longer = grown.longer;
+  same = λ i d lt inside. grown.same i d (omega arith) inside;
+  still = grown.still;
+}
 
 pub not_grown : (b : ℕ) (window : Window) → HasGrown b window window
 not_grown b window = record { longer = omega arith; same = λ i d lt inside. refl; still = λ i valid. valid }

@@ -103,9 +103,11 @@ pub pending_of : (meant : OneRun Taken) (run : Run) (pending : PendingRun) → I
     → (IsListed pending.net → listed_net pending ≡ run.net.items)
     → AreSumsOf pending.sums run.entries.items run.net.items → AreIn pending.span run.net.items → IsPendingOf meant pending
 pending_of meant run pending is tree net are inside = record {
-  tree = ap record_view tree ∙ is.tree;
-  net = λ listed. net listed ∙ is.net;
+  committable = record {
+    tree = ap record_view tree ∙ is.tree;
+    net = λ listed. net listed ∙ is.net;
+    span = subst (AreIn pending.span) is.net inside;
+  };
   sums = subst (AreSumsOf pending.sums (entries_in (record_of meant))) is.net
       (subst (λ es. AreSumsOf pending.sums es run.net.items) is.entries are);
-  span = subst (AreIn pending.span) is.net inside;
 }

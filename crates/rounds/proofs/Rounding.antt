@@ -1,5 +1,5 @@
 -- What a round commits, and what it leaves of its runs.
-use Rattle.std.proofs.Common.{◌≡◌, ◌⊎◌, ⊎_elim, inl, inr, ◌↔◌, [], ℕ, ◌+◌, ◌-◌, ◌<◌, ◌≤◌, true, false, List, length, get_or, take, drop, sym, ap, ◌∙◌}
+use Rattle.std.proofs.Common.{◌≡◌, ◌⊎◌, ⊎_elim, inl, inr, ◌↔◌, [], ℕ, ◌+◌, ◌-◌, ◌<◌, ◌≤◌, true, false, List, length, get_or, take, drop, refl, sym, ap, ◌∙◌}
 use Rattle.std.proofs.Common.{subst, arith}
 use Rattle.std.proofs.lemmas.List.{get_or-take, get_or-drop, get_or_past, length-take-le, take_all}
 use Rattle.std.proofs.lemmas.Bool.{false≢true}
@@ -17,14 +17,14 @@ use Rattle.speculate.proofs.Room.{nets_have_room}
 use Rattle.rounds.specs.Views.{start_of, blocks_of}
 use Rattle.rounds.specs.declared.pending_run.PendingRun.{PendingRun}
 use Rattle.rounds.specs.declared.window.Window.{Window}
-use Rattle.rounds.specs.PendingRuns.{IsPendingOf, HoldsPast, own_nets, AreSpanned}
+use Rattle.rounds.specs.PendingRuns.{IsCommittable, IsPendingOf, HoldsPast, own_nets, AreSpanned}
 use Rattle.rounds.specs.Windows.{IsValid, IsWindowAt, HasGrown, IsListedTo, AreKept, AreSettled, Stands}
-use Rattle.rounds.proofs.Conflicts.{nets_agree, spanned, holds_past, still_stands, keeps_answers, some_run}
+use Rattle.rounds.proofs.Conflicts.{nets_agree, spanned, holds_past, still_stands, some_run}
 use Rattle.rounds.proofs.Listing.{alone_at}
 
 module _ (batch : Batch) (b first : ℕ) (state : State) (window : Window) (listed : List Entry)
     (reached : state ≡ state_at (start_of batch) (blocks_of batch) b) (opened : b ≤ length (blocks_of batch))
-    (at : IsWindowAt batch b state window) (inside : first ≤ length window.runs.items)
+    (at : IsWindowAt batch first (state_at (start_of batch) (blocks_of batch) b) window) (inside : first ≤ length window.runs.items)
     (seen : IsListedTo batch b first window listed) where
   -- the runs that the round commits
   abbrev pub passed : List PendingRun
@@ -40,28 +40,20 @@ module _ (batch : Batch) (b first : ℕ) (state : State) (window : Window) (list
   run_at k d lt = let all = size in
       get_or-take (first - b) (drop b window.runs.items) k d (omega arith) ∙ get_or-drop b window.runs.items k d
 
-  made_alone : (k : ℕ) (d : PendingRun) → k < length passed
-      → IsPendingOf (alone (start_of batch) (blocks_of batch) (b + k) b) (get_or passed k d)
-  made_alone k d lt =
-      let all = size in
-      let from = seen.from in
-      subst (IsPendingOf (alone (start_of batch) (blocks_of batch) (b + k) b)) (sym (run_at k d lt))
-      (alone_at batch b state window reached at (b + k) d (omega arith) (seen.valid (b + k) (omega arith) (omega arith)))
-
   answers_of : (k : ℕ) (d : PendingRun) → k < length passed
-      → IsPendingOf (answer (start_of batch) (blocks_of batch) (b + k)) (get_or passed k d)
+      → IsCommittable (answer (start_of batch) (blocks_of batch) (b + k)) (get_or passed k d)
   answers_of k d lt =
       let all = size in
       let from = seen.from in
-      keeps_answers (start_of batch) (blocks_of batch) (b + k) b (get_or passed k d) (omega arith) (made_alone k d lt)
-      (seen.keep (b + k) (omega arith) (omega arith))
+      subst (IsCommittable (answer (start_of batch) (blocks_of batch) (b + k))) (sym (run_at k d lt))
+      (seen.made (b + k) d (omega arith) (omega arith))
 
   -- they leave what one thread leaves
   pub leave : own_nets (blocks_of batch) b passed ≡ nets (start_of batch) (blocks_of batch) b (first - b)
   leave =
       subst (λ rs. own_nets (blocks_of batch) b rs ≡ nets (start_of batch) (blocks_of batch) b (length passed))
       (take_all (length passed) passed (omega arith))
-      (nets_agree (start_of batch) (blocks_of batch) b (length passed) passed (omega arith) answers_of).0
+      (nets_agree (start_of batch) (blocks_of batch) b (length passed) passed (omega arith) answers_of)
       ∙ ap (nets (start_of batch) (blocks_of batch) b) size
 
   pub commits : AreLegal state (own_nets (blocks_of batch) b passed) × AllHaveRoom state (own_nets (blocks_of batch) b passed)
@@ -74,7 +66,7 @@ module _ (batch : Batch) (b first : ℕ) (state : State) (window : Window) (list
         subst (λ s. AllHaveRoom s (own_nets (blocks_of batch) b passed)) (sym reached)
             (subst (AllHaveRoom (state_at (start_of batch) (blocks_of batch) b)) (sym leave) room),
         subst (AreSpanned (blocks_of batch) b) (take_all (length passed) passed (omega arith))
-            (spanned (start_of batch) (blocks_of batch) b (length passed) passed made_alone (omega arith)),
+            (spanned (start_of batch) (blocks_of batch) b (length passed) passed answers_of (omega arith)),
       )
 
   -- the objects are then those after the last of them
@@ -103,8 +95,7 @@ module _ (batch : Batch) (b first : ℕ) (state : State) (window : Window) (list
     stands_where_holds : (i : ℕ) (d : PendingRun) → first ≤ i → IsValid settled i
         → HoldsPast listed (get_or settled.runs.items i d) ↔ Stands batch b first i
     stands_where_holds i d low valid =
-        let from = seen.from in
-        let here = alone_at batch b state window reached at i d (omega arith) (valid_before i valid) in
+        let here = alone_at batch b first (state_at (start_of batch) (blocks_of batch) b) window refl at i d low (valid_before i valid) in
         let same = holds_past (start_of batch) (blocks_of batch) i b listed (nets (start_of batch) (blocks_of batch) b (first - b))
         (get_or window.runs.items i d) here seen.nets in
         let there = freed.others i d low in
@@ -137,7 +128,7 @@ module _ (batch : Batch) (b first : ℕ) (state : State) (window : Window) (list
           made = λ i d low valid.
               let was = valid_before i (kept.valid i low valid) in
               let run = get_or window.runs.items i d in
-              let here = alone_at batch b state window reached at i d (omega arith) was in
+              let here = alone_at batch b first (state_at (start_of batch) (blocks_of batch) b) window refl at i d low was in
               ⊎_elim
               (λ (stays : IsValid new i × Stands batch b first i).
               let later = subst (λ j. IsPendingOf (alone (start_of batch) (blocks_of batch) i j) run) number
@@ -159,7 +150,6 @@ module _ (batch : Batch) (b first : ℕ) (state : State) (window : Window) (list
         let stays : record_view (get_or new.runs.items i d).tree ≡ record_view (get_or window.runs.items i d).tree =
         ap (λ rs. record_view (get_or rs.items i d).tree) kept.runs ∙ ap record_view (freed.trees i d) in
         elim (dec_le b i) [
-          | yes le ↦ stays ∙ (keeps_answers (start_of batch) (blocks_of batch) i b (get_or window.runs.items i d) le
-              (alone_at batch b state window reached at i d le (seen.valid i le lt)) (seen.keep i le lt)).tree
+          | yes le ↦ stays ∙ (seen.made i d le lt).tree
           | no less ↦ stays ∙ (ap (λ r. record_view r.tree) (grown.same i d (omega arith) (omega arith)) ∙ before i d (omega arith))
         ]

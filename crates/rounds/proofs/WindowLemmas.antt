@@ -18,7 +18,7 @@ use Rattle.rounds.specs.Views.{meaning}
 use Rattle.rounds.specs.declared.pending_run.PendingRun.{PendingRun}
 use Rattle.rounds.specs.declared.window.Window.{Window}
 use Rattle.rounds.specs.PendingRuns.{IsPendingOf, numbers_of}
-use Rattle.rounds.specs.Windows.{IsValid, AllValid, IsWindowAt, HasGrown, AreSettled, AreMissing, still_to_be_made}
+use Rattle.rounds.specs.Windows.{IsValid, AllValid, IsWindowAt, HasGrown, IsFreedAt, AreSettled, AreMissing, still_to_be_made}
 use Rattle.rounds.specs.Views.{blocks_of}
 
 -- one without runs
@@ -87,6 +87,35 @@ reached_more batch b state old new run at room runs valid =
       record { longer = omega arith; same = λ i d low lt. same i d lt; still = λ i valid_here. flag i ∙ valid_here },
       flag,
     )
+
+-- from a later place on the runs are pending, too
+pub later_window : (batch : Batch) (a b : ℕ) (state : State) (window : Window) → a ≤ b → IsWindowAt batch a state window
+    → IsWindowAt batch b state window
+later_window batch a b state window le at = record {
+  flags = at.flags;
+  within = at.within;
+  made = λ i d low valid. at.made i d (omega arith) valid;
+}
+
+-- from the next place on they are, where the summaries of the run at this one were freed
+pub freed_window : (batch : Batch) (place : ℕ) (state : State) (old new : Window) → IsWindowAt batch place state old
+    → IsFreedAt place old new → IsWindowAt batch (place + 1) state new
+freed_window batch place state old new at freed = record {
+  flags = ap (λ v. length v.items) freed.valid ∙ (at.flags ∙ sym freed.runs);
+  within = let few = at.within in let size = freed.runs in omega arith;
+  made = λ i d low valid.
+      let other : i ≢ place = omega arith in
+      subst (IsPendingOf (meaning batch i state)) (sym (freed.others i d other))
+      (at.made i d (omega arith) (subst (λ v. get_or v.items i false ≡ true) freed.valid valid));
+}
+
+-- what is freed of a run changes nothing before it, nor which runs are valid
+pub freed_grown : (b place : ℕ) (old new : Window) → b ≤ place → IsFreedAt place old new → HasGrown b old new
+freed_grown b place old new le freed = record {
+  longer = let size = freed.runs in omega arith;
+  same = λ i d lt inside. freed.others i d (let other : i ≢ place = omega arith in other);
+  still = λ i valid. subst (λ v. get_or v.items i false ≡ true) (sym freed.valid) valid;
+}
 
 -- one run more has only its record left
 pub settled_more : (upto place : ℕ) (first old new : Window) (run : PendingRun) → AreSettled upto first old → place < upto

@@ -58,12 +58,16 @@ pub record AreSumsOf (sums : Sums) (entries net : List Entry) : Type 0 where
   pub entries_are : IsSummary (entries_of sums.entries.items) entries
   pub net_is : IsSummary (left_by sums) net
 
--- a pending run of a meaning: its record, its net and the span of it, with summaries of its entries and its net
-pub record IsPendingOf (meant : OneRun Taken) (run : PendingRun) : Type 0 where
+-- what a round commits of a run of a meaning: its record, its net and the span of it
+pub record IsCommittable (meant : OneRun Taken) (run : PendingRun) : Type 0 where
   pub tree : record_view run.tree ≡ shown_of meant
   pub net : IsListed run.net → listed_net run ≡ net_of meant
-  pub sums : AreSumsOf run.sums (entries (record_of meant)) (net_of meant)
   pub span : AreIn run.span (net_of meant)
+
+-- a pending run of a meaning: the same, with summaries of its entries and its net
+pub record IsPendingOf (meant : OneRun Taken) (run : PendingRun) : Type 0 where
+  pub committable : IsCommittable meant run
+  pub sums : AreSumsOf run.sums (entries (record_of meant)) (net_of meant)
 
 -- what runs of the blocks from this number on leave, one after the other
 abbrev pub own_nets : List Block → ℕ → List PendingRun → List Entry

@@ -3,8 +3,8 @@ use Rattle.std.specs.Prelude.{◌≡◌, ◌≢◌, ◌⊎◌, ℕ, ◌-◌, ◌
 use Rattle.objects.specs.Entries.{State}
 use Rattle.objects.specs.declared.entry.Entry.{Entry}
 use Rattle.objects.specs.Entries.{AllCommute}
-use Rattle.meaning.specs.Records.{entries}
-use Rattle.meaning.specs.OneThread.{record_of}
+use Rattle.meaning.specs.Records.{Taken, entries}
+use Rattle.meaning.specs.OneThread.{Run as OneRun, record_of}
 use Rattle.meaning.specs.Batch.{state_at, alone, answer, nets, shown_of}
 use Rattle.meaning.specs.Rounds.{Keeps, AllKeep, IsNextOpening, RoundsFrom, Rounds, CountFrom, Count}
 use Rattle.claims.specs.Views.{times}
@@ -12,7 +12,7 @@ use Rattle.committed.specs.Summaries.{IsSummary}
 use Rattle.batch.specs.Views.{record_view}
 use Rattle.batch.specs.declared.batch.Batch.{Batch}
 use Rattle.rounds.specs.Views.{start_of, blocks_of, meaning}
-use Rattle.rounds.specs.PendingRuns.{IsPendingOf, HoldsPast}
+use Rattle.rounds.specs.PendingRuns.{IsCommittable, IsPendingOf, HoldsPast}
 use Rattle.rounds.specs.declared.check.Seen.{Seen}
 use Rattle.rounds.specs.declared.pending_run.PendingRun.{PendingRun}
 use Rattle.rounds.specs.declared.window.Window.{Window}
@@ -36,6 +36,13 @@ pub record IsWindowAt (batch : Batch) (b : ℕ) (state : State) (window : Window
   pub flags : length window.valid.items ≡ length window.runs.items
   pub within : length window.runs.items ≤ length (blocks_of batch)
   pub made : (i : ℕ) (d : PendingRun) → b ≤ i → IsValid window i → IsPendingOf (meaning batch i state) (slice_index_or window.runs.items i d)
+
+-- a state is that of an opening, which comes no later than the number
+pub record IsOpenedBy (batch : Batch) (number : ℕ) (state : State) : Type 0 where
+  pub opened : ℕ
+  pub low : opened ≤ number
+  pub within : opened ≤ length (blocks_of batch)
+  pub is : state ≡ state_at (start_of batch) (blocks_of batch) opened
 
 -- more runs were made, and those of earlier transactions and all valid ones stayed
 pub record HasGrown (b : ℕ) (old new : Window) : Type 0 where
@@ -83,6 +90,14 @@ pub record AreKept (from : ℕ) (since : List Entry) (old new : Window) : Type 0
   pub valid : (i : ℕ) → from ≤ i → IsValid new i → IsValid old i
   pub each : (i : ℕ) (d : PendingRun) → from ≤ i → IsValid old i → KeptAt since old new i d
 
+-- all that a round commits of the run at a place stayed, and so did all other runs
+pub record IsFreedAt (place : ℕ) (old new : Window) : Type 0 where
+  pub valid : new.valid ≡ old.valid
+  pub runs : length new.runs.items ≡ length old.runs.items
+  pub others : (i : ℕ) (d : PendingRun) → i ≢ place → slice_index_or new.runs.items i d ≡ slice_index_or old.runs.items i d
+  pub here : (meant : OneRun Taken) (d : PendingRun) → IsCommittable meant (slice_index_or old.runs.items place d)
+      → IsCommittable meant (slice_index_or new.runs.items place d)
+
 -- the runs before a place have only their records left
 pub record AreSettled (upto : ℕ) (old new : Window) : Type 0 where
   pub valid : new.valid ≡ old.valid
@@ -97,24 +112,27 @@ pub record AreMissing (window : Window) (from upto : ℕ) (numbers : List ℕ) :
   pub each : (i : ℕ) → from ≤ i → i < upto → times i numbers ≡ still_to_be_made (slice_index_or window.valid.items i false)
   pub few : length numbers + from ≤ upto
 
--- all transactions from b on and before a place keep, and the list sums up what they leave
+-- all transactions from b on and before a place keep, their runs can be committed, and the list sums up what they leave
 pub record IsListedTo (batch : Batch) (b place : ℕ) (window : Window) (listed : List Entry) : Type 0 where
   pub from : b ≤ place
   pub keep : AllKeep (start_of batch) (blocks_of batch) b place
-  pub valid : (i : ℕ) → b ≤ i → i < place → IsValid window i
+  pub made : (i : ℕ) (d : PendingRun) → b ≤ i → i < place
+      → IsCommittable (answer (start_of batch) (blocks_of batch) i) (slice_index_or window.runs.items i d)
   pub nets : IsSummary listed (nets (start_of batch) (blocks_of batch) b (place - b))
 
--- a block was checked up to its end or to the first conflict
+-- a block was checked up to its end or to the first conflict, from where on the runs are still pending
 pub record IsBlockSeen (batch : Batch) (b end : ℕ) (window : Window) (nets : List Entry) (seen : Seen) : Type 0 where
   pub within : seen.first ≤ end
+  pub pending : IsWindowAt batch seen.first (state_at (start_of batch) (blocks_of batch) b) window
   pub upto : seen.upto ≤ length nets
   pub listed : IsListedTo batch b seen.first window (take seen.upto nets)
   pub conflict : seen.first < end → ¬ Keeps (start_of batch) (blocks_of batch) seen.first b
   pub all : seen.first ≡ end → seen.upto ≡ length nets
 
--- the round ends at the next opening, and the list begins with what its transactions leave
+-- the round ends at the next opening, from where on the runs are still pending; the list begins with what its transactions leave
 pub record IsRoundSeen (batch : Batch) (b : ℕ) (window : Window) (nets : List Entry) (seen : Seen) : Type 0 where
   pub opening : IsNextOpening (start_of batch) (blocks_of batch) b seen.first
+  pub pending : IsWindowAt batch seen.first (state_at (start_of batch) (blocks_of batch) b) window
   pub upto : seen.upto ≤ length nets
   pub listed : IsListedTo batch b seen.first window (take seen.upto nets)
   pub reached : seen.first ≤ length window.runs.items

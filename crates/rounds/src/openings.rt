@@ -168,7 +168,7 @@ fn make_rest<R: Threads + Sync, G: Gate>(
         .reach(crew.alloc, batch, at.opened, &at.objects, all)?;
     let made = at
         .window
-        .make_missing(crew, batch, at.opened, &at.objects, at.opened, all)?;
+        .make_missing(crew, batch, &at.objects, at.opened, all)?;
     count(&made, counts);
     Ok(())
 }

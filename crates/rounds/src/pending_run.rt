@@ -2,7 +2,9 @@
 ghost use Rattle.std.specs.Prelude.{◌≡◌, ◌≤◌, [], length, IsTrue, None, IfOk, OnOk};
 ghost use Rattle.committed.specs.Summaries.{entries_of};
 ghost use Rattle.committed.specs.declared.summary.TheConstants.{FEW_ENTRIES};
-ghost use Rattle.rounds.specs.PendingRuns.{left_by, listed_net, IsListed, AreSumsOf};
+ghost use Rattle.meaning.specs.Records.{Taken};
+ghost use Rattle.meaning.specs.OneThread.{Run as OneRun};
+ghost use Rattle.rounds.specs.PendingRuns.{left_by, listed_net, IsListed, AreSumsOf, IsCommittable};
 ghost use Rattle.rounds.specs.Spans.{AreIn};
 
 use crate::span::Span;
@@ -96,6 +98,7 @@ impl Net {
 }
 
 /// A run that waits to be committed: its record, summaries in place of its entries, and its net.
+/// Once it is listed it has summaries only where they have its net.
 #[derive(Drop)]
 pub(crate) struct PendingRun {
     pub(crate) tree: Record,
@@ -161,6 +164,15 @@ impl PendingRun {
         };
         swap(&mut self.tree, &mut run.tree);
         Ok(())
+    }
+
+    /// Frees the summaries, unless the net is in them. The rest can still be committed.
+    pub(crate) fn free_sums(&mut self, alloc: Global)
+        ensures { (meant : OneRun Taken) → IsCommittable meant self.old → IsCommittable meant self.new }
+    {
+        if !matches!(self.net, Net::Summed) {
+            self.sums = Sums::empty(alloc);
+        }
     }
 
     /// Frees all but the record.

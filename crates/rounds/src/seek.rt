@@ -17,7 +17,8 @@ use std::mem::swap;
 use std::thread::Threads;
 
 // Checks the runs of a block in order, and lists their nets, up to the first that conflicts. Those
-// that aren't valid are made at the desk first. Returns the first conflict, or the end of the block.
+// that aren't valid are made at the desk first. The summaries of a run that was listed are freed.
+// Returns the first conflict, or the end of the block.
 fn check_in_turn<R: Threads + Sync, G: Gate>(
     crew: &Crew<R, G>,
     batch: &Batch,
@@ -29,25 +30,25 @@ fn check_in_turn<R: Threads + Sync, G: Gate>(
     nets: &mut Committed,
 ) -> Result<Seen, NoMemory>
     requires opening { desk.old.view.snapshot ≡ state_at (start_of batch.now) (blocks_of batch.now) opened }
-    requires window { IsWindowAt batch.now opened desk.old.view.snapshot window.old }
+    requires window { IsWindowAt batch.now from desk.old.view.snapshot window.old }
     requires places { (from ≤ end) × (end ≤ length window.old.runs.items) }
     requires listed { IsListedTo batch.now opened from window.old nets.old }
     requires ready { IsDeskOn desk.old.view.snapshot desk.old }
-    ensures window { OnOk result (IsWindowAt batch.now opened desk.old.view.snapshot window.new) }
-    ensures grown { OnOk result (HasGrown opened window.old window.new) }
+    ensures grown { OnOk result (HasGrown from window.old window.new) }
     ensures reached { OnOk result (length window.new.runs.items ≡ length window.old.runs.items) }
     ensures ready { OnOk result (IsDeskOn desk.old.view.snapshot desk.new) }
     ensures seen { IfOk result (IsBlockSeen batch.now opened end window.new nets.new) }
 {
     let width = crew.plan.width((end - from) as u32);
     for place in from..end {
-        window.make_at(crew, batch, opened, place, width, desk)?;
+        window.make_at(crew, batch, place, place, width, desk)?;
         crew.gate.pass(0, (place - opened) as u32 + 1);
         let upto = nets.len();
         if !stands_past(&window.runs, place, nets, upto) {
             return Ok(Seen { first: place, upto });
         }
         nets.append_new(window.runs[place].sums.net())?;
+        window.free_sums(crew.alloc, place);
     }
     let upto = nets.len();
     Ok(Seen { first: end, upto })
@@ -63,7 +64,7 @@ fn check_block<R: Threads + Sync, G: Gate>(
     window: &Window,
     nets: &mut Committed,
 ) -> Result<Seen, NoMemory>
-    requires window { IsWindowAt batch.now opened (state_at (start_of batch.now) (blocks_of batch.now) opened) window.now }
+    requires window { IsWindowAt batch.now from (state_at (start_of batch.now) (blocks_of batch.now) opened) window.now }
     requires places { (from ≤ end) × (end ≤ length window.now.runs.items) }
     requires listed { IsListedTo batch.now opened from window.now nets.old }
     requires valid { AllValid window.now from end }
@@ -90,12 +91,11 @@ fn check<R: Threads + Sync, G: Gate>(
     nets: &mut Committed,
 ) -> Result<Seen, NoMemory>
     requires opening { objects.now ≡ state_at (start_of batch.now) (blocks_of batch.now) opened }
-    requires window { IsWindowAt batch.now opened objects.now window.old }
+    requires window { IsWindowAt batch.now from objects.now window.old }
     requires places { (from ≤ end) × (end ≤ length window.old.runs.items) }
     requires listed { IsListedTo batch.now opened from window.old nets.old }
     requires ready { IsDeskOn objects.now desk.old }
-    ensures window { OnOk result (IsWindowAt batch.now opened objects.now window.new) }
-    ensures grown { OnOk result (HasGrown opened window.old window.new) }
+    ensures grown { OnOk result (HasGrown from window.old window.new) }
     ensures reached { OnOk result (length window.new.runs.items ≡ length window.old.runs.items) }
     ensures ready { OnOk result (IsDeskOn objects.now desk.new) }
     ensures seen { IfOk result (IsBlockSeen batch.now opened end window.new nets.new) }
@@ -103,7 +103,7 @@ fn check<R: Threads + Sync, G: Gate>(
     if makers(crew, end - from) == 1 {
         return check_in_turn(crew, batch, opened, from, end, desk, window, nets);
     }
-    window.make_missing(crew, batch, opened, objects, from, end)?;
+    window.make_missing(crew, batch, objects, from, end)?;
     if crew.plan.cut == 1 {
         return check_block(crew, batch, opened, from, end, window, nets);
     }
@@ -130,7 +130,6 @@ pub(crate) fn seek<R: Threads + Sync, G: Gate>(
     requires window { IsWindowAt batch.now opened objects.now window.old }
     requires some { 1 ≤ expected }
     requires none { reused.old.nets ≡ [] }
-    ensures window { OnOk result (IsWindowAt batch.now opened objects.now window.new) }
     ensures grown { OnOk result (HasGrown opened window.old window.new) }
     ensures seen { IfOk result (IsRoundSeen batch.now opened window.new reused.new.nets) }
 {
@@ -141,7 +140,7 @@ pub(crate) fn seek<R: Threads + Sync, G: Gate>(
     let mut block = expected;
     'looking: while from < count {
         let end = from.saturating_add(block).min(count);
-        window.reach(crew.alloc, batch, opened, objects, end)?;
+        window.reach(crew.alloc, batch, from, objects, end)?;
         let nets = &mut reused.nets;
         let seen = check(
             crew, batch, opened, objects, from, end, &mut desk, window, nets,

@@ -2,12 +2,11 @@
 ghost use Rattle.std.specs.Prelude.{◌≡◌, ◌+◌, ◌<◌, ◌≤◌, ℕ, [], length, set, take, slice_index_or, IfOk, OnOk, IsTrue, true, false};
 ghost use Rattle.std.specs.List.{All};
 ghost use Rattle.objects.specs.Entries.{kinds};
-ghost use Rattle.meaning.specs.Batch.{state_at};
 ghost use Rattle.rounds.specs.Desks.{IsDeskOn};
 ghost use Rattle.rounds.specs.Passes.{CanBeMade};
 ghost use Rattle.rounds.specs.PendingRuns.{IsPendingOf, HoldsPast};
-ghost use Rattle.rounds.specs.Views.{start_of, blocks_of, meaning};
-ghost use Rattle.rounds.specs.Windows.{IsValid, AllValid, IsWindowAt, HasGrown, AreFallen, AreStale, AreKept, AreSettled, AreMissing, IsDecided};
+ghost use Rattle.rounds.specs.Views.{blocks_of, meaning};
+ghost use Rattle.rounds.specs.Windows.{IsValid, AllValid, IsWindowAt, IsOpenedBy, HasGrown, AreFallen, AreStale, AreKept, IsFreedAt, AreSettled, AreMissing, IsDecided};
 ghost use Rattle.rounds.specs.declared.pending_run.PendingRun.{PendingRun as OnePending};
 ghost use Rattle.meaning.specs.declared.limits.TheConstants.{MAX_TRANSACTIONS};
 ghost use Rattle.plan.specs.declared.plan.TheConstants.{MAX_WORKERS};
@@ -53,14 +52,14 @@ impl Window {
         &mut self,
         alloc: Global,
         batch: &Batch,
-        opened: usize,
+        from: usize,
         objects: &Objects,
         end: usize,
     ) -> Result<(), NoMemory>
-        requires window { IsWindowAt batch.now opened objects.now self.old }
+        requires window { IsWindowAt batch.now from objects.now self.old }
         requires end { end ≤ length (blocks_of batch.now) }
-        ensures window { OnOk result (IsWindowAt batch.now opened objects.now self.new) }
-        ensures grown { OnOk result (HasGrown opened self.old self.new) }
+        ensures window { OnOk result (IsWindowAt batch.now from objects.now self.new) }
+        ensures grown { OnOk result (HasGrown from self.old self.new) }
         ensures reached { OnOk result (end ≤ length self.new.runs.items) }
         ensures flags { OnOk result ((i : ℕ) → slice_index_or self.new.valid.items i false ≡ slice_index_or self.old.valid.items i false) }
     {
@@ -78,19 +77,19 @@ impl Window {
         &mut self,
         crew: &Crew<R, G>,
         batch: &Batch,
-        opened: usize,
+        from: usize,
         place: usize,
         width: u32,
         desk: &mut Desk<'_>,
     ) -> Result<(), NoMemory>
-        requires window { IsWindowAt batch.now opened desk.old.view.snapshot self.old }
-        requires place { (opened ≤ place) × (place < length self.old.runs.items) × (place ≤ MAX_TRANSACTIONS) }
+        requires window { IsWindowAt batch.now from desk.old.view.snapshot self.old }
+        requires place { (from ≤ place) × (place < length self.old.runs.items) × (place ≤ MAX_TRANSACTIONS) }
         requires can { CanBeMade batch.now desk.old.view.snapshot place }
         requires same_kinds { kinds desk.old.view.snapshot ≡ kinds batch.now.objects }
         requires narrow { (1 ≤ width) × (width ≤ MAX_WORKERS) }
         requires ready { IsDeskOn desk.old.view.snapshot desk.old }
-        ensures window { OnOk result (IsWindowAt batch.now opened desk.old.view.snapshot self.new) }
-        ensures grown { OnOk result (HasGrown opened self.old self.new) }
+        ensures window { OnOk result (IsWindowAt batch.now from desk.old.view.snapshot self.new) }
+        ensures grown { OnOk result (HasGrown from self.old self.new) }
         ensures valid { OnOk result (IsValid self.new place) }
         ensures reached { OnOk result (length self.new.runs.items ≡ length self.old.runs.items) }
         ensures ready { OnOk result (IsDeskOn desk.old.view.snapshot desk.new) }
@@ -116,24 +115,23 @@ impl Window {
         &mut self,
         crew: &Crew<R, G>,
         batch: &Batch,
-        opened: usize,
+        from: usize,
         objects: &Objects,
         numbers: &[usize],
     ) -> Result<(), NoMemory>
-        requires opening { objects.now ≡ state_at (start_of batch.now) (blocks_of batch.now) opened }
-        requires within { opened ≤ length (blocks_of batch.now) }
-        requires window { IsWindowAt batch.now opened objects.now self.old }
-        requires places { All (λ n. (opened ≤ n) × (n < length self.old.runs.items)) numbers.now }
+        requires opening { IsOpenedBy batch.now from objects.now }
+        requires window { IsWindowAt batch.now from objects.now self.old }
+        requires places { All (λ n. (from ≤ n) × (n < length self.old.runs.items)) numbers.now }
         requires few { length numbers.now ≤ MAX_TRANSACTIONS }
-        ensures window { OnOk result (IsWindowAt batch.now opened objects.now self.new) }
-        ensures grown { OnOk result (HasGrown opened self.old self.new) }
+        ensures window { OnOk result (IsWindowAt batch.now from objects.now self.new) }
+        ensures grown { OnOk result (HasGrown from self.old self.new) }
         ensures reached { OnOk result (length self.new.runs.items ≡ length self.old.runs.items) }
         ensures valid { OnOk result (All (λ n. IsValid self.new n) numbers.now) }
     {
         let width = crew.plan.width(numbers.len() as u32);
         let mut desk = Desk::open(crew.alloc, objects, crew.operations_each)?;
         for number in numbers {
-            self.make_at(crew, batch, opened, *number, width, &mut desk)?;
+            self.make_at(crew, batch, from, *number, width, &mut desk)?;
         }
         Ok(())
     }
@@ -154,17 +152,16 @@ impl Window {
         &mut self,
         crew: &Crew<R, G>,
         batch: &Batch,
-        opened: usize,
+        from: usize,
         objects: &Objects,
         numbers: &[usize],
     ) -> Result<(), NoMemory>
-        requires opening { objects.now ≡ state_at (start_of batch.now) (blocks_of batch.now) opened }
-        requires within { opened ≤ length (blocks_of batch.now) }
-        requires window { IsWindowAt batch.now opened objects.now self.old }
-        requires places { All (λ n. (opened ≤ n) × (n < length self.old.runs.items)) numbers.now }
+        requires opening { IsOpenedBy batch.now from objects.now }
+        requires window { IsWindowAt batch.now from objects.now self.old }
+        requires places { All (λ n. (from ≤ n) × (n < length self.old.runs.items)) numbers.now }
         requires few { length numbers.now ≤ MAX_TRANSACTIONS }
-        ensures window { OnOk result (IsWindowAt batch.now opened objects.now self.new) }
-        ensures grown { OnOk result (HasGrown opened self.old self.new) }
+        ensures window { OnOk result (IsWindowAt batch.now from objects.now self.new) }
+        ensures grown { OnOk result (HasGrown from self.old self.new) }
         ensures reached { OnOk result (length self.new.runs.items ≡ length self.old.runs.items) }
         ensures valid { OnOk result (All (λ n. IsValid self.new n) numbers.now) }
     {
@@ -180,24 +177,23 @@ impl Window {
         &mut self,
         crew: &Crew<R, G>,
         batch: &Batch,
-        opened: usize,
+        from: usize,
         objects: &Objects,
         numbers: &[usize],
     ) -> Result<(), NoMemory>
-        requires opening { objects.now ≡ state_at (start_of batch.now) (blocks_of batch.now) opened }
-        requires within { opened ≤ length (blocks_of batch.now) }
-        requires window { IsWindowAt batch.now opened objects.now self.old }
-        requires places { All (λ n. (opened ≤ n) × (n < length self.old.runs.items)) numbers.now }
+        requires opening { IsOpenedBy batch.now from objects.now }
+        requires window { IsWindowAt batch.now from objects.now self.old }
+        requires places { All (λ n. (from ≤ n) × (n < length self.old.runs.items)) numbers.now }
         requires few { length numbers.now ≤ MAX_TRANSACTIONS }
-        ensures window { OnOk result (IsWindowAt batch.now opened objects.now self.new) }
-        ensures grown { OnOk result (HasGrown opened self.old self.new) }
+        ensures window { OnOk result (IsWindowAt batch.now from objects.now self.new) }
+        ensures grown { OnOk result (HasGrown from self.old self.new) }
         ensures reached { OnOk result (length self.new.runs.items ≡ length self.old.runs.items) }
         ensures valid { OnOk result (All (λ n. IsValid self.new n) numbers.now) }
     {
         if makers(crew, numbers.len()) == 1 {
-            return self.make_in_turn(crew, batch, opened, objects, numbers);
+            return self.make_in_turn(crew, batch, from, objects, numbers);
         }
-        self.make_at_once(crew, batch, opened, objects, numbers)
+        self.make_at_once(crew, batch, from, objects, numbers)
     }
 
     // The numbers from one on and before another whose runs aren't valid.
@@ -223,22 +219,21 @@ impl Window {
         &mut self,
         crew: &Crew<R, G>,
         batch: &Batch,
-        opened: usize,
         objects: &Objects,
         from: usize,
         end: usize,
     ) -> Result<Vec<usize>, NoMemory>
-        requires opening { objects.now ≡ state_at (start_of batch.now) (blocks_of batch.now) opened }
-        requires window { IsWindowAt batch.now opened objects.now self.old }
-        requires places { (opened ≤ from) × (from ≤ end) × (end ≤ length self.old.runs.items) }
-        ensures window { OnOk result (IsWindowAt batch.now opened objects.now self.new) }
-        ensures grown { OnOk result (HasGrown opened self.old self.new) }
+        requires opening { IsOpenedBy batch.now from objects.now }
+        requires window { IsWindowAt batch.now from objects.now self.old }
+        requires places { (from ≤ end) × (end ≤ length self.old.runs.items) }
+        ensures window { OnOk result (IsWindowAt batch.now from objects.now self.new) }
+        ensures grown { OnOk result (HasGrown from self.old self.new) }
         ensures reached { OnOk result (length self.new.runs.items ≡ length self.old.runs.items) }
         ensures valid { OnOk result (AllValid self.new from end) }
         ensures missing { IfOk result (λ numbers. AreMissing self.old from end numbers.items) }
     {
         let numbers = self.missing(crew.alloc, from, end)?;
-        self.make(crew, batch, opened, objects, &numbers)?;
+        self.make(crew, batch, from, objects, &numbers)?;
         Ok(numbers)
     }
 
@@ -374,6 +369,14 @@ impl Window {
     {
         self.runs.truncate(end);
         self.valid.truncate(end);
+    }
+
+    /// Frees the summaries of the run at this place, unless its net is in them.
+    pub(crate) fn free_sums(&mut self, alloc: Global, place: usize)
+        requires { place < length self.old.runs.items }
+        ensures { IsFreedAt place self.old self.new }
+    {
+        self.runs[place].free_sums(alloc);
     }
 
     /// Frees all but the records of the runs from one place on and before another.

@@ -17,7 +17,7 @@ commit-requires-clause-spans g c κs within =
     let opened = c.args.at.now.opened in
     subst (λ rs. AreSpanned (blocks_of c.args.batch.now) opened (take (seen.first - opened) (drop opened rs))) (sym c.deref.ensures.value)
     (commits c.args.batch.now opened seen.first c.args.at.now.objects c.seek.new.window (take seen.upto c.seek.new.reused.nets) c.requires.at.objects
-    c.requires.at.within c.in_ok-seen.ensures.window saw.reached saw.listed).2
+    c.requires.at.within saw.pending saw.reached saw.listed).2
 
 pub commit-requires-clause-legal : goal.commit-requires-clause-legal
 commit-requires-clause-legal g c κs within =
@@ -27,7 +27,7 @@ commit-requires-clause-legal g c κs within =
     subst (λ rs. AreLegal c.args.at.now.objects (own_nets (blocks_of c.args.batch.now) opened (take (seen.first - opened) (drop opened rs))))
     (sym c.deref.ensures.value)
     (commits c.args.batch.now opened seen.first c.args.at.now.objects c.seek.new.window (take seen.upto c.seek.new.reused.nets) c.requires.at.objects
-    c.requires.at.within c.in_ok-seen.ensures.window saw.reached saw.listed).0
+    c.requires.at.within saw.pending saw.reached saw.listed).0
 
 pub commit-requires-clause-room : goal.commit-requires-clause-room
 commit-requires-clause-room g c κs within =
@@ -37,7 +37,7 @@ commit-requires-clause-room g c κs within =
     subst (λ rs. AllHaveRoom c.args.at.now.objects (own_nets (blocks_of c.args.batch.now) opened (take (seen.first - opened) (drop opened rs))))
     (sym c.deref.ensures.value)
     (commits c.args.batch.now opened seen.first c.args.at.now.objects c.seek.new.window (take seen.upto c.seek.new.reused.nets) c.requires.at.objects
-    c.requires.at.within c.in_ok-seen.ensures.window saw.reached saw.listed).1
+    c.requires.at.within saw.pending saw.reached saw.listed).1
 
 pub returns-clause-at : goal.returns-clause-at
 returns-clause-at g c =
@@ -51,7 +51,7 @@ returns-clause-at g c =
     let listed = take seen.upto c.seek.new.reused.nets in
     let window = c.seek.new.window in
     let on = comes_on (start_of batch) (blocks_of batch) opened seen.first (omega (arith, blocks, c.requires.going)) saw.opening in
-    let next = moved_on batch opened seen.first state window listed c.requires.at.objects c.requires.at.within c.in_ok-seen.ensures.window
+    let next = moved_on batch opened seen.first state window listed c.requires.at.objects c.requires.at.within saw.pending
     saw.reached saw.listed c.commit.new.objects
     (c.in_ok-commit.ensures ∙ ap (λ rs. after state (own_nets (blocks_of batch) opened (take (seen.first - opened) (drop opened rs))))
     c.deref.ensures.value) in
@@ -59,7 +59,7 @@ returns-clause-at g c =
       within = saw.opening.within;
       objects = next;
       window = kept_window batch opened seen.first state window listed c.requires.at.objects c.requires.at.within
-          c.in_ok-seen.ensures.window saw.reached saw.listed c.commit.new.objects c.settle.new.self c.keep.new.self next c.settle.ensures
+          saw.pending saw.reached saw.listed c.commit.new.objects c.settle.new.self c.keep.new.self next c.settle.ensures
           c.in_ok-keep.ensures;
       cleared = c.clear.ensures;
       reached =
@@ -68,7 +68,7 @@ returns-clause-at g c =
           let two = ap (λ rs. length rs.items) c.in_ok-keep.ensures.runs in
           omega arith;
       committed = committed_on batch opened seen.first state window listed c.requires.at.objects c.requires.at.within
-          c.in_ok-seen.ensures.window saw.reached saw.listed c.commit.new.objects c.settle.new.self c.keep.new.self next c.settle.ensures
+          saw.pending saw.reached saw.listed c.commit.new.objects c.settle.new.self c.keep.new.self next c.settle.ensures
           c.in_ok-keep.ensures c.args.at.now.window c.in_ok-seen.ensures.grown c.requires.at.reached c.requires.at.committed;
       few_rounds = let few = c.requires.at.few_rounds in omega arith;
       all_rounds = λ more from.
@@ -87,7 +87,7 @@ returns-clause-round g c =
     let state = c.args.at.now.objects in
     let listed = take seen.upto c.seek.new.reused.nets in
     let window = c.seek.new.window in
-    let next = moved_on batch opened seen.first state window listed c.requires.at.objects c.requires.at.within c.in_ok-seen.ensures.window
+    let next = moved_on batch opened seen.first state window listed c.requires.at.objects c.requires.at.within saw.pending
     saw.reached saw.listed c.commit.new.objects
     (c.in_ok-commit.ensures ∙ ap (λ rs. after state (own_nets (blocks_of batch) opened (take (seen.first - opened) (drop opened rs))))
     c.deref.ensures.value) in
@@ -96,6 +96,6 @@ returns-clause-round g c =
       on = comes_on (start_of batch) (blocks_of batch) opened seen.first (omega (arith, blocks, c.requires.going)) saw.opening;
       one = refl;
       kept = λ i low valid. kept_at batch opened seen.first state window listed c.requires.at.objects c.requires.at.within
-          c.in_ok-seen.ensures.window saw.reached saw.listed c.commit.new.objects c.settle.new.self c.keep.new.self next c.settle.ensures
+          saw.pending saw.reached saw.listed c.commit.new.objects c.settle.new.self c.keep.new.self next c.settle.ensures
           c.in_ok-keep.ensures i low (c.in_ok-seen.ensures.grown.still i valid);
     }

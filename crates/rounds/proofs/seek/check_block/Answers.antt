@@ -8,6 +8,7 @@ use Rattle.rounds.specs.PendingRuns.{all_left, HoldsPast}
 use Rattle.rounds.specs.Windows.{IsListedTo}
 use Rattle.rounds.proofs.Firsts.{front_taken, front_within}
 use Rattle.rounds.proofs.Listing.{listed_past, keeps_where_holds}
+use Rattle.rounds.proofs.WindowLemmas.{later_window}
 use Rattle.rounds.proofs.seek.check_block.Goals as goal
 
 pub returns : goal.returns
@@ -33,18 +34,20 @@ returns g c =
     λ k d lt. get_or-take (end - from) (drop from runs) k d (omega arith)
     ∙ (get_or-drop from runs k d ∙ ap (λ rs. get_or rs (from + k) d) c.deref.ensures.value) in
     let within = saw.within in
-    let listed = listed_past batch opened state window refl c.requires.window from past block same
+    let listed = listed_past batch opened from state window refl c.requires.window past block same
     (λ k lt. c.requires.valid (from + k) (omega arith) (omega arith)) c.requires.listed seen.first saw.within saw.clear in
     let front = front_taken past block seen.first seen.upto nets c.in_ok-first.ensures.nets saw.upto in
     record {
       seen = record {
         within = omega arith;
+        pending = later_window batch from (from + seen.first) state window (omega arith) c.requires.window;
         upto = front_within past block seen.first seen.upto nets c.in_ok-first.ensures.nets saw.upto;
         listed = subst (IsListedTo batch opened (from + seen.first) window) (sym front) listed;
         conflict = λ lt keeps. saw.conflict (omega arith) (λ d. subst (HoldsPast (past ++ all_left (take seen.first block)))
             (sym (same seen.first d (omega arith)))
-            ((keeps_where_holds batch opened state window refl c.requires.window (from + seen.first) d
-            (past ++ all_left (take seen.first block)) listed (c.requires.valid (from + seen.first) (omega arith) lt)).1 keeps));
+            ((keeps_where_holds batch opened from state window refl c.requires.window (from + seen.first) d
+            (past ++ all_left (take seen.first block)) (omega arith) listed
+            (c.requires.valid (from + seen.first) (omega arith) lt)).1 keeps));
         all = λ is. saw.upto ∙ (ap (λ rs. length (past ++ all_left rs)) (take_all seen.first block (omega arith))
             ∙ sym (ap length c.in_ok-first.ensures.nets));
       };

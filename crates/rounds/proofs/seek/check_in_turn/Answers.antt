@@ -1,4 +1,4 @@
-use Rattle.std.proofs.Common.{◌≡◌, ◌++◌, get_or, sym, ap, ◌∙◌, subst, arith, rules}
+use Rattle.std.proofs.Common.{◌≡◌, ◌+◌, ◌++◌, get_or, sym, ap, ◌∙◌, subst, arith, rules}
 use Rattle.objects.specs.Entries.{kinds}
 use Rattle.intentions.specs.Levels.{Intentions as View}
 use Rattle.committed.specs.Summaries.{IsSummary}
@@ -10,7 +10,8 @@ use Rattle.rounds.specs.Windows.{IsWindowAt, IsListedTo}
 use Rattle.rounds.specs.declared.pending_run.PendingRun.{PendingRun}
 use Rattle.rounds.proofs.Firsts.{all_taken}
 use Rattle.rounds.proofs.Room.{made_at}
-use Rattle.rounds.proofs.Listing.{keeps_where_holds, listed_more, still_listed, grown_on}
+use Rattle.rounds.proofs.Listing.{keeps_where_holds, listed_more, still_listed, freed_listed, grown_on, grown_before}
+use Rattle.rounds.proofs.WindowLemmas.{freed_window, freed_grown}
 use Rattle.rounds.proofs.seek.check_in_turn.Goals as goal
 
 pub make_at-requires-clause-can : goal.make_at-requires-clause-can
@@ -33,6 +34,11 @@ make_at-requires-clause-same_kinds g c κs within =
     let all = c.requires.window.within in
     ap kinds (shown ∙ c.requires.opening) ∙ kinds_at c.args.batch.now c.args.opened (omega arith)
 
+pub returns-then-not-stands_past-clause-grown : goal.returns-then-not-stands_past-clause-grown
+returns-then-not-stands_past-clause-grown g c = grown_on c.args.from c.args.window.now c.loop-place.window c.make_at.new.self
+    c.loop-place.invariant.grown (grown_before c.args.from c.loop-place.place c.loop-place.window c.make_at.new.self
+    c.loop-place.auto.place c.in_ok-make_at.ensures.grown)
+
 pub returns-then-not-stands_past-clause-seen : goal.returns-then-not-stands_past-clause-seen
 returns-then-not-stands_past-clause-seen g c =
     let batch = c.args.batch.now in
@@ -42,20 +48,23 @@ returns-then-not-stands_past-clause-seen g c =
     let nets = c.loop-place.nets in
     let upto = c.len-upto.result in
     let low = c.loop-place-test.true in
+    let end = c.requires.places.1 in
+    let all = c.loop-place.invariant.all in
     let shown = ap (λ (v : View). v.snapshot) c.loop-place.invariant.ready.opened in
-    let so_far = still_listed batch opened place c.loop-place.window window nets c.in_ok-make_at.ensures.grown
+    let so_far = still_listed batch opened place c.loop-place.window window nets (omega arith) c.in_ok-make_at.ensures.grown
     c.loop-place.invariant.listed in
     let listed = all_taken nets upto c.len-upto.ensures in
     let failed = c.if-not-stands_past.true in
     record {
       within = omega arith;
+      pending = subst (λ s. IsWindowAt batch place s window) (shown ∙ c.requires.opening) c.in_ok-make_at.ensures.window;
       upto = let size = c.len-upto.ensures in omega arith;
       listed = subst (IsListedTo batch opened place window) (sym listed) so_far;
       conflict = λ lt keeps.
           let stands = c.stands_past.ensures.1 (λ d. subst (λ es. HoldsPast es (get_or c.deref.result.now place d)) (sym listed)
           (subst (λ rs. HoldsPast nets (get_or rs place d)) (sym c.deref.ensures.value)
-          ((keeps_where_holds batch opened c.loop-place.desk.view.snapshot window (shown ∙ c.requires.opening)
-          c.in_ok-make_at.ensures.window place d nets so_far c.in_ok-make_at.ensures.valid).1 keeps))) in
+          ((keeps_where_holds batch opened place c.loop-place.desk.view.snapshot window (shown ∙ c.requires.opening)
+          c.in_ok-make_at.ensures.window place d nets (omega arith) so_far c.in_ok-make_at.ensures.valid).1 keeps))) in
           search rules;
       all = λ same. c.len-upto.ensures;
     }
@@ -64,31 +73,39 @@ pub loop-place-preserved : goal.loop-place-preserved
 loop-place-preserved g c =
     let batch = c.args.batch.now in
     let opened = c.args.opened in
+    let first = c.args.window.now in
     let place = c.loop-place.place in
     let window = c.make_at.new.self in
+    let freed = c.free_sums.new.self in
     let nets = c.loop-place.nets in
+    let more = c.append_new.new.self in
     let state = c.loop-place.desk.view.snapshot in
     let shown = ap (λ (v : View). v.snapshot) c.loop-place.invariant.ready.opened in
-    let so_far = still_listed batch opened place c.loop-place.window window nets c.in_ok-make_at.ensures.grown
-    c.loop-place.invariant.listed in
-    let listed = all_taken nets c.len-upto.result c.len-upto.ensures in
-    let run = c.index.result.now in
     let low = c.loop-place-test.true in
     let end = c.requires.places.1 in
     let all = c.loop-place.invariant.all in
+    let so_far = still_listed batch opened place c.loop-place.window window nets (omega arith) c.in_ok-make_at.ensures.grown
+    c.loop-place.invariant.listed in
+    let listed = all_taken nets c.len-upto.result c.len-upto.ensures in
+    let run = c.index.result.now in
     let same = c.in_ok-make_at.ensures.reached in
-    let keeps = (keeps_where_holds batch opened state window (shown ∙ c.requires.opening) c.in_ok-make_at.ensures.window place run nets
-    so_far c.in_ok-make_at.ensures.valid).0
+    let keeps = (keeps_where_holds batch opened place state window (shown ∙ c.requires.opening) c.in_ok-make_at.ensures.window place run
+    nets (omega arith) so_far c.in_ok-make_at.ensures.valid).0
     (subst (λ rs. HoldsPast nets (get_or rs place run)) c.deref.ensures.value
     (subst (λ es. HoldsPast es (get_or c.deref.result.now place run)) listed (c.stands_past.ensures.0 c.if-not-stands_past.false run))) in
+    let grown = grown_on c.args.from c.loop-place.window window freed
+    (grown_before c.args.from place c.loop-place.window window c.loop-place.auto.place c.in_ok-make_at.ensures.grown)
+    (freed_grown c.args.from place window freed c.loop-place.auto.place c.free_sums.ensures) in
     record {
-      window = subst (λ s. IsWindowAt batch opened s window) shown c.in_ok-make_at.ensures.window;
-      grown = grown_on opened c.args.window.now c.loop-place.window window c.loop-place.invariant.grown c.in_ok-make_at.ensures.grown;
-      all = c.in_ok-make_at.ensures.reached ∙ c.loop-place.invariant.all;
-      listed = listed_more batch opened state window (shown ∙ c.requires.opening) c.in_ok-make_at.ensures.window place run nets
-          c.append_new.new.self so_far c.in_ok-make_at.ensures.valid keeps
-          (subst (λ es. IsSummary c.append_new.new.self (nets ++ es)) (c.net.ensures ∙ ap (λ (r : PendingRun). left_by r.sums)
-          c.index.ensures) c.in_ok-append_new.ensures.summary);
+      window = freed_window batch place c.args.desk.now.view.snapshot window freed
+          (subst (λ s. IsWindowAt batch place s window) shown c.in_ok-make_at.ensures.window) c.free_sums.ensures;
+      grown = grown_on c.args.from first c.loop-place.window freed c.loop-place.invariant.grown grown;
+      all = c.free_sums.ensures.runs ∙ (c.in_ok-make_at.ensures.reached ∙ c.loop-place.invariant.all);
+      listed = freed_listed batch opened (place + 1) place window freed more c.free_sums.ensures
+          (listed_more batch opened place state window (shown ∙ c.requires.opening) c.in_ok-make_at.ensures.window place run nets more
+          (omega arith) so_far c.in_ok-make_at.ensures.valid keeps
+          (subst (λ es. IsSummary more (nets ++ es)) (c.net.ensures ∙ ap (λ (r : PendingRun). left_by r.sums) c.index.ensures)
+          c.in_ok-append_new.ensures.summary));
       ready = subst (λ s. IsDeskOn s c.make_at.new.desk) shown c.in_ok-make_at.ensures.ready;
     }
 
@@ -100,6 +117,8 @@ returns-clause-seen g c =
     let upto = c.len-upto-2.result in
     record {
       within = omega arith;
+      pending = subst (λ s. IsWindowAt c.args.batch.now c.args.end s c.loop-place.window) c.requires.opening
+          (subst (λ n. IsWindowAt c.args.batch.now n c.args.desk.now.view.snapshot c.loop-place.window) is c.loop-place.invariant.window);
       upto = let size = c.len-upto-2.ensures in omega arith;
       listed = subst (IsListedTo c.args.batch.now c.args.opened c.args.end c.loop-place.window)
           (sym (all_taken nets upto c.len-upto-2.ensures))

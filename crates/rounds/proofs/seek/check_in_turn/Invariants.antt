@@ -5,8 +5,8 @@ use Rattle.rounds.proofs.seek.check_in_turn.Given as goal
 
 abbrev pub invariant-loop-place : goal.invariant-loop-place
 invariant-loop-place g l = record {
-  window : IsWindowAt l.batch l.opened l.initial.desk.view.snapshot l.window;
-  grown : HasGrown l.opened l.initial.window l.window;
+  window : IsWindowAt l.batch l.place l.initial.desk.view.snapshot l.window;
+  grown : HasGrown l.from l.initial.window l.window;
   all : length l.window.runs.items ≡ length l.initial.window.runs.items;
   listed : IsListedTo l.batch l.opened l.place l.window l.nets;
   ready : IsDeskOn l.initial.desk.view.snapshot l.desk;

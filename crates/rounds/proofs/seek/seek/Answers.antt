@@ -1,11 +1,12 @@
 use Rattle.std.proofs.Common.{◌≡◌, length, sym, ap, ◌∙◌, subst, arith}
 use Rattle.std.proofs.lemmas.List.{length-map}
+use Rattle.meaning.specs.Batch.{state_at}
 use Rattle.batch.specs.Views.{block_view}
 use Rattle.rounds.specs.Views.{start_of, blocks_of}
-use Rattle.rounds.specs.Windows.{IsListedTo, IsRoundSeen}
+use Rattle.rounds.specs.Windows.{IsWindowAt, IsListedTo, IsRoundSeen}
 use Rattle.rounds.specs.declared.check.Seen.{Seen}
 use Rattle.rounds.proofs.Firsts.{all_taken}
-use Rattle.rounds.proofs.Listing.{grown_on, not_grown, none_listed, still_listed, opens_at_conflict, opens_at_end}
+use Rattle.rounds.proofs.Listing.{grown_on, grown_before, not_grown, none_listed, still_listed, opens_at_conflict, opens_at_end}
 use Rattle.rounds.proofs.seek.seek.Goals as goal
 
 pub looking-init : goal.looking-init
@@ -21,8 +22,8 @@ looking-init g c = record {
 
 pub check-requires-clause-listed : goal.check-requires-clause-listed
 check-requires-clause-listed g c κs within =
-    still_listed c.args.batch.now c.args.opened c.looking.from c.looking.window c.reach.new.self c.looking.reused.nets c.in_ok-reach.ensures.grown
-    c.looking.invariant.listed
+    still_listed c.args.batch.now c.args.opened c.looking.from c.looking.window c.reach.new.self c.looking.reused.nets
+    c.looking.invariant.reached c.in_ok-reach.ensures.grown c.looking.invariant.listed
 
 pub returns-then-seen-end-clause-seen : goal.returns-then-seen-end-clause-seen
 returns-then-seen-end-clause-seen g c =
@@ -33,11 +34,12 @@ returns-then-seen-end-clause-seen g c =
     let saw = c.in_ok-seen.ensures.seen in
     let all = c.in_ok-seen.ensures.reached in
     let inside = saw.within in
-    let within = c.in_ok-seen.ensures.window.within in
+    let within = saw.pending.within in
     let end = c.in_ok-reach.ensures.reached in
     subst (λ listed. IsRoundSeen batch opened c.check.new.window listed seen) (sym c.take_back.ensures) (record {
       opening = opens_at_conflict (start_of batch) (blocks_of batch) opened seen.first saw.listed.from (omega arith) saw.listed.keep
           (saw.conflict c.if-seen-end.true);
+      pending = saw.pending;
       upto = saw.upto;
       listed = saw.listed;
       reached = omega arith;
@@ -56,12 +58,13 @@ looking-preserved g c =
     let last : c.in_ok-seen.seen.first ≡ c.min-end.result = omega arith in
     let blocks : length (blocks_of batch) ≡ length batch.transactions.items = length-map batch.transactions.items block_view in
     record {
-      window = c.in_ok-seen.ensures.window;
-      grown = grown_on opened c.args.window.now c.reach.new.self window
-          (grown_on opened c.args.window.now c.looking.window c.reach.new.self so_far.grown c.in_ok-reach.ensures.grown)
-          c.in_ok-seen.ensures.grown;
-      listed = subst (λ n. IsListedTo batch opened n window nets) last
-          (subst (IsListedTo batch opened c.in_ok-seen.seen.first window) (all_taken nets c.in_ok-seen.seen.upto (saw.all last)) saw.listed);
+      window = subst (λ s. IsWindowAt batch c.min-end.result s window) (sym c.requires.opening)
+          (subst (λ n. IsWindowAt batch n (state_at (start_of batch) (blocks_of batch) opened) window) last saw.pending);
+      grown = grown_on opened c.args.window.now c.looking.window window so_far.grown (grown_before opened c.looking.from c.looking.window
+          window so_far.listed.from (grown_on c.looking.from c.looking.window c.reach.new.self window c.in_ok-reach.ensures.grown
+          c.in_ok-seen.ensures.grown));
+      listed = subst (λ n. IsListedTo batch opened n window nets) last (subst (IsListedTo batch opened c.in_ok-seen.seen.first window)
+          (all_taken nets c.in_ok-seen.seen.upto (saw.all last)) saw.listed);
       ready = c.in_ok-seen.ensures.ready;
       within = let end = c.min-end.ensures in let count = c.len-count.ensures in omega arith;
       reached = let all = c.in_ok-seen.ensures.reached in let end = c.in_ok-reach.ensures.reached in omega arith;
@@ -82,6 +85,7 @@ returns-clause-seen g c =
     let seen : Seen = record { first = c.looking.from; upto = c.len-upto.result } in
     subst (λ listed. IsRoundSeen batch opened c.looking.window listed seen) (sym c.take_back-2.ensures) (record {
       opening = opens_at_end (start_of batch) (blocks_of batch) opened c.looking.from (omega arith) so_far.listed.keep;
+      pending = subst (λ s. IsWindowAt batch c.looking.from s c.looking.window) c.requires.opening so_far.window;
       upto = omega arith;
       listed = subst (IsListedTo batch opened c.looking.from c.looking.window) (sym (all_taken nets c.len-upto.result size))
           so_far.listed;

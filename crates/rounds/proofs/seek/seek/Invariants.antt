@@ -6,7 +6,7 @@ use Rattle.rounds.proofs.seek.seek.Given as goal
 
 abbrev pub invariant-looking : goal.invariant-looking
 invariant-looking g l = record {
-  window : IsWindowAt l.batch l.opened l.objects l.window;
+  window : IsWindowAt l.batch l.from l.objects l.window;
   grown : HasGrown l.opened l.initial.window l.window;
   listed : IsListedTo l.batch l.opened l.from l.window l.reused.nets;
   ready : IsDeskOn l.objects l.desk;

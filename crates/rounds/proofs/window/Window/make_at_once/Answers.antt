@@ -24,12 +24,14 @@ make_all-requires-clause-within g c κs lives k d lt =
     let below = place.1 in
     let all = c.requires.window.within in
     let number = get_or c.args.numbers.now k d in
-    subst (λ s. CanBeMade c.args.batch.now s number) (sym c.requires.opening)
-    (made_at c.args.batch.now c.args.opened c.requires.within number low (omega arith))
+    let opening = c.requires.opening in
+    let early = opening.low in
+    subst (λ s. CanBeMade c.args.batch.now s number) (sym opening.is)
+    (made_at c.args.batch.now opening.opened opening.within number (omega arith) (omega arith))
 
 pub make_all-requires-clause-same_kinds : goal.make_all-requires-clause-same_kinds
 make_all-requires-clause-same_kinds g c κs within =
-    ap kinds c.requires.opening ∙ kinds_at c.args.batch.now c.args.opened c.requires.within
+    ap kinds c.requires.opening.is ∙ kinds_at c.args.batch.now c.requires.opening.opened c.requires.opening.within
 
 pub putting-init : goal.putting-init
 putting-init g c =
@@ -37,10 +39,10 @@ putting-init g c =
     let numbers = c.args.numbers.now in
     record {
       window = c.requires.window;
-      grown = not_grown c.args.opened c.args.self.now;
+      grown = not_grown c.args.from c.args.self.now;
       all = refl;
       left = made.each;
-      places = all_asked (λ n. (c.args.opened ≤ n) × (n < length c.args.self.now.runs.items)) numbers c.in_ok-made.made.items
+      places = all_asked (λ n. (c.args.from ≤ n) × (n < length c.args.self.now.runs.items)) numbers c.in_ok-made.made.items
           c.requires.places made.dealt;
       put = λ i some. let same = made.dealt i in inr (omega arith);
     }
@@ -48,7 +50,7 @@ putting-init g c =
 pub put-requires : goal.put-requires
 put-requires g c =
     let so_far = c.putting.invariant in
-    let Inside : NumberedRun → Type 0 = λ m. (c.args.opened ≤ m.number) × (m.number < length c.args.self.now.runs.items) in
+    let Inside : NumberedRun → Type 0 = λ m. (c.args.from ≤ m.number) × (m.number < length c.args.self.now.runs.items) in
     let popped = all_front Inside c.pop.new.self.items c.in-Some.next (subst (All Inside) c.in-Some.ensures.items so_far.places) in
     let below = popped.1.1 in
     let all = so_far.all in
@@ -58,14 +60,14 @@ pub putting-preserved : goal.putting-preserved
 putting-preserved g c =
     let batch = c.args.batch.now in
     let state = c.args.objects.now in
-    let opened = c.args.opened in
+    let from = c.args.from in
     let first = c.args.self.now in
     let old = c.putting.self in
     let new = c.put.new.self in
     let next = c.in-Some.next in
     let rest = c.pop.new.self.items in
     let so_far = c.putting.invariant in
-    let Inside : NumberedRun → Type 0 = λ m. (opened ≤ m.number) × (m.number < length first.runs.items) in
+    let Inside : NumberedRun → Type 0 = λ m. (from ≤ m.number) × (m.number < length first.runs.items) in
     let popped = all_front Inside rest next (subst (All Inside) c.in-Some.ensures.items so_far.places) in
     let made = all_front (IsMade batch state) rest next (subst (All (IsMade batch state)) c.in-Some.ensures.items so_far.left) in
     let below = popped.1.1 in
@@ -73,10 +75,10 @@ putting-preserved g c =
     let flags = so_far.window.flags in
     let run = next.run.value in
     let inside : next.number < length old.runs.items = omega arith in
-    let put = put_grown opened old new next.number run popped.1.0 (omega arith) c.put.ensures.runs c.put.ensures.valid in
+    let put = put_grown from old new next.number run popped.1.0 (omega arith) c.put.ensures.runs c.put.ensures.valid in
     record {
-      window = one_made batch opened state old new next.number run so_far.window inside made.1 c.put.ensures.runs c.put.ensures.valid;
-      grown = grown_on opened first old new so_far.grown put;
+      window = one_made batch from state old new next.number run so_far.window inside made.1 c.put.ensures.runs c.put.ensures.valid;
+      grown = grown_on from first old new so_far.grown put;
       all = ap length c.put.ensures.runs ∙ (length-set old.runs.items next.number run ∙ so_far.all);
       left = made.0;
       places = popped.0;

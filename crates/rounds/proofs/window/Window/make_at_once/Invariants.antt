@@ -8,11 +8,11 @@ use Rattle.rounds.proofs.window.Window.make_at_once.Given as goal
 
 abbrev pub invariant-putting : goal.invariant-putting
 invariant-putting g l = record {
-  window : IsWindowAt l.batch l.opened l.objects l.self;
-  grown : HasGrown l.opened l.initial.self l.self;
+  window : IsWindowAt l.batch l.from l.objects l.self;
+  grown : HasGrown l.from l.initial.self l.self;
   all : length l.self.runs.items ≡ length l.initial.self.runs.items;
   left : All (IsMade l.batch l.objects) l.made.items;
-  places : All (λ (m : NumberedRun). (l.opened ≤ m.number) × (m.number < length l.initial.self.runs.items)) l.made.items;
+  places : All (λ (m : NumberedRun). (l.from ≤ m.number) × (m.number < length l.initial.self.runs.items)) l.made.items;
   put : (i : ℕ) → 0 < times i l.numbers → IsValid l.self i ⊎ (0 < times i (numbers_of l.made.items));
 }
 

@@ -14,7 +14,7 @@ use Rattle.rounds.proofs.window.Window.make_in_turn.Goals as goal
 pub loop-number-init : goal.loop-number-init
 loop-number-init g c = record {
   window = c.requires.window;
-  grown = not_grown c.args.opened c.args.self.now;
+  grown = not_grown c.args.from c.args.self.now;
   all = refl;
   valid = λ k d lt. absurd (omega arith);
   ready = record { opened = c.in_ok-desk.ensures.opened; unlabelled = c.in_ok-desk.ensures.unlabelled };
@@ -23,7 +23,7 @@ loop-number-init g c = record {
 pub make_at-requires-clause-window : goal.make_at-requires-clause-window
 make_at-requires-clause-window g c κs within =
     let shown = ap (λ (v : View). v.snapshot) c.loop-number.invariant.ready.opened in
-    subst (λ s. IsWindowAt c.args.batch.now c.args.opened s c.loop-number.self) (sym shown) c.loop-number.invariant.window
+    subst (λ s. IsWindowAt c.args.batch.now c.args.from s c.loop-number.self) (sym shown) c.loop-number.invariant.window
 
 pub make_at-requires-clause-place : goal.make_at-requires-clause-place
 make_at-requires-clause-place g c κs within =
@@ -41,17 +41,19 @@ make_at-requires-clause-can g c κs within =
     let low = place.0 in
     let below = place.1 in
     let few = c.requires.window.within in
-    subst (λ s. CanBeMade c.args.batch.now s number) (sym (shown ∙ c.requires.opening))
-    (made_at c.args.batch.now c.args.opened c.requires.within number low (omega arith))
+    let opening = c.requires.opening in
+    let early = opening.low in
+    subst (λ s. CanBeMade c.args.batch.now s number) (sym (shown ∙ opening.is))
+    (made_at c.args.batch.now opening.opened opening.within number (omega arith) (omega arith))
 
 pub make_at-requires-clause-same_kinds : goal.make_at-requires-clause-same_kinds
 make_at-requires-clause-same_kinds g c κs within =
     let shown = ap (λ (v : View). v.snapshot) c.loop-number.invariant.ready.opened in
-    ap kinds (shown ∙ c.requires.opening) ∙ kinds_at c.args.batch.now c.args.opened c.requires.within
+    ap kinds (shown ∙ c.requires.opening.is) ∙ kinds_at c.args.batch.now c.requires.opening.opened c.requires.opening.within
 
 pub loop-number-preserved : goal.loop-number-preserved
 loop-number-preserved g c =
-    let opened = c.args.opened in
+    let from = c.args.from in
     let so_far = c.loop-number.invariant in
     let shown = ap (λ (v : View). v.snapshot) so_far.ready.opened in
     let at = c.loop-number.number-index in
@@ -59,8 +61,8 @@ loop-number-preserved g c =
     let window = c.make_at.new.self in
     let made = c.in_ok-make_at.ensures in
     record {
-      window = subst (λ s. IsWindowAt c.args.batch.now opened s window) shown made.window;
-      grown = grown_on opened c.args.self.now c.loop-number.self window so_far.grown made.grown;
+      window = subst (λ s. IsWindowAt c.args.batch.now from s window) shown made.window;
+      grown = grown_on from c.args.self.now c.loop-number.self window so_far.grown made.grown;
       all = made.reached ∙ so_far.all;
       valid = λ k d lt. elim (dec_le at k) [
         | yes le ↦

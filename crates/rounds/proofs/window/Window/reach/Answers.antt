@@ -8,7 +8,7 @@ use Rattle.rounds.proofs.window.Window.reach.Goals as goal
 pub reaching-init : goal.reaching-init
 reaching-init c = record {
   window = c.requires.window;
-  grown = not_grown c.args.opened c.args.self.now;
+  grown = not_grown c.args.from c.args.self.now;
   flags = λ i. refl;
 }
 
@@ -25,10 +25,10 @@ reaching-preserved c =
     let going = c.reaching-test.true in
     let len = c.len.ensures in
     let end = c.requires.end in
-    let more = reached_more c.args.batch.now c.args.opened c.args.objects.now c.reaching.self new c.empty.result
+    let more = reached_more c.args.batch.now c.args.from c.args.objects.now c.reaching.self new c.empty.result
     c.reaching.invariant.window (omega arith) c.in_ok-push.ensures.items c.in_ok-push-2.ensures.items in
     record {
       window = more.0;
-      grown = grown_on c.args.opened c.args.self.now c.reaching.self new c.reaching.invariant.grown more.1;
+      grown = grown_on c.args.from c.args.self.now c.reaching.self new c.reaching.invariant.grown more.1;
       flags = λ i. more.2 i ∙ c.reaching.invariant.flags i;
     }

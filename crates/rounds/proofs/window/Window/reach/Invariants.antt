@@ -4,8 +4,8 @@ use Rattle.rounds.proofs.window.Window.reach.Given as goal
 
 abbrev pub invariant-reaching : goal.invariant-reaching
 invariant-reaching l = record {
-  window : IsWindowAt l.batch l.opened l.objects l.self;
-  grown : HasGrown l.opened l.initial.self l.self;
+  window : IsWindowAt l.batch l.from l.objects l.self;
+  grown : HasGrown l.from l.initial.self l.self;
   flags : (i : ℕ) → get_or l.self.valid.items i false ≡ get_or l.initial.self.valid.items i false;
 }
 
