@@ -81,6 +81,9 @@ const FEWEST_COUNTED: usize = 8;
 // How many operations are enough to stop counting.
 const ENOUGH: usize = 4096;
 
+// How many are enough whatever few transactions have them.
+const MANY: usize = 65_536;
+
 // About how many operations a transaction of the batch has: the average of some that are spread
 // evenly, rounded up.
 fn operations_each(batch: &Batch) -> usize {
@@ -89,7 +92,7 @@ fn operations_each(batch: &Batch) -> usize {
     let mut counted: usize = 0;
     for place in 0..MOST_COUNTED {
         let number = place.saturating_mul(stride);
-        let is_enough = FEWEST_COUNTED <= counted && ENOUGH <= operations;
+        let is_enough = FEWEST_COUNTED <= counted && ENOUGH <= operations || MANY <= operations;
         if number >= batch.transactions.len() || is_enough {
             break;
         }

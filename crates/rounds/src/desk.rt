@@ -10,11 +10,29 @@ ghost use Rattle.plan.specs.declared.plan.TheConstants.{MAX_WORKERS};
 
 use crate::pending_run::PendingRun;
 use batch::Batch;
+use intentions::PagedPlaces;
 use meaning::Held;
 use speculate::{Gate, NoMemory, Objects, Run, View, run_in};
 use std::alloc::Global;
 use std::mem::swap;
 use std::thread::Threads;
+
+/// The memory of a desk, without the objects that it was on.
+#[derive(Drop)]
+pub(crate) struct DeskMemory {
+    pub(crate) places: PagedPlaces,
+    pub(crate) run: Run,
+}
+
+impl DeskMemory {
+    /// No memory.
+    pub(crate) fn none(alloc: Global) -> DeskMemory {
+        DeskMemory {
+            places: PagedPlaces::new(alloc),
+            run: Run::empty(alloc),
+        }
+    }
+}
 
 /// A view of the objects, labels and a run, in which one worker makes its runs, one after the other.
 #[derive(Drop)]
@@ -42,6 +60,32 @@ impl<'s> Desk<'s> {
             run: Run::empty(alloc),
             room,
         })
+    }
+
+    /// The same, in the memory that the desk of an earlier round left.
+    pub(crate) fn open_in(
+        alloc: Global,
+        objects: &'s Objects,
+        room: usize,
+        memory: DeskMemory,
+    ) -> Desk<'s>
+        ensures opened { result.view ≡ opened objects.now }
+        ensures unlabelled { result.labels.items ≡ [] }
+    {
+        Desk {
+            view: View::open_in(alloc, objects, memory.places),
+            labels: Vec::new(alloc),
+            run: memory.run,
+            room,
+        }
+    }
+
+    /// Its memory, for the next round.
+    pub(crate) fn into_memory(self) -> DeskMemory {
+        DeskMemory {
+            places: self.view.into_places(),
+            run: self.run,
+        }
     }
 
     /// Makes a run of the transaction with this number, counted from 0, in the memory of the one

@@ -1,11 +1,11 @@
 //! What the rounds use again, one after the other.
 ghost use Rattle.std.specs.Prelude.{◌≡◌, []};
 
+use crate::desk::{Desk, DeskMemory};
 use batch::Batch;
 use intentions::Committed;
-use speculate::Run;
 use std::alloc::Global;
-use std::mem::swap;
+use std::mem::replace;
 
 /// Up to how many entries a list of a run has room for where its memory is kept. A longer one would
 /// take memory from all that comes after it.
@@ -16,8 +16,8 @@ const MOST_KEPT: usize = 1024;
 pub(crate) struct Reused {
     /// The nets of the runs before the round's first conflict.
     pub(crate) nets: Committed,
-    /// In its memory the calling thread's desk makes its runs.
-    pub(crate) run: Run,
+    /// In it the calling thread's desk makes its runs.
+    desk: DeskMemory,
 }
 
 impl Reused {
@@ -27,16 +27,27 @@ impl Reused {
     {
         Reused {
             nets: Committed::hashed_by(alloc, batch.hashing),
-            run: Run::empty(alloc),
+            desk: DeskMemory::none(alloc),
         }
     }
 
-    /// Takes the memory of the run that a desk is done with, unless it is much.
-    pub(crate) fn take_back(&mut self, run: &mut Run)
+    /// The memory for a desk.
+    pub(crate) fn give(&mut self, alloc: Global) -> DeskMemory
         ensures { self.new.nets ≡ self.old.nets }
     {
+        replace(&mut self.desk, DeskMemory::none(alloc))
+    }
+
+    /// Takes the memory of a desk back, but for the lists of its run where they are long.
+    pub(crate) fn take_back(&mut self, desk: Desk<'_>)
+        ensures { self.new.nets ≡ self.old.nets }
+    {
+        let memory = desk.into_memory();
+        let run = &memory.run;
         if run.entries.capacity().max(run.net.capacity()) <= MOST_KEPT {
-            swap(&mut self.run, run);
+            self.desk = memory;
+        } else {
+            self.desk.places = memory.places;
         }
     }
 }

@@ -13,7 +13,6 @@ use crate::window::Window;
 use batch::Batch;
 use intentions::Committed;
 use speculate::{Gate, NoMemory, Objects};
-use std::mem::swap;
 use std::thread::Threads;
 
 // Checks the runs of a block in order, and lists their nets, up to the first that conflicts. Those
@@ -134,8 +133,8 @@ pub(crate) fn seek<R: Threads + Sync, G: Gate>(
     ensures seen { IfOk result (IsRoundSeen batch.now opened window.new reused.new.nets) }
 {
     let count = batch.transactions.len();
-    let mut desk = Desk::open(crew.alloc, objects, crew.operations_each)?;
-    swap(&mut desk.run, &mut reused.run);
+    let memory = reused.give(crew.alloc);
+    let mut desk = Desk::open_in(crew.alloc, objects, crew.operations_each, memory);
     let mut from = opened;
     let mut block = expected;
     'looking: while from < count {
@@ -146,13 +145,13 @@ pub(crate) fn seek<R: Threads + Sync, G: Gate>(
             crew, batch, opened, objects, from, end, &mut desk, window, nets,
         )?;
         if seen.first < end {
-            reused.take_back(&mut desk.run);
+            reused.take_back(desk);
             return Ok(seen);
         }
         from = end;
         block = block.saturating_mul(2);
     }
-    reused.take_back(&mut desk.run);
+    reused.take_back(desk);
     let upto = reused.nets.len();
     Ok(Seen { first: from, upto })
 }

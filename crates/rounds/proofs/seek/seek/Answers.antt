@@ -13,8 +13,9 @@ pub looking-init : goal.looking-init
 looking-init g c = record {
   window = c.requires.window;
   grown = not_grown c.args.opened c.args.window.now;
-  listed = none_listed c.args.batch.now c.args.opened c.args.window.now c.args.reused.now.nets c.requires.none;
-  ready = record { opened = c.in_ok-desk.ensures.opened; unlabelled = c.in_ok-desk.ensures.unlabelled };
+  listed = none_listed c.args.batch.now c.args.opened c.args.window.now c.give-memory.new.self.nets
+      (c.give-memory.ensures ∙ c.requires.none);
+  ready = record { opened = c.open_in-desk.ensures.opened; unlabelled = c.open_in-desk.ensures.unlabelled };
   within = c.requires.within;
   reached = c.requires.reached;
   some = c.requires.some;
