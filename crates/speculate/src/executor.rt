@@ -17,9 +17,7 @@ use crate::gate::Gate;
 use crate::reached::Reached;
 use crate::spare::{Spare, boxed, list_of, make_room, put_at, record_of, spare_at};
 use crate::step::{branch_of, forget, perform_filled, undo};
-use batch::{
-    Block, Record, Step, Subaction, Taken, Tried, add_label, handled, test_holds,
-};
+use batch::{Block, Record, Step, Subaction, Taken, Tried, add_label, handled, test_holds};
 use intentions::{Committed, NoMemory, View};
 use meaning::{End, Held};
 use std::alloc::Global;
