@@ -7,4 +7,5 @@ pub mod StrengthLemmas
 pub mod FilterLemmas
 pub mod StandsLemmas
 pub mod IndexLemmas
+pub mod SpanLemmas
 pub mod SummaryLemmas

@@ -4,5 +4,6 @@ pub mod Strictness
 pub mod Headings
 pub mod Index
 pub mod Marks
+pub mod Spans
 pub mod Filter
 pub mod Summaries

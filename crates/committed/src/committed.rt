@@ -17,11 +17,11 @@ use objects::{Entry, EntryHashing, NoMemory, commute};
 use std::alloc::Global;
 use std::marker::Model;
 
-/// For how many links of its index a list may have memory that is kept when it is cleared, and for
-/// how many for each entry that it has.
-const MOST_KEPT: usize = 1024;
+/// For how many links of its index a list may have memory that is kept when it is cleared.
+const MOST_LINKS: usize = 1024;
 
-const MOST_FOR_AN_ENTRY: usize = 8;
+/// For how many it may where it has many entries, for each of them.
+const LINKS_FOR_AN_ENTRY: usize = 8;
 
 /// The entries that committed runs leave, in the order in which they are committed, with an index
 /// by object, item and class. Entries that commute forward with all that was committed since their
@@ -84,8 +84,8 @@ impl Committed {
         // The filter is cleared in a time that grows with what was listed, but the index in one that
         // grows with its memory. So where there is much more memory than was used, a new list is
         // made, which takes none.
-        let used = self.entries.len().saturating_mul(MOST_FOR_AN_ENTRY);
-        if self.index.capacity() > used.max(MOST_KEPT) {
+        let used = self.entries.len().saturating_mul(LINKS_FOR_AN_ENTRY);
+        if self.index.capacity() > used.max(MOST_LINKS) {
             let alloc = *self.entries.allocator();
             *self = Committed::hashed_by(alloc, self.index.hashing());
             return;

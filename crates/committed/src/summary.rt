@@ -1,10 +1,12 @@
 //! Entries with their marks: all of them, or a summary.
 ghost use Rattle.std.specs.Prelude.{◌≡◌, ◌<◌, ◌≤◌, ◌++◌, ◌∷◌, [], List, length, get_or, IfOk, IfSome, OnOk};
 ghost use Rattle.objects.specs.declared.entry.Entry.{Entry as OneEntry};
+ghost use Rattle.committed.specs.Spans.{AreIn};
 ghost use Rattle.committed.specs.Strictness.{strength_of};
 ghost use Rattle.committed.specs.Summaries.{entries_of, strengths_of, HasMore, IsSummary};
 
 use crate::marks::MarkedEntry;
+use crate::span::Span;
 use crate::strength::{Strength, Topic};
 use crate::strictness::{Measured, are_as_strict};
 use indexmap::IndexMap;
@@ -34,16 +36,20 @@ pub fn mark_all(alloc: Global, entries: &[Entry]) -> Result<Vec<MarkedEntry>, No
     Ok(marked)
 }
 
-// Puts the entries with their marks, in order, into the list, in place of what it had.
-fn mark_into(entries: &[Entry], marked: &mut Vec<MarkedEntry>) -> Result<(), NoMemory>
-    ensures { OnOk result (entries_of marked.new.items ≡ entries.now) }
+// Puts the entries with their marks, in order, into the list, in place of what it had. Returns
+// between which objects they are.
+fn mark_into(entries: &[Entry], marked: &mut Vec<MarkedEntry>) -> Result<Span, NoMemory>
+    ensures marked { OnOk result (entries_of marked.new.items ≡ entries.now) }
+    ensures span { IfOk result (λ span. AreIn span entries.now) }
 {
     marked.clear();
     marked.reserve_exact(entries.len())?;
+    let mut span = Span::none();
     for entry in entries {
         marked.push_reserved(MarkedEntry::of(entry));
+        span.add(entry.object);
     }
-    Ok(())
+    Ok(span)
 }
 
 /// Puts a summary of the entries into the list, in place of what it had: what commutes forward with
@@ -54,26 +60,30 @@ fn mark_into(entries: &[Entry], marked: &mut Vec<MarkedEntry>) -> Result<(), NoM
 /// and a run of many operations on one object is checked and listed by a few entries. A few entries
 /// are all kept, in their order.
 ///
-/// Returns `NoMemory` where a request for memory was refused. The list is of no further use then.
+/// Returns between which objects all of the entries are, or `NoMemory` where a request for memory
+/// was refused. The list is of no further use then.
 pub fn summarize(
     alloc: Global,
     hashing: EntryHashing,
     entries: &[Entry],
     summary: &mut Vec<MarkedEntry>,
-) -> Result<(), NoMemory>
+) -> Result<Span, NoMemory>
     ensures summary { OnOk result (IsSummary (entries_of summary.new.items) entries.now) }
     ensures few { OnOk result (length entries.now ≤ FEW_ENTRIES → entries_of summary.new.items ≡ entries.now) }
+    ensures span { IfOk result (λ span. AreIn span entries.now) }
 {
     if entries.len() <= FEW_ENTRIES {
         return mark_into(entries, summary);
     }
     let spare = replace(summary, Vec::new(alloc));
     let mut table = Table::new(alloc, hashing, entries.len(), spare)?;
+    let mut span = Span::none();
     for entry in entries {
         table.add(entry)?;
+        span.add(entry.object);
     }
     *summary = table.summary;
-    Ok(())
+    Ok(span)
 }
 
 /// Where a summary has the two entries that were last put in it with one topic.

@@ -11,7 +11,7 @@ mod layers;
 mod places;
 mod view;
 
-pub use committed::{Committed, FEW_ENTRIES, Mark, MarkedEntry, mark_all, summarize};
+pub use committed::{Committed, FEW_ENTRIES, Mark, MarkedEntry, Span, mark_all, summarize};
 pub use objects::{Call, Entry, EntryHashing, NoMemory, Objects, Reply, Value};
 pub use places::PagedPlaces;
 pub use view::{Lists, View, perform_each};

@@ -8,8 +8,10 @@ use std::alloc::Global;
 /// How many objects have their places in a page.
 const PAGE: usize = 4_096;
 
-/// A place for each of some objects: the memory in which a view finds what it changed. A page is as long as its objects ask for, and the pages before
-/// it may be empty. So an object with a high number takes little time and memory.
+/// A place for each of some objects: the memory in which a view finds what it changed.
+///
+/// A page is as long as its objects ask for, and the pages before it may be empty. An object with a
+/// high number takes little time and memory.
 #[derive(Drop)]
 pub struct PagedPlaces {
     pages: Vec<Vec<usize>>,

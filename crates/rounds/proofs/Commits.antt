@@ -1,6 +1,6 @@
 -- Runs are committed one after the other, each on some of the objects.
 use Rattle.std.proofs.Common.{◌≡◌, ℕ, suc, ◌+◌, ◌<◌, List, [], ◌∷◌, ◌++◌, length, get_or, drop, refl, sym, ap, subst, ◌∙◌, add-one, arith}
-use Rattle.std.proofs.Common.{◌≤◌, drop-cons}
+use Rattle.std.proofs.Common.{drop-cons}
 use Rattle.std.specs.Prelude.{Result, Ok, Err, OnOk}
 use Rattle.objects.specs.declared.value.Value.{Value}
 use Rattle.objects.specs.declared.entry.Entry.{Entry}
@@ -9,8 +9,8 @@ use Rattle.objects.proofs.PartLemmas.{IsOutside, all_performed-outside, can-next
 use Rattle.rounds.specs.declared.pending_run.PendingRun.{PendingRun}
 use Rattle.meaning.specs.Batch.{block_at}
 use Rattle.meaning.specs.Trees.{Block}
-use Rattle.rounds.specs.declared.span.Span.{Span}
-use Rattle.rounds.specs.Spans.{AreIn}
+use Rattle.committed.specs.declared.span.Span.{Span}
+use Rattle.committed.specs.Spans.{IsIn, AreIn}
 use Rattle.rounds.specs.PendingRuns.{own_net, own_nets}
 
 -- of all entries these are left to be performed
@@ -58,10 +58,10 @@ next_nets_left blocks number runs i x lt is =
 
 -- entries of a span without one of the objects leave these as they are
 pub passed_over : (first : ℕ) (values : List Value) (span : Span) (entries : List Entry) → AreIn span entries
-    → ((object : ℕ) → span.first ≤ object → object ≤ span.last → IsOutside first values object)
+    → ((object : ℕ) → IsIn span object → IsOutside first values object)
     → ArePerformedOn first values values entries
 passed_over first values span entries inside beyond =
-    all_performed-outside first values entries (λ k e lt. let is_in = inside k e lt in beyond _ is_in.0 is_in.1)
+    all_performed-outside first values entries (λ k e lt. beyond _ (inside k e lt))
 
 -- what follows from two facts that hold of a success
 pub both_ok : {T E : Type 0} (result : Result T E) (A B C : Type 0) → (A → B → C) → OnOk result A → OnOk result B → OnOk result C

@@ -2,7 +2,7 @@
 use Rattle.std.proofs.Common.{◌≡◌, ◌≢◌, ◌⊎◌, ⊎_elim, ℕ, zero, suc, ◌+◌, ◌-◌, ◌<◌, ◌≤◌, false, inl, inr, List, [], ◌∷◌, ◌++◌, length, get_or, set, take}
 use Rattle.std.proofs.Common.{refl, sym, ap, ◌∙◌, subst, arith}
 use Rattle.std.proofs.lemmas.Bool.{false≢true}
-use Rattle.std.proofs.lemmas.List.{get_or_past, get_or-set_same, get_or-set_other, length-set, take_more}
+use Rattle.std.proofs.lemmas.List.{length-set, take_more}
 use native.Mathlib.Decide.{ℕ_discrete, dec_le}
 use Rattle.objects.specs.declared.entry.Entry.{Entry}
 use Rattle.workers.specs.Working.{AreGivenOnce}
@@ -12,12 +12,13 @@ use Rattle.claims.proofs.Lists.{times-append}
 use Rattle.rounds.specs.declared.pending_run.PendingRun.{PendingRun}
 use Rattle.rounds.specs.declared.window.Window.{Window}
 use Rattle.rounds.specs.PendingRuns.{HoldsPast}
-use Rattle.rounds.specs.Windows.{IsValid, Told, IsFallenAt, AreFallen, AreStale, AreKept}
+use Rattle.rounds.specs.Windows.{run_at, flag_at, end_of, IsValid, Told, IsFallenAt, AreFallen, AreStale, AreKept}
 use Rattle.rounds.proofs.Times.{times_one, times_none}
+use Rattle.rounds.proofs.WindowLemmas.{flag_set, none_past}
 
 -- nothing is listed of a run that holds past the entries or isn't valid
 pub stands_at : (window : Window) (since : List Entry) (place : ℕ)
-    → ((d : PendingRun) → IsValid window place → HoldsPast since (get_or window.runs.items place d)) → IsFallenAt window since place []
+    → ((d : PendingRun) → IsValid window place → HoldsPast since (run_at window place d)) → IsFallenAt window since place []
 stands_at window since place stands = record {
   here = λ d. inl (stands d, refl);
   elsewhere = λ i other. refl;
@@ -25,7 +26,7 @@ stands_at window since place stands = record {
 
 -- of a valid one that doesn't its number is listed
 pub falls_at : (window : Window) (since : List Entry) (place : ℕ) → IsValid window place
-    → ((d : PendingRun) → ¬ HoldsPast since (get_or window.runs.items place d)) → IsFallenAt window since place (place ∷ [])
+    → ((d : PendingRun) → ¬ HoldsPast since (run_at window place d)) → IsFallenAt window since place (place ∷ [])
 falls_at window since place valid falls = record {
   here = λ d. inr (valid, falls d, times_one place);
   elsewhere = λ i other. times_none i place (λ h. other (sym h));
@@ -72,9 +73,9 @@ told_at window since place i own numbers same decided is d = subst (λ n. Told w
     (subst (λ k. Told window since k (times k own) d) same (decided.here d))
 
 -- what all places together list
-pub all_decided : (window : Window) (since : List Entry) (from count : ℕ) (numbers : List ℕ) → from + count ≡ length window.runs.items
+pub all_decided : (window : Window) (since : List Entry) (from count : ℕ) (numbers : List ℕ) → from + count ≡ end_of window
     → AreGivenOnce (λ piece. IsFallenAt window since (from + piece)) count numbers
-    → AreFallen window since from (length window.runs.items) numbers
+    → AreFallen window since from (end_of window) numbers
 all_decided window since from count numbers all given = record {
   before = λ i lt. given_nowhere (λ piece. IsFallenAt window since (from + piece)) (times i) refl (times-append i) count numbers
       (λ j own below decided. decided.elsewhere i (let apart : i ≢ from + j = omega arith in apart)) given;
@@ -90,40 +91,53 @@ all_decided window since from count numbers all given = record {
 
 -- a number that is listed is that of a run
 pub fallen_within : (window : Window) (since : List Entry) (from upto : ℕ) (numbers : List ℕ) → AreFallen window since from upto numbers
-    → (i : ℕ) → 0 < times i numbers → i < upto
-fallen_within window since from upto numbers are i some = elim (dec_le upto i) [
-  | yes beyond ↦ absurd (omega (arith, some, are.beyond i beyond))
-  | no within ↦ omega arith
-]
+    → (i : ℕ) → 0 < times i numbers → (from ≤ i) × (i < upto)
+fallen_within window since from upto numbers are i some = (
+  elim (dec_le from i) [
+    | yes le ↦ le
+    | no less ↦ absurd (omega (arith, some, are.before i (omega arith)))
+  ],
+  elim (dec_le upto i) [
+    | yes beyond ↦ absurd (omega (arith, some, are.beyond i beyond))
+    | no within ↦ omega arith
+  ],
+)
 
 -- no run is forgotten yet
 pub none_stale : (window : Window) → AreStale [] window window
-none_stale window = record { runs = refl; flags = refl; others = λ i none. refl; here = λ i some. absurd (omega arith) }
+none_stale window = record {
+  first = refl;
+  runs = refl;
+  flags = refl;
+  others = λ i low none. refl;
+  here = λ i low some. absurd (omega arith);
+}
 
 -- one more
 pub stale_more : (numbers : List ℕ) (k : ℕ) (first old new : Window) → k < length numbers
-    → get_or numbers k 0 < length old.valid.items → AreStale (take k numbers) first old → new.runs ≡ old.runs
-    → new.valid.items ≡ set old.valid.items (get_or numbers k 0) false → AreStale (take (k + 1) numbers) first new
-stale_more numbers k first old new lt inside so_far runs valid =
+    → old.first ≤ get_or numbers k 0 → get_or numbers k 0 < old.first + length old.valid.items → AreStale (take k numbers) first old
+    → new.first ≡ old.first → new.runs ≡ old.runs
+    → new.valid.items ≡ set old.valid.items (get_or numbers k 0 - old.first) false → AreStale (take (k + 1) numbers) first new
+stale_more numbers k first old new lt low inside so_far begun runs valid =
     let place = get_or numbers k 0 in
+    let flag = flag_set old new place false low inside begun valid in
+    let same = so_far.first in
     let more : (i : ℕ) → times i (take (k + 1) numbers) ≡ times i (take k numbers) + times i (place ∷ []) =
     λ i. ap (times i) (take_more numbers k 0 lt) ∙ times-append i (take k numbers) (place ∷ []) in
-    let other_flag : (i : ℕ) → i ≢ place → get_or new.valid.items i false ≡ get_or old.valid.items i false =
-    λ i other. ap (λ v. get_or v i false) valid ∙ get_or-set_other old.valid.items place i false false other in
     record {
+      first = begun ∙ so_far.first;
       runs = runs ∙ so_far.runs;
-      flags = ap length valid ∙ (length-set old.valid.items place false ∙ so_far.flags);
-      others = λ i none. elim (ℕ_discrete i place) [
+      flags = ap length valid ∙ (length-set old.valid.items (place - old.first) false ∙ so_far.flags);
+      others = λ i from none. elim (ℕ_discrete i place) [
         | yes is ↦ absurd (omega (arith, none, more i, ap (λ n. times i (n ∷ [])) (sym is), times_one i))
-        | no other ↦ let m = more i in other_flag i other ∙ so_far.others i (omega arith)
+        | no other ↦ let m = more i in flag.1 i (omega arith) other ∙ so_far.others i from (omega arith)
       ];
-      here = λ i some. elim (ℕ_discrete i place) [
-        | yes is ↦ ap (λ v. get_or v i false) valid ∙ (ap (λ j. get_or (set old.valid.items place false) j false) is
-            ∙ get_or-set_same old.valid.items place false false inside)
+      here = λ i from some. elim (ℕ_discrete i place) [
+        | yes is ↦ ap (flag_at new) is ∙ flag.0
         | no other ↦
             let m = more i in
             let none = times_none i place (λ h. other (sym h)) in
-            other_flag i other ∙ so_far.here i (omega arith)
+            flag.1 i (omega arith) other ∙ so_far.here i from (omega arith)
       ];
     }
 
@@ -134,22 +148,23 @@ some_or_none (suc n) = inr (omega arith)
 
 -- the others are kept
 pub kept_others : (window : Window) (since : List Entry) (from : ℕ) (numbers : List ℕ) (new : Window)
-    → length window.valid.items ≡ length window.runs.items
-    → AreFallen window since from (length window.runs.items) numbers → AreStale numbers window new → AreKept from since window new
-kept_others window since from numbers new flags fallen stale = record {
+    → window.first ≤ from → length window.valid.items ≡ length window.runs.items
+    → AreFallen window since from (end_of window) numbers → AreStale numbers window new → AreKept from since window new
+kept_others window since from numbers new begun flags fallen stale = record {
+  first = stale.first;
   runs = stale.runs;
   flags = stale.flags;
   valid = λ i low valid. ⊎_elim
-      (λ (none : times i numbers ≡ 0). sym (stale.others i none) ∙ valid)
-      (λ (some : 0 < times i numbers). absurd (false≢true (sym (stale.here i some) ∙ valid)))
+      (λ (none : times i numbers ≡ 0). sym (stale.others i (omega arith) none) ∙ valid)
+      (λ (some : 0 < times i numbers). absurd (false≢true (sym (stale.here i (omega arith) some) ∙ valid)))
       (some_or_none (times i numbers));
-  each = λ i d low valid. elim (dec_le (length window.runs.items) i) [
-    | yes beyond ↦ absurd (false≢true (sym (get_or_past window.valid.items i false (omega arith)) ∙ valid))
+  each = λ i d low valid. elim (dec_le (end_of window) i) [
+    | yes beyond ↦ absurd (false≢true (sym (none_past window i flags beyond) ∙ valid))
     | no within ↦ ⊎_elim
-        (λ (stands : (IsValid window i → HoldsPast since (get_or window.runs.items i d)) × (times i numbers ≡ 0)).
-        inl (stale.others i stands.1 ∙ valid, stands.0 valid))
-        (λ (falls : IsValid window i × (¬ HoldsPast since (get_or window.runs.items i d)) × (times i numbers ≡ 1)).
-        inr (stale.here i (let once = falls.2 in omega arith), falls.1))
+        (λ (stands : (IsValid window i → HoldsPast since (run_at window i d)) × (times i numbers ≡ 0)).
+        inl (stale.others i (omega arith) stands.1 ∙ valid, stands.0 valid))
+        (λ (falls : IsValid window i × (¬ HoldsPast since (run_at window i d)) × (times i numbers ≡ 1)).
+        inr (stale.here i (omega arith) (let once = falls.2 in omega arith), falls.1))
         (fallen.each i d low (omega arith))
   ];
 }

@@ -1,6 +1,7 @@
 pub mod Times
 pub mod Making
 pub mod WindowLemmas
+pub mod Settling
 pub mod Fallen
 pub mod Firsts
 pub mod Conflicts

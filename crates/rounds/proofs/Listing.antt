@@ -18,7 +18,7 @@ use Rattle.rounds.specs.PendingRuns.{IsCommittable, IsPendingOf, left_by, all_le
 use Rattle.rounds.specs.Checks.{HoldsAfter}
 use Rattle.rounds.proofs.Firsts.{next_nets}
 use Rattle.std.proofs.lemmas.List.{get_or_default}
-use Rattle.rounds.specs.Windows.{IsValid, IsWindowAt, HasGrown, IsFreedAt, IsListedTo}
+use Rattle.rounds.specs.Windows.{run_at, end_of, IsValid, IsWindowAt, HasGrown, IsFreedAt, IsListedTo}
 use Rattle.rounds.proofs.Conflicts.{holds_past, keeps_answers, some_run}
 
 -- what one transaction more leaves
@@ -39,34 +39,35 @@ module _ (batch : Batch) (b from : ℕ) (state : State) (window : Window) (reach
     (at : IsWindowAt batch from state window) where
   -- a valid run is the run of its transaction at the opening
   pub alone_at : (i : ℕ) (d : PendingRun) → from ≤ i → IsValid window i
-      → IsPendingOf (alone (start_of batch) (blocks_of batch) i b) (get_or window.runs.items i d)
-  alone_at i d low valid = subst (λ s. IsPendingOf (one (block_at (blocks_of batch) i) [] s) (get_or window.runs.items i d)) reached
+      → IsPendingOf (alone (start_of batch) (blocks_of batch) i b) (run_at window i d)
+  alone_at i d low valid = subst (λ s. IsPendingOf (one (block_at (blocks_of batch) i) [] s) (run_at window i d)) reached
       (at.made i d low valid)
 
   -- a valid run holds past what was listed exactly where its transaction keeps
   pub keeps_where_holds : (place : ℕ) (d : PendingRun) (listed : List Entry) → from ≤ place → IsListedTo batch b place window listed
-      → IsValid window place → HoldsPast listed (get_or window.runs.items place d) ↔ Keeps (start_of batch) (blocks_of batch) place b
+      → IsValid window place → HoldsPast listed (run_at window place d) ↔ Keeps (start_of batch) (blocks_of batch) place b
   keeps_where_holds place d listed low so_far valid =
       holds_past (start_of batch) (blocks_of batch) place b listed (nets (start_of batch) (blocks_of batch) b (place - b))
-      (get_or window.runs.items place d) (alone_at place d low valid) so_far.nets
+      (run_at window place d) (alone_at place d low valid) so_far.nets
 
   -- one more keeps, and the list sums up its net, too
   pub listed_more : (place : ℕ) (d : PendingRun) (listed more : List Entry) → from ≤ place → IsListedTo batch b place window listed
       → IsValid window place → Keeps (start_of batch) (blocks_of batch) place b
-      → IsSummary more (listed ++ left_by (get_or window.runs.items place d).sums) → IsListedTo batch b (place + 1) window more
+      → IsSummary more (listed ++ left_by (run_at window place d).sums) → IsListedTo batch b (place + 1) window more
   listed_more place d listed more low so_far valid keeps pushed =
       let opened = so_far.from in
       let size : (place + 1) - b ≡ suc (place - b) = omega arith in
       let here : b + (place - b) ≡ place = omega arith in
-      let run = get_or window.runs.items place d in
-      let answers : (o : PendingRun) → IsPendingOf (answer (start_of batch) (blocks_of batch) place) (get_or window.runs.items place o) =
-      λ o. keeps_answers (start_of batch) (blocks_of batch) place b (get_or window.runs.items place o) opened (alone_at place o low valid)
+      let run = run_at window place d in
+      let answers : (o : PendingRun) → IsPendingOf (answer (start_of batch) (blocks_of batch) place) (run_at window place o) =
+      λ o. keeps_answers (start_of batch) (blocks_of batch) place b (run_at window place o) opened (alone_at place o low valid)
       keeps in
       let all : nets (start_of batch) (blocks_of batch) b ((place + 1) - b)
       ≡ nets (start_of batch) (blocks_of batch) b (place - b) ++ net_of (answer (start_of batch) (blocks_of batch) place) =
       ap (nets (start_of batch) (blocks_of batch) b) size ∙ (nets_more (start_of batch) (blocks_of batch) b (place - b)
       ∙ ap (λ i. nets (start_of batch) (blocks_of batch) b (place - b) ++ net_of (answer (start_of batch) (blocks_of batch) i)) here) in
       record {
+        begun = so_far.begun;
         from = omega arith;
         keep = λ i first lt. elim (dec_le (suc i) place) [
           | yes lower ↦ so_far.keep i first lower
@@ -76,7 +77,7 @@ module _ (batch : Batch) (b from : ℕ) (state : State) (window : Window) (reach
           | yes lower ↦ so_far.made i o first lower
           | no last ↦
               let is : place ≡ i = omega arith in
-              subst (λ j. IsCommittable (answer (start_of batch) (blocks_of batch) j) (get_or window.runs.items j o)) is
+              subst (λ j. IsCommittable (answer (start_of batch) (blocks_of batch) j) (run_at window j o)) is
               (answers o).committable
         ];
         nets = subst (IsSummary more) (sym all) (summary_of_summary more (listed ++ left_by run.sums) (nets (start_of batch)
@@ -87,7 +88,7 @@ module _ (batch : Batch) (b from : ℕ) (state : State) (window : Window) (reach
 
   -- as far as the runs of a block hold past what is listed and what those before them leave, they keep, and are listed
   pub listed_past : (past : List Entry) (block : List PendingRun)
-      → ((k : ℕ) (d : PendingRun) → k < length block → get_or block k d ≡ get_or window.runs.items (from + k) d)
+      → ((k : ℕ) (d : PendingRun) → k < length block → get_or block k d ≡ run_at window (from + k) d)
       → ((k : ℕ) → k < length block → IsValid window (from + k)) → IsListedTo batch b from window past → (k : ℕ) → k ≤ length block
       → ((j : ℕ) → j < k → HoldsAfter past block j) → IsListedTo batch b (from + k) window (past ++ all_left (take k block))
   listed_past past block same valid so_far zero le stand =
@@ -104,7 +105,7 @@ module _ (batch : Batch) (b from : ℕ) (state : State) (window : Window) (reach
       let keeps = (keeps_where_holds (from + k) d (past ++ all_left (take k block)) (omega arith) before (valid k (omega arith))).0
       (subst (HoldsPast (past ++ all_left (take k block))) is (stand k (omega arith) d)) in
       let pushed : past ++ all_left (take (suc k) block)
-      ≡ (past ++ all_left (take k block)) ++ left_by (get_or window.runs.items (from + k) d).sums =
+      ≡ (past ++ all_left (take k block)) ++ left_by (run_at window (from + k) d).sums =
       ap (λ es. past ++ es) (ap (λ n. all_left (take n block)) (sym more)
       ∙ next_nets block k run (omega arith) (get_or_default block k d run (omega arith)))
       ∙ (sym (append_assoc past (all_left (take k block)) (left_by run.sums))
@@ -115,39 +116,49 @@ module _ (batch : Batch) (b from : ℕ) (state : State) (window : Window) (reach
       (subst (IsSummary (past ++ all_left (take (suc k) block))) pushed (summary_itself (past ++ all_left (take (suc k) block))))))
 
 -- what was listed stays so as more runs are made
-pub still_listed : (batch : Batch) (b place : ℕ) (old new : Window) (listed : List Entry) → place ≤ length old.runs.items
+pub still_listed : (batch : Batch) (b place : ℕ) (old new : Window) (listed : List Entry) → place ≤ end_of old
     → HasGrown place old new → IsListedTo batch b place old listed → IsListedTo batch b place new listed
-still_listed batch b place old new listed inside grown so_far = record {
-  from = so_far.from;
-  keep = so_far.keep;
-  made = λ i d low lt. subst (IsCommittable (answer (start_of batch) (blocks_of batch) i)) (sym (grown.same i d lt (omega arith)))
-      (so_far.made i d low lt);
-  nets = so_far.nets;
-}
+still_listed batch b place old new listed inside grown so_far =
+    let begun = so_far.begun in
+    let first = grown.first in
+    record {
+      begun = omega arith;
+      from = so_far.from;
+      keep = so_far.keep;
+      made = λ i d low lt. subst (IsCommittable (answer (start_of batch) (blocks_of batch) i))
+          (sym (grown.same i d (omega arith) lt (omega arith))) (so_far.made i d low lt);
+      nets = so_far.nets;
+    }
 
 -- and where the summaries of a run were freed
 pub freed_listed : (batch : Batch) (b upto place : ℕ) (old new : Window) (listed : List Entry) → IsFreedAt place old new
     → IsListedTo batch b upto old listed → IsListedTo batch b upto new listed
-freed_listed batch b upto place old new listed freed so_far = record {
-  from = so_far.from;
-  keep = so_far.keep;
-  made = λ i d low lt. elim (ℕ_discrete place i) [
-    | yes here ↦ subst (λ j. IsCommittable (answer (start_of batch) (blocks_of batch) i) (get_or new.runs.items j d)) here
-        (freed.here (answer (start_of batch) (blocks_of batch) i) d
-        (subst (λ j. IsCommittable (answer (start_of batch) (blocks_of batch) i) (get_or old.runs.items j d)) (sym here)
-        (so_far.made i d low lt)))
-    | no other ↦ subst (IsCommittable (answer (start_of batch) (blocks_of batch) i)) (sym (freed.others i d (λ is. other (sym is))))
-        (so_far.made i d low lt)
-  ];
-  nets = so_far.nets;
-}
+freed_listed batch b upto place old new listed freed so_far =
+    let begun = so_far.begun in
+    let first = freed.first in
+    record {
+      begun = omega arith;
+      from = so_far.from;
+      keep = so_far.keep;
+      made = λ i d low lt. elim (ℕ_discrete place i) [
+        | yes here ↦ subst (λ j. IsCommittable (answer (start_of batch) (blocks_of batch) i) (run_at new j d)) here
+            (freed.here (answer (start_of batch) (blocks_of batch) i) d
+            (subst (λ j. IsCommittable (answer (start_of batch) (blocks_of batch) i) (run_at old j d)) (sym here)
+            (so_far.made i d low lt)))
+        | no other ↦ subst (IsCommittable (answer (start_of batch) (blocks_of batch) i))
+            (sym (freed.others i d (omega arith) (λ is. other (sym is)))) (so_far.made i d low lt)
+      ];
+      nets = so_far.nets;
+    }
 
 -- nothing is listed at first
-pub none_listed : (batch : Batch) (b : ℕ) (window : Window) (listed : List Entry) → listed ≡ [] → IsListedTo batch b b window listed
+pub none_listed : (batch : Batch) (b : ℕ) (window : Window) (listed : List Entry) → window.first ≤ b → listed ≡ []
+    → IsListedTo batch b b window listed
 unfolding nets
-none_listed batch b window listed empty =
+none_listed batch b window listed begun empty =
     let none : b - b ≡ 0 = omega arith in
     record {
+      begun = begun;
       from = omega arith;
       keep = λ i low lt. absurd (omega arith);
       made = λ i d low lt. absurd (omega arith);
@@ -160,22 +171,25 @@ pub grown_on : (b : ℕ) (one two three : Window) → HasGrown b one two → Has
 grown_on b one two three first second =
     let longer = first.longer in
     let more = second.longer in
+    let begun = first.first in
     record {
+      first = second.first ∙ first.first;
       longer = omega arith;
-      same = λ i d lt inside. second.same i d lt (omega arith) ∙ first.same i d lt inside;
-      still = λ i valid. second.still i (first.still i valid);
+      same = λ i d from lt inside. second.same i d (omega arith) lt (omega arith) ∙ first.same i d from lt inside;
+      still = λ i from valid. second.still i (omega arith) (first.still i from valid);
     }
 
 -- what stays before a place stays before an earlier one
 pub grown_before : (a b : ℕ) (old new : Window) → a ≤ b → HasGrown b old new → HasGrown a old new
 grown_before a b old new le grown = record {
+  first = grown.first;
   longer = grown.longer;
-  same = λ i d lt inside. grown.same i d (omega arith) inside;
+  same = λ i d from lt inside. grown.same i d from (omega arith) inside;
   still = grown.still;
 }
 
 pub not_grown : (b : ℕ) (window : Window) → HasGrown b window window
-not_grown b window = record { longer = omega arith; same = λ i d lt inside. refl; still = λ i valid. valid }
+not_grown b window = record { first = refl; longer = omega arith; same = λ i d from lt inside. refl; still = λ i from valid. valid }
 
 -- the first that doesn't keep is where the next opening is
 pub opens_at_conflict : (start : State) (blocks : List Block) (b place : ℕ) → b ≤ place → place ≤ length blocks → AllKeep start blocks b place

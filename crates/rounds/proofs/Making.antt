@@ -18,7 +18,7 @@ use Rattle.rounds.specs.declared.make.NumberedRun.{NumberedRun}
 use Rattle.claims.specs.Views.{bit, times}
 use Rattle.rounds.specs.PendingRuns.{AreSumsOf, IsPendingOf, IsListed, listed_net, numbers_of}
 use Rattle.rounds.specs.PendingRuns.{IsMade, AreMade}
-use Rattle.rounds.specs.Spans.{AreIn}
+use Rattle.committed.specs.Spans.{AreIn}
 use Rattle.claims.proofs.Lists.{times-append}
 use Rattle.rounds.proofs.Times.{times_sum}
 use Rattle.std.specs.Fork.{slice_chunk}

@@ -1,11 +1,12 @@
 -- Windows as runs are made in them.
-use Rattle.std.proofs.Common.{◌≡◌, ◌≢◌, ◌⊎◌, inl, inr, ℕ, suc, ◌+◌, ◌<◌, ◌≤◌, Bool, true, false, List, [], ◌∷◌, ◌++◌, length, get_or, set, take}
-use Rattle.std.proofs.Common.{refl, sym, ap, ◌∙◌, subst, arith}
+use Rattle.std.proofs.Common.{◌≡◌, ◌≢◌, ◌⊎◌, inl, inr, ℕ, suc, ◌+◌, ◌-◌, ◌<◌, ◌≤◌, Bool, true, false, List, [], ◌∷◌, ◌++◌, length}
+use Rattle.std.proofs.Common.{get_or, set, take, drop, map, refl, sym, ap, ◌∙◌, subst, arith}
 use Rattle.std.proofs.lemmas.Bool.{false≢true}
 use Rattle.std.proofs.Math.Seq.{get_or-append_seam}
 use Rattle.std.proofs.Math.ListN.{get_or-append}
 use native.Mathlib.Decide.{dec_le}
-use Rattle.std.proofs.lemmas.List.{get_or_past, get_or-take, length-take-le, take_all, length_push, length-append, get_or-set_same, get_or-set_other, length-set, get_or-map, length-map}
+use Rattle.std.proofs.lemmas.List.{get_or_past, get_or-take, get_or-drop, length-drop, length-take-le, take_all, length_push}
+use Rattle.std.proofs.lemmas.List.{length-append, get_or-set_same, get_or-set_other, length-set, get_or-map, length-map}
 use Rattle.std.specs.List.{All}
 use Rattle.claims.specs.Views.{times}
 use Rattle.claims.proofs.Lists.{times-append}
@@ -14,142 +15,216 @@ use Rattle.rounds.specs.declared.make.NumberedRun.{NumberedRun}
 use native.Mathlib.Decide.{ℕ_discrete}
 use Rattle.objects.specs.Entries.{State}
 use Rattle.batch.specs.declared.batch.Batch.{Batch}
-use Rattle.rounds.specs.Views.{meaning}
+use Rattle.batch.specs.declared.record.Record.{Record}
+use Rattle.batch.specs.Views.{record_view}
+use Rattle.meaning.specs.Batch.{state_at, shown_from}
+use Rattle.meaning.specs.Rounds.{Rounds, RoundsFrom}
+use Rattle.rounds.specs.Views.{start_of, meaning}
+use Rattle.rounds.specs.declared.openings.Opening.{Opening}
 use Rattle.rounds.specs.declared.pending_run.PendingRun.{PendingRun}
 use Rattle.rounds.specs.declared.window.Window.{Window}
 use Rattle.rounds.specs.PendingRuns.{IsPendingOf, numbers_of}
-use Rattle.rounds.specs.Windows.{IsValid, AllValid, IsWindowAt, HasGrown, IsFreedAt, AreSettled, AreMissing, still_to_be_made}
+use Rattle.rounds.specs.Windows.{run_at, flag_at, end_of, runs_between, IsValid, AllValid, IsWindowAt, HasGrown, IsFreedAt}
+use Rattle.rounds.specs.Windows.{AreSettled, IsShortened, AreMissing, IsOpening, still_to_be_made}
 use Rattle.rounds.specs.Views.{blocks_of}
 
+-- what a window that begins as another has at a number, where its lists are these
+pub flag_read : (old new : Window) (flags : List Bool) (i : ℕ) → new.first ≡ old.first → new.valid.items ≡ flags
+    → flag_at new i ≡ get_or flags (i - old.first) false
+flag_read old new flags i first are = ap (λ v. get_or v (i - new.first) false) are ∙ ap (λ f. get_or flags (i - f) false) first
+
+pub run_read : (old new : Window) (runs : List PendingRun) (i : ℕ) (d : PendingRun) → new.first ≡ old.first → new.runs.items ≡ runs
+    → run_at new i d ≡ get_or runs (i - old.first) d
+run_read old new runs i d first are = ap (λ rs. get_or rs (i - new.first) d) are ∙ ap (λ f. get_or runs (i - f) d) first
+
+-- different numbers have different places
+apart : (first i j : ℕ) → first ≤ i → first ≤ j → i ≢ j → i - first ≢ j - first
+apart first i j low high other same = other (omega arith)
+
+-- where the flag of a number is set, it is that one, and the others are as before
+pub flag_set : (old new : Window) (number : ℕ) (flag : Bool) → old.first ≤ number → number < old.first + length old.valid.items
+    → new.first ≡ old.first → new.valid.items ≡ set old.valid.items (number - old.first) flag
+    → (flag_at new number ≡ flag) × ((i : ℕ) → old.first ≤ i → i ≢ number → flag_at new i ≡ flag_at old i)
+flag_set old new number flag low inside first valid =
+    let place = number - old.first in
+    let flags = set old.valid.items place flag in (
+      flag_read old new flags number first valid ∙ get_or-set_same old.valid.items place flag false (omega arith),
+      λ i from other. flag_read old new flags i first valid
+          ∙ get_or-set_other old.valid.items place (i - old.first) flag false (apart old.first i number from low other),
+    )
+
+-- so it is with the run of a number
+pub run_set : (old new : Window) (number : ℕ) (run d : PendingRun) → old.first ≤ number → number < end_of old
+    → new.first ≡ old.first → new.runs.items ≡ set old.runs.items (number - old.first) run
+    → (run_at new number d ≡ run) × ((i : ℕ) → old.first ≤ i → i ≢ number → run_at new i d ≡ run_at old i d)
+run_set old new number run d low inside first runs =
+    let place = number - old.first in
+    let all = set old.runs.items place run in (
+      run_read old new all number d first runs ∙ get_or-set_same old.runs.items place run d (omega arith),
+      λ i from other. run_read old new all i d first runs
+          ∙ get_or-set_other old.runs.items place (i - old.first) run d (apart old.first i number from low other),
+    )
+
+-- a run past the last isn't valid
+pub none_past : (window : Window) (i : ℕ) → length window.valid.items ≡ length window.runs.items → end_of window ≤ i
+    → flag_at window i ≡ false
+none_past window i flags past = get_or_past window.valid.items (i - window.first) false (omega arith)
+
+-- how many runs there are from one number on and before another, and which
+pub between_at : (window : Window) (from end_ : ℕ) → window.first ≤ from → from ≤ end_ → end_ ≤ end_of window
+    → (length (runs_between window from end_) ≡ end_ - from)
+    × ((k : ℕ) (d : PendingRun) → k < end_ - from → get_or (runs_between window from end_) k d ≡ run_at window (from + k) d)
+between_at window from end_ begun low high =
+    let rest = drop (from - window.first) window.runs.items in
+    let size = length-drop (from - window.first) window.runs.items in (
+      length-take-le (end_ - from) rest (omega arith),
+      λ k d lt.
+          let place : (from - window.first) + k ≡ (from + k) - window.first = omega arith in
+          get_or-take (end_ - from) rest k d lt
+          ∙ (get_or-drop (from - window.first) window.runs.items k d ∙ ap (λ n. get_or window.runs.items n d) place),
+    )
+
 -- one without runs
-pub empty_window : (batch : Batch) (state : State) (window : Window) → window.runs.items ≡ [] → window.valid.items ≡ []
-    → IsWindowAt batch 0 state window
-empty_window batch state window runs valid = record {
+pub empty_window : (batch : Batch) (state : State) (window : Window) → window.first ≡ 0 → window.runs.items ≡ []
+    → window.valid.items ≡ [] → IsWindowAt batch window.first state window
+empty_window batch state window first runs valid = record {
+  begun = omega arith;
   flags = ap length valid ∙ sym (ap length runs);
-  within = omega (arith, ap length runs);
-  made = λ i d low valid_here. absurd (false≢true (sym (ap (λ v. get_or v i false) valid) ∙ valid_here));
+  within = omega (arith, first, ap length runs);
+  made = λ i d low valid_here. absurd (false≢true (sym (ap (λ v. get_or v (i - window.first) false) valid) ∙ valid_here));
 }
 
 -- one run more is made
-pub one_made : (batch : Batch) (b : ℕ) (state : State) (old new : Window) (place : ℕ) (run : PendingRun) → IsWindowAt batch b state old
-    → place < length old.runs.items → IsPendingOf (meaning batch place state) run → new.runs.items ≡ set old.runs.items place run
-    → new.valid.items ≡ set old.valid.items place true → IsWindowAt batch b state new
-one_made batch b state old new place run at lt made runs valid =
+pub one_made : (batch : Batch) (b : ℕ) (state : State) (old new : Window) (number : ℕ) (run : PendingRun) → IsWindowAt batch b state old
+    → b ≤ number → number < end_of old → IsPendingOf (meaning batch number state) run → new.first ≡ old.first
+    → new.runs.items ≡ set old.runs.items (number - old.first) run → new.valid.items ≡ set old.valid.items (number - old.first) true
+    → IsWindowAt batch b state new
+one_made batch b state old new number run at later lt made first runs valid =
+    let begun = at.begun in
     let within = at.within in
     let flags = at.flags in
-    let here : place < length old.valid.items = omega arith in
+    let low : old.first ≤ number = omega arith in
+    let sizes = ap length runs ∙ length-set old.runs.items (number - old.first) run in
+    let flag = flag_set old new number true low (omega arith) first valid in
     record {
-      flags = ap length valid ∙ (length-set old.valid.items place true ∙ (at.flags ∙ (sym (length-set old.runs.items place run)
-          ∙ sym (ap length runs))));
-      within = let size = ap length runs ∙ length-set old.runs.items place run in omega arith;
-      made = λ i d low valid_here. elim (ℕ_discrete i place) [
-        | yes is ↦ subst (λ j. IsPendingOf (meaning batch j state) (get_or new.runs.items j d)) (sym is)
-            (subst (IsPendingOf (meaning batch place state))
-            (sym (ap (λ rs. get_or rs place d) runs ∙ get_or-set_same old.runs.items place run d lt)) made)
-        | no other ↦
-            let same = ap (λ rs. get_or rs i d) runs ∙ get_or-set_other old.runs.items place i run d other in
-            let flag = ap (λ v. get_or v i false) valid ∙ get_or-set_other old.valid.items place i true false other in
-            subst (IsPendingOf (meaning batch i state)) (sym same) (at.made i d low (sym flag ∙ valid_here))
-      ];
+      begun = omega arith;
+      flags = ap length valid ∙ (length-set old.valid.items (number - old.first) true ∙ (at.flags ∙ sym sizes));
+      within = omega arith;
+      made = λ i d from valid_here.
+          let is_set = run_set old new number run d low lt first runs in
+          elim (ℕ_discrete i number) [
+            | yes is ↦ subst (λ j. IsPendingOf (meaning batch j state) (run_at new j d)) (sym is)
+                (subst (IsPendingOf (meaning batch number state)) (sym is_set.0) made)
+            | no other ↦ subst (IsPendingOf (meaning batch i state)) (sym (is_set.1 i (omega arith) other))
+                (at.made i d from (sym (flag.1 i (omega arith) other) ∙ valid_here))
+          ];
     }
+
+-- a flag that isn't set changes none
+pushed_flag : (flags : List Bool) (k : ℕ) → get_or (flags ++ false ∷ []) k false ≡ get_or flags k false
+pushed_flag flags k = elim (dec_le (length flags) k) [
+  | no before ↦ get_or-append flags (false ∷ []) false k (omega arith)
+  | yes le ↦ elim (ℕ_discrete k (length flags)) [
+    | yes last ↦ ap (λ n. get_or (flags ++ false ∷ []) n false) last
+        ∙ (get_or-append_seam flags false [] false ∙ sym (get_or_past flags k false le))
+    | no beyond ↦
+        let size = length_push flags false in
+        get_or_past (flags ++ false ∷ []) k false (omega arith) ∙ sym (get_or_past flags k false le)
+  ]
+]
 
 -- one place more, whose run is still to be made
 pub reached_more : (batch : Batch) (b : ℕ) (state : State) (old new : Window) (run : PendingRun) → IsWindowAt batch b state old
-    → length old.runs.items < length (blocks_of batch) → new.runs.items ≡ old.runs.items ++ run ∷ []
+    → end_of old < length (blocks_of batch) → new.first ≡ old.first → new.runs.items ≡ old.runs.items ++ run ∷ []
     → new.valid.items ≡ old.valid.items ++ false ∷ [] → IsWindowAt batch b state new × HasGrown b old new
-    × ((i : ℕ) → get_or new.valid.items i false ≡ get_or old.valid.items i false)
-reached_more batch b state old new run at room runs valid =
+    × ((i : ℕ) → flag_at new i ≡ flag_at old i)
+reached_more batch b state old new run at room first runs valid =
+    let begun = at.begun in
     let flags = at.flags in
     let more = ap length runs ∙ length_push old.runs.items run in
-    let flag : (i : ℕ) → get_or new.valid.items i false ≡ get_or old.valid.items i false = λ i.
-    ap (λ v. get_or v i false) valid ∙ elim (dec_le (length old.valid.items) i) [
-      | no before ↦ get_or-append old.valid.items (false ∷ []) false i (omega arith)
-      | yes le ↦ elim (ℕ_discrete i (length old.valid.items)) [
-        | yes last ↦ ap (λ n. get_or (old.valid.items ++ false ∷ []) n false) last
-            ∙ (get_or-append_seam old.valid.items false [] false ∙ sym (get_or_past old.valid.items i false le))
-        | no beyond ↦
-            let size = length_push old.valid.items false in
-            get_or_past (old.valid.items ++ false ∷ []) i false (omega arith) ∙ sym (get_or_past old.valid.items i false le)
-      ]
-    ] in
-    let same : (i : ℕ) (d : PendingRun) → i < length old.runs.items → get_or new.runs.items i d ≡ get_or old.runs.items i d = λ i d lt.
-    ap (λ rs. get_or rs i d) runs ∙ get_or-append old.runs.items (run ∷ []) d i lt in (
+    let flag : (i : ℕ) → flag_at new i ≡ flag_at old i = λ i. flag_read old new (old.valid.items ++ false ∷ []) i first valid
+    ∙ pushed_flag old.valid.items (i - old.first) in
+    let same : (i : ℕ) (d : PendingRun) → old.first ≤ i → i < end_of old → run_at new i d ≡ run_at old i d = λ i d from lt.
+    run_read old new (old.runs.items ++ run ∷ []) i d first runs
+    ∙ get_or-append old.runs.items (run ∷ []) d (i - old.first) (omega arith) in (
       record {
+        begun = omega arith;
         flags = ap length valid ∙ (length_push old.valid.items false ∙ (ap (λ n. n + 1) at.flags ∙ sym more));
         within = omega arith;
         made = λ i d low valid_here.
             let was = sym (flag i) ∙ valid_here in
-            elim (dec_le (length old.valid.items) i) [
-              | yes le ↦ absurd (false≢true (sym (get_or_past old.valid.items i false le) ∙ was))
-              | no before ↦ subst (IsPendingOf (meaning batch i state)) (sym (same i d (omega arith))) (at.made i d low was)
+            elim (dec_le (end_of old) i) [
+              | yes le ↦ absurd (false≢true (sym (none_past old i flags le) ∙ was))
+              | no before ↦ subst (IsPendingOf (meaning batch i state)) (sym (same i d (omega arith) (omega arith))) (at.made i d low was)
             ];
       },
-      record { longer = omega arith; same = λ i d low lt. same i d lt; still = λ i valid_here. flag i ∙ valid_here },
+      record {
+        first = first;
+        longer = omega arith;
+        same = λ i d from low lt. same i d from lt;
+        still = λ i from valid_here. flag i ∙ valid_here;
+      },
       flag,
     )
 
--- from a later place on the runs are pending, too
+-- from a later number on the runs are pending, too
 pub later_window : (batch : Batch) (a b : ℕ) (state : State) (window : Window) → a ≤ b → IsWindowAt batch a state window
     → IsWindowAt batch b state window
 later_window batch a b state window le at = record {
+  begun = let begun = at.begun in omega arith;
   flags = at.flags;
   within = at.within;
   made = λ i d low valid. at.made i d (omega arith) valid;
 }
 
--- from the next place on they are, where the summaries of the run at this one were freed
-pub freed_window : (batch : Batch) (place : ℕ) (state : State) (old new : Window) → IsWindowAt batch place state old
-    → IsFreedAt place old new → IsWindowAt batch (place + 1) state new
-freed_window batch place state old new at freed = record {
-  flags = ap (λ v. length v.items) freed.valid ∙ (at.flags ∙ sym freed.runs);
-  within = let few = at.within in let size = freed.runs in omega arith;
-  made = λ i d low valid.
-      let other : i ≢ place = omega arith in
-      subst (IsPendingOf (meaning batch i state)) (sym (freed.others i d other))
-      (at.made i d (omega arith) (subst (λ v. get_or v.items i false ≡ true) freed.valid valid));
-}
+-- what is freed of a run changes no flag
+freed_flag : (number : ℕ) (old new : Window) (i : ℕ) → IsFreedAt number old new → flag_at new i ≡ flag_at old i
+freed_flag number old new i freed = flag_read old new old.valid.items i freed.first (ap (λ v. v.items) freed.valid)
+
+-- from the next number on they are, where the summaries of the run with this one were freed
+pub freed_window : (batch : Batch) (number : ℕ) (state : State) (old new : Window) → IsWindowAt batch number state old
+    → IsFreedAt number old new → IsWindowAt batch (number + 1) state new
+freed_window batch number state old new at freed =
+    let begun = at.begun in
+    let few = at.within in
+    let first = freed.first in
+    let size = freed.runs in
+    record {
+      begun = omega arith;
+      flags = ap (λ v. length v.items) freed.valid ∙ (at.flags ∙ sym freed.runs);
+      within = omega arith;
+      made = λ i d low valid.
+          let other : i ≢ number = omega arith in
+          subst (IsPendingOf (meaning batch i state)) (sym (freed.others i d (omega arith) other))
+          (at.made i d (omega arith) (sym (freed_flag number old new i freed) ∙ valid));
+    }
 
 -- what is freed of a run changes nothing before it, nor which runs are valid
-pub freed_grown : (b place : ℕ) (old new : Window) → b ≤ place → IsFreedAt place old new → HasGrown b old new
-freed_grown b place old new le freed = record {
+pub freed_grown : (b number : ℕ) (old new : Window) → b ≤ number → IsFreedAt number old new → HasGrown b old new
+freed_grown b number old new le freed = record {
+  first = freed.first;
   longer = let size = freed.runs in omega arith;
-  same = λ i d lt inside. freed.others i d (let other : i ≢ place = omega arith in other);
-  still = λ i valid. subst (λ v. get_or v.items i false ≡ true) (sym freed.valid) valid;
-}
-
--- one run more has only its record left
-pub settled_more : (upto place : ℕ) (first old new : Window) (run : PendingRun) → AreSettled upto first old → place < upto
-    → place < length old.runs.items → new.valid ≡ old.valid → new.runs.items ≡ set old.runs.items place run
-    → ((d : PendingRun) → run.tree ≡ (get_or old.runs.items place d).tree) → AreSettled upto first new
-settled_more upto place first old new run so_far low inside valid runs tree = record {
-  valid = valid ∙ so_far.valid;
-  runs = ap length runs ∙ (length-set old.runs.items place run ∙ so_far.runs);
-  trees = λ i d. elim (ℕ_discrete i place) [
-    | yes is ↦
-        ap (λ (r : PendingRun). r.tree) (ap (λ rs. get_or rs i d) runs ∙ (ap (λ j. get_or (set old.runs.items place run) j d) is
-        ∙ get_or-set_same old.runs.items place run d inside))
-        ∙ (tree d ∙ (ap (λ j. (get_or old.runs.items j d).tree) (sym is) ∙ so_far.trees i d))
-    | no other ↦ ap (λ (r : PendingRun). r.tree) (ap (λ rs. get_or rs i d) runs ∙ get_or-set_other old.runs.items place i run d other)
-        ∙ so_far.trees i d
-  ];
-  others = λ i d beyond.
-      ap (λ rs. get_or rs i d) runs
-      ∙ (get_or-set_other old.runs.items place i run d (λ is. absurd (omega (arith, is))) ∙ so_far.others i d beyond);
+  same = λ i d from lt inside. freed.others i d from (let other : i ≢ number = omega arith in other);
+  still = λ i from valid. freed_flag number old new i freed ∙ valid;
 }
 
 -- one run more is put in its place
-pub put_grown : (b : ℕ) (old new : Window) (place : ℕ) (run : PendingRun) → b ≤ place → place < length old.valid.items
-    → new.runs.items ≡ set old.runs.items place run → new.valid.items ≡ set old.valid.items place true → HasGrown b old new
-put_grown b old new place run low inside runs valid = record {
-  longer = omega (arith, ap length runs, length-set old.runs.items place run);
-  same = λ i d lt within. ap (λ rs. get_or rs i d) runs
-      ∙ get_or-set_other old.runs.items place i run d (λ is. absurd (omega (arith, is, lt, low)));
-  still = λ i was. elim (ℕ_discrete i place) [
-    | yes is ↦ ap (λ v. get_or v i false) valid ∙ (ap (λ j. get_or (set old.valid.items place true) j false) is
-        ∙ get_or-set_same old.valid.items place true false inside)
-    | no other ↦ ap (λ v. get_or v i false) valid ∙ (get_or-set_other old.valid.items place i true false other ∙ was)
-  ];
-}
+pub put_grown : (b : ℕ) (old new : Window) (number : ℕ) (run : PendingRun) → b ≤ number → old.first ≤ number
+    → number < old.first + length old.valid.items → number < end_of old → new.first ≡ old.first
+    → new.runs.items ≡ set old.runs.items (number - old.first) run → new.valid.items ≡ set old.valid.items (number - old.first) true
+    → HasGrown b old new
+put_grown b old new number run later low flagged inside first runs valid =
+    let flag = flag_set old new number true low flagged first valid in
+    record {
+      first = first;
+      longer = omega (arith, ap length runs, length-set old.runs.items (number - old.first) run);
+      same = λ i d from lt within. (run_set old new number run d low inside first runs).1 i from
+          (λ is. absurd (omega (arith, is, lt, later)));
+      still = λ i from was. elim (ℕ_discrete i number) [
+        | yes is ↦ ap (flag_at new) is ∙ flag.0
+        | no other ↦ flag.1 i from other ∙ was
+      ];
+    }
 
 -- what holds of each number of a list holds of one that is in it
 pub all_times : (P : ℕ → Type 0) (xs : List ℕ) (i : ℕ) → All P xs → 0 < times i xs → P i
@@ -175,10 +250,10 @@ pub some_made : (i : ℕ) (made : List NumberedRun) → 0 < times i (numbers_of 
 some_made i [] some = absurd (omega arith)
 some_made i (m ∷ made) some = omega arith
 
--- a number that isn't valid is missing
+-- a number whose run isn't valid is missing
 pub one_missing : (window : Window) (from place : ℕ) (numbers own more : List ℕ) → from ≤ place → AreMissing window from place numbers
     → more ≡ numbers ++ own → ((i : ℕ) → i ≢ place → times i own ≡ 0)
-    → times place own ≡ still_to_be_made (get_or window.valid.items place false) → length own ≤ 1
+    → times place own ≡ still_to_be_made (flag_at window place) → length own ≤ 1
     → AreMissing window from (place + 1) more
 one_missing window from place numbers own more ordered so_far is elsewhere here few =
     let split : (i : ℕ) → times i more ≡ times i numbers + times i own = λ i. ap (times i) is ∙ times-append i numbers own in
@@ -191,7 +266,7 @@ one_missing window from place numbers own more ordered so_far is elsewhere here 
         | yes is_here ↦
             let s = split place in
             let old = so_far.beyond place (omega arith) in
-            subst (λ j. times j more ≡ still_to_be_made (get_or window.valid.items j false)) is_here
+            subst (λ j. times j more ≡ still_to_be_made (flag_at window j)) is_here
             (let same : times place more ≡ times place own = omega arith in same ∙ here)
         | no other ↦
             let s = split i in
@@ -232,11 +307,11 @@ valid_or_missing : (flag : Bool) (told : ℕ) → told ≡ still_to_be_made flag
 valid_or_missing true told is = inl refl
 valid_or_missing false told is = inr (omega arith)
 
-pub none_left : (b : ℕ) (old new : Window) (from upto : ℕ) (numbers : List ℕ) → AreMissing old from upto numbers → HasGrown b old new
-    → All (IsValid new) numbers → AllValid new from upto
-none_left b old new from upto numbers are grown made i low high =
-    elim (valid_or_missing (get_or old.valid.items i false) (times i numbers) (are.each i low high)) [
-      | inl valid ↦ grown.still i valid
+pub none_left : (b : ℕ) (old new : Window) (from upto : ℕ) (numbers : List ℕ) → old.first ≤ from → AreMissing old from upto numbers
+    → HasGrown b old new → All (IsValid new) numbers → AllValid new from upto
+none_left b old new from upto numbers begun are grown made i low high =
+    elim (valid_or_missing (flag_at old i) (times i numbers) (are.each i low high)) [
+      | inl valid ↦ grown.still i (omega arith) valid
       | inr some ↦ all_times (IsValid new) numbers i made some
     ]
 
@@ -246,37 +321,118 @@ take_sizes n xs ys same = elim (dec_le n (length xs)) [
   | no over ↦ ap length (take_all n xs (omega arith)) ∙ (same ∙ sym (ap length (take_all n ys (omega arith))))
 ]
 
-take_less : {A : Type 0} (n : ℕ) (xs : List A) → length (take n xs) ≤ length xs
+take_less : {A : Type 0} (n : ℕ) (xs : List A) → (length (take n xs) ≤ length xs) × (length (take n xs) ≤ n)
 take_less n xs = elim (dec_le n (length xs)) [
-  | yes le ↦ let size = length-take-le n xs le in omega arith
-  | no over ↦ let size = ap length (take_all n xs (omega arith)) in omega arith
+  | yes le ↦ let size = length-take-le n xs le in (omega arith, omega arith)
+  | no over ↦ let size = ap length (take_all n xs (omega arith)) in (omega arith, omega arith)
 ]
+
+module _ (end_ : ℕ) (old new : Window) (short : IsShortened end_ old new)
+    (flags : length old.valid.items ≡ length old.runs.items) where
+  -- the window reaches no further than before, nor than to the end
+  pub shorter : (end_of new ≤ end_of old) × (old.first ≤ end_ → end_of new ≤ end_)
+  shorter =
+      let first = short.first in
+      let size = ap length short.runs in
+      let less = take_less (end_ - old.first) old.runs.items in
+      let fewer = less.0 in
+      let few = less.1 in
+      (omega arith, λ low. omega arith)
+
+  short_flags : length new.valid.items ≡ length new.runs.items
+  short_flags = ap length short.valid ∙ (take_sizes (end_ - old.first) old.valid.items old.runs.items flags ∙ sym (ap length short.runs))
+
+  -- the flags before the end stay, and there are no later ones
+  pub short_flag : (i : ℕ) → old.first ≤ i → (i < end_ → flag_at new i ≡ flag_at old i) × (end_ ≤ i → flag_at new i ≡ false)
+  short_flag i low = (
+    λ lt. flag_read old new (take (end_ - old.first) old.valid.items) i short.first short.valid
+        ∙ get_or-take (end_ - old.first) old.valid.items (i - old.first) false (omega arith),
+    λ past.
+        let less = (take_less (end_ - old.first) old.valid.items).1 in
+        flag_read old new (take (end_ - old.first) old.valid.items) i short.first short.valid
+        ∙ get_or_past (take (end_ - old.first) old.valid.items) (i - old.first) false (omega arith),
+  )
+
+  -- so do the runs
+  pub short_run : (i : ℕ) (d : PendingRun) → old.first ≤ i → i < end_ → run_at new i d ≡ run_at old i d
+  short_run i d low lt = run_read old new (take (end_ - old.first) old.runs.items) i d short.first short.runs
+      ∙ get_or-take (end_ - old.first) old.runs.items (i - old.first) d (omega arith)
 
 -- the first runs alone
 pub shortened : (batch : Batch) (b : ℕ) (state : State) (old new : Window) (end_ : ℕ) → IsWindowAt batch b state old
-    → new.runs.items ≡ take end_ old.runs.items → new.valid.items ≡ take end_ old.valid.items → IsWindowAt batch b state new
-shortened batch b state old new end_ at runs valid = record {
-  flags = ap length valid ∙ (take_sizes end_ old.valid.items old.runs.items at.flags ∙ sym (ap length runs));
-  within = let few = at.within in omega (arith, few, ap length runs, take_less end_ old.runs.items);
-  made = λ i d low valid_here. elim (dec_le end_ i) [
-    | yes beyond ↦
-        let size : length (take end_ old.valid.items) ≤ i = elim (dec_le end_ (length old.valid.items)) [
-          | yes le ↦ let is = length-take-le end_ old.valid.items le in omega arith
-          | no over ↦ let is = ap length (take_all end_ old.valid.items (omega arith)) in omega arith
-        ] in
-        absurd (false≢true (sym (ap (λ v. get_or v i false) valid ∙ get_or_past (take end_ old.valid.items) i false size) ∙ valid_here))
-    | no before ↦
-        let lt : i < end_ = omega arith in
-        subst (IsPendingOf (meaning batch i state)) (sym (ap (λ rs. get_or rs i d) runs ∙ get_or-take end_ old.runs.items i d lt))
-        (at.made i d low (sym (ap (λ v. get_or v i false) valid ∙ get_or-take end_ old.valid.items i false lt) ∙ valid_here))
-  ];
-}
+    → IsShortened end_ old new → IsWindowAt batch b state new
+shortened batch b state old new end_ at short =
+    let begun = at.begun in
+    let few = at.within in
+    let first = short.first in
+    let less = (shorter end_ old new short at.flags).0 in
+    record {
+      begun = omega arith;
+      flags = short_flags end_ old new short at.flags;
+      within = omega arith;
+      made = λ i d low valid_here.
+          let flag = short_flag end_ old new short at.flags i (omega arith) in
+          elim (dec_le end_ i) [
+            | yes beyond ↦ absurd (false≢true (sym (flag.1 beyond) ∙ valid_here))
+            | no before ↦ subst (IsPendingOf (meaning batch i state))
+                (sym (short_run end_ old new short at.flags i d (omega arith) (omega arith)))
+                (at.made i d low (sym (flag.0 (omega arith)) ∙ valid_here))
+          ];
+    }
 
--- as many runs stay as were committed
-pub reached_still : (old new : Window) (b end_ : ℕ) → b ≤ length old.runs.items → b ≤ end_ → new.runs.items ≡ take end_ old.runs.items
-    → b ≤ length new.runs.items
-reached_still old new b end_ all low runs = elim (dec_le end_ (length old.runs.items)) [
-  | yes le ↦ omega (arith, ap length runs, length-take-le end_ old.runs.items le)
-  | no over ↦ let over' : length old.runs.items ≤ end_ = omega arith in
-      omega (arith, ap length runs, ap length (take_all end_ old.runs.items over'))
-]
+module _ (batch : Batch) (end_ count : ℕ) (old settled new : Window) (before after : List Record)
+    (all : count ≡ length (blocks_of batch)) (done : AreSettled end_ old settled before after)
+    (short : IsShortened count settled new) (low : end_ ≤ count) where
+  -- where the first runs are committed, and those past the last transaction dropped, the same runs are valid as before
+  pub settled_flag : (state : State) → IsWindowAt batch end_ state old → (i : ℕ) → end_ ≤ i → flag_at new i ≡ flag_at old i
+  settled_flag state at i from =
+      let first = done.first in
+      let few = at.within in
+      let flag = short_flag count settled new short done.flags i (omega arith) in
+      elim (dec_le count i) [
+        | yes past ↦ flag.1 past ∙ sym (none_past old i at.flags (omega arith))
+        | no within ↦ flag.0 (omega arith) ∙ done.valid i from
+      ]
+
+  -- they are still those of their transactions
+  pub settled_window : (state : State) → IsWindowAt batch end_ state old → IsWindowAt batch new.first state new
+  settled_window state at =
+      let first = done.first in
+      let same = short.first in
+      let few = at.within in
+      let less = (shorter count settled new short done.flags).1 (omega arith) in
+      record {
+        begun = omega arith;
+        flags = short_flags count settled new short done.flags;
+        within = omega arith;
+        made = λ i d from valid_here.
+            let was = sym (settled_flag state at i (omega arith)) ∙ valid_here in
+            elim (dec_le (end_of old) i) [
+              | yes past ↦ absurd (false≢true (sym (none_past old i at.flags past) ∙ was))
+              | no within ↦ subst (IsPendingOf (meaning batch i state))
+                  (sym (short_run count settled new short done.flags i d (omega arith) (omega arith)
+                  ∙ done.same i d (omega arith) (omega arith)))
+                  (at.made i d (omega arith) was)
+            ];
+      }
+
+-- an opening stays one with another window that begins at the same number
+pub other_window : (batch : Batch) (old new : Opening) → IsOpening batch old → new.objects ≡ old.objects → new.records ≡ old.records
+    → new.reused.nets ≡ old.reused.nets → new.rounds ≡ old.rounds → new.window.first ≡ old.window.first
+    → IsWindowAt batch old.window.first old.objects new.window → IsOpening batch new
+other_window batch old new at objects records nets rounds first window =
+    let within = at.within in
+    let few = at.few_rounds in
+    let start = start_of batch in
+    let blocks = blocks_of batch in
+    record {
+      within = omega arith;
+      objects = objects ∙ (at.objects ∙ ap (state_at start blocks) (sym first));
+      window = subst (λ b. IsWindowAt batch b new.objects new.window) (sym first)
+          (subst (λ s. IsWindowAt batch old.window.first s new.window) (sym objects) window);
+      cleared = nets ∙ at.cleared;
+      committed = ap (λ rs. map record_view rs.items) records ∙ (at.committed ∙ ap (shown_from start blocks 0) (sym first));
+      few_rounds = omega arith;
+      all_rounds = λ more from. subst (λ n. Rounds start blocks (n + more)) (sym rounds)
+          (at.all_rounds more (subst (λ b. RoundsFrom start blocks b more) first from));
+    }

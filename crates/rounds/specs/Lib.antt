@@ -1,5 +1,4 @@
 pub mod Views
-pub mod Spans
 pub mod Passes
 pub mod PendingRuns
 pub mod Desks

@@ -12,7 +12,7 @@ use Rattle.claims.specs.Views.{times}
 use Rattle.committed.specs.Summaries.{entries_of, IsSummary}
 use Rattle.committed.specs.declared.marks.MarkedEntry.{MarkedEntry}
 use Rattle.objects.specs.declared.entry.Entry.{Entry}
-use Rattle.rounds.specs.Spans.{AreIn}
+use Rattle.committed.specs.Spans.{AreIn}
 use Rattle.rounds.specs.Views.{meaning}
 use Rattle.rounds.specs.declared.pending_run.PendingRun.{PendingRun}
 use Rattle.rounds.specs.declared.pending_run.Sums.{Sums}

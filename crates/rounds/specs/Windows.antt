@@ -1,41 +1,60 @@
 -- Openings, with the runs that the rounds have come to. No public contract names it.
-use Rattle.std.specs.Prelude.{◌≡◌, ◌≢◌, ◌⊎◌, ℕ, ◌-◌, ◌+◌, ◌<◌, ◌≤◌, Bool, true, false, List, [], ◌++◌, suc, length, take, slice_index_or}
+use Rattle.std.specs.Prelude.{◌≡◌, ◌≢◌, ◌⊎◌, ℕ, ◌-◌, ◌+◌, ◌<◌, ◌≤◌, Bool, true, false, List, [], ◌++◌, suc, length, take, drop, map}
+use Rattle.std.specs.Prelude.{set, slice_index_or}
 use Rattle.objects.specs.Entries.{State}
 use Rattle.objects.specs.declared.entry.Entry.{Entry}
 use Rattle.objects.specs.Entries.{AllCommute}
 use Rattle.meaning.specs.Records.{Taken, entries}
 use Rattle.meaning.specs.OneThread.{Run as OneRun, record_of}
-use Rattle.meaning.specs.Batch.{state_at, alone, answer, nets, shown_of}
+use Rattle.meaning.specs.Batch.{state_at, alone, answer, nets, shown_from}
 use Rattle.meaning.specs.Rounds.{Keeps, AllKeep, IsNextOpening, RoundsFrom, Rounds, CountFrom, Count}
 use Rattle.claims.specs.Views.{times}
 use Rattle.committed.specs.Summaries.{IsSummary}
 use Rattle.batch.specs.Views.{record_view}
 use Rattle.batch.specs.declared.batch.Batch.{Batch}
+use Rattle.batch.specs.declared.record.Record.{Record}
 use Rattle.rounds.specs.Views.{start_of, blocks_of, meaning}
 use Rattle.rounds.specs.PendingRuns.{IsCommittable, IsPendingOf, HoldsPast}
 use Rattle.rounds.specs.declared.check.Seen.{Seen}
+use Rattle.rounds.specs.declared.make.NumberedRun.{NumberedRun}
 use Rattle.rounds.specs.declared.pending_run.PendingRun.{PendingRun}
 use Rattle.rounds.specs.declared.window.Window.{Window}
 use Rattle.rounds.specs.declared.openings.Opening.{Opening}
 
--- run i is one on the objects of the opening
+-- the run of transaction i, which isn't before the first of the window
+abbrev pub run_at : Window → ℕ → PendingRun → PendingRun
+run_at window i = slice_index_or window.runs.items (i - window.first)
+
+-- whether it is one on the objects of the opening
+abbrev pub flag_at : Window → ℕ → Bool
+flag_at window i = slice_index_or window.valid.items (i - window.first) false
+
 abbrev pub IsValid : Window → ℕ → Type 0
-IsValid window i = slice_index_or window.valid.items i false ≡ true
+IsValid window i = flag_at window i ≡ true
+
+-- the number after the last run
+abbrev pub end_of : Window → ℕ
+end_of window = window.first + length window.runs.items
+
+-- the runs from one number on and before another
+abbrev pub runs_between : Window → ℕ → ℕ → List PendingRun
+runs_between window from end = take (end - from) (drop (from - window.first) window.runs.items)
 
 -- how many runs are still to be made of one that is valid or isn't
 abbrev pub still_to_be_made : Bool → ℕ
 still_to_be_made true = 0
 still_to_be_made false = 1
 
--- so are all from one place on and before another
+-- all are valid from one number on and before another
 abbrev pub AllValid : Window → ℕ → ℕ → Type 0
 AllValid window from end = (i : ℕ) → from ≤ i → i < end → IsValid window i
 
--- From number b on each valid run is the run of its transaction on this state.
+-- The runs are of transactions of the batch. From number b on each valid one is the run of its transaction on this state.
 pub record IsWindowAt (batch : Batch) (b : ℕ) (state : State) (window : Window) : Type 0 where
+  pub begun : window.first ≤ b
   pub flags : length window.valid.items ≡ length window.runs.items
-  pub within : length window.runs.items ≤ length (blocks_of batch)
-  pub made : (i : ℕ) (d : PendingRun) → b ≤ i → IsValid window i → IsPendingOf (meaning batch i state) (slice_index_or window.runs.items i d)
+  pub within : end_of window ≤ length (blocks_of batch)
+  pub made : (i : ℕ) (d : PendingRun) → b ≤ i → IsValid window i → IsPendingOf (meaning batch i state) (run_at window i d)
 
 -- a state is that of an opening, which comes no later than the number
 pub record IsOpenedBy (batch : Batch) (number : ℕ) (state : State) : Type 0 where
@@ -46,26 +65,32 @@ pub record IsOpenedBy (batch : Batch) (number : ℕ) (state : State) : Type 0 wh
 
 -- more runs were made, and those of earlier transactions and all valid ones stayed
 pub record HasGrown (b : ℕ) (old new : Window) : Type 0 where
+  pub first : new.first ≡ old.first
   pub longer : length old.runs.items ≤ length new.runs.items
-  pub same : (i : ℕ) (d : PendingRun) → i < b → i < length old.runs.items
-      → slice_index_or new.runs.items i d ≡ slice_index_or old.runs.items i d
-  pub still : (i : ℕ) → IsValid old i → IsValid new i
+  pub same : (i : ℕ) (d : PendingRun) → old.first ≤ i → i < b → i < end_of old → run_at new i d ≡ run_at old i d
+  pub still : (i : ℕ) → old.first ≤ i → IsValid old i → IsValid new i
+
+-- a run is put into the place of its number, and is valid there
+pub record IsPut (made : NumberedRun) (old new : Window) : Type 0 where
+  pub first : new.first ≡ old.first
+  pub runs : new.runs.items ≡ set old.runs.items (made.number - old.first) made.run.value
+  pub valid : new.valid.items ≡ set old.valid.items (made.number - old.first) true
 
 -- run i is valid and doesn't hold past these entries, and is listed once, or it isn't listed
 abbrev pub Told : Window → List Entry → ℕ → ℕ → PendingRun → Type 0
-Told window since i told d = ((IsValid window i → HoldsPast since (slice_index_or window.runs.items i d)) × (told ≡ 0))
-    ⊎ (IsValid window i × (¬ HoldsPast since (slice_index_or window.runs.items i d)) × (told ≡ 1))
+Told window since i told d = ((IsValid window i → HoldsPast since (run_at window i d)) × (told ≡ 0))
+    ⊎ (IsValid window i × (¬ HoldsPast since (run_at window i d)) × (told ≡ 1))
 
--- what is listed of one place: its number where its run is valid and doesn't stand past these entries, and no other number
-pub record IsFallenAt (window : Window) (since : List Entry) (place : ℕ) (numbers : List ℕ) : Type 0 where
-  pub here : (d : PendingRun) → Told window since place (times place numbers) d
-  pub elsewhere : (i : ℕ) → i ≢ place → times i numbers ≡ 0
+-- what is listed of one number: it where its run is valid and doesn't stand past these entries, and no other number
+pub record IsFallenAt (window : Window) (since : List Entry) (number : ℕ) (numbers : List ℕ) : Type 0 where
+  pub here : (d : PendingRun) → Told window since number (times number numbers) d
+  pub elsewhere : (i : ℕ) → i ≢ number → times i numbers ≡ 0
 
 -- it was added to a list
 abbrev pub IsDecided : Window → List Entry → ℕ → List ℕ → List ℕ → Type 0
-IsDecided window since place before after = (own : List ℕ) × (after ≡ before ++ own) × IsFallenAt window since place own
+IsDecided window since number before after = (own : List ℕ) × (after ≡ before ++ own) × IsFallenAt window since number own
 
--- the numbers, each once, of the valid runs from one place on and before another that don't stand past these entries
+-- the numbers, each once, of the valid runs from one number on and before another that don't stand past these entries
 pub record AreFallen (window : Window) (since : List Entry) (from upto : ℕ) (numbers : List ℕ) : Type 0 where
   pub before : (i : ℕ) → i < from → times i numbers ≡ 0
   pub beyond : (i : ℕ) → upto ≤ i → times i numbers ≡ 0
@@ -73,52 +98,62 @@ pub record AreFallen (window : Window) (since : List Entry) (from upto : ℕ) (n
 
 -- the runs of these numbers aren't valid, and all else is as before
 pub record AreStale (numbers : List ℕ) (old new : Window) : Type 0 where
+  pub first : new.first ≡ old.first
   pub runs : new.runs ≡ old.runs
   pub flags : length new.valid.items ≡ length old.valid.items
-  pub others : (i : ℕ) → times i numbers ≡ 0 → slice_index_or new.valid.items i false ≡ slice_index_or old.valid.items i false
-  pub here : (i : ℕ) → 0 < times i numbers → slice_index_or new.valid.items i false ≡ false
+  pub others : (i : ℕ) → old.first ≤ i → times i numbers ≡ 0 → flag_at new i ≡ flag_at old i
+  pub here : (i : ℕ) → old.first ≤ i → 0 < times i numbers → flag_at new i ≡ false
 
 -- a run is valid where it was and stands past these entries
 abbrev pub KeptAt : List Entry → Window → Window → ℕ → PendingRun → Type 0
-KeptAt since old new i d = (IsValid new i × HoldsPast since (slice_index_or old.runs.items i d))
-    ⊎ ((slice_index_or new.valid.items i false ≡ false) × (¬ HoldsPast since (slice_index_or old.runs.items i d)))
+KeptAt since old new i d = (IsValid new i × HoldsPast since (run_at old i d))
+    ⊎ ((flag_at new i ≡ false) × (¬ HoldsPast since (run_at old i d)))
 
--- of the runs from one place on those are valid that were and stand past these entries
+-- of the runs from one number on those are valid that were and stand past these entries
 pub record AreKept (from : ℕ) (since : List Entry) (old new : Window) : Type 0 where
+  pub first : new.first ≡ old.first
   pub runs : new.runs ≡ old.runs
   pub flags : length new.valid.items ≡ length old.valid.items
   pub valid : (i : ℕ) → from ≤ i → IsValid new i → IsValid old i
   pub each : (i : ℕ) (d : PendingRun) → from ≤ i → IsValid old i → KeptAt since old new i d
 
--- all that a round commits of the run at a place stayed, and so did all other runs
-pub record IsFreedAt (place : ℕ) (old new : Window) : Type 0 where
+-- all that a round commits of the run with a number stayed, and so did all other runs
+pub record IsFreedAt (number : ℕ) (old new : Window) : Type 0 where
+  pub first : new.first ≡ old.first
   pub valid : new.valid ≡ old.valid
   pub runs : length new.runs.items ≡ length old.runs.items
-  pub others : (i : ℕ) (d : PendingRun) → i ≢ place → slice_index_or new.runs.items i d ≡ slice_index_or old.runs.items i d
-  pub here : (meant : OneRun Taken) (d : PendingRun) → IsCommittable meant (slice_index_or old.runs.items place d)
-      → IsCommittable meant (slice_index_or new.runs.items place d)
+  pub others : (i : ℕ) (d : PendingRun) → old.first ≤ i → i ≢ number → run_at new i d ≡ run_at old i d
+  pub here : (meant : OneRun Taken) (d : PendingRun) → IsCommittable meant (run_at old number d) → IsCommittable meant (run_at new number d)
 
--- the runs before a place have only their records left
-pub record AreSettled (upto : ℕ) (old new : Window) : Type 0 where
-  pub valid : new.valid ≡ old.valid
-  pub runs : length new.runs.items ≡ length old.runs.items
-  pub trees : (i : ℕ) (d : PendingRun) → (slice_index_or new.runs.items i d).tree ≡ (slice_index_or old.runs.items i d).tree
-  pub others : (i : ℕ) (d : PendingRun) → upto ≤ i → slice_index_or new.runs.items i d ≡ slice_index_or old.runs.items i d
+-- The window begins with a number, and the records of the runs before it were added to a list. The later runs are as they were, and
+-- none past them is valid.
+pub record AreSettled (end : ℕ) (old new : Window) (before after : List Record) : Type 0 where
+  pub first : new.first ≡ end
+  pub flags : length new.valid.items ≡ length new.runs.items
+  pub pushed : after ≡ before ++ map (λ r. r.tree) (take (end - old.first) old.runs.items)
+  pub same : (i : ℕ) (d : PendingRun) → end ≤ i → i < end_of old → run_at new i d ≡ run_at old i d
+  pub valid : (i : ℕ) → end ≤ i → flag_at new i ≡ flag_at old i
 
--- the numbers, each once, of the runs from one place on and before another that aren't valid
+-- only the runs before a number are left
+pub record IsShortened (end : ℕ) (old new : Window) : Type 0 where
+  pub first : new.first ≡ old.first
+  pub runs : new.runs.items ≡ take (end - old.first) old.runs.items
+  pub valid : new.valid.items ≡ take (end - old.first) old.valid.items
+
+-- the numbers, each once, of the runs from one number on and before another that aren't valid
 pub record AreMissing (window : Window) (from upto : ℕ) (numbers : List ℕ) : Type 0 where
   pub before : (i : ℕ) → i < from → times i numbers ≡ 0
   pub beyond : (i : ℕ) → upto ≤ i → times i numbers ≡ 0
-  pub each : (i : ℕ) → from ≤ i → i < upto → times i numbers ≡ still_to_be_made (slice_index_or window.valid.items i false)
+  pub each : (i : ℕ) → from ≤ i → i < upto → times i numbers ≡ still_to_be_made (flag_at window i)
   pub few : length numbers + from ≤ upto
 
--- all transactions from b on and before a place keep, their runs can be committed, and the list sums up what they leave
-pub record IsListedTo (batch : Batch) (b place : ℕ) (window : Window) (listed : List Entry) : Type 0 where
-  pub from : b ≤ place
-  pub keep : AllKeep (start_of batch) (blocks_of batch) b place
-  pub made : (i : ℕ) (d : PendingRun) → b ≤ i → i < place
-      → IsCommittable (answer (start_of batch) (blocks_of batch) i) (slice_index_or window.runs.items i d)
-  pub nets : IsSummary listed (nets (start_of batch) (blocks_of batch) b (place - b))
+-- all transactions from b on and before a number keep, their runs can be committed, and the list sums up what they leave
+pub record IsListedTo (batch : Batch) (b end : ℕ) (window : Window) (listed : List Entry) : Type 0 where
+  pub begun : window.first ≤ b
+  pub from : b ≤ end
+  pub keep : AllKeep (start_of batch) (blocks_of batch) b end
+  pub made : (i : ℕ) (d : PendingRun) → b ≤ i → i < end → IsCommittable (answer (start_of batch) (blocks_of batch) i) (run_at window i d)
+  pub nets : IsSummary listed (nets (start_of batch) (blocks_of batch) b (end - b))
 
 -- a block was checked up to its end or to the first conflict, from where on the runs are still pending
 pub record IsBlockSeen (batch : Batch) (b end : ℕ) (window : Window) (nets : List Entry) (seen : Seen) : Type 0 where
@@ -135,20 +170,18 @@ pub record IsRoundSeen (batch : Batch) (b : ℕ) (window : Window) (nets : List 
   pub pending : IsWindowAt batch seen.first (state_at (start_of batch) (blocks_of batch) b) window
   pub upto : seen.upto ≤ length nets
   pub listed : IsListedTo batch b seen.first window (take seen.upto nets)
-  pub reached : seen.first ≤ length window.runs.items
+  pub reached : seen.first ≤ end_of window
 
--- What is at hand at an opening: the objects are those after the first transactions, whose records are those of one thread. The
--- list that the next round uses again is empty.
+-- What is at hand at an opening: the objects are those after the transactions before the window, whose records are those of one
+-- thread. The list that the next round uses again is empty.
 pub record IsOpening (batch : Batch) (at : Opening) : Type 0 where
-  pub within : at.opened ≤ length (blocks_of batch)
-  pub objects : at.objects ≡ state_at (start_of batch) (blocks_of batch) at.opened
-  pub window : IsWindowAt batch at.opened at.objects at.window
+  pub within : at.window.first ≤ length (blocks_of batch)
+  pub objects : at.objects ≡ state_at (start_of batch) (blocks_of batch) at.window.first
+  pub window : IsWindowAt batch at.window.first at.objects at.window
   pub cleared : at.reused.nets ≡ []
-  pub reached : at.opened ≤ length at.window.runs.items
-  pub committed : (i : ℕ) (d : PendingRun) → i < at.opened
-      → record_view (slice_index_or at.window.runs.items i d).tree ≡ shown_of (answer (start_of batch) (blocks_of batch) i)
-  pub few_rounds : at.rounds ≤ at.opened
-  pub all_rounds : (more : ℕ) → RoundsFrom (start_of batch) (blocks_of batch) at.opened more
+  pub committed : map record_view at.records.items ≡ shown_from (start_of batch) (blocks_of batch) 0 at.window.first
+  pub few_rounds : at.rounds ≤ at.window.first
+  pub all_rounds : (more : ℕ) → RoundsFrom (start_of batch) (blocks_of batch) at.window.first more
       → Rounds (start_of batch) (blocks_of batch) (at.rounds + more)
 
 -- the entries of transaction i, run at opening b, commute forward with all that the round from b to m commits
@@ -157,11 +190,12 @@ Stands batch b m i = AllCommute (entries (record_of (alone (start_of batch) (blo
 
 -- A round leads from one opening to the next. Of the valid runs that it doesn't commit those stay so that hold past what it did.
 pub record IsRound (batch : Batch) (old new : Opening) : Type 0 where
-  pub next : IsNextOpening (start_of batch) (blocks_of batch) old.opened new.opened
-  pub on : old.opened < new.opened
+  pub next : IsNextOpening (start_of batch) (blocks_of batch) old.window.first new.window.first
+  pub on : old.window.first < new.window.first
   pub one : new.rounds ≡ old.rounds + 1
-  pub kept : (i : ℕ) → new.opened ≤ i → IsValid old.window i → (IsValid new.window i × Stands batch old.opened new.opened i)
-      ⊎ ((slice_index_or new.window.valid.items i false ≡ false) × (¬ Stands batch old.opened new.opened i))
+  pub kept : (i : ℕ) → new.window.first ≤ i → IsValid old.window i
+      → (IsValid new.window i × Stands batch old.window.first new.window.first i)
+      ⊎ ((flag_at new.window i ≡ false) × (¬ Stands batch old.window.first new.window.first i))
 
 -- How often each run was made. Those of an opening that aren't valid count where they are made.
 pub record AreCountsAt (batch : Batch) (b rounds : ℕ) (window : Window) (counts : List ℕ) : Type 0 where
@@ -169,4 +203,12 @@ pub record AreCountsAt (batch : Batch) (b rounds : ℕ) (window : Window) (count
   pub few : (i : ℕ) → slice_index_or counts i 0 ≤ rounds
   pub committed : (i : ℕ) → i < b → Count (start_of batch) (blocks_of batch) i (slice_index_or counts i 0)
   pub pending : (i more : ℕ) → b ≤ i → i < length (blocks_of batch) → CountFrom (start_of batch) (blocks_of batch) i b (suc more)
-      → Count (start_of batch) (blocks_of batch) i (slice_index_or counts i 0 + still_to_be_made (slice_index_or window.valid.items i false) + more)
+      → Count (start_of batch) (blocks_of batch) i (slice_index_or counts i 0 + still_to_be_made (flag_at window i) + more)
+
+-- so it is with the runs of the window at an opening
+abbrev pub AreCountsOn : Batch → Opening → ℕ → List ℕ → Type 0
+AreCountsOn batch at rounds counts = AreCountsAt batch at.window.first rounds at.window counts
+
+-- each transaction that isn't committed has a valid run
+abbrev pub AllPending : Batch → Opening → Type 0
+AllPending batch at = AllValid at.window at.window.first (length (blocks_of batch))

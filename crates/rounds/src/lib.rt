@@ -12,11 +12,10 @@ mod openings;
 mod pending_run;
 mod reused;
 mod seek;
-mod span;
 mod window;
 
 pub use batch::{Batch, Outcome, Record};
 pub use check::first_conflict;
 pub use openings::{execute, execute_ahead};
-pub use plan::{MAX_CUT, MAX_WORKERS, Plan};
+pub use plan::Plan;
 pub use speculate::{Entry, Gate, NoGate, NoMemory, Objects, Progress, Run};

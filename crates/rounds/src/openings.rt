@@ -9,12 +9,11 @@ ghost use Rattle.batch.specs.declared.batch.Batch.{Batch as OneBatch};
 ghost use Rattle.claims.specs.Views.{times};
 ghost use Rattle.rounds.specs.Views.{start_of, blocks_of};
 ghost use Rattle.rounds.specs.Openings.{AreCounts};
-ghost use Rattle.rounds.specs.Windows.{AllValid, IsOpening, IsRound, AreCountsAt};
+ghost use Rattle.rounds.specs.Windows.{IsOpening, IsRound, AreCountsOn, AllPending};
 ghost use Rattle.meaning.specs.declared.limits.TheConstants.{MAX_OBJECTS, MAX_TRANSACTIONS};
 
 use crate::committing::commit;
 use crate::crew::Crew;
-use crate::pending_run::PendingRun;
 use crate::reused::Reused;
 use crate::seek::seek;
 use crate::window::Window;
@@ -34,30 +33,14 @@ fn no_counts(alloc: Global, count: usize) -> Result<Vec<u32>, NoMemory>
     Ok(counts)
 }
 
-// The records of runs.
-fn records_of(alloc: Global, runs: Vec<PendingRun>) -> Result<Vec<Record>, NoMemory>
-    ensures { IfOk result (λ records. records.items ≡ map (λ r. r.tree) runs.items) }
-{
-    let mut records = Vec::with_capacity(alloc, runs.len())?;
-    for made in runs {
-        let PendingRun {
-            tree,
-            sums: _,
-            net: _,
-            span: _,
-        } = made;
-        records.push(tree)?;
-    }
-    Ok(records)
-}
-
-// An opening: the objects, the runs, and how many transactions are committed.
+// An opening: the objects, the records of the transactions that are committed, and runs of the
+// others.
 #[derive(Drop)]
 struct Opening {
     objects: Objects,
+    records: Vec<Record>,
     window: Window,
     reused: Reused,
-    opened: usize,
     // How many runs the next round looks at first, and how many entries it is expected to list.
     ahead: usize,
     listed: usize,
@@ -68,13 +51,14 @@ struct Opening {
 // pieces for each worker first.
 fn begin(alloc: Global, batch: &Batch, plan: Plan) -> Result<Opening, NoMemory>
     ensures opening { IfOk result (IsOpening batch.now) }
-    ensures first { IfOk result (λ at. (at.opened ≡ 0) × (at.rounds ≡ 0) × (at.window.valid.items ≡ [])) }
+    ensures first { IfOk result (λ at. (at.window.first ≡ 0) × (at.rounds ≡ 0)) }
+    ensures none { IfOk result (λ at. at.window.valid.items ≡ []) }
 {
     Ok(Opening {
         objects: batch.objects.copy()?,
+        records: Vec::with_capacity(alloc, batch.transactions.len())?,
         window: Window::new(alloc),
         reused: Reused::new(alloc, batch),
-        opened: 0,
         ahead: 2 * plan.workers as usize * plan.cut as usize,
         listed: 0,
         rounds: 0,
@@ -88,11 +72,11 @@ fn round<R: Threads + Sync, G: Gate>(
     at: &mut Opening,
 ) -> Result<(), NoMemory>
     requires at { IsOpening batch.now at.old }
-    requires going { at.old.opened < length batch.now.transactions.items }
+    requires going { at.old.window.first < length batch.now.transactions.items }
     ensures at { OnOk result (IsOpening batch.now at.new) }
     ensures round { OnOk result (IsRound batch.now at.old at.new) }
 {
-    let opened = at.opened;
+    let opened = at.window.first;
     let ahead = at.ahead.max(1);
     at.reused.nets.expect(at.listed)?;
     let seen = seek(
@@ -109,15 +93,15 @@ fn round<R: Threads + Sync, G: Gate>(
         crew,
         batch,
         opened,
-        &at.window.runs[opened..first],
+        at.window.between(opened, first),
         &mut at.objects,
     )?;
-    at.window.settle(crew.alloc, opened, first);
     at.window.keep(crew, first, &at.reused.nets, seen.upto)?;
+    at.window.settle(crew.alloc, first, &mut at.records)?;
+    at.window.shorten(batch.transactions.len());
     at.reused.nets.clear();
     at.ahead = (first - opened).saturating_mul(2);
     at.listed = seen.upto;
-    at.opened = first;
     at.rounds += 1;
     crew.gate.ended(&Progress {
         round: at.rounds,
@@ -131,9 +115,9 @@ fn round<R: Threads + Sync, G: Gate>(
 // Drops the runs that the next round doesn't look at first, so that it hasn't to decide about them.
 fn drop_later(at: &mut Opening)
     ensures at { (batch : OneBatch) → IsOpening batch at.old → IsOpening batch at.new }
-    ensures same { at.new.opened ≡ at.old.opened }
+    ensures same { at.new.window.first ≡ at.old.window.first }
 {
-    let end = at.opened.saturating_add(at.ahead);
+    let end = at.window.first.saturating_add(at.ahead);
     at.window.shorten(end);
 }
 
@@ -157,41 +141,43 @@ fn make_rest<R: Threads + Sync, G: Gate>(
     counts: &mut Vec<u32>,
 ) -> Result<(), NoMemory>
     requires at { IsOpening batch.now at.old }
-    requires counts { AreCountsAt batch.now at.old.opened at.old.rounds at.old.window counts.old.items }
+    requires counts { AreCountsOn batch.now at.old at.old.rounds counts.old.items }
     ensures at { OnOk result (IsOpening batch.now at.new) }
-    ensures same { OnOk result ((at.new.opened ≡ at.old.opened) × (at.new.rounds ≡ at.old.rounds)) }
-    ensures valid { OnOk result (AllValid at.new.window at.old.opened (length (blocks_of batch.now))) }
-    ensures counts { OnOk result (AreCountsAt batch.now at.old.opened (at.old.rounds + 1) at.new.window counts.new.items) }
+    ensures same { OnOk result (at.new.window.first ≡ at.old.window.first) }
+    ensures rounds { OnOk result (at.new.rounds ≡ at.old.rounds) }
+    ensures valid { OnOk result (AllPending batch.now at.new) }
+    ensures counts { OnOk result (AreCountsOn batch.now at.new (at.old.rounds + 1) counts.new.items) }
 {
     let all = batch.transactions.len();
+    let opened = at.window.first;
     at.window
-        .reach(crew.alloc, batch, at.opened, &at.objects, all)?;
+        .reach(crew.alloc, batch, opened, &at.objects, all)?;
     let made = at
         .window
-        .make_missing(crew, batch, &at.objects, at.opened, all)?;
+        .make_missing(crew, batch, &at.objects, opened, all)?;
     count(&made, counts);
     Ok(())
 }
 
 // What there is at the last opening, with these run counts.
-fn outcome_of(alloc: Global, at: Opening, runs: Vec<u32>) -> Result<Outcome, NoMemory>
-    ensures records { IfOk result (λ o. o.records.items ≡ map (λ r. r.tree) at.window.runs.items) }
-    ensures objects { IfOk result (λ o. o.objects ≡ at.objects) }
-    ensures rounds { IfOk result (λ o. o.rounds ≡ at.rounds) }
-    ensures runs { IfOk result (λ o. o.runs ≡ runs) }
+fn outcome_of(at: Opening, runs: Vec<u32>) -> Outcome
+    ensures records { result.records ≡ at.records }
+    ensures objects { result.objects ≡ at.objects }
+    ensures rounds { result.rounds ≡ at.rounds }
+    ensures runs { result.runs ≡ runs }
 {
     let Opening {
         objects,
-        window,
+        records,
         rounds,
         ..
     } = at;
-    Ok(Outcome {
-        records: records_of(alloc, window.runs)?,
+    Outcome {
+        records,
         objects,
         rounds,
         runs,
-    })
+    }
 }
 
 /// Runs a batch in rounds. It returns what one thread returns that runs the transactions by number,
@@ -223,11 +209,11 @@ pub fn execute<R: Threads + Sync, G: Gate>(
     let crew = Crew::of(threads, alloc, batch, plan, gate);
     let mut at = begin(alloc, batch, plan)?;
     let mut counts = no_counts(alloc, batch.transactions.len())?;
-    'opening: while at.opened < batch.transactions.len() {
+    'opening: while at.window.first < batch.transactions.len() {
         make_rest(&crew, batch, &mut at, &mut counts)?;
         round(&crew, batch, &mut at)?;
     }
-    outcome_of(alloc, at, counts)
+    Ok(outcome_of(at, counts))
 }
 
 /// Runs a batch in rounds as [`execute`] does, and makes only the runs that a round comes to. It
@@ -250,9 +236,9 @@ pub fn execute_ahead<R: Threads + Sync, G: Gate>(
 {
     let crew = Crew::of(threads, alloc, batch, plan, gate);
     let mut at = begin(alloc, batch, plan)?;
-    'opening: while at.opened < batch.transactions.len() {
+    'opening: while at.window.first < batch.transactions.len() {
         round(&crew, batch, &mut at)?;
         drop_later(&mut at);
     }
-    outcome_of(alloc, at, Vec::new(alloc))
+    Ok(outcome_of(at, Vec::new(alloc)))
 }

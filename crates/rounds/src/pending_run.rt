@@ -1,15 +1,14 @@
 //! Pending runs: those that wait to be committed.
 ghost use Rattle.std.specs.Prelude.{◌≡◌, ◌≤◌, [], length, IsTrue, None, IfOk, OnOk};
+ghost use Rattle.committed.specs.Spans.{AreIn};
 ghost use Rattle.committed.specs.Summaries.{entries_of};
 ghost use Rattle.committed.specs.declared.summary.TheConstants.{FEW_ENTRIES};
 ghost use Rattle.meaning.specs.Records.{Taken};
 ghost use Rattle.meaning.specs.OneThread.{Run as OneRun};
 ghost use Rattle.rounds.specs.PendingRuns.{left_by, listed_net, IsListed, AreSumsOf, IsCommittable};
-ghost use Rattle.rounds.specs.Spans.{AreIn};
 
-use crate::span::Span;
 use batch::Record;
-use intentions::{Entry, EntryHashing, FEW_ENTRIES, MarkedEntry, summarize};
+use intentions::{Entry, EntryHashing, FEW_ENTRIES, MarkedEntry, Span, summarize};
 use meaning::End;
 use speculate::{NoMemory, Run};
 use std::alloc::Global;
@@ -37,7 +36,8 @@ impl Sums {
     /// Makes these the summaries of other entries and of their net, which may be known to be all of
     /// the entries.
     ///
-    /// Returns `NoMemory` where a request for memory was refused. They are of no further use then.
+    /// Returns between which objects the net is, or `NoMemory` where a request for memory was
+    /// refused. They are of no further use then.
     pub(crate) fn renew(
         &mut self,
         alloc: Global,
@@ -45,20 +45,21 @@ impl Sums {
         entries: &[Entry],
         net: &[Entry],
         whole: bool,
-    ) -> Result<(), NoMemory>
+    ) -> Result<Span, NoMemory>
         requires whole { IsTrue whole → net.now ≡ entries.now }
         ensures sums { OnOk result (AreSumsOf self.new entries.now net.now) }
         ensures few { OnOk result (length net.now ≤ FEW_ENTRIES → left_by self.new ≡ net.now) }
+        ensures span { IfOk result (λ span. AreIn span net.now) }
     {
-        summarize(alloc, hashing, entries, &mut self.entries)?;
+        let span = summarize(alloc, hashing, entries, &mut self.entries)?;
         if whole {
             self.of_net = None;
-            return Ok(());
+            return Ok(span);
         }
         let mut summary = self.of_net.take().unwrap_or(Vec::new(alloc));
-        summarize(alloc, hashing, net, &mut summary)?;
+        let span = summarize(alloc, hashing, net, &mut summary)?;
         self.of_net = Some(summary);
-        Ok(())
+        Ok(span)
     }
 
     /// The summary of the net.
@@ -131,7 +132,7 @@ impl PendingRun {
             },
             sums: Sums::empty(alloc),
             net: Net::Summed,
-            span: Span::of(&[]),
+            span: Span::none(),
         }
     }
 
@@ -151,9 +152,9 @@ impl PendingRun {
         ensures span { OnOk result (AreIn self.new.span run.old.net.items) }
     {
         let whole = run.net.len() == run.entries.len();
-        self.sums
+        self.span = self
+            .sums
             .renew(alloc, hashing, &run.entries, &run.net, whole)?;
-        self.span = Span::of(&run.net);
         let spare = replace(&mut self.net, Net::Recorded).into_list(alloc);
         self.net = if run.net.len() <= FEW_ENTRIES {
             Net::Summed
@@ -175,11 +176,14 @@ impl PendingRun {
         }
     }
 
-    /// Frees all but the record.
-    pub(crate) fn settle(&mut self, alloc: Global)
-        ensures { self.new.tree ≡ self.old.tree }
+    /// Takes the record away, and leaves an empty one. The memory of the rest stays.
+    pub(crate) fn take_record(&mut self, alloc: Global) -> Record
+        ensures { result ≡ self.old.tree }
     {
-        self.sums = Sums::empty(alloc);
-        self.net = Net::Summed;
+        let none = Record {
+            taken: Vec::new(alloc),
+            outcome: End::Ended,
+        };
+        replace(&mut self.tree, none)
     }
 }

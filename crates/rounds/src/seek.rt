@@ -3,7 +3,7 @@ ghost use Rattle.std.specs.Prelude.{◌≡◌, ◌≤◌, [], length, IfOk, OnOk
 ghost use Rattle.meaning.specs.Batch.{state_at};
 ghost use Rattle.rounds.specs.Desks.{IsDeskOn};
 ghost use Rattle.rounds.specs.Views.{start_of, blocks_of};
-ghost use Rattle.rounds.specs.Windows.{AllValid, IsWindowAt, IsListedTo, IsBlockSeen, IsRoundSeen, HasGrown};
+ghost use Rattle.rounds.specs.Windows.{end_of, AllValid, IsWindowAt, IsListedTo, IsBlockSeen, IsRoundSeen, HasGrown};
 
 use crate::check::{Seen, check_at_once, stands_past};
 use crate::crew::{Crew, makers};
@@ -30,7 +30,7 @@ fn check_in_turn<R: Threads + Sync, G: Gate>(
 ) -> Result<Seen, NoMemory>
     requires opening { desk.old.view.snapshot ≡ state_at (start_of batch.now) (blocks_of batch.now) opened }
     requires window { IsWindowAt batch.now from desk.old.view.snapshot window.old }
-    requires places { (from ≤ end) × (end ≤ length window.old.runs.items) }
+    requires places { (from ≤ end) × (end ≤ end_of window.old) }
     requires listed { IsListedTo batch.now opened from window.old nets.old }
     requires ready { IsDeskOn desk.old.view.snapshot desk.old }
     ensures grown { OnOk result (HasGrown from window.old window.new) }
@@ -39,15 +39,17 @@ fn check_in_turn<R: Threads + Sync, G: Gate>(
     ensures seen { IfOk result (IsBlockSeen batch.now opened end window.new nets.new) }
 {
     let width = crew.plan.width((end - from) as u32);
-    for place in from..end {
-        window.make_at(crew, batch, place, place, width, desk)?;
-        crew.gate.pass(0, (place - opened) as u32 + 1);
+    for number in from..end {
+        window.make_at(crew, batch, number, number, width, desk)?;
+        crew.gate.pass(0, (number - opened) as u32 + 1);
         let upto = nets.len();
+        let place = number - window.first;
         if !stands_past(&window.runs, place, nets, upto) {
-            return Ok(Seen { first: place, upto });
+            let first = number;
+            return Ok(Seen { first, upto });
         }
         nets.append_new(window.runs[place].sums.net())?;
-        window.free_sums(crew.alloc, place);
+        window.free_sums(crew.alloc, number);
     }
     let upto = nets.len();
     Ok(Seen { first: end, upto })
@@ -64,12 +66,12 @@ fn check_block<R: Threads + Sync, G: Gate>(
     nets: &mut Committed,
 ) -> Result<Seen, NoMemory>
     requires window { IsWindowAt batch.now from (state_at (start_of batch.now) (blocks_of batch.now) opened) window.now }
-    requires places { (from ≤ end) × (end ≤ length window.now.runs.items) }
+    requires places { (from ≤ end) × (end ≤ end_of window.now) }
     requires listed { IsListedTo batch.now opened from window.now nets.old }
     requires valid { AllValid window.now from end }
     ensures seen { IfOk result (IsBlockSeen batch.now opened end window.now nets.new) }
 {
-    let Seen { first, upto } = check_at_once(crew, from - opened, &window.runs[from..end], nets)?;
+    let Seen { first, upto } = check_at_once(crew, from - opened, window.between(from, end), nets)?;
     Ok(Seen {
         first: from + first,
         upto,
@@ -91,7 +93,7 @@ fn check<R: Threads + Sync, G: Gate>(
 ) -> Result<Seen, NoMemory>
     requires opening { objects.now ≡ state_at (start_of batch.now) (blocks_of batch.now) opened }
     requires window { IsWindowAt batch.now from objects.now window.old }
-    requires places { (from ≤ end) × (end ≤ length window.old.runs.items) }
+    requires places { (from ≤ end) × (end ≤ end_of window.old) }
     requires listed { IsListedTo batch.now opened from window.old nets.old }
     requires ready { IsDeskOn objects.now desk.old }
     ensures grown { OnOk result (HasGrown from window.old window.new) }
@@ -125,7 +127,7 @@ pub(crate) fn seek<R: Threads + Sync, G: Gate>(
 ) -> Result<Seen, NoMemory>
     requires opening { objects.now ≡ state_at (start_of batch.now) (blocks_of batch.now) opened }
     requires within { opened ≤ length (blocks_of batch.now) }
-    requires reached { opened ≤ length window.old.runs.items }
+    requires begun { window.old.first ≡ opened }
     requires window { IsWindowAt batch.now opened objects.now window.old }
     requires some { 1 ≤ expected }
     requires none { reused.old.nets ≡ [] }

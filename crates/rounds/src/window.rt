@@ -1,12 +1,12 @@
 //! The window: runs of the transactions that the rounds have come to.
-ghost use Rattle.std.specs.Prelude.{◌≡◌, ◌+◌, ◌<◌, ◌≤◌, ℕ, [], length, set, take, slice_index_or, IfOk, OnOk, IsTrue, true, false};
+ghost use Rattle.std.specs.Prelude.{◌≡◌, ◌+◌, ◌<◌, ◌≤◌, ℕ, [], length, take, IfOk, OnOk, IsTrue};
 ghost use Rattle.std.specs.List.{All};
 ghost use Rattle.objects.specs.Entries.{kinds};
 ghost use Rattle.rounds.specs.Desks.{IsDeskOn};
 ghost use Rattle.rounds.specs.Passes.{CanBeMade};
 ghost use Rattle.rounds.specs.PendingRuns.{IsPendingOf, HoldsPast};
 ghost use Rattle.rounds.specs.Views.{blocks_of, meaning};
-ghost use Rattle.rounds.specs.Windows.{IsValid, AllValid, IsWindowAt, IsOpenedBy, HasGrown, AreFallen, AreStale, AreKept, IsFreedAt, AreSettled, AreMissing, IsDecided};
+ghost use Rattle.rounds.specs.Windows.{flag_at, end_of, runs_between, IsValid, AllValid, IsWindowAt, IsOpenedBy, HasGrown, IsPut, AreFallen, AreStale, AreKept, IsFreedAt, AreSettled, IsShortened, AreMissing, IsDecided};
 ghost use Rattle.rounds.specs.declared.pending_run.PendingRun.{PendingRun as OnePending};
 ghost use Rattle.meaning.specs.declared.limits.TheConstants.{MAX_TRANSACTIONS};
 ghost use Rattle.plan.specs.declared.plan.TheConstants.{MAX_WORKERS};
@@ -16,7 +16,7 @@ use crate::crew::{Crew, checkers, makers};
 use crate::desk::Desk;
 use crate::make::{NumberedRun, make_all};
 use crate::pending_run::PendingRun;
-use batch::Batch;
+use batch::{Batch, Record};
 use intentions::Committed;
 use meaning::limits::MAX_TRANSACTIONS;
 use speculate::{Gate, NoMemory, Objects};
@@ -24,28 +24,49 @@ use std::alloc::Global;
 use std::thread::Threads;
 use workers::{Bench, give_all};
 
-/// The runs of the first transactions: those that are committed, and those that a round came to.
+/// The runs of the transactions that are pending and that a round came to.
 #[derive(Drop)]
 pub(crate) struct Window {
+    /// The number of the first, counted from 0. The transactions before it are committed.
+    pub(crate) first: usize,
+    /// The runs by number, from that of the first on.
     pub(crate) runs: Vec<PendingRun>,
     /// Which of the runs are those of their transactions on the objects of the opening. The others
-    /// are committed, or are still to be made.
+    /// are still to be made.
     pub(crate) valid: Vec<bool>,
 }
 
 impl Window {
-    /// A window without runs.
+    /// A window without runs. Nothing is committed.
     pub(crate) fn new(alloc: Global) -> Window
+        ensures first { result.first ≡ 0 }
         ensures runs { result.runs.items ≡ [] }
         ensures valid { result.valid.items ≡ [] }
     {
         Window {
+            first: 0,
             runs: Vec::new(alloc),
             valid: Vec::new(alloc),
         }
     }
 
-    /// Adds runs that are still to be made, until there are as many.
+    /// The number after that of the last run.
+    pub(crate) fn end(&self) -> usize
+        requires few { end_of self.now ≤ MAX_TRANSACTIONS }
+        ensures { result ≡ end_of self.now }
+    {
+        self.first + self.runs.len()
+    }
+
+    /// The runs from one number on and before another.
+    pub(crate) fn between(&self, from: usize, end: usize) -> &[PendingRun]
+        requires { (self.now.first ≤ from) × (from ≤ end) × (end ≤ end_of self.now) }
+        ensures { result.now ≡ runs_between self.now from end }
+    {
+        &self.runs[from - self.first..end - self.first]
+    }
+
+    /// Adds runs that are still to be made, up to those before a number.
     ///
     /// Returns `NoMemory` where a request for memory was refused.
     pub(crate) fn reach(
@@ -60,17 +81,17 @@ impl Window {
         requires end { end ≤ length (blocks_of batch.now) }
         ensures window { OnOk result (IsWindowAt batch.now from objects.now self.new) }
         ensures grown { OnOk result (HasGrown from self.old self.new) }
-        ensures reached { OnOk result (end ≤ length self.new.runs.items) }
-        ensures flags { OnOk result ((i : ℕ) → slice_index_or self.new.valid.items i false ≡ slice_index_or self.old.valid.items i false) }
+        ensures reached { OnOk result (end ≤ end_of self.new) }
+        ensures flags { OnOk result ((i : ℕ) → flag_at self.new i ≡ flag_at self.old i) }
     {
-        'reaching: while self.runs.len() < end {
+        'reaching: while self.end() < end {
             self.runs.push(PendingRun::empty(alloc))?;
             self.valid.push(false)?;
         }
         Ok(())
     }
 
-    /// Makes the run at this place at the desk, unless it is valid.
+    /// Makes the run with this number at the desk, unless it is valid.
     ///
     /// Returns `NoMemory` where a request for memory was refused. The desk is of no further use then.
     pub(crate) fn make_at<R: Threads + Sync, G: Gate>(
@@ -78,29 +99,31 @@ impl Window {
         crew: &Crew<R, G>,
         batch: &Batch,
         from: usize,
-        place: usize,
+        number: usize,
         width: u32,
         desk: &mut Desk<'_>,
     ) -> Result<(), NoMemory>
         requires window { IsWindowAt batch.now from desk.old.view.snapshot self.old }
-        requires place { (from ≤ place) × (place < length self.old.runs.items) × (place ≤ MAX_TRANSACTIONS) }
-        requires can { CanBeMade batch.now desk.old.view.snapshot place }
+        requires number { (from ≤ number) × (number < end_of self.old) }
+        requires few { number ≤ MAX_TRANSACTIONS }
+        requires can { CanBeMade batch.now desk.old.view.snapshot number }
         requires same_kinds { kinds desk.old.view.snapshot ≡ kinds batch.now.objects }
         requires narrow { (1 ≤ width) × (width ≤ MAX_WORKERS) }
         requires ready { IsDeskOn desk.old.view.snapshot desk.old }
         ensures window { OnOk result (IsWindowAt batch.now from desk.old.view.snapshot self.new) }
         ensures grown { OnOk result (HasGrown from self.old self.new) }
-        ensures valid { OnOk result (IsValid self.new place) }
+        ensures valid { OnOk result (IsValid self.new number) }
         ensures reached { OnOk result (length self.new.runs.items ≡ length self.old.runs.items) }
         ensures ready { OnOk result (IsDeskOn desk.old.view.snapshot desk.new) }
     {
+        let place = number - self.first;
         if !self.valid[place] {
             let run = &mut self.runs[place];
             desk.make(
                 crew.threads,
                 crew.alloc,
                 batch,
-                place,
+                number,
                 width,
                 crew.gate,
                 run,
@@ -121,7 +144,7 @@ impl Window {
     ) -> Result<(), NoMemory>
         requires opening { IsOpenedBy batch.now from objects.now }
         requires window { IsWindowAt batch.now from objects.now self.old }
-        requires places { All (λ n. (from ≤ n) × (n < length self.old.runs.items)) numbers.now }
+        requires places { All (λ n. (from ≤ n) × (n < end_of self.old)) numbers.now }
         requires few { length numbers.now ≤ MAX_TRANSACTIONS }
         ensures window { OnOk result (IsWindowAt batch.now from objects.now self.new) }
         ensures grown { OnOk result (HasGrown from self.old self.new) }
@@ -138,13 +161,14 @@ impl Window {
 
     // Puts a run into the place of its number.
     fn put(&mut self, made: NumberedRun)
-        requires { (made.number < length self.old.runs.items) × (made.number < length self.old.valid.items) }
-        ensures runs { self.new.runs.items ≡ set self.old.runs.items made.number made.run.value }
-        ensures valid { self.new.valid.items ≡ set self.old.valid.items made.number true }
+        requires flags { length self.old.valid.items ≡ length self.old.runs.items }
+        requires number { (self.old.first ≤ made.number) × (made.number < end_of self.old) }
+        ensures { IsPut made self.old self.new }
     {
         let NumberedRun { number, run } = made;
-        self.runs[number] = Box::into_inner(run);
-        self.valid[number] = true;
+        let place = number - self.first;
+        self.runs[place] = Box::into_inner(run);
+        self.valid[place] = true;
     }
 
     // Makes the runs of these numbers by several workers.
@@ -158,7 +182,7 @@ impl Window {
     ) -> Result<(), NoMemory>
         requires opening { IsOpenedBy batch.now from objects.now }
         requires window { IsWindowAt batch.now from objects.now self.old }
-        requires places { All (λ n. (from ≤ n) × (n < length self.old.runs.items)) numbers.now }
+        requires places { All (λ n. (from ≤ n) × (n < end_of self.old)) numbers.now }
         requires few { length numbers.now ≤ MAX_TRANSACTIONS }
         ensures window { OnOk result (IsWindowAt batch.now from objects.now self.new) }
         ensures grown { OnOk result (HasGrown from self.old self.new) }
@@ -183,7 +207,7 @@ impl Window {
     ) -> Result<(), NoMemory>
         requires opening { IsOpenedBy batch.now from objects.now }
         requires window { IsWindowAt batch.now from objects.now self.old }
-        requires places { All (λ n. (from ≤ n) × (n < length self.old.runs.items)) numbers.now }
+        requires places { All (λ n. (from ≤ n) × (n < end_of self.old)) numbers.now }
         requires few { length numbers.now ≤ MAX_TRANSACTIONS }
         ensures window { OnOk result (IsWindowAt batch.now from objects.now self.new) }
         ensures grown { OnOk result (HasGrown from self.old self.new) }
@@ -198,13 +222,14 @@ impl Window {
 
     // The numbers from one on and before another whose runs aren't valid.
     fn missing(&self, alloc: Global, from: usize, end: usize) -> Result<Vec<usize>, NoMemory>
-        requires from { from ≤ end }
-        requires end { end ≤ length self.now.valid.items }
+        requires flags { length self.now.valid.items ≡ length self.now.runs.items }
+        requires from { (self.now.first ≤ from) × (from ≤ end) }
+        requires end { end ≤ end_of self.now }
         ensures missing { IfOk result (λ numbers. AreMissing self.now from end numbers.items) }
     {
         let mut numbers = Vec::new(alloc);
         for number in from..end {
-            if !self.valid[number] {
+            if !self.valid[number - self.first] {
                 numbers.push(number)?;
             }
         }
@@ -225,7 +250,7 @@ impl Window {
     ) -> Result<Vec<usize>, NoMemory>
         requires opening { IsOpenedBy batch.now from objects.now }
         requires window { IsWindowAt batch.now from objects.now self.old }
-        requires places { (from ≤ end) × (end ≤ length self.old.runs.items) }
+        requires places { (from ≤ end) × (end ≤ end_of self.old) }
         ensures window { OnOk result (IsWindowAt batch.now from objects.now self.new) }
         ensures grown { OnOk result (HasGrown from self.old self.new) }
         ensures reached { OnOk result (length self.new.runs.items ≡ length self.old.runs.items) }
@@ -237,35 +262,35 @@ impl Window {
         Ok(numbers)
     }
 
-    // Adds the number of the run at this place, where it is valid and doesn't stand past what was
-    // committed, which is the first `upto` entries of the nets. It is so many places after the first
-    // that is left.
+    // Adds this number, where its run is valid and doesn't stand past what was committed, which is
+    // the first `upto` entries of the nets. It is so many places after the first that is left.
     fn tell<G: Gate>(
         &self,
         gate: &G,
         piece: u32,
-        place: usize,
+        number: usize,
         nets: &Committed,
         upto: usize,
         told: &mut Vec<usize>,
     ) -> Result<(), NoMemory>
         requires flags { length self.now.valid.items ≡ length self.now.runs.items }
-        requires place { place < length self.now.runs.items }
+        requires number { (self.now.first ≤ number) × (number < end_of self.now) }
         requires piece { piece ≤ MAX_TRANSACTIONS }
         requires upto { upto ≤ length nets.now }
-        ensures { OnOk result (IsDecided self.now (take upto nets.now) place told.old.items told.new.items) }
+        ensures { OnOk result (IsDecided self.now (take upto nets.now) number told.old.items told.new.items) }
     {
+        let place = number - self.first;
         if !self.valid[place] {
             return Ok(());
         }
         gate.pass(0, MAX_TRANSACTIONS as u32 + piece + 1);
         if !stands_past(&self.runs, place, nets, upto) {
-            told.push(place)?;
+            told.push(number)?;
         }
         Ok(())
     }
 
-    // The numbers of the valid runs from one place on that don't stand past what was committed, which
+    // The numbers, from one on, of the valid runs that don't stand past what was committed, which
     // is the first `upto` entries of the nets. One worker decides them in turn.
     fn fallen_in_turn<G: Gate>(
         &self,
@@ -276,15 +301,15 @@ impl Window {
         upto: usize,
     ) -> Result<Vec<usize>, NoMemory>
         requires flags { length self.now.valid.items ≡ length self.now.runs.items }
-        requires few { length self.now.runs.items ≤ MAX_TRANSACTIONS }
+        requires few { end_of self.now ≤ MAX_TRANSACTIONS }
         requires upto { upto ≤ length nets.now }
-        requires from { from ≤ length self.now.runs.items }
-        ensures { IfOk result (λ numbers. AreFallen self.now (take upto nets.now) from (length self.now.runs.items) numbers.items) }
+        requires from { (self.now.first ≤ from) × (from ≤ end_of self.now) }
+        ensures { IfOk result (λ numbers. AreFallen self.now (take upto nets.now) from (end_of self.now) numbers.items) }
     {
         let mut numbers = Vec::new(alloc);
-        for place in from..self.runs.len() {
-            let piece = (place - from) as u32;
-            self.tell(gate, piece, place, nets, upto, &mut numbers)?;
+        for number in from..self.end() {
+            let piece = (number - from) as u32;
+            self.tell(gate, piece, number, nets, upto, &mut numbers)?;
         }
         Ok(numbers)
     }
@@ -298,10 +323,10 @@ impl Window {
         upto: usize,
     ) -> Result<Vec<usize>, NoMemory>
         requires flags { length self.now.valid.items ≡ length self.now.runs.items }
-        requires few { length self.now.runs.items ≤ MAX_TRANSACTIONS }
+        requires few { end_of self.now ≤ MAX_TRANSACTIONS }
         requires upto { upto ≤ length nets.now }
-        requires from { from ≤ length self.now.runs.items }
-        ensures { IfOk result (λ numbers. AreFallen self.now (take upto nets.now) from (length self.now.runs.items) numbers.items) }
+        requires from { (self.now.first ≤ from) × (from ≤ end_of self.now) }
+        ensures { IfOk result (λ numbers. AreFallen self.now (take upto nets.now) from (end_of self.now) numbers.items) }
     {
         let Crew {
             threads,
@@ -309,7 +334,7 @@ impl Window {
             gate,
             ..
         } = *crew;
-        let count = self.runs.len() - from;
+        let count = self.end() - from;
         let workers = checkers(crew, count);
         if workers == 1 {
             return self.fallen_in_turn(alloc, gate, from, nets, upto);
@@ -320,7 +345,7 @@ impl Window {
             count as u32,
             workers,
             &|piece: u32, bench: Bench<(), usize>| -> Result<Bench<(), usize>, NoMemory>
-                requires { (from + piece < length self.now.runs.items) × (length self.now.valid.items ≡ length self.now.runs.items) × (length self.now.runs.items ≤ MAX_TRANSACTIONS) × (upto ≤ length nets.now) }
+                requires { (self.now.first ≤ from) × (from + piece < end_of self.now) × (length self.now.valid.items ≡ length self.now.runs.items) × (end_of self.now ≤ MAX_TRANSACTIONS) × (upto ≤ length nets.now) }
                 ensures { IfOk result (λ after. IsDecided self.entry.now (take upto nets.entry.now) (from + piece) bench.items.items after.items.items) }
             {
                 let Bench { desk, mut items } = bench;
@@ -332,15 +357,16 @@ impl Window {
 
     // The runs of these numbers aren't valid any more.
     fn forget(&mut self, numbers: &[usize])
-        requires within { All (λ n. n < length self.old.valid.items) numbers.now }
+        requires flags { length self.old.valid.items ≡ length self.old.runs.items }
+        requires within { All (λ n. (self.old.first ≤ n) × (n < end_of self.old)) numbers.now }
         ensures { AreStale numbers.now self.old self.new }
     {
         for number in numbers {
-            self.valid[*number] = false;
+            self.valid[*number - self.first] = false;
         }
     }
 
-    /// Keeps of the runs from one place on those that stand past what was committed, which is the
+    /// Keeps of the runs from one number on those that stand past what was committed, which is the
     /// first `upto` entries of the nets. The others aren't valid then.
     ///
     /// Returns `NoMemory` where a request for memory was refused.
@@ -352,9 +378,9 @@ impl Window {
         upto: usize,
     ) -> Result<(), NoMemory>
         requires flags { length self.old.valid.items ≡ length self.old.runs.items }
-        requires few { length self.old.runs.items ≤ MAX_TRANSACTIONS }
+        requires few { end_of self.old ≤ MAX_TRANSACTIONS }
         requires upto { upto ≤ length nets.now }
-        requires from { from ≤ length self.old.runs.items }
+        requires from { (self.old.first ≤ from) × (from ≤ end_of self.old) }
         ensures { OnOk result (AreKept from (take upto nets.now) self.old self.new) }
     {
         let fallen = self.fallen(crew, from, nets, upto)?;
@@ -362,30 +388,46 @@ impl Window {
         Ok(())
     }
 
-    /// Drops the runs from one place on.
+    /// Drops the runs from one number on.
     pub(crate) fn shorten(&mut self, end: usize)
-        ensures runs { self.new.runs.items ≡ take end self.old.runs.items }
-        ensures valid { self.new.valid.items ≡ take end self.old.valid.items }
+        ensures { IsShortened end self.old self.new }
     {
-        self.runs.truncate(end);
-        self.valid.truncate(end);
+        let count = end.saturating_sub(self.first);
+        self.runs.truncate(count);
+        self.valid.truncate(count);
     }
 
-    /// Frees the summaries of the run at this place, unless its net is in them.
-    pub(crate) fn free_sums(&mut self, alloc: Global, place: usize)
-        requires { place < length self.old.runs.items }
-        ensures { IsFreedAt place self.old self.new }
+    /// Frees the summaries of the run with this number, unless its net is in them.
+    pub(crate) fn free_sums(&mut self, alloc: Global, number: usize)
+        requires { (self.old.first ≤ number) × (number < end_of self.old) }
+        ensures { IsFreedAt number self.old self.new }
     {
+        let place = number - self.first;
         self.runs[place].free_sums(alloc);
     }
 
-    /// Frees all but the records of the runs from one place on and before another.
-    pub(crate) fn settle(&mut self, alloc: Global, from: usize, end: usize)
-        requires { end ≤ length self.old.runs.items }
-        ensures { AreSettled end self.old self.new }
+    /// Moves the records of the runs before a number to the end of a list. The window begins with
+    /// this number then. The memory of those runs is kept for runs of later transactions.
+    ///
+    /// Returns `NoMemory` where a request for memory was refused.
+    pub(crate) fn settle(
+        &mut self,
+        alloc: Global,
+        end: usize,
+        list: &mut Vec<Record>,
+    ) -> Result<(), NoMemory>
+        requires flags { length self.old.valid.items ≡ length self.old.runs.items }
+        requires end { (self.old.first ≤ end) × (end ≤ end_of self.old) }
+        ensures { OnOk result (AreSettled end self.old self.new list.old.items list.new.items) }
     {
-        for place in from..end {
-            self.runs[place].settle(alloc);
+        let count = end - self.first;
+        for place in 0..count {
+            list.push(self.runs[place].take_record(alloc))?;
+            self.valid[place] = false;
         }
+        self.runs.rotate_left(count);
+        self.valid.rotate_left(count);
+        self.first = end;
+        Ok(())
     }
 }

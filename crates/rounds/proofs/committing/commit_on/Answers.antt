@@ -3,7 +3,7 @@ use Rattle.objects.specs.Parts.{CanPerformOn, ArePerformedOn}
 use Rattle.objects.proofs.PartLemmas.{can-first}
 use Rattle.meaning.specs.Batch.{block_at}
 use Rattle.batch.proofs.CanRun.{block_at_view}
-use Rattle.rounds.specs.Spans.{AreIn}
+use Rattle.committed.specs.Spans.{AreIn}
 use Rattle.rounds.specs.Views.{blocks_of}
 use Rattle.rounds.specs.PendingRuns.{own_net, own_nets}
 use Rattle.rounds.proofs.Commits.{fewer_left, next_nets_left, passed_over}

@@ -1,20 +1,26 @@
-use Rattle.std.proofs.Common.{◌≡◌, ◌+◌, subst, arith}
-use Rattle.meaning.specs.Batch.{state_at}
-use Rattle.meaning.specs.Rounds.{Rounds}
+use Rattle.std.proofs.Common.{◌≡◌, ◌+◌, map, sym, ap, ◌∙◌, subst, arith}
+use Rattle.meaning.specs.Batch.{state_at, shown_from}
+use Rattle.batch.specs.Views.{record_view}
+use Rattle.meaning.specs.Rounds.{Rounds, RoundsFrom}
 use Rattle.rounds.specs.Views.{start_of, blocks_of}
 use Rattle.rounds.proofs.WindowLemmas.{empty_window}
 use Rattle.rounds.proofs.openings.begin.Goals as goal
 
 pub returns-clause-opening : goal.returns-clause-opening
-unfolding state_at
-returns-clause-opening c = record {
-  within = omega arith;
-  objects = c.in_ok-copy.ensures;
-  window = empty_window c.args.batch.now c.in_ok-copy.field-0 c.new.result c.new.ensures.runs c.new.ensures.valid;
-  cleared = c.new-2.ensures;
-  reached = omega arith;
-  committed = λ i d lt. absurd (omega arith);
-  few_rounds = omega arith;
-  all_rounds = λ more from. let same : more ≡ 0 + more = omega arith in subst (Rounds (start_of c.args.batch.now)
-      (blocks_of c.args.batch.now)) same from;
-}
+unfolding state_at shown_from
+returns-clause-opening c =
+    let batch = c.args.batch.now in
+    let first = c.new.ensures.first in
+    record {
+      within = omega arith;
+      objects = c.in_ok-copy.ensures ∙ ap (state_at (start_of batch) (blocks_of batch)) (sym first);
+      window = empty_window batch c.in_ok-copy.field-0 c.new.result first c.new.ensures.runs c.new.ensures.valid;
+      cleared = c.new-2.ensures;
+      committed = ap (map record_view) c.in_ok-with_capacity.ensures.items
+          ∙ ap (shown_from (start_of batch) (blocks_of batch) 0) (sym first);
+      few_rounds = omega arith;
+      all_rounds = λ more from.
+          let same : more ≡ 0 + more = omega arith in
+          subst (Rounds (start_of batch) (blocks_of batch)) same
+          (subst (λ b. RoundsFrom (start_of batch) (blocks_of batch) b more) first from);
+    }

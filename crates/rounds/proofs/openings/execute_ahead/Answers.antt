@@ -1,11 +1,10 @@
-use Rattle.std.proofs.Common.{◌≡◌, ◌≤◌, length, sym, ◌∙◌, subst, arith}
+use Rattle.std.proofs.Common.{◌≡◌, ◌≤◌, map, length, ap, sym, ◌∙◌, subst, arith}
 use Rattle.std.proofs.lemmas.List.{length-map}
-use Rattle.std.proofs.lemmas.Result.{IfOk-weaker}
 use Rattle.meaning.specs.declared.limits.TheConstants.{MAX_OBJECTS}
 use Rattle.meaning.specs.Rounds.{Rounds}
 use Rattle.rounds.specs.Views.{start_of, blocks_of}
-use Rattle.batch.specs.Views.{block_view}
-use Rattle.rounds.proofs.Ends.{all_are_shown, end_answers, end_rounds, end_state, end_few, end_nets}
+use Rattle.batch.specs.Views.{block_view, record_view}
+use Rattle.rounds.proofs.Ends.{end_shown, end_rounds, end_state, end_few, end_nets}
 use Rattle.rounds.proofs.openings.execute_ahead.Goals as goal
 
 pub opening-init : goal.opening-init
@@ -28,9 +27,8 @@ returns-clause-records g c =
     let blocks : length (blocks_of batch) ≡ length batch.transactions.items = length-map batch.transactions.items block_view in
     let over = c.opening-test.false in
     let count = c.len.ensures in
-    let done : length (blocks_of batch) ≤ c.opening.at.opened = omega arith in
-    IfOk-weaker c.outcome_of.result _ _ (λ o same. all_are_shown batch o.records.items
-    (end_answers batch c.opening.at c.opening.invariant done o.records.items same)) c.outcome_of.ensures.records
+    let done : length (blocks_of batch) ≤ c.opening.at.window.first = omega arith in
+    ap (λ rs. map record_view rs.items) c.outcome_of.ensures.records ∙ end_shown batch c.opening.at c.opening.invariant done
 
 pub returns-clause-few_objects : goal.returns-clause-few_objects
 returns-clause-few_objects g c =
@@ -38,9 +36,8 @@ returns-clause-few_objects g c =
     let blocks : length (blocks_of batch) ≡ length batch.transactions.items = length-map batch.transactions.items block_view in
     let over = c.opening-test.false in
     let count = c.len.ensures in
-    let done : length (blocks_of batch) ≤ c.opening.at.opened = omega arith in
-    IfOk-weaker c.outcome_of.result _ _ (λ o same. subst (λ s. length s ≤ MAX_OBJECTS) (sym same)
-    (end_few batch c.opening.at c.opening.invariant done)) c.outcome_of.ensures.objects
+    let done : length (blocks_of batch) ≤ c.opening.at.window.first = omega arith in
+    subst (λ s. length s ≤ MAX_OBJECTS) (sym c.outcome_of.ensures.objects) (end_few batch c.opening.at c.opening.invariant done)
 
 pub returns-clause-objects : goal.returns-clause-objects
 returns-clause-objects g c =
@@ -48,9 +45,8 @@ returns-clause-objects g c =
     let blocks : length (blocks_of batch) ≡ length batch.transactions.items = length-map batch.transactions.items block_view in
     let over = c.opening-test.false in
     let count = c.len.ensures in
-    let done : length (blocks_of batch) ≤ c.opening.at.opened = omega arith in
-    IfOk-weaker c.outcome_of.result _ _ (λ o same. same ∙ end_state batch c.opening.at c.opening.invariant done)
-    c.outcome_of.ensures.objects
+    let done : length (blocks_of batch) ≤ c.opening.at.window.first = omega arith in
+    c.outcome_of.ensures.objects ∙ end_state batch c.opening.at c.opening.invariant done
 
 pub returns-clause-net : goal.returns-clause-net
 returns-clause-net g c =
@@ -58,9 +54,8 @@ returns-clause-net g c =
     let blocks : length (blocks_of batch) ≡ length batch.transactions.items = length-map batch.transactions.items block_view in
     let over = c.opening-test.false in
     let count = c.len.ensures in
-    let done : length (blocks_of batch) ≤ c.opening.at.opened = omega arith in
-    IfOk-weaker c.outcome_of.result _ _ (λ o same. same ∙ end_nets batch c.opening.at c.opening.invariant done)
-    c.outcome_of.ensures.objects
+    let done : length (blocks_of batch) ≤ c.opening.at.window.first = omega arith in
+    c.outcome_of.ensures.objects ∙ end_nets batch c.opening.at c.opening.invariant done
 
 pub returns-clause-rounds : goal.returns-clause-rounds
 returns-clause-rounds g c =
@@ -68,12 +63,13 @@ returns-clause-rounds g c =
     let blocks : length (blocks_of batch) ≡ length batch.transactions.items = length-map batch.transactions.items block_view in
     let over = c.opening-test.false in
     let count = c.len.ensures in
-    let done : length (blocks_of batch) ≤ c.opening.at.opened = omega arith in
-    IfOk-weaker c.outcome_of.result _ _ (λ o same. subst (Rounds (start_of batch) (blocks_of batch)) (sym same)
-    (end_rounds batch c.opening.at c.opening.invariant done)) c.outcome_of.ensures.rounds
+    let done : length (blocks_of batch) ≤ c.opening.at.window.first = omega arith in
+    subst (Rounds (start_of batch) (blocks_of batch)) (sym c.outcome_of.ensures.rounds)
+    (end_rounds batch c.opening.at c.opening.invariant done)
 
 pub returns-clause-few : goal.returns-clause-few
 returns-clause-few g c =
     let few = c.opening.invariant.few_rounds in
     let within = c.opening.invariant.within in
-    IfOk-weaker c.outcome_of.result _ _ (λ o same. omega (arith, same, few, within)) c.outcome_of.ensures.rounds
+    let same = c.outcome_of.ensures.rounds in
+    omega arith

@@ -1,101 +1,135 @@
-use Rattle.std.proofs.Common.{◌≡◌, suc, ◌+◌, ◌-◌, length, take, drop, refl, sym, ap, ◌∙◌, subst, arith}
+use Rattle.std.proofs.Common.{◌≡◌, ◌⊎◌, suc, ◌+◌, false, true, length, take, refl, sym, ap, ◌∙◌, subst, arith}
 use Rattle.std.proofs.lemmas.List.{length-map}
 use Rattle.objects.specs.Entries.{after, AreLegal}
 use Rattle.intentions.specs.Levels.{AllHaveRoom}
-use Rattle.meaning.specs.Rounds.{Rounds}
+use Rattle.meaning.specs.Batch.{state_at, shown_from}
+use Rattle.meaning.specs.Rounds.{Rounds, RoundsFrom, IsNextOpening}
 use Rattle.meaning.proofs.Openings.{comes_on}
 use Rattle.batch.specs.Views.{block_view}
 use Rattle.rounds.specs.Views.{start_of, blocks_of}
 use Rattle.rounds.specs.PendingRuns.{own_nets, AreSpanned}
+use Rattle.rounds.specs.Windows.{flag_at, IsValid, Stands}
 use Rattle.rounds.proofs.Rounding.{commits, moved_on, kept_at, kept_window, committed_on}
+use Rattle.rounds.proofs.WindowLemmas.{settled_flag, settled_window}
 use Rattle.rounds.proofs.openings.round.Goals as goal
 
 pub commit-requires-clause-spans : goal.commit-requires-clause-spans
 commit-requires-clause-spans g c κs within =
+    let batch = c.args.batch.now in
     let seen = c.in_ok-seen.seen in
     let saw = c.in_ok-seen.ensures.seen in
-    let opened = c.args.at.now.opened in
-    subst (λ rs. AreSpanned (blocks_of c.args.batch.now) opened (take (seen.first - opened) (drop opened rs))) (sym c.deref.ensures.value)
-    (commits c.args.batch.now opened seen.first c.args.at.now.objects c.seek.new.window (take seen.upto c.seek.new.reused.nets) c.requires.at.objects
+    let opened = c.args.at.now.window.first in
+    let state = c.args.at.now.objects in
+    subst (AreSpanned (blocks_of batch) opened) (sym c.between.ensures)
+    (commits batch opened seen.first state c.seek.new.window (take seen.upto c.seek.new.reused.nets) c.requires.at.objects
     c.requires.at.within saw.pending saw.reached saw.listed).2
 
 pub commit-requires-clause-legal : goal.commit-requires-clause-legal
 commit-requires-clause-legal g c κs within =
+    let batch = c.args.batch.now in
     let seen = c.in_ok-seen.seen in
     let saw = c.in_ok-seen.ensures.seen in
-    let opened = c.args.at.now.opened in
-    subst (λ rs. AreLegal c.args.at.now.objects (own_nets (blocks_of c.args.batch.now) opened (take (seen.first - opened) (drop opened rs))))
-    (sym c.deref.ensures.value)
-    (commits c.args.batch.now opened seen.first c.args.at.now.objects c.seek.new.window (take seen.upto c.seek.new.reused.nets) c.requires.at.objects
+    let opened = c.args.at.now.window.first in
+    let state = c.args.at.now.objects in
+    subst (λ rs. AreLegal state (own_nets (blocks_of batch) opened rs)) (sym c.between.ensures)
+    (commits batch opened seen.first state c.seek.new.window (take seen.upto c.seek.new.reused.nets) c.requires.at.objects
     c.requires.at.within saw.pending saw.reached saw.listed).0
 
 pub commit-requires-clause-room : goal.commit-requires-clause-room
 commit-requires-clause-room g c κs within =
+    let batch = c.args.batch.now in
     let seen = c.in_ok-seen.seen in
     let saw = c.in_ok-seen.ensures.seen in
-    let opened = c.args.at.now.opened in
-    subst (λ rs. AllHaveRoom c.args.at.now.objects (own_nets (blocks_of c.args.batch.now) opened (take (seen.first - opened) (drop opened rs))))
-    (sym c.deref.ensures.value)
-    (commits c.args.batch.now opened seen.first c.args.at.now.objects c.seek.new.window (take seen.upto c.seek.new.reused.nets) c.requires.at.objects
+    let opened = c.args.at.now.window.first in
+    let state = c.args.at.now.objects in
+    subst (λ rs. AllHaveRoom state (own_nets (blocks_of batch) opened rs)) (sym c.between.ensures)
+    (commits batch opened seen.first state c.seek.new.window (take seen.upto c.seek.new.reused.nets) c.requires.at.objects
     c.requires.at.within saw.pending saw.reached saw.listed).1
 
 pub returns-clause-at : goal.returns-clause-at
 returns-clause-at g c =
     let batch = c.args.batch.now in
-    let blocks : length (blocks_of batch) ≡ length batch.transactions.items = length-map batch.transactions.items block_view in
+    let start = start_of batch in
+    let blocks = blocks_of batch in
+    let count = c.len.ensures in
+    let size : length blocks ≡ length batch.transactions.items = length-map batch.transactions.items block_view in
+    let all : c.len.result ≡ length blocks = omega arith in
     let seen = c.in_ok-seen.seen in
     let saw = c.in_ok-seen.ensures.seen in
-    let opened = c.args.at.now.opened in
-    let rounds = c.args.at.now.rounds in
+    let opened = c.args.at.now.window.first in
     let state = c.args.at.now.objects in
     let listed = take seen.upto c.seek.new.reused.nets in
     let window = c.seek.new.window in
-    let on = comes_on (start_of batch) (blocks_of batch) opened seen.first (omega (arith, blocks, c.requires.going)) saw.opening in
+    let kept = c.keep.new.self in
+    let new = c.shorten.new.self in
+    let inside = saw.opening.within in
+    let on = comes_on start blocks opened seen.first (omega (arith, count, all, c.requires.going)) saw.opening in
     let next = moved_on batch opened seen.first state window listed c.requires.at.objects c.requires.at.within saw.pending
     saw.reached saw.listed c.commit.new.objects
-    (c.in_ok-commit.ensures ∙ ap (λ rs. after state (own_nets (blocks_of batch) opened (take (seen.first - opened) (drop opened rs))))
-    c.deref.ensures.value) in
+    (c.in_ok-commit.ensures ∙ ap (λ rs. after state (own_nets blocks opened rs)) c.between.ensures) in
+    let still = kept_window batch opened seen.first state window listed c.requires.at.objects c.requires.at.within saw.pending
+    saw.reached saw.listed c.commit.new.objects kept next c.in_ok-keep.ensures in
+    let done = c.in_ok-settle.ensures in
+    let begins : new.first ≡ seen.first = c.shorten.ensures.first ∙ done.first in
+    let rounds = c.args.at.now.rounds in
+    let few = c.requires.at.few_rounds in
     record {
-      within = saw.opening.within;
-      objects = next;
-      window = kept_window batch opened seen.first state window listed c.requires.at.objects c.requires.at.within
-          saw.pending saw.reached saw.listed c.commit.new.objects c.settle.new.self c.keep.new.self next c.settle.ensures
-          c.in_ok-keep.ensures;
+      within = omega arith;
+      objects = next ∙ ap (state_at start blocks) (sym begins);
+      window = settled_window batch seen.first c.len.result kept c.settle.new.self new c.args.at.now.records.items
+          c.settle.new.list.items all done c.shorten.ensures (omega arith) c.commit.new.objects still;
       cleared = c.clear.ensures;
-      reached =
-          let inside = saw.reached in
-          let one = c.settle.ensures.runs in
-          let two = ap (λ rs. length rs.items) c.in_ok-keep.ensures.runs in
-          omega arith;
-      committed = committed_on batch opened seen.first state window listed c.requires.at.objects c.requires.at.within
-          saw.pending saw.reached saw.listed c.commit.new.objects c.settle.new.self c.keep.new.self next c.settle.ensures
-          c.in_ok-keep.ensures c.args.at.now.window c.in_ok-seen.ensures.grown c.requires.at.reached c.requires.at.committed;
-      few_rounds = let few = c.requires.at.few_rounds in omega arith;
+      committed = committed_on batch opened seen.first state window listed c.requires.at.objects c.requires.at.within saw.pending
+          saw.reached saw.listed c.commit.new.objects kept next c.in_ok-keep.ensures c.settle.new.self c.args.at.now.records.items
+          c.settle.new.list.items c.in_ok-seen.ensures.grown.first c.requires.at.committed done
+          ∙ ap (shown_from start blocks 0) (sym begins);
+      few_rounds = omega arith;
       all_rounds = λ more from.
           let same : rounds + suc more ≡ (rounds + 1) + more = omega arith in
-          subst (Rounds (start_of batch) (blocks_of batch)) same
-          (c.requires.at.all_rounds (suc more) (omega (arith, blocks, c.requires.going), seen.first, saw.opening, from));
+          subst (Rounds start blocks) same (c.requires.at.all_rounds (suc more) (
+            omega (arith, count, all, c.requires.going),
+            seen.first,
+            saw.opening,
+            subst (λ b. RoundsFrom start blocks b more) begins from,
+          ));
     }
 
 pub returns-clause-round : goal.returns-clause-round
 returns-clause-round g c =
     let batch = c.args.batch.now in
-    let blocks : length (blocks_of batch) ≡ length batch.transactions.items = length-map batch.transactions.items block_view in
+    let start = start_of batch in
+    let blocks = blocks_of batch in
+    let count = c.len.ensures in
+    let size : length blocks ≡ length batch.transactions.items = length-map batch.transactions.items block_view in
+    let all : c.len.result ≡ length blocks = omega arith in
     let seen = c.in_ok-seen.seen in
     let saw = c.in_ok-seen.ensures.seen in
-    let opened = c.args.at.now.opened in
+    let opened = c.args.at.now.window.first in
     let state = c.args.at.now.objects in
     let listed = take seen.upto c.seek.new.reused.nets in
     let window = c.seek.new.window in
+    let kept = c.keep.new.self in
+    let new = c.shorten.new.self in
+    let inside = saw.opening.within in
+    let on = comes_on start blocks opened seen.first (omega (arith, count, all, c.requires.going)) saw.opening in
     let next = moved_on batch opened seen.first state window listed c.requires.at.objects c.requires.at.within saw.pending
     saw.reached saw.listed c.commit.new.objects
-    (c.in_ok-commit.ensures ∙ ap (λ rs. after state (own_nets (blocks_of batch) opened (take (seen.first - opened) (drop opened rs))))
-    c.deref.ensures.value) in
+    (c.in_ok-commit.ensures ∙ ap (λ rs. after state (own_nets blocks opened rs)) c.between.ensures) in
+    let still = kept_window batch opened seen.first state window listed c.requires.at.objects c.requires.at.within saw.pending
+    saw.reached saw.listed c.commit.new.objects kept next c.in_ok-keep.ensures in
+    let done = c.in_ok-settle.ensures in
+    let begins : new.first ≡ seen.first = c.shorten.ensures.first ∙ done.first in
     record {
-      next = saw.opening;
-      on = comes_on (start_of batch) (blocks_of batch) opened seen.first (omega (arith, blocks, c.requires.going)) saw.opening;
+      next = subst (IsNextOpening start blocks opened) (sym begins) saw.opening;
+      on = omega arith;
       one = refl;
-      kept = λ i low valid. kept_at batch opened seen.first state window listed c.requires.at.objects c.requires.at.within
-          saw.pending saw.reached saw.listed c.commit.new.objects c.settle.new.self c.keep.new.self next c.settle.ensures
-          c.in_ok-keep.ensures i low (c.in_ok-seen.ensures.grown.still i valid);
+      kept = λ i low valid.
+          let flag = settled_flag batch seen.first c.len.result kept c.settle.new.self new
+          c.args.at.now.records.items c.settle.new.list.items all done c.shorten.ensures (omega arith) c.commit.new.objects still
+          i (omega arith) in
+          subst (λ n. (IsValid new i × Stands batch opened n i) ⊎ ((flag_at new i ≡ false) × (¬ Stands batch opened n i))) (sym begins)
+          (subst (λ f. ((f ≡ true) × Stands batch opened seen.first i) ⊎ ((f ≡ false) × (¬ Stands batch opened seen.first i))) (sym flag)
+          (kept_at batch opened seen.first state window listed c.requires.at.objects c.requires.at.within saw.pending saw.reached
+          saw.listed c.commit.new.objects kept next c.in_ok-keep.ensures i (omega arith)
+          (c.in_ok-seen.ensures.grown.still i (omega arith) valid)));
     }

@@ -1,14 +1,13 @@
-use Rattle.std.proofs.Common.{◌≡◌, ℕ, ◌+◌, ◌-◌, ◌<◌, ◌++◌, length, get_or, take, drop, refl, sym, ap, ◌∙◌, subst, arith}
-use Rattle.std.proofs.lemmas.List.{get_or-take, get_or-drop, length-take-le, take_all}
-use Rattle.std.proofs.Math.ListN.{length-drop}
+use Rattle.std.proofs.Common.{◌≡◌, ℕ, ◌+◌, ◌-◌, ◌<◌, ◌++◌, length, get_or, take, refl, sym, ap, ◌∙◌, subst, arith}
+use Rattle.std.proofs.lemmas.List.{take_all}
 use Rattle.meaning.specs.Batch.{state_at}
 use Rattle.rounds.specs.Views.{start_of, blocks_of}
 use Rattle.rounds.specs.declared.pending_run.PendingRun.{PendingRun}
 use Rattle.rounds.specs.PendingRuns.{all_left, HoldsPast}
-use Rattle.rounds.specs.Windows.{IsListedTo}
+use Rattle.rounds.specs.Windows.{run_at, IsListedTo}
 use Rattle.rounds.proofs.Firsts.{front_taken, front_within}
 use Rattle.rounds.proofs.Listing.{listed_past, keeps_where_holds}
-use Rattle.rounds.proofs.WindowLemmas.{later_window}
+use Rattle.rounds.proofs.WindowLemmas.{between_at, later_window}
 use Rattle.rounds.proofs.seek.check_block.Goals as goal
 
 pub returns : goal.returns
@@ -19,20 +18,17 @@ returns g c =
     let end = c.args.end in
     let window = c.args.window.now in
     let state = state_at (start_of batch) (blocks_of batch) opened in
-    let runs = c.deref.result.now in
-    let block = take (end - from) (drop from runs) in
+    let block = c.between.result.now in
     let past = c.args.nets.now in
     let nets = c.check_at_once.new.nets in
     let seen = c.in_ok-first.field-0 in
     let saw = c.in_ok-first.ensures.seen in
     let low = c.requires.places.0 in
     let high = c.requires.places.1 in
-    let all = ap length c.deref.ensures.value in
-    let rest = length-drop from runs in
-    let size : length block ≡ end - from = length-take-le (end - from) (drop from runs) (omega arith) in
-    let same : (k : ℕ) (d : PendingRun) → k < length block → get_or block k d ≡ get_or window.runs.items (from + k) d =
-    λ k d lt. get_or-take (end - from) (drop from runs) k d (omega arith)
-    ∙ (get_or-drop from runs k d ∙ ap (λ rs. get_or rs (from + k) d) c.deref.ensures.value) in
+    let between = between_at window from end c.requires.window.begun low high in
+    let size : length block ≡ end - from = ap length c.between.ensures ∙ between.0 in
+    let same : (k : ℕ) (d : PendingRun) → k < length block → get_or block k d ≡ run_at window (from + k) d =
+    λ k d lt. ap (λ rs. get_or rs k d) c.between.ensures ∙ between.1 k d (omega arith) in
     let within = saw.within in
     let listed = listed_past batch opened from state window refl c.requires.window past block same
     (λ k lt. c.requires.valid (from + k) (omega arith) (omega arith)) c.requires.listed seen.first saw.within saw.clear in

@@ -1,4 +1,4 @@
-use Rattle.std.proofs.Common.{◌≡◌, ◌+◌, ◌++◌, get_or, sym, ap, ◌∙◌, subst, arith, rules}
+use Rattle.std.proofs.Common.{◌≡◌, ◌+◌, ◌-◌, ◌++◌, get_or, sym, ap, ◌∙◌, subst, arith, rules}
 use Rattle.objects.specs.Entries.{kinds}
 use Rattle.intentions.specs.Levels.{Intentions as View}
 use Rattle.committed.specs.Summaries.{IsSummary}
@@ -16,93 +16,95 @@ use Rattle.rounds.proofs.seek.check_in_turn.Goals as goal
 
 pub make_at-requires-clause-can : goal.make_at-requires-clause-can
 make_at-requires-clause-can g c κs within =
-    let place = c.loop-place.place in
-    let shown = ap (λ (v : View). v.snapshot) c.loop-place.invariant.ready.opened in
-    let from = c.loop-place.invariant.listed.from in
-    let lt = c.loop-place-test.true in
+    let number = c.loop-number.number in
+    let shown = ap (λ (v : View). v.snapshot) c.loop-number.invariant.ready.opened in
+    let from = c.loop-number.invariant.listed.from in
+    let lt = c.loop-number-test.true in
     let end = c.requires.places.1 in
     let all = c.requires.window.within in
-    subst (λ s. CanBeMade c.args.batch.now s place) (sym (shown ∙ c.requires.opening))
-    (made_at c.args.batch.now c.args.opened (omega arith) place (omega arith) (omega arith))
+    subst (λ s. CanBeMade c.args.batch.now s number) (sym (shown ∙ c.requires.opening))
+    (made_at c.args.batch.now c.args.opened (omega arith) number (omega arith) (omega arith))
 
 pub make_at-requires-clause-same_kinds : goal.make_at-requires-clause-same_kinds
 make_at-requires-clause-same_kinds g c κs within =
-    let shown = ap (λ (v : View). v.snapshot) c.loop-place.invariant.ready.opened in
-    let from = c.loop-place.invariant.listed.from in
-    let lt = c.loop-place-test.true in
+    let shown = ap (λ (v : View). v.snapshot) c.loop-number.invariant.ready.opened in
+    let from = c.loop-number.invariant.listed.from in
+    let lt = c.loop-number-test.true in
     let end = c.requires.places.1 in
     let all = c.requires.window.within in
     ap kinds (shown ∙ c.requires.opening) ∙ kinds_at c.args.batch.now c.args.opened (omega arith)
 
 pub returns-then-not-stands_past-clause-grown : goal.returns-then-not-stands_past-clause-grown
-returns-then-not-stands_past-clause-grown g c = grown_on c.args.from c.args.window.now c.loop-place.window c.make_at.new.self
-    c.loop-place.invariant.grown (grown_before c.args.from c.loop-place.place c.loop-place.window c.make_at.new.self
-    c.loop-place.auto.place c.in_ok-make_at.ensures.grown)
+returns-then-not-stands_past-clause-grown g c = grown_on c.args.from c.args.window.now c.loop-number.window c.make_at.new.self
+    c.loop-number.invariant.grown (grown_before c.args.from c.loop-number.number c.loop-number.window c.make_at.new.self
+    c.loop-number.auto.number c.in_ok-make_at.ensures.grown)
 
 pub returns-then-not-stands_past-clause-seen : goal.returns-then-not-stands_past-clause-seen
 returns-then-not-stands_past-clause-seen g c =
     let batch = c.args.batch.now in
     let opened = c.args.opened in
-    let place = c.loop-place.place in
+    let number = c.loop-number.number in
     let window = c.make_at.new.self in
-    let nets = c.loop-place.nets in
+    let nets = c.loop-number.nets in
     let upto = c.len-upto.result in
-    let low = c.loop-place-test.true in
+    let low = c.loop-number-test.true in
     let end = c.requires.places.1 in
-    let all = c.loop-place.invariant.all in
-    let shown = ap (λ (v : View). v.snapshot) c.loop-place.invariant.ready.opened in
-    let so_far = still_listed batch opened place c.loop-place.window window nets (omega arith) c.in_ok-make_at.ensures.grown
-    c.loop-place.invariant.listed in
+    let all = c.loop-number.invariant.all in
+    let shown = ap (λ (v : View). v.snapshot) c.loop-number.invariant.ready.opened in
+    let so_far = still_listed batch opened number c.loop-number.window window nets (omega arith) c.in_ok-make_at.ensures.grown
+    c.loop-number.invariant.listed in
     let listed = all_taken nets upto c.len-upto.ensures in
     let failed = c.if-not-stands_past.true in
     record {
       within = omega arith;
-      pending = subst (λ s. IsWindowAt batch place s window) (shown ∙ c.requires.opening) c.in_ok-make_at.ensures.window;
+      pending = subst (λ s. IsWindowAt batch number s window) (shown ∙ c.requires.opening) c.in_ok-make_at.ensures.window;
       upto = let size = c.len-upto.ensures in omega arith;
-      listed = subst (IsListedTo batch opened place window) (sym listed) so_far;
+      listed = subst (IsListedTo batch opened number window) (sym listed) so_far;
       conflict = λ lt keeps.
-          let stands = c.stands_past.ensures.1 (λ d. subst (λ es. HoldsPast es (get_or c.deref.result.now place d)) (sym listed)
-          (subst (λ rs. HoldsPast nets (get_or rs place d)) (sym c.deref.ensures.value)
-          ((keeps_where_holds batch opened place c.loop-place.desk.view.snapshot window (shown ∙ c.requires.opening)
-          c.in_ok-make_at.ensures.window place d nets (omega arith) so_far c.in_ok-make_at.ensures.valid).1 keeps))) in
+          let stands = c.stands_past.ensures.1 (λ d.
+          subst (λ es. HoldsPast es (get_or c.deref.result.now (number - window.first) d)) (sym listed)
+          (subst (λ rs. HoldsPast nets (get_or rs (number - window.first) d)) (sym c.deref.ensures.value)
+          ((keeps_where_holds batch opened number c.loop-number.desk.view.snapshot window (shown ∙ c.requires.opening)
+          c.in_ok-make_at.ensures.window number d nets (omega arith) so_far c.in_ok-make_at.ensures.valid).1 keeps))) in
           search rules;
       all = λ same. c.len-upto.ensures;
     }
 
-pub loop-place-preserved : goal.loop-place-preserved
-loop-place-preserved g c =
+pub loop-number-preserved : goal.loop-number-preserved
+loop-number-preserved g c =
     let batch = c.args.batch.now in
     let opened = c.args.opened in
     let first = c.args.window.now in
-    let place = c.loop-place.place in
+    let number = c.loop-number.number in
     let window = c.make_at.new.self in
     let freed = c.free_sums.new.self in
-    let nets = c.loop-place.nets in
+    let nets = c.loop-number.nets in
     let more = c.append_new.new.self in
-    let state = c.loop-place.desk.view.snapshot in
-    let shown = ap (λ (v : View). v.snapshot) c.loop-place.invariant.ready.opened in
-    let low = c.loop-place-test.true in
+    let state = c.loop-number.desk.view.snapshot in
+    let shown = ap (λ (v : View). v.snapshot) c.loop-number.invariant.ready.opened in
+    let low = c.loop-number-test.true in
     let end = c.requires.places.1 in
-    let all = c.loop-place.invariant.all in
-    let so_far = still_listed batch opened place c.loop-place.window window nets (omega arith) c.in_ok-make_at.ensures.grown
-    c.loop-place.invariant.listed in
+    let all = c.loop-number.invariant.all in
+    let so_far = still_listed batch opened number c.loop-number.window window nets (omega arith) c.in_ok-make_at.ensures.grown
+    c.loop-number.invariant.listed in
     let listed = all_taken nets c.len-upto.result c.len-upto.ensures in
     let run = c.index.result.now in
     let same = c.in_ok-make_at.ensures.reached in
-    let keeps = (keeps_where_holds batch opened place state window (shown ∙ c.requires.opening) c.in_ok-make_at.ensures.window place run
+    let keeps = (keeps_where_holds batch opened number state window (shown ∙ c.requires.opening) c.in_ok-make_at.ensures.window number run
     nets (omega arith) so_far c.in_ok-make_at.ensures.valid).0
-    (subst (λ rs. HoldsPast nets (get_or rs place run)) c.deref.ensures.value
-    (subst (λ es. HoldsPast es (get_or c.deref.result.now place run)) listed (c.stands_past.ensures.0 c.if-not-stands_past.false run))) in
-    let grown = grown_on c.args.from c.loop-place.window window freed
-    (grown_before c.args.from place c.loop-place.window window c.loop-place.auto.place c.in_ok-make_at.ensures.grown)
-    (freed_grown c.args.from place window freed c.loop-place.auto.place c.free_sums.ensures) in
+    (subst (λ rs. HoldsPast nets (get_or rs (number - window.first) run)) c.deref.ensures.value
+    (subst (λ es. HoldsPast es (get_or c.deref.result.now (number - window.first) run)) listed
+    (c.stands_past.ensures.0 c.if-not-stands_past.false run))) in
+    let grown = grown_on c.args.from c.loop-number.window window freed
+    (grown_before c.args.from number c.loop-number.window window c.loop-number.auto.number c.in_ok-make_at.ensures.grown)
+    (freed_grown c.args.from number window freed c.loop-number.auto.number c.free_sums.ensures) in
     record {
-      window = freed_window batch place c.args.desk.now.view.snapshot window freed
-          (subst (λ s. IsWindowAt batch place s window) shown c.in_ok-make_at.ensures.window) c.free_sums.ensures;
-      grown = grown_on c.args.from first c.loop-place.window freed c.loop-place.invariant.grown grown;
-      all = c.free_sums.ensures.runs ∙ (c.in_ok-make_at.ensures.reached ∙ c.loop-place.invariant.all);
-      listed = freed_listed batch opened (place + 1) place window freed more c.free_sums.ensures
-          (listed_more batch opened place state window (shown ∙ c.requires.opening) c.in_ok-make_at.ensures.window place run nets more
+      window = freed_window batch number c.args.desk.now.view.snapshot window freed
+          (subst (λ s. IsWindowAt batch number s window) shown c.in_ok-make_at.ensures.window) c.free_sums.ensures;
+      grown = grown_on c.args.from first c.loop-number.window freed c.loop-number.invariant.grown grown;
+      all = c.free_sums.ensures.runs ∙ (c.in_ok-make_at.ensures.reached ∙ c.loop-number.invariant.all);
+      listed = freed_listed batch opened (number + 1) number window freed more c.free_sums.ensures
+          (listed_more batch opened number state window (shown ∙ c.requires.opening) c.in_ok-make_at.ensures.window number run nets more
           (omega arith) so_far c.in_ok-make_at.ensures.valid keeps
           (subst (λ es. IsSummary more (nets ++ es)) (c.net.ensures ∙ ap (λ (r : PendingRun). left_by r.sums) c.index.ensures)
           c.in_ok-append_new.ensures.summary));
@@ -111,18 +113,18 @@ loop-place-preserved g c =
 
 pub returns-clause-seen : goal.returns-clause-seen
 returns-clause-seen g c =
-    let over = c.loop-place-test.false in
-    let is : c.loop-place.place ≡ c.args.end = omega arith in
-    let nets = c.loop-place.nets in
+    let over = c.loop-number-test.false in
+    let is : c.loop-number.number ≡ c.args.end = omega arith in
+    let nets = c.loop-number.nets in
     let upto = c.len-upto-2.result in
     record {
       within = omega arith;
-      pending = subst (λ s. IsWindowAt c.args.batch.now c.args.end s c.loop-place.window) c.requires.opening
-          (subst (λ n. IsWindowAt c.args.batch.now n c.args.desk.now.view.snapshot c.loop-place.window) is c.loop-place.invariant.window);
+      pending = subst (λ s. IsWindowAt c.args.batch.now c.args.end s c.loop-number.window) c.requires.opening
+          (subst (λ n. IsWindowAt c.args.batch.now n c.args.desk.now.view.snapshot c.loop-number.window) is c.loop-number.invariant.window);
       upto = let size = c.len-upto-2.ensures in omega arith;
-      listed = subst (IsListedTo c.args.batch.now c.args.opened c.args.end c.loop-place.window)
+      listed = subst (IsListedTo c.args.batch.now c.args.opened c.args.end c.loop-number.window)
           (sym (all_taken nets upto c.len-upto-2.ensures))
-          (subst (λ n. IsListedTo c.args.batch.now c.args.opened n c.loop-place.window nets) is c.loop-place.invariant.listed);
+          (subst (λ n. IsListedTo c.args.batch.now c.args.opened n c.loop-number.window nets) is c.loop-number.invariant.listed);
       conflict = λ lt. absurd (omega arith);
       all = λ same. c.len-upto-2.ensures;
     }

@@ -3,11 +3,11 @@ use Rattle.rounds.specs.Desks.{IsDeskOn}
 use Rattle.rounds.specs.Windows.{IsWindowAt, HasGrown, IsListedTo}
 use Rattle.rounds.proofs.seek.check_in_turn.Given as goal
 
-abbrev pub invariant-loop-place : goal.invariant-loop-place
-invariant-loop-place g l = record {
-  window : IsWindowAt l.batch l.place l.initial.desk.view.snapshot l.window;
+abbrev pub invariant-loop-number : goal.invariant-loop-number
+invariant-loop-number g l = record {
+  window : IsWindowAt l.batch l.number l.initial.desk.view.snapshot l.window;
   grown : HasGrown l.from l.initial.window l.window;
   all : length l.window.runs.items ≡ length l.initial.window.runs.items;
-  listed : IsListedTo l.batch l.opened l.place l.window l.nets;
+  listed : IsListedTo l.batch l.opened l.number l.window l.nets;
   ready : IsDeskOn l.initial.desk.view.snapshot l.desk;
 }

@@ -14,10 +14,10 @@ looking-init g c = record {
   window = c.requires.window;
   grown = not_grown c.args.opened c.args.window.now;
   listed = none_listed c.args.batch.now c.args.opened c.args.window.now c.give-memory.new.self.nets
-      (c.give-memory.ensures ∙ c.requires.none);
+      c.requires.window.begun (c.give-memory.ensures ∙ c.requires.none);
   ready = record { opened = c.open_in-desk.ensures.opened; unlabelled = c.open_in-desk.ensures.unlabelled };
   within = c.requires.within;
-  reached = c.requires.reached;
+  reached = let begun = c.requires.begun in omega arith;
   some = c.requires.some;
 }
 
@@ -34,6 +34,7 @@ returns-then-seen-end-clause-seen g c =
     let seen = c.in_ok-seen.seen in
     let saw = c.in_ok-seen.ensures.seen in
     let all = c.in_ok-seen.ensures.reached in
+    let first = c.in_ok-seen.ensures.grown.first in
     let inside = saw.within in
     let within = saw.pending.within in
     let end = c.in_ok-reach.ensures.reached in
@@ -68,7 +69,11 @@ looking-preserved g c =
           (all_taken nets c.in_ok-seen.seen.upto (saw.all last)) saw.listed);
       ready = c.in_ok-seen.ensures.ready;
       within = let end = c.min-end.ensures in let count = c.len-count.ensures in omega arith;
-      reached = let all = c.in_ok-seen.ensures.reached in let end = c.in_ok-reach.ensures.reached in omega arith;
+      reached =
+          let all = c.in_ok-seen.ensures.reached in
+          let first = c.in_ok-seen.ensures.grown.first in
+          let end = c.in_ok-reach.ensures.reached in
+          omega arith;
       some = let twice = c.saturating_mul-block.ensures in let some = so_far.some in omega arith;
     }
 

@@ -1,7 +1,7 @@
 use Rattle.std.proofs.Common.{◌≤◌, ◌-◌, length}
 use Rattle.rounds.specs.Desks.{IsDeskOn}
 use Rattle.rounds.specs.Views.{blocks_of}
-use Rattle.rounds.specs.Windows.{IsWindowAt, HasGrown, IsListedTo}
+use Rattle.rounds.specs.Windows.{end_of, IsWindowAt, HasGrown, IsListedTo}
 use Rattle.rounds.proofs.seek.seek.Given as goal
 
 abbrev pub invariant-looking : goal.invariant-looking
@@ -11,7 +11,7 @@ invariant-looking g l = record {
   listed : IsListedTo l.batch l.opened l.from l.window l.reused.nets;
   ready : IsDeskOn l.objects l.desk;
   within : l.from ≤ length (blocks_of l.batch);
-  reached : l.from ≤ length l.window.runs.items;
+  reached : l.from ≤ end_of l.window;
   some : 1 ≤ l.block;
 }
 

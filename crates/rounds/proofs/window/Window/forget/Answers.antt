@@ -13,8 +13,12 @@ loop-number-preserved c =
     let numbers = c.args.numbers.now in
     let at = c.loop-number.number-index in
     let within = c.requires.within at 0 c.loop-number-test.true in
+    let low = within.0 in
+    let high = within.1 in
+    let first = so_far.first in
+    let flags = c.requires.flags in
     let size = so_far.flags in
-    stale_more numbers at c.args.self.now c.loop-number.self _ c.loop-number-test.true (omega arith) so_far refl refl
+    stale_more numbers at c.args.self.now c.loop-number.self _ c.loop-number-test.true (omega arith) (omega arith) so_far refl refl refl
 
 pub returns : goal.returns
 returns c =

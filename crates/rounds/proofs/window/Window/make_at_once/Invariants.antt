@@ -2,7 +2,7 @@ use Rattle.std.proofs.Common.{◌≡◌, ◌≤◌, ◌<◌, ◌⊎◌, ℕ, len
 use Rattle.std.specs.List.{All}
 use Rattle.claims.specs.Views.{times}
 use Rattle.rounds.specs.PendingRuns.{IsMade, numbers_of}
-use Rattle.rounds.specs.Windows.{IsValid, IsWindowAt, HasGrown}
+use Rattle.rounds.specs.Windows.{end_of, IsValid, IsWindowAt, HasGrown}
 use Rattle.rounds.specs.declared.make.NumberedRun.{NumberedRun}
 use Rattle.rounds.proofs.window.Window.make_at_once.Given as goal
 
@@ -12,8 +12,8 @@ invariant-putting g l = record {
   grown : HasGrown l.from l.initial.self l.self;
   all : length l.self.runs.items ≡ length l.initial.self.runs.items;
   left : All (IsMade l.batch l.objects) l.made.items;
-  places : All (λ (m : NumberedRun). (l.from ≤ m.number) × (m.number < length l.initial.self.runs.items)) l.made.items;
-  put : (i : ℕ) → 0 < times i l.numbers → IsValid l.self i ⊎ (0 < times i (numbers_of l.made.items));
+  places : All (λ (m : NumberedRun). (l.from ≤ m.number) × (m.number < end_of l.initial.self)) l.made.items;
+  put : (i : ℕ) → l.from ≤ i → 0 < times i l.numbers → IsValid l.self i ⊎ (0 < times i (numbers_of l.made.items));
 }
 
 abbrev pub decreases-putting : goal.decreases-putting

@@ -1,4 +1,4 @@
-use Rattle.std.proofs.Common.{◌≡◌, get_or, refl, sym, ap, ◌∙◌, subst, arith}
+use Rattle.std.proofs.Common.{◌≡◌, ◌<◌, ◌≤◌, ℕ, length, get_or, refl, sym, ap, ◌∙◌, subst, arith}
 use Rattle.std.proofs.lemmas.List.{get_or_default}
 use native.Mathlib.Decide.{dec_le}
 use Rattle.objects.specs.Entries.{kinds}
@@ -25,13 +25,20 @@ make_at-requires-clause-window g c κs within =
     let shown = ap (λ (v : View). v.snapshot) c.loop-number.invariant.ready.opened in
     subst (λ s. IsWindowAt c.args.batch.now c.args.from s c.loop-number.self) (sym shown) c.loop-number.invariant.window
 
-pub make_at-requires-clause-place : goal.make_at-requires-clause-place
-make_at-requires-clause-place g c κs within =
+pub make_at-requires-clause-number : goal.make_at-requires-clause-number
+make_at-requires-clause-number g c κs within =
     let place = c.requires.places c.loop-number.number-index 0 c.loop-number-test.true in
     let below = place.1 in
     let all = c.loop-number.invariant.all in
+    let first = c.loop-number.invariant.grown.first in
     let few = c.requires.window.within in
-    (place.0, omega arith, omega (arith, below, few, c.args.batch.now.is_batch.few_transactions))
+    (place.0, omega arith)
+
+pub make_at-requires-clause-few : goal.make_at-requires-clause-few
+make_at-requires-clause-few g c κs within =
+    let below = (c.requires.places c.loop-number.number-index 0 c.loop-number-test.true).1 in
+    let few = c.requires.window.within in
+    omega (arith, below, few, c.args.batch.now.is_batch.few_transactions)
 
 pub make_at-requires-clause-can : goal.make_at-requires-clause-can
 make_at-requires-clause-can g c κs within =
@@ -60,6 +67,12 @@ loop-number-preserved g c =
     let numbers = c.args.numbers.now in
     let window = c.make_at.new.self in
     let made = c.in_ok-make_at.ensures in
+    let low : (k d : ℕ) → k < length numbers → c.loop-number.self.first ≤ get_or numbers k d = λ k d lt.
+    let place = c.requires.places k d lt in
+    let begun = so_far.window.begun in
+    let later = place.0 in
+    omega arith in
+    let last = c.loop-number-test.true in
     record {
       window = subst (λ s. IsWindowAt c.args.batch.now from s window) shown made.window;
       grown = grown_on from c.args.self.now c.loop-number.self window so_far.grown made.grown;
@@ -69,7 +82,7 @@ loop-number-preserved g c =
             let last : at ≡ k = omega arith in
             subst (λ j. IsValid window (get_or numbers j d)) last
             (subst (IsValid window) (get_or_default numbers at 0 d c.loop-number-test.true) made.valid)
-        | no less ↦ made.grown.still (get_or numbers k d) (so_far.valid k d (omega arith))
+        | no less ↦ made.grown.still (get_or numbers k d) (low k d (omega arith)) (so_far.valid k d (omega arith))
       ];
       ready = subst (λ s. IsDeskOn s c.make_at.new.desk) shown made.ready;
     }

@@ -22,6 +22,6 @@ make-requires-clause-few g c κs lives =
 
 pub returns-clause-valid : goal.returns-clause-valid
 returns-clause-valid g c =
-    none_left c.args.from c.args.self.now c.make.new.self c.args.from c.args.end c.in_ok-numbers.numbers.items
+    none_left c.args.from c.args.self.now c.make.new.self c.args.from c.args.end c.in_ok-numbers.numbers.items c.requires.window.begun
     c.in_ok-numbers.ensures.missing c.in_ok-make.ensures.grown
     (subst (All (IsValid c.make.new.self)) c.deref.ensures.value c.in_ok-make.ensures.valid)

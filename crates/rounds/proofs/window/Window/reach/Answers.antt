@@ -15,18 +15,18 @@ reaching-init c = record {
 pub reaching-smaller : goal.reaching-smaller
 reaching-smaller c =
     let going = c.reaching-test.true in
-    let len = c.len.ensures in
+    let now = c.end.ensures in
     let pushed = ap length c.in_ok-push.ensures.items ∙ length_push c.reaching.self.runs.items c.empty.result in
     omega arith
 
 pub reaching-preserved : goal.reaching-preserved
 reaching-preserved c =
-    let new : Window = record { runs = c.push.new.self; valid = c.push-in-reaching.new.self } in
+    let new : Window = record { first = c.reaching.self.first; runs = c.push.new.self; valid = c.push-in-reaching.new.self } in
     let going = c.reaching-test.true in
-    let len = c.len.ensures in
+    let now = c.end.ensures in
     let end = c.requires.end in
     let more = reached_more c.args.batch.now c.args.from c.args.objects.now c.reaching.self new c.empty.result
-    c.reaching.invariant.window (omega arith) c.in_ok-push.ensures.items c.in_ok-push-2.ensures.items in
+    c.reaching.invariant.window (omega arith) refl c.in_ok-push.ensures.items c.in_ok-push-2.ensures.items in
     record {
       window = more.0;
       grown = grown_on c.args.from c.args.self.now c.reaching.self new c.reaching.invariant.grown more.1;

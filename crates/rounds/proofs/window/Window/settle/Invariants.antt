@@ -1,5 +1,5 @@
-use Rattle.rounds.specs.Windows.{AreSettled}
+use Rattle.rounds.proofs.Settling.{AreTaken}
 use Rattle.rounds.proofs.window.Window.settle.Given as goal
 
 abbrev pub invariant-loop-place : goal.invariant-loop-place
-invariant-loop-place l = AreSettled l.end l.initial.self l.self
+invariant-loop-place l = AreTaken l.place l.initial.self l.self l.initial.list.items l.list.items
