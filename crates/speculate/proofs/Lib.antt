@@ -3,6 +3,7 @@ pub mod Bodies
 pub mod Choices
 pub mod Crossing
 pub mod Measures
+pub mod Puts
 pub mod InView
 pub mod Room
 pub mod Siblings

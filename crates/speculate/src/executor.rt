@@ -87,7 +87,12 @@ fn run_steps<T: Threads + Sync, G: Gate>(
         {
             let reply = view.perform(*object, call)?;
             add_label(labels, *labelled, Held::Replied(reply))?;
-            put_at(&mut taken, place, Taken::Op(reply))?;
+            // Put here, the reply isn't copied once more, as it would be by `put_at`.
+            if place < taken.len() {
+                taken[place] = Taken::Op(reply);
+            } else {
+                taken.push(Taken::Op(reply))?;
+            }
             continue;
         }
         let (done, end) = run_other_step(making, step, labels, view, width, &mut taken, place)?;

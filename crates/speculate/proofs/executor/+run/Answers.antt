@@ -22,7 +22,14 @@ use Rattle.std.specs.List.{slice_range}
 use Rattle.speculate.specs.Ahead.{AreRunAhead}
 use Rattle.speculate.specs.Running.{in_view}
 use Rattle.speculate.proofs.InView.{ground}
+use Rattle.batch.specs.declared.record.Taken.{Taken}
+use Rattle.batch.specs.declared.record.Taken.TheVariants.{Op}
+use Rattle.speculate.proofs.Puts.{IsPutAt, put_over, put_last}
 use Rattle.speculate.proofs.executor.+run.Goals as goal
+use Rattle.speculate.proofs.executor.+run.Goals.{run_steps-then-place-len+in-Filled-1, run_steps-then-place-len+in-If-1}
+use Rattle.speculate.proofs.executor.+run.Goals.{run_steps-then-place-len+in-Sub+in-Some-1, run_steps-then-place-len+in-Sub+in-None-1}
+use Rattle.speculate.proofs.executor.+run.Goals.{run_steps-then-place-len+in-Parallel-1, run_steps-then-place-len+in-Op-1}
+use Rattle.speculate.proofs.executor.+run.Goals.{run_steps-else-place-len+in_ok-push}
 
 -- ---- steps one after the other
 
@@ -39,13 +46,13 @@ run_steps-returns-in-Aborted-clause-shows g t c =
     c.index-steps-place.result c.in_ok-done.done c.in_ok-done.end c.run_other_step.new.labels.items c.run_other_step.new.view
     c.in-Aborted.field-0 c.record_of.result c.loop-place.invariant.part c.loop-place-test.true c.index-steps-place.is
     c.in_ok-done.ensures.shows c.in-Aborted.is
-    (c.record_of.ensures.taken ∙ c.in_ok-put_at-2.ensures.put ∙ ap (λ ts. ts ++ c.in_ok-done.done ∷ []) c.in_ok-done.ensures.before)
+    (c.record_of.ensures.taken ∙ c.in_ok-put_at.ensures.put ∙ ap (λ ts. ts ++ c.in_ok-done.done ∷ []) c.in_ok-done.ensures.before)
     c.record_of.ensures.outcome
 
 pub run_steps-loop-place-preserved : goal.run_steps-loop-place-preserved
 run_steps-loop-place-preserved g t c = record {
-  long = c.in_ok-put_at-2.ensures.long;
-  part = rw (c.in_ok-put_at-2.ensures.put, c.in_ok-done.ensures.before)
+  long = c.in_ok-put_at.ensures.long;
+  part = rw (c.in_ok-put_at.ensures.put, c.in_ok-done.ensures.before)
       (part_run-more ground c.args.steps.now c.args.labels.now.items c.args.view.now c.loop-place.place
       (take c.loop-place.place c.loop-place.taken.items) c.loop-place.labels.items c.loop-place.view
       c.index-steps-place.result c.in_ok-done.done c.in_ok-done.end c.run_other_step.new.labels.items c.run_other_step.new.view
@@ -54,16 +61,32 @@ run_steps-loop-place-preserved g t c = record {
 }
 
 pub run_steps-loop-place-preserved-in-Op : goal.run_steps-loop-place-preserved-in-Op
-run_steps-loop-place-preserved-in-Op g t c = record {
-  long = c.in_ok-put_at.ensures.long;
-  part = rw c.in_ok-put_at.ensures.put
-      (part_run-more ground c.args.steps.now c.args.labels.now.items c.args.view.now c.loop-place.place
-      (take c.loop-place.place c.loop-place.taken.items) c.loop-place.labels.items c.loop-place.view
-      c.index-steps-place.result _ _ c.add_label.new.labels.items c.perform.new.self
-      c.loop-place.invariant.part c.loop-place-test.true c.index-steps-place.is
-      (op-shows ground c.index-steps-place.result _ _ _ _ _ _ _ _ c.in-Op.is c.in_ok-reply.ensures.reply c.in_ok-reply.ensures.ok
-      c.in_ok-add_label.ensures.ok) refl (_, c.in_ok-add_label.ensures.ok));
-}
+run_steps-loop-place-preserved-in-Op g t c =
+    let was = c.loop-place.taken in
+    let now = c.if-place-len.taken in
+    let at = c.loop-place.place in
+    let done : Taken = Op c.in_ok-reply.reply in
+    let put : IsPutAt was.items at done now.items = elim c.if-place-len.branch [
+      | run_steps-then-place-len+in-Filled-1 w ↦ put_over was now at done (omega (arith, w.if-place-len.true, c.len.ensures)) w.taken-is
+      | run_steps-then-place-len+in-If-1 w ↦ put_over was now at done (omega (arith, w.if-place-len.true, c.len.ensures)) w.taken-is
+      | run_steps-then-place-len+in-Sub+in-Some-1 w ↦ put_over was now at done (omega (arith, w.if-place-len.true, c.len.ensures)) w.taken-is
+      | run_steps-then-place-len+in-Sub+in-None-1 w ↦ put_over was now at done (omega (arith, w.if-place-len.true, c.len.ensures)) w.taken-is
+      | run_steps-then-place-len+in-Parallel-1 w ↦ put_over was now at done (omega (arith, w.if-place-len.true, c.len.ensures)) w.taken-is
+      | run_steps-then-place-len+in-Op-1 w ↦ put_over was now at done (omega (arith, w.if-place-len.true, c.len.ensures)) w.taken-is
+      | run_steps-else-place-len+in_ok-push w ↦
+          put_last was w.push.new.self now at done c.loop-place.invariant.long (omega (arith, w.if-place-len.false, c.len.ensures))
+          w.taken-is w.in_ok-push.ensures.items
+    ] in
+    record {
+      long = put.long;
+      part = rw put.put
+          (part_run-more ground c.args.steps.now c.args.labels.now.items c.args.view.now c.loop-place.place
+          (take c.loop-place.place c.loop-place.taken.items) c.loop-place.labels.items c.loop-place.view
+          c.index-steps-place.result _ _ c.add_label.new.labels.items c.perform.new.self
+          c.loop-place.invariant.part c.loop-place-test.true c.index-steps-place.is
+          (op-shows ground c.index-steps-place.result _ _ _ _ _ _ _ _ c.in-Op.is c.in_ok-reply.ensures.reply c.in_ok-reply.ensures.ok
+          c.in_ok-add_label.ensures.ok) refl (_, c.in_ok-add_label.ensures.ok));
+    }
 
 pub run_steps-returns-clause-shows : goal.run_steps-returns-clause-shows
 run_steps-returns-clause-shows g t c =
