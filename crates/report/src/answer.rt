@@ -10,7 +10,7 @@ ghost use Rattle.batch.specs.Names.{names_of};
 ghost use Rattle.batch.specs.Views.{block_view, record_view};
 ghost use Rattle.report.specs.Parts.{IsBefore, last_cut, lines_from, objects_from, transaction_from, transactions};
 
-use crate::cuts::{Cut, least_lines};
+use crate::cuts::{Cut, lines_between};
 use crate::lines::{write_end, write_step};
 use crate::names::object_name;
 use crate::paths::{begin_path, count_up, push_tens};
@@ -89,20 +89,21 @@ pub fn render_check(alloc: Global, batch: &Batch) -> Result<String, NoMemory>
 /// About how many bytes a line has.
 const LINE: usize = 32;
 
-// An empty text, with room for the lines between two cuts where that is to be had. A text without room
-// is copied as it grows.
+/// For how many lines a text has room from the first, at most. Some transactions are looked at to
+/// estimate them, and the others may have far fewer.
+const MOST_LINES: usize = 2_097_152;
+
+// An empty text, with room for about the lines between two cuts where that is to be had. A text without
+// room is copied as it grows.
 fn text_between(alloc: Global, records: &[Record], from: Cut, to: Cut) -> String
     requires rise { from.entry ≤ to.entry }
     requires within { to.entry ≤ length records.now }
     ensures { string_bytes result ≡ [] }
 {
-    let mut lines = to.line;
-    for record in &records[from.entry..to.entry] {
-        lines = lines.saturating_add(least_lines(record));
-    }
+    let lines = lines_between(records, from, to).min(MOST_LINES);
     let mut text = String::new(alloc);
     // Where this is refused, the text grows as it is written.
-    let _ = text.reserve(lines.saturating_sub(from.line).saturating_mul(LINE));
+    let _ = text.reserve(lines.saturating_mul(LINE));
     text
 }
 

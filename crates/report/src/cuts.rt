@@ -9,8 +9,9 @@ use std::alloc::Global;
 /// How many lines are enough for a thread. Fewer are rendered sooner than it starts.
 const ENOUGH: usize = 4_096;
 
-/// How many outermost steps are looked at to estimate how many lines a report has. They are about
-/// so many, evenly spread, and at least one of each transaction.
+/// How many transactions are looked at to estimate how many lines a report has, at most, and about
+/// how many of their outermost steps. They are evenly spread. Of each transaction that is looked at,
+/// at least one step is.
 const LOOKS: usize = 4_096;
 
 /// How many steps of a block further inside are looked at, and how many children of a parallel
@@ -45,11 +46,12 @@ pub(crate) fn cuts_of(
     requires few { end.line < 2 ^ 32 }
     ensures { IfOk result (λ cuts. AreCuts end cuts.items) }
 {
+    let shown = &records[..end.entry];
+    let sample = Sample::of(shown);
     // One worker renders all in one part, so nothing is counted for it.
-    let (mut lines, mut stride) = (0, 1);
+    let mut lines = 0;
     if workers > 1 {
-        stride = stride_of(&records[..end.entry]);
-        lines = lines_by(&records[..end.entry], stride);
+        lines = lines_by(shown, sample);
         let first = Cut {
             entry: end.entry,
             line: 0,
@@ -63,7 +65,7 @@ pub(crate) fn cuts_of(
     let mut passed = 0;
     for part in 1..parts {
         let wanted = (lines / parts).saturating_mul(part);
-        let (near, before) = pass_lines(records, end, stride, cut, passed, wanted);
+        let (near, before) = pass_lines(records, end, sample, cut, passed, wanted);
         (cut, passed) = pass_objects(objects, end, near, before, wanted);
         cuts.push(cut)?;
     }
@@ -72,11 +74,13 @@ pub(crate) fn cuts_of(
 }
 
 // Goes on from a cut, which so many lines are before, to the nearest place that as many as are
-// wanted are before, or to where the objects begin.
+// wanted are before, or to where the objects begin. Only places in transactions that are looked at
+// count, and each of these has one before its own line. What a transaction adds, those up to the
+// next one that is looked at add too.
 fn pass_lines(
     records: &[Record],
     end: Cut,
-    stride: usize,
+    sample: Sample,
     from: Cut,
     mut passed: usize,
     wanted: usize,
@@ -86,21 +90,19 @@ fn pass_lines(
     ensures on { IsBefore from result.0 }
     ensures within { IsBefore result.0 end }
 {
-    let mut line = from.line;
-    for entry in from.entry..end.entry {
-        (line, passed) = pass_steps(&records[entry], stride, line, passed, wanted);
+    let (mut entry, mut line) = (from.entry, from.line);
+    while entry < end.entry {
+        let before = passed;
+        (line, passed) = pass_steps(&records[entry], sample.steps, line, passed, wanted);
         if line <= records[entry].taken.len() {
             return (Cut { entry, line }, passed);
         }
-        line = 0;
+        let next = sample.next(entry, end.entry);
+        let lines = passed.saturating_sub(before);
+        passed = lines.saturating_mul(next - entry).saturating_add(before);
+        (entry, line) = (next, 0);
     }
-    (
-        Cut {
-            entry: end.entry,
-            line,
-        },
-        passed,
-    )
+    (Cut { entry, line }, passed)
 }
 
 // The same among the lines of a transaction. Its own line is passed with its first step. A step is
@@ -174,22 +176,83 @@ fn entries_of(value: &Value) -> usize {
     }
 }
 
-// About how many lines transactions have, where one outermost step of so many is looked at.
-fn lines_by(records: &[Record], stride: usize) -> usize {
-    let mut count = 0;
-    for record in records {
-        count = pass_steps(record, stride, 0, count, usize::MAX).1;
+/// About how many lines are between two cuts.
+pub(crate) fn lines_between(records: &[Record], from: Cut, to: Cut) -> usize
+    requires rise { from.entry ≤ to.entry }
+    requires within { to.entry ≤ length records.now }
+{
+    let whole = &records[from.entry..to.entry];
+    lines_by(whole, Sample::of(whole))
+        .saturating_add(lines_before(records, to))
+        .saturating_sub(lines_before(records, from))
+}
+
+// About how many lines of its entry are before a cut.
+fn lines_before(records: &[Record], cut: Cut) -> usize {
+    match records.get(cut.entry) {
+        Some(record) => {
+            let stride = stride_of(record.taken.len());
+            let all = pass_steps(record, stride, 0, 0, usize::MAX).1;
+            let left = pass_steps(record, stride, cut.line, 0, usize::MAX).1;
+            all.saturating_sub(left)
+        }
+        None => cut.line,
+    }
+}
+
+// About how many lines transactions have.
+fn lines_by(records: &[Record], sample: Sample) -> usize {
+    let mut count: usize = 0;
+    let mut entry = 0;
+    while entry < records.len() {
+        let lines = pass_steps(&records[entry], sample.steps, 0, 0, usize::MAX).1;
+        let next = sample.next(entry, records.len());
+        count = lines.saturating_mul(next - entry).saturating_add(count);
+        entry = next;
     }
     count
 }
 
-// Of how many outermost steps one is looked at.
-fn stride_of(records: &[Record]) -> usize {
-    let mut steps: usize = 0;
-    for record in records {
-        steps = steps.saturating_add(record.taken.len());
+/// What is looked at to estimate how many lines a report has: one of so many transactions, and one
+/// of so many of its outermost steps. Each stands for those up to the next.
+#[derive(Clone, Copy)]
+struct Sample {
+    transactions: usize,
+    steps: usize,
+}
+
+impl Sample {
+    // What is looked at of these transactions.
+    fn of(records: &[Record]) -> Sample {
+        let mut sample = Sample {
+            transactions: stride_of(records.len()),
+            steps: 1,
+        };
+        let mut steps: usize = 0;
+        let mut entry = 0;
+        while entry < records.len() {
+            steps = steps.saturating_add(records[entry].taken.len());
+            entry = sample.next(entry, records.len());
+        }
+        sample.steps = stride_of(steps);
+        sample
     }
-    steps / LOOKS + 1
+
+    // The transaction that is looked at after this one, or where the transactions end.
+    fn next(self, entry: usize, end: usize) -> usize
+        requires { entry < end }
+        ensures rise { entry < result }
+        ensures within { result ≤ end }
+    {
+        entry.saturating_add(self.transactions.max(1)).min(end)
+    }
+}
+
+// Of how many one is looked at, where there are so many.
+fn stride_of(count: usize) -> usize
+    ensures { 0 < result }
+{
+    count / LOOKS + 1
 }
 
 // About how many lines the steps of a record have. The first ones stand for all, and of those below
@@ -249,28 +312,4 @@ fn lines_of_children(children: &[(Record, Option<Record>)], levels: usize) -> us
         looked += 1;
     }
     count
-}
-
-/// At least so many lines a transaction has: its own, and those of its outermost steps and of the
-/// steps in their bodies. No step further inside is looked at.
-pub(crate) fn least_lines(record: &Record) -> usize {
-    let mut lines = record.taken.len().saturating_add(1);
-    for taken in &record.taken {
-        lines = lines.saturating_add(match taken {
-            Taken::Op(_) | Taken::Filled(_) | Taken::Abort => 0,
-            Taken::If(_, branch) => branch.taken.len(),
-            Taken::Sub(body, _) => body.taken.len(),
-            Taken::Parallel(children) => least_lines_of(children),
-        });
-    }
-    lines
-}
-
-// The same of children.
-fn least_lines_of(children: &[(Record, Option<Record>)]) -> usize {
-    let mut lines: usize = 0;
-    for (body, _) in children {
-        lines = lines.saturating_add(body.taken.len()).saturating_add(1);
-    }
-    lines
 }
