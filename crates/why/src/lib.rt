@@ -8,5 +8,4 @@ mod places;
 mod round;
 mod search;
 
-pub use batch::{Batch, NoMemory};
 pub use lines::render_why;
