@@ -1,13 +1,17 @@
 -- Entries that stand for many: what commutes forward with them.
-use Rattle.std.proofs.Common.{◌≡◌, ℕ, suc, zero, ◌+◌, ◌<◌, ◌≤◌, ◌↔◌, arith, List, [], ◌∷◌, ◌++◌, length, take, set, get_or, sym, ap, ◌∙◌, subst}
+use Rattle.std.proofs.Common.{◌≡◌, ℕ, suc, zero, ◌+◌, ◌<◌, ◌≤◌, ◌↔◌, arith, true, List, [], ◌∷◌, ◌++◌, length, take, set, get_or}
+use Rattle.std.proofs.Common.{sym, ap, ◌∙◌, subst}
+use Rattle.std.proofs.lemmas.Simd.{map-map}
 use Rattle.std.proofs.lemmas.List.{get_or-map, get_or-set_other, length-map, length-set, length-take, map-append, map-set, take-append-le, take_more}
 use Rattle.objects.specs.declared.entry.Entry.{Entry}
 use Rattle.committed.specs.declared.marks.MarkedEntry.{MarkedEntry}
 use Rattle.objects.specs.Entries.{CommutesWith, AllCommute, CommuteForward}
 use Rattle.objects.proofs.ListLemmas.{all_commute_none}
-use Rattle.committed.specs.Strictness.{AreAsStrict, IsCovered}
-use Rattle.committed.specs.Summaries.{entries_of, IsSummary}
+use Rattle.committed.specs.Strictness.{AreAsStrict, AreCovered, IsCovered, covers, strength_of}
+use Rattle.committed.specs.Summaries.{entries_of, strengths_of, IsSummary}
+use Rattle.committed.specs.declared.strength.Strength.{Strength}
 use Rattle.committed.proofs.StandsLemmas.{commute_turned, one_commutes}
+use Rattle.committed.proofs.StrengthLemmas.{given_strict}
 
 -- what commutes with all of two lists commutes with all of both
 pub commutes_both : (e : Entry) (xs ys : List Entry) → CommutesWith e xs → CommutesWith e ys → CommutesWith e (xs ++ ys)
@@ -180,6 +184,23 @@ summary_covered summary entries e covered sums = record {
     λ h. (sums.same other).1 (commutes_first other entries (e ∷ []) h),
   );
 }
+
+-- where the strength of an entry of the summary covers another, the summary covers each entry of that
+pub strength_covered : (marked : List MarkedEntry) (strengths : List Strength) (at : ℕ) (own other : Strength)
+    → strengths ≡ strengths_of marked → at < length strengths → own ≡ get_or strengths at own → covers own other ≡ true
+    → AreCovered (entries_of marked) other
+strength_covered marked strengths at own other told within is covered e of_e p commutes =
+    let es = entries_of marked in
+    let low : at < length es = omega (
+      arith,
+      ap length told,
+      length-map marked (λ (k : MarkedEntry). strength_of k.entry),
+      length-map marked (λ (k : MarkedEntry). k.entry),
+      within,
+    ) in
+    let of_own : own ≡ strength_of (get_or es at p) = is ∙ ap (λ ss. get_or ss at own)
+    (told ∙ sym (map-map strength_of (λ (k : MarkedEntry). k.entry) marked)) ∙ get_or-map strength_of es at p own low in
+    given_strict (get_or es at p) e own other of_own (sym of_e) covered p (one_commutes p es at low commutes)
 
 -- the entries up to the next one
 pub entries_next : (marked : List MarkedEntry) (n : ℕ) (m : MarkedEntry) → n < length marked → m ≡ get_or marked n m

@@ -1,5 +1,5 @@
 -- Which of two entries commutes forward with less. No public contract names it.
-use Rattle.std.specs.Prelude.{List, ℕ, ◌+◌, ◌&&◌, ◌==◌, Bool, nat_le, if◌then◌else◌, IsTrue}
+use Rattle.std.specs.Prelude.{◌≡◌, List, ℕ, ◌+◌, ◌&&◌, ◌==◌, Bool, nat_le, if◌then◌else◌, IsTrue}
 use Rattle.atoms.specs.Account.{account_effect}
 use Rattle.atoms.specs.Counter.{counter_effect}
 use Rattle.atoms.specs.ItemSet.{set_effect}
@@ -131,6 +131,10 @@ is_within s t = s.variant == t.variant && (s.item == t.item && (nat_le s.least t
 
 abbrev pub covers : Strength → Strength → Bool
 covers s t = s.object == t.object && (s.kind == t.kind && is_within s t)
+
+-- what commutes forward with all of these entries commutes forward with each entry of this strength
+abbrev pub AreCovered : List Entry → Strength → Type 0
+AreCovered entries strength = (e : Entry) → strength_of e ≡ strength → IsCovered entries e
 
 -- what an entry of the strength is about: its object and its item, or its object and effect where it is about no item
 abbrev pub topic_of : Strength → Topic

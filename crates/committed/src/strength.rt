@@ -114,11 +114,11 @@ pub struct Topic {
 }
 
 impl Topic {
-    /// A slot for it, where there are so many, which is a power of two.
+    /// A slot for it, where there are so many, which is a power of two. Consecutive objects have
+    /// consecutive slots.
     pub fn slot(&self, slots: usize) -> usize {
         let number = (self.object as u64)
-            .wrapping_mul(8)
-            .wrapping_add(self.variant as u64)
+            .wrapping_add((self.variant as u64).wrapping_mul(0x5851_F42D))
             .wrapping_add(self.item.wrapping_mul(0x9E37_79B9_7F4A_7C15));
         number as usize & slots.saturating_sub(1)
     }

@@ -1,8 +1,8 @@
 //! Entries with their marks: all of them, or a summary.
-ghost use Rattle.std.specs.Prelude.{◌≡◌, ◌<◌, ◌≤◌, ◌++◌, ◌∷◌, [], List, length, get_or, IfOk, IfSome, OnOk};
+ghost use Rattle.std.specs.Prelude.{◌≡◌, ◌<◌, ◌≤◌, ◌++◌, ◌∷◌, [], List, length, get_or, IfOk, IfSome, IsTrue, OnOk};
 ghost use Rattle.objects.specs.declared.entry.Entry.{Entry as OneEntry};
 ghost use Rattle.committed.specs.Spans.{AreIn};
-ghost use Rattle.committed.specs.Strictness.{strength_of};
+ghost use Rattle.committed.specs.Strictness.{strength_of, AreCovered};
 ghost use Rattle.committed.specs.Summaries.{entries_of, strengths_of, HasMore, IsSummary};
 
 use crate::marks::MarkedEntry;
@@ -98,8 +98,9 @@ struct Places {
 #[derive(Drop)]
 struct Table {
     places: IndexMap<Topic, Places, EntryHashing>,
-    /// In the slot of a topic the last places that were put there, mostly its own.
-    slots: Vec<Places>,
+    /// In the slot of a topic the place of the entry that was last found or put there, mostly one
+    /// of that topic. It is a guess: nothing is left out by it without a comparison.
+    slots: Vec<usize>,
     summary: Vec<MarkedEntry>,
     /// The strengths of the entries of the summary.
     strengths: Vec<Strength>,
@@ -128,20 +129,26 @@ impl Table {
         };
         Ok(Table {
             places: IndexMap::with_capacity_and_hasher(alloc, room, hashing)?,
-            slots: vec![in alloc; Places { last: 0, before: 0 }; slots]?,
+            slots: vec![in alloc; 0; slots]?,
             summary,
             strengths,
         })
     }
 
-    /// Adds an entry, unless the two at the places of its topic are as strict. Where the earlier
-    /// of them is as strict with it as with the later, it takes the place of the later.
+    /// Adds an entry, unless the one at the place in the slot of its topic is as strict, or the two
+    /// at the places of its topic are. Where the earlier of these is as strict with it as with the
+    /// later, it takes the place of the later.
     fn add(&mut self, entry: &Entry) -> Result<(), NoMemory>
         ensures { OnOk result ((entries : List OneEntry) → IsSummary (entries_of self.old.summary.items) entries → IsSummary (entries_of self.new.summary.items) (entries ++ entry.now ∷ [])) }
     {
         let strength = Strength::of(entry);
-        let places = self.places(&strength.topic());
+        if self.covers(&strength) {
+            return Ok(());
+        }
+        let topic = strength.topic();
+        let places = self.places(&topic);
         if let Some(found) = places {
+            self.note(&topic, found.last);
             let later = self.measured(found.last);
             let earlier = self.measured(found.before);
             let own = Measured {
@@ -177,14 +184,37 @@ impl Table {
         let last = self.summary.len();
         let before = places.map_or(last, |places| places.last);
         let topic = strength.topic();
-        let places = Places { last, before };
-        self.places.insert(topic, places)?;
-        if let Some(slot) = self.slots.get_mut(topic.slot(self.slots.len())) {
-            *slot = places;
-        }
+        self.places.insert(topic, Places { last, before })?;
+        self.note(&topic, last);
         self.summary.push_reserved(MarkedEntry::of(entry));
         self.strengths.push_reserved(strength);
         Ok(())
+    }
+
+    /// Whether the entry at the place in the slot of a strength's topic is known to be as strict as
+    /// each entry of this strength.
+    fn covers(&self, strength: &Strength) -> bool
+        ensures { IsTrue result → AreCovered (entries_of self.now.summary.items) strength.now }
+    {
+        let slot = strength.topic().slot(self.slots.len());
+        let Some(&place) = self.slots.get(slot) else {
+            return false;
+        };
+        match self.strengths.get(place) {
+            Some(found) => found.covers(strength),
+            None => false,
+        }
+    }
+
+    /// Puts the place of an entry into the slot of its topic.
+    fn note(&mut self, topic: &Topic, place: usize)
+        ensures entries { self.new.summary ≡ self.old.summary }
+        ensures strengths { self.new.strengths ≡ self.old.strengths }
+    {
+        let slot = topic.slot(self.slots.len());
+        if let Some(slot) = self.slots.get_mut(slot) {
+            *slot = place;
+        }
     }
 
     /// The places of a topic, which the summary has.
@@ -192,20 +222,11 @@ impl Table {
         ensures ordered { IfSome result (λ found. found.before ≤ found.last) }
         ensures within { IfSome result (λ found. found.last < length self.now.summary.items) }
     {
-        let places = self.found(topic)?;
+        let places = *self.places.get(topic)?;
         if places.before <= places.last && places.last < self.summary.len() {
             Some(places)
         } else {
             None
-        }
-    }
-
-    /// The places that are in the slot of a topic, where they are its own, or else those under it.
-    fn found(&self, topic: &Topic) -> Option<Places> {
-        let places = *self.slots.get(topic.slot(self.slots.len()))?;
-        match self.strengths.get(places.last) {
-            Some(strength) if strength.topic() == *topic => Some(places),
-            _ => self.places.get(topic).copied(),
         }
     }
 
