@@ -15,18 +15,16 @@ use Rattle.meaning.specs.Shown.{Shown, end_of}
 use Rattle.meaning.specs.Words.{Names, value_text}
 use Rattle.words.specs.Words.{kind_text}
 use Rattle.meaning.specs.declared.end.End.{End}
-use Rattle.meaning.specs.Texts.{line, outcome_text, part, step_text, steps_text, transactions_text, objects_text, plain_text, check_text}
-use Rattle.batch.specs.Views.{block_view, record_view, step_view, steps_view, taken_view}
+use Rattle.meaning.specs.Texts.{line, outcome_text, steps_text, transactions_text, objects_text, plain_text, check_text}
+use Rattle.batch.specs.Views.{block_view, record_view, steps_view}
 use Rattle.batch.specs.declared.tree.Block.{Block}
-use Rattle.batch.specs.declared.tree.Step.{Step}
 use Rattle.batch.specs.declared.record.Record.{Record}
-use Rattle.batch.specs.declared.record.Taken.{Taken}
 use Rattle.batch.proofs.CountLemmas.{left}
 use Rattle.batch.proofs.ViewLemmas.{block_view-is, record_view-is}
 use Rattle.report.specs.declared.cuts.Cut.{Cut}
 use Rattle.report.specs.Parts.{first_from, last_cut, lines_from, objects_from, start, steps_from, transaction_from, transactions}
 use Rattle.report.specs.Parts.{transactions_from}
-use Rattle.report.proofs.TextLemmas.{end_of-record_view, steps_from-start, steps_from-more, steps_from-no_step, steps_from-end}
+use Rattle.report.proofs.TextLemmas.{end_of-record_view, steps_from-start, steps_from-end}
 
 module _ (names : Names) where
   -- ---- the lines of a transaction
@@ -97,27 +95,14 @@ module _ (names : Names) where
     first-is i = ap (λ bs. first_from names (e + 1) bs (drop e records) i) (left blocks e x lt is)
         ∙ ap (λ rs. first_from names (e + 1) (x ∷ drop (e + 1) blocks) rs i) (left records e y lt' is')
 
+    -- its own line, and then those of its steps
     pub transaction_from-own : transaction_from names blocks records e 0
-        ≡ line (codes "T " ++ decimal (e + 1) ++ outcome_text names y.outcome) ++ transaction_from names blocks records e (0 + 1)
-    transaction_from-own =
-        first-is 0 ∙ ap (λ text. line (codes "T " ++ decimal (e + 1) ++ outcome_text names y.outcome) ++ text) (sym (first-is 1))
+        ≡ line (codes "T " ++ decimal (e + 1) ++ outcome_text names y.outcome) ++ steps_left 0
+    transaction_from-own = first-is 0
 
-    pub transaction_from-step : (i : ℕ) (step : Step) (taken : Taken) → 0 < i → i - 1 < length x.steps.items
-        → step ≡ get_or x.steps.items (i - 1) step → i - 1 < length y.taken.items → taken ≡ get_or y.taken.items (i - 1) taken
-        → transaction_from names blocks records e i
-        ≡ step_text names (part (decimal (e + 1)) i) (step_view step) (taken_view taken) ++ transaction_from names blocks records e (i + 1)
-    transaction_from-step i step taken some below at below' at' =
-        let same : i - 1 + 1 ≡ i = omega (arith, some) in
-        first-is i ∙ later (e + 1) x y (drop (e + 1) blocks) (drop (e + 1) records) i some
-        ∙ steps_from-more names (decimal (e + 1)) (i - 1) x.steps.items y.taken.items y.outcome step taken below at below' at'
-        ∙ ap (λ n. step_text names (part (decimal (e + 1)) n) (step_view step) (taken_view taken) ++ steps_left n) same
-        ∙ ap (λ n. step_text names (part (decimal (e + 1)) i) (step_view step) (taken_view taken) ++ steps_left n) (omega arith)
-        ∙ ap (λ text. step_text names (part (decimal (e + 1)) i) (step_view step) (taken_view taken) ++ text)
-        (sym (first-is (i + 1) ∙ later (e + 1) x y (drop (e + 1) blocks) (drop (e + 1) records) (i + 1) (omega arith)))
-
-    pub transaction_from-no_step : (i : ℕ) → length x.steps.items < i → transaction_from names blocks records e i ≡ []
-    transaction_from-no_step i lt'' = first-is i ∙ later (e + 1) x y (drop (e + 1) blocks) (drop (e + 1) records) i (omega (arith, lt''))
-        ∙ steps_from-no_step names (decimal (e + 1)) (i - 1) x.steps.items y.taken.items y.outcome (omega (arith, lt''))
+    -- those of its steps
+    pub transaction_from-steps : (i : ℕ) → 0 < i → transaction_from names blocks records e i ≡ steps_left (i - 1)
+    transaction_from-steps i some = first-is i ∙ later (e + 1) x y (drop (e + 1) blocks) (drop (e + 1) records) i some
 
   no_record_text : (n : ℕ) (blocks : List meant.Block) → transactions_text names n blocks [] ≡ []
   no_record_text n [] = refl

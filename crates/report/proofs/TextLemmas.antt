@@ -63,7 +63,7 @@ module _ (names : Names) (path : List ℕ) where
       ∙ ap (λ ss. steps_text names path (i + 1) (steps_view ss) (before_end (map taken_view (y ∷ drop (i + 1) taken)) (AtEnd outcome)))
       (left steps i x lt is)
 
-  pub steps_from-no_step : (i : ℕ) (steps : List Step) (taken : List Taken) (outcome : End) → length steps ≤ i
+  steps_from-no_step : (i : ℕ) (steps : List Step) (taken : List Taken) (outcome : End) → length steps ≤ i
       → steps_from names path i steps taken outcome ≡ []
   unfolding steps_from
   steps_from-no_step i steps taken outcome le =

@@ -1,6 +1,5 @@
 //! The texts of results: the whole reports that the program prints.
-ghost use Rattle.std.specs.Prelude.{◌≡◌, ◌++◌, ◌^◌, ◌<◌, ◌≤◌, [], OnOk, IfOk, codes, length, map, string_bytes};
-ghost use Rattle.std.specs.Fmt.{decimal};
+ghost use Rattle.std.specs.Prelude.{◌≡◌, ◌+◌, ◌++◌, ◌^◌, ◌<◌, ◌≤◌, ℕ, [], OnOk, IfOk, codes, length, map, string_bytes};
 ghost use Rattle.objects.specs.Objects.{kind_of_value};
 ghost use Rattle.meaning.specs.Running.{all_operations};
 ghost use Rattle.meaning.specs.Words.{value_text};
@@ -8,17 +7,20 @@ ghost use Rattle.words.specs.Words.{kind_text};
 ghost use Rattle.meaning.specs.Texts.{line, outcome_text, counts_text, plain_text, text, audit_text, check_text};
 ghost use Rattle.batch.specs.Names.{names_of};
 ghost use Rattle.batch.specs.Views.{block_view, record_view};
-ghost use Rattle.report.specs.Parts.{IsBefore, last_cut, lines_from, objects_from, transaction_from, transactions};
+ghost use Rattle.report.specs.Parts.{IsBefore, last_cut, lines_from, objects_from, steps_from, transaction_from, transactions};
+ghost use Rattle.report.specs.Paths.{tens};
 
+use crate::calls::write_natural;
 use crate::cuts::{Cut, lines_between};
 use crate::lines::{write_end, write_step};
 use crate::names::object_name;
 use crate::paths::{begin_path, count_up, push_tens};
 use crate::values::write_value;
-use batch::{Batch, Names, Outcome, Plain, Record};
+use batch::{Batch, Block, Names, Outcome, Plain, Record};
 use meaning::End;
 use objects::{NoMemory, Objects, Value};
 use std::alloc::Global;
+use std::ops::Range;
 use words::kind_text;
 
 /// The report of rounds of speculative runs.
@@ -159,10 +161,14 @@ pub(crate) fn render_between(
         string_bytes t ++ lines to ≡ lines from) }
 {
     let mut out = text_between(alloc, records, from, to);
+    let mut path = begin_path(alloc, from.entry + 1)?;
     let mut line = from.line;
     for entry in from.entry..to.entry {
         let all = (records[entry].taken.len() + 1).max(line);
-        write_transaction(alloc, &mut out, batch, records, Cut { entry, line }, all)?;
+        let begun = Cut { entry, line };
+        write_transaction(&mut out, &mut path, batch, records, begun, all)?;
+        // The number of the next transaction.
+        count_up(&mut path, 0, entry + 2)?;
         line = 0;
     }
     if to.entry < count_shown(batch, records) {
@@ -170,17 +176,18 @@ pub(crate) fn render_between(
             entry: to.entry,
             line,
         };
-        write_transaction(alloc, &mut out, batch, records, begun, to.line)?;
+        write_transaction(&mut out, &mut path, batch, records, begun, to.line)?;
     } else {
         write_objects(&mut out, &batch.names, objects, line as u32, to.line as u32)?;
     }
     Ok(out)
 }
 
-// Writes the lines of a transaction from a cut in it on, and before the line of this number.
+// Writes the lines of a transaction from a cut in it on, and before the line of this number. `path` is
+// the number of the transaction without its last digit. It is as before after `Ok`.
 fn write_transaction(
-    alloc: Global,
     out: &mut String,
+    path: &mut String,
     batch: &Batch,
     records: &[Record],
     from: Cut,
@@ -189,31 +196,22 @@ fn write_transaction(
     requires rise { from.line ≤ to }
     requires blocks { from.entry < length batch.now.transactions.items }
     requires records { from.entry < length records.now }
-    ensures { OnOk result (
+    requires path { string_bytes path.old ≡ tens (from.entry + 1) }
+    ensures lines { OnOk result (
         let lines = transaction_from (names_of batch.now.names) batch.now.transactions.items
         records.now from.entry in
         string_bytes out.new ++ lines to ≡ string_bytes out.old ++ lines from.line) }
+    ensures path { OnOk result (string_bytes path.new ≡ string_bytes path.old) }
 {
     let (block, done) = (&batch.transactions[from.entry], &records[from.entry]);
-    let number = from.entry + 1;
-    let mut path = begin_path(alloc, number)?;
-    let start = path.len();
-    push_tens(&mut path, from.line.saturating_sub(1))?;
-    for line in from.line..to {
-        if line > block.steps.len() {
-            return Ok(());
-        }
-        if line > done.taken.len() {
-            return Ok(());
-        }
-        if line == 0 {
-            write_heading(out, &batch.names, number, done.outcome)?;
-        } else {
-            let (step, taken) = (&block.steps[line - 1], &done.taken[line - 1]);
-            count_up(&mut path, start, line)?;
-            write_step(out, &batch.names, &mut path, line, step, taken)?;
-        }
+    let length = path.len();
+    write_natural(path, ((from.entry + 1) % 10) as u64)?;
+    if from.line == 0 && 0 < to {
+        write_heading(out, &batch.names, path, done.outcome)?;
     }
+    let steps = from.line.saturating_sub(1)..to.saturating_sub(1);
+    write_steps(out, &batch.names, path, block, done, steps)?;
+    path.truncate(length);
     Ok(())
 }
 
@@ -221,14 +219,46 @@ fn write_transaction(
 fn write_heading(
     out: &mut String,
     names: &Names,
-    number: usize,
+    number: &str,
     outcome: End,
 ) -> Result<(), NoMemory>
     ensures { OnOk result (string_bytes out.new ≡ string_bytes out.old
-        ++ line (codes "T " ++ decimal number ++ outcome_text (names_of names.now) outcome)) }
+        ++ line (codes "T " ++ number.now ++ outcome_text (names_of names.now) outcome)) }
 {
-    write!(out, "T {number}")?;
+    out.push_str("T ")?;
+    out.push_str(number)?;
     write_end(out, names, outcome)
+}
+
+// Writes the lines of those of these steps, counted from 0, that were taken. `path` is the path of their
+// block. It is as before after `Ok`.
+fn write_steps(
+    out: &mut String,
+    names: &Names,
+    path: &mut String,
+    block: &Block,
+    done: &Record,
+    steps: Range<usize>,
+) -> Result<(), NoMemory>
+    requires { steps.start ≤ steps.end }
+    ensures lines { OnOk result (
+        let lines = λ (i : ℕ). steps_from (names_of names.now) (string_bytes path.old) i
+        block.now.steps.items done.now.taken.items done.now.outcome in
+        string_bytes out.new ++ lines steps.end ≡ string_bytes out.old ++ lines steps.start) }
+    ensures path { OnOk result (string_bytes path.new ≡ string_bytes path.old) }
+{
+    let length = path.len();
+    path.push('.')?;
+    let start = path.len();
+    push_tens(path, steps.start)?;
+    let shown = block.steps.len().min(done.taken.len());
+    for index in steps.start..steps.end.min(shown) {
+        let (step, taken) = (&block.steps[index], &done.taken[index]);
+        count_up(path, start, index + 1)?;
+        write_step(out, names, path, index + 1, step, taken)?;
+    }
+    path.truncate(length);
+    Ok(())
 }
 
 // Writes the lines of the objects from one place on, and before another.

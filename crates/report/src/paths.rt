@@ -1,6 +1,5 @@
 //! The paths of the parts of a step, by which a report names them.
-ghost use Rattle.std.specs.Prelude.{◌≡◌, ◌++◌, ◌-◌, ◌<◌, ◌≤◌, ℕ, List, IfNone, IfOk, IfSome, OnOk, codes, option_map, string_bytes, take};
-ghost use Rattle.std.specs.Fmt.{decimal};
+ghost use Rattle.std.specs.Prelude.{◌≡◌, ◌++◌, ◌-◌, ◌<◌, ◌≤◌, ℕ, List, IfNone, IfOk, IfSome, OnOk, option_map, string_bytes, take};
 ghost use Rattle.std.specs.Option.{ForSome};
 ghost use Rattle.meaning.specs.Texts.{branch_path, handler_block, part, reason_of};
 ghost use Rattle.meaning.specs.Trees.{NoStep};
@@ -28,12 +27,12 @@ const DOT_AND_NUMBER: usize = 8;
 /// Room for the part of a handler, which mostly has no more bytes.
 const HANDLER: usize = 24;
 
-// What the paths of a transaction's steps begin with: its number and a dot.
+// A number without its last digit, with room for the paths that begin with it.
 pub(crate) fn begin_path(alloc: Global, number: usize) -> Result<String, NoMemory>
-    ensures { IfOk result (λ t. string_bytes t ≡ decimal number ++ codes ".") }
+    ensures { IfOk result (λ t. string_bytes t ≡ tens number) }
 {
     let mut text = String::with_capacity(alloc, PATH)?;
-    write!(&mut text, "{number}.")?;
+    push_tens(&mut text, number)?;
     Ok(text)
 }
 
