@@ -70,8 +70,8 @@ module _ (batch : Batch) where
       → AllPending batch old → AreCountsOn batch old (old.rounds + 1) counts → AreCountsOn batch new new.rounds counts
   round_counted old new counts went valid so_far =
       let on = went.on in
-      let made : (i more : ℕ) → old.window.first ≤ i → i < length (blocks_of batch)
-      → CountFrom (start_of batch) (blocks_of batch) i old.window.first (suc more) → CountsTo i (get_or counts i 0 + more) =
+      let made : (i more : ℕ) → old.committed ≤ i → i < length (blocks_of batch)
+      → CountFrom (start_of batch) (blocks_of batch) i old.committed (suc more) → CountsTo i (get_or counts i 0 + more) =
       λ i more low high from.
       let all = ap still_to_be_made (valid i low high) in
       let same : get_or counts i 0 + still_to_be_made (flag_at old.window i) + more ≡ get_or counts i 0 + more
@@ -80,7 +80,7 @@ module _ (batch : Batch) where
       record {
         all = so_far.all;
         few = λ i. let few = so_far.few i in let one = went.one in omega arith;
-        committed = λ i lt. elim (dec_le old.window.first i) [
+        committed = λ i lt. elim (dec_le old.committed i) [
           | yes le ↦
               let within = went.next.within in
               let same : get_or counts i 0 + 0 ≡ get_or counts i 0 = omega arith in
@@ -88,14 +88,14 @@ module _ (batch : Batch) where
           | no less ↦ so_far.committed i (omega arith)
         ];
         pending = λ i more low high from.
-            let before : old.window.first ≤ i = omega arith in
+            let before : old.committed ≤ i = omega arith in
             ⊎_elim
-            (λ (stays : IsValid new.window i × Stands batch old.window.first new.window.first i).
+            (λ (stays : IsValid new.window i × Stands batch old.committed new.committed i).
             let none = ap still_to_be_made stays.0 in
             let same : get_or counts i 0 + more ≡ get_or counts i 0 + still_to_be_made (flag_at new.window i) + more
             = omega arith in
             subst (CountsTo i) same (made i more before high (StillStands went.next low stays.1 from)))
-            (λ (falls : (flag_at new.window i ≡ false) × (¬ Stands batch old.window.first new.window.first i)).
+            (λ (falls : (flag_at new.window i ≡ false) × (¬ Stands batch old.committed new.committed i)).
             let one = ap still_to_be_made falls.0 in
             let same : get_or counts i 0 + suc more ≡ get_or counts i 0 + still_to_be_made (flag_at new.window i) + more
             = omega arith in

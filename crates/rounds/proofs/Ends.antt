@@ -15,8 +15,8 @@ use Rattle.rounds.specs.Windows.{IsOpening, AreCountsOn}
 use Rattle.batch.specs.declared.batch.Batch.{Batch}
 use Rattle.speculate.proofs.Room.{kinds_at}
 
-module _ (batch : Batch) (at : Opening) (here : IsOpening batch at) (over : length (blocks_of batch) ≤ at.window.first) where
-  is_end : at.window.first ≡ length (blocks_of batch)
+module _ (batch : Batch) (at : Opening) (here : IsOpening batch at) (over : length (blocks_of batch) ≤ at.committed) where
+  is_end : at.committed ≡ length (blocks_of batch)
   is_end = let within = here.within in omega arith
 
   -- the records show what one thread's do
@@ -32,7 +32,7 @@ module _ (batch : Batch) (at : Opening) (here : IsOpening batch at) (over : leng
 
   pub end_few : length at.objects ≤ MAX_OBJECTS
   end_few =
-      let same : kinds at.objects ≡ kinds (start_of batch) = ap kinds here.objects ∙ kinds_at batch at.window.first here.within in
+      let same : kinds at.objects ≡ kinds (start_of batch) = ap kinds here.objects ∙ kinds_at batch at.committed here.within in
       let count : length at.objects ≡ length (start_of batch) = sym (length-map at.objects kind_of_value) ∙ ap length same
       ∙ length-map (start_of batch) kind_of_value in
       omega (arith, count, batch.is_batch.few_objects)

@@ -1,9 +1,10 @@
 -- The valid runs that a commit conflicts with are listed, each once, and aren't valid then.
-use Rattle.std.proofs.Common.{◌≡◌, ◌≢◌, ◌⊎◌, ⊎_elim, ℕ, zero, suc, ◌+◌, ◌-◌, ◌<◌, ◌≤◌, false, inl, inr, List, [], ◌∷◌, ◌++◌, length, get_or, set, take}
-use Rattle.std.proofs.Common.{refl, sym, ap, ◌∙◌, subst, arith}
+use Rattle.std.proofs.Common.{◌≡◌, ◌≢◌, ◌↔◌, ◌⊎◌, ⊎_elim, ℕ, zero, suc, ◌+◌, ◌-◌, ◌<◌, ◌≤◌, Bool, true, false, inl, inr, List}
+use Rattle.std.proofs.Common.{[], ◌∷◌, length, get_or, set, take, refl, sym, ap, ◌∙◌, subst, arith}
 use Rattle.std.proofs.lemmas.Bool.{false≢true}
-use Rattle.std.proofs.lemmas.List.{length-set, take_more}
+use Rattle.std.proofs.lemmas.List.{get_or_default, length-set, take_more}
 use native.Mathlib.Decide.{ℕ_discrete, dec_le}
+use Rattle.std.specs.Bool.{IsTrue}
 use Rattle.objects.specs.declared.entry.Entry.{Entry}
 use Rattle.workers.specs.Working.{AreGivenOnce}
 use Rattle.workers.proofs.Once.{given_here, given_nowhere}
@@ -12,9 +13,9 @@ use Rattle.claims.proofs.Lists.{times-append}
 use Rattle.rounds.specs.declared.pending_run.PendingRun.{PendingRun}
 use Rattle.rounds.specs.declared.window.Window.{Window}
 use Rattle.rounds.specs.PendingRuns.{HoldsPast}
-use Rattle.rounds.specs.Windows.{run_at, flag_at, end_of, IsValid, Told, IsFallenAt, AreFallen, AreStale, AreKept}
+use Rattle.rounds.specs.Windows.{run_at, flag_at, end_of, IsValid, Told, IsFallenAt, AreFallen, AreStale, KeptAt, AreKept}
 use Rattle.rounds.proofs.Times.{times_one, times_none}
-use Rattle.rounds.proofs.WindowLemmas.{flag_set, none_past}
+use Rattle.rounds.proofs.WindowLemmas.{flag_set, run_read, none_past}
 
 -- nothing is listed of a run that holds past the entries or isn't valid
 pub stands_at : (window : Window) (since : List Entry) (place : ℕ)
@@ -31,40 +32,6 @@ falls_at window since place valid falls = record {
   here = λ d. inr (valid, falls d, times_one place);
   elsewhere = λ i other. times_none i place (λ h. other (sym h));
 }
-
--- nothing is listed of no run
-pub none_fallen : (window : Window) (since : List Entry) (from : ℕ) → AreFallen window since from from []
-none_fallen window since from = record {
-  before = λ i lt. refl;
-  beyond = λ i le. refl;
-  each = λ i d low high. absurd (omega arith);
-}
-
--- one run more is decided
-pub fallen_more : (window : Window) (since : List Entry) (from place : ℕ) (numbers own more : List ℕ) → from ≤ place
-    → AreFallen window since from place numbers → more ≡ numbers ++ own → IsFallenAt window since place own
-    → AreFallen window since from (place + 1) more
-fallen_more window since from place numbers own more ordered told is decided =
-    let split : (i : ℕ) → times i more ≡ times i numbers + times i own = λ i. ap (times i) is ∙ times-append i numbers own in
-    record {
-      before = λ i lt. let s = split i in let apart : i ≢ place = omega arith in let none = decided.elsewhere i apart in
-          let old = told.before i lt in omega arith;
-      beyond = λ i le. let s = split i in let apart : i ≢ place = omega arith in let none = decided.elsewhere i apart in
-          let old = told.beyond i (omega arith) in omega arith;
-      each = λ i d low high. elim (ℕ_discrete place i) [
-        | yes here ↦
-            let s = split place in
-            let old = told.beyond place (omega arith) in
-            let same : times place more ≡ times place own = omega arith in
-            subst (λ j. Told window since j (times j more) d) here
-            (subst (λ n. Told window since place n d) (sym same) (decided.here d))
-        | no other ↦
-            let s = split i in
-            let none = decided.elsewhere i (λ h. other (sym h)) in
-            let same : times i more ≡ times i numbers = omega arith in
-            subst (λ n. Told window since i n d) (sym same) (told.each i d low (omega arith))
-      ];
-    }
 
 -- what one place lists is all that is listed of it
 told_at : (window : Window) (since : List Entry) (place i : ℕ) (own numbers : List ℕ) → place ≡ i → IsFallenAt window since place own
@@ -166,5 +133,99 @@ kept_others window since from numbers new begun flags fallen stale = record {
         (λ (falls : IsValid window i × (¬ HoldsPast since (run_at window i d)) × (times i numbers ≡ 1)).
         inr (stale.here i (omega arith) (let once = falls.2 in omega arith), falls.1))
         (fallen.each i d low (omega arith))
+  ];
+}
+
+-- so far in order: of the runs from one number on and before another those are valid that were and stand past these entries
+pub record AreKeptTo (from number : ℕ) (since : List Entry) (old new : Window) : Type 0 where
+  pub first : new.first ≡ old.first
+  pub runs : new.runs ≡ old.runs
+  pub flags : length new.valid.items ≡ length old.valid.items
+  pub valid : (i : ℕ) → from ≤ i → IsValid new i → IsValid old i
+  pub each : (i : ℕ) (d : PendingRun) → from ≤ i → i < number → IsValid old i → KeptAt since old new i d
+  pub later : (i : ℕ) → number ≤ i → flag_at new i ≡ flag_at old i
+
+-- at first none is decided
+pub none_kept : (from : ℕ) (since : List Entry) (window : Window) → AreKeptTo from from since window window
+none_kept from since window = record {
+  first = refl;
+  runs = refl;
+  flags = refl;
+  valid = λ i low valid. valid;
+  each = λ i d low high. absurd (omega arith);
+  later = λ i le. refl;
+}
+
+-- a run is kept where it stands
+kept_by : (flag : Bool) (since : List Entry) (old new : Window) (number : ℕ) (d : PendingRun) → old.first ≤ number → number < end_of old
+    → flag_at new number ≡ flag → (IsTrue flag ↔ ((o : PendingRun) → HoldsPast since (run_at old number o)))
+    → KeptAt since old new number d
+kept_by true since old new number d low inside is exact = inl (is, exact.0 refl d)
+kept_by false since old new number d low inside is exact = inr (
+  is,
+  λ stands. false≢true (exact.1 (λ o.
+      subst (HoldsPast since) (get_or_default old.runs.items (number - old.first) d o (omega arith)) stands)),
+)
+
+-- one run more that is valid is decided
+pub kept_more : (from number : ℕ) (since : List Entry) (old window new : Window) (flag : Bool) → old.first ≤ from → from ≤ number
+    → number < end_of old → length old.valid.items ≡ length old.runs.items → AreKeptTo from number since old window
+    → IsValid window number → new.first ≡ window.first → new.runs ≡ window.runs
+    → new.valid.items ≡ set window.valid.items (number - window.first) flag
+    → (IsTrue flag ↔ ((o : PendingRun) → HoldsPast since (run_at window number o))) → AreKeptTo from (number + 1) since old new
+kept_more from number since old window new flag low ordered inside flags so_far here first runs valid exact =
+    let begun = so_far.first in
+    let size = so_far.flags in
+    let is_set = flag_set window new number flag (omega arith) (omega arith) first valid in
+    let same : (d : PendingRun) → run_at window number d ≡ run_at old number d = λ d.
+    run_read old window old.runs.items number d so_far.first (ap (λ rs. rs.items) so_far.runs) in
+    record {
+      first = first ∙ so_far.first;
+      runs = runs ∙ so_far.runs;
+      flags = ap length valid ∙ (length-set window.valid.items (number - window.first) flag ∙ so_far.flags);
+      valid = λ i from valid_here. elim (ℕ_discrete i number) [
+        | yes is ↦ so_far.valid i from (ap (flag_at window) is ∙ here)
+        | no other ↦ so_far.valid i from (sym (is_set.1 i (omega arith) other) ∙ valid_here)
+      ];
+      each = λ i d from high valid_old. elim (ℕ_discrete number i) [
+        | yes is ↦ subst (λ j. KeptAt since old new j d) is
+            (kept_by flag since old new number d (omega arith) inside is_set.0 (
+              λ t o. subst (HoldsPast since) (same o) (exact.0 t o),
+              λ all. exact.1 (λ o. subst (HoldsPast since) (sym (same o)) (all o)),
+            ))
+        | no other ↦ subst (λ f. ((f ≡ true) × HoldsPast since (run_at old i d)) ⊎ ((f ≡ false) × (¬ HoldsPast since (run_at old i d))))
+            (sym (is_set.1 i (omega arith) (λ h. other (sym h)))) (so_far.each i d from (omega arith) valid_old)
+      ];
+      later = λ i le.
+          let other : i ≢ number = omega arith in
+          is_set.1 i (omega arith) other ∙ so_far.later i (omega arith);
+    }
+
+-- one that isn't valid stays so
+pub kept_past : (from number : ℕ) (since : List Entry) (old window : Window) → AreKeptTo from number since old window
+    → flag_at window number ≡ false → AreKeptTo from (number + 1) since old window
+kept_past from number since old window so_far none = record {
+  first = so_far.first;
+  runs = so_far.runs;
+  flags = so_far.flags;
+  valid = so_far.valid;
+  each = λ i d low high valid. elim (ℕ_discrete number i) [
+    | yes is ↦ absurd (false≢true (sym none ∙ (so_far.later number (omega arith) ∙ (ap (flag_at old) is ∙ valid))))
+    | no other ↦ so_far.each i d low (omega arith) valid
+  ];
+  later = λ i le. so_far.later i (omega arith);
+}
+
+-- once all are decided
+pub all_kept : (from : ℕ) (since : List Entry) (old new : Window) → length old.valid.items ≡ length old.runs.items
+    → AreKeptTo from (end_of old) since old new → AreKept from since old new
+all_kept from since old new flags are = record {
+  first = are.first;
+  runs = are.runs;
+  flags = are.flags;
+  valid = are.valid;
+  each = λ i d low valid. elim (dec_le (end_of old) i) [
+    | yes beyond ↦ absurd (false≢true (sym (none_past old i flags beyond) ∙ valid))
+    | no within ↦ are.each i d low (omega arith) valid
   ];
 }

@@ -116,7 +116,7 @@ module _ (batch : Batch) (b from : ℕ) (state : State) (window : Window) (reach
       (subst (IsSummary (past ++ all_left (take (suc k) block))) pushed (summary_itself (past ++ all_left (take (suc k) block))))))
 
 -- what was listed stays so as more runs are made
-pub still_listed : (batch : Batch) (b place : ℕ) (old new : Window) (listed : List Entry) → place ≤ end_of old
+pub still_listed : (batch : Batch) (b place : ℕ) (old new : Window) (listed : List Entry) → (b < place → place ≤ end_of old)
     → HasGrown place old new → IsListedTo batch b place old listed → IsListedTo batch b place new listed
 still_listed batch b place old new listed inside grown so_far =
     let begun = so_far.begun in
@@ -126,7 +126,7 @@ still_listed batch b place old new listed inside grown so_far =
       from = so_far.from;
       keep = so_far.keep;
       made = λ i d low lt. subst (IsCommittable (answer (start_of batch) (blocks_of batch) i))
-          (sym (grown.same i d (omega arith) lt (omega arith))) (so_far.made i d low lt);
+          (sym (grown.same i d (omega arith) lt (let within = inside (omega arith) in omega arith))) (so_far.made i d low lt);
       nets = so_far.nets;
     }
 

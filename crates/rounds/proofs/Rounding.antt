@@ -4,6 +4,8 @@ use Rattle.std.proofs.Common.{drop, map, refl, sym, ap, ◌∙◌, subst, arith}
 use Rattle.std.proofs.lemmas.List.{take_all}
 use Rattle.std.proofs.lemmas.Bool.{false≢true}
 use native.Mathlib.Decide.{dec_le}
+use Rattle.std.specs.declared.vec.Vec.{Vec}
+use Rattle.std.specs.declared.alloc.Global.{Global}
 use Rattle.objects.specs.Entries.{State, AreLegal, after}
 use Rattle.intentions.specs.Levels.{AllHaveRoom}
 use Rattle.objects.specs.declared.entry.Entry.{Entry}
@@ -137,18 +139,15 @@ module _ (batch : Batch) (b first : ℕ) (state : State) (window : Window) (list
         }
 
     -- the records up to there are those of one thread
-    pub committed_on : (settled : Window) (before after : List Record) → window.first ≡ b
-        → map record_view before ≡ shown_from (start_of batch) (blocks_of batch) 0 b → AreSettled first new settled before after
-        → map record_view after ≡ shown_from (start_of batch) (blocks_of batch) 0 first
-    committed_on settled before after begins shown done =
+    pub committed_on : (settled : Window) (before after : Vec Record Global)
+        → map record_view before.items ≡ shown_from (start_of batch) (blocks_of batch) 0 b → AreSettled b first new settled before after
+        → map record_view after.items ≡ shown_from (start_of batch) (blocks_of batch) 0 first
+    committed_on settled before after shown done =
         let from = seen.from in
-        let same = kept.first in
-        let count : first - new.first ≡ first - b = omega arith in
-        let none : 0 ≡ b - window.first = omega arith in
-        let runs : take (first - new.first) new.runs.items ≡ passed = ap (λ rs. take (first - new.first) rs.items) kept.runs
-        ∙ (ap (λ n. take n window.runs.items) count ∙ ap (λ n. take (first - b) (drop n window.runs.items)) none) in
+        let runs : runs_between new b first ≡ passed = ap (λ rs. take (first - b) (drop (b - new.first) rs.items)) kept.runs
+        ∙ ap (λ n. take (first - b) (drop (b - n) window.runs.items)) kept.first in
         let all = size in
         let number : b + length passed ≡ first = omega arith in
-        recorded_on (start_of batch) (blocks_of batch) b passed before after answers_of shown
-        (done.pushed ∙ ap (λ rs. before ++ map (λ (r : PendingRun). r.tree) rs) runs)
+        recorded_on (start_of batch) (blocks_of batch) b passed before.items after.items answers_of shown
+        (done.pushed ∙ ap (λ rs. before.items ++ map (λ (r : PendingRun). r.tree) rs) runs)
         ∙ ap (shown_from (start_of batch) (blocks_of batch) 0) number

@@ -8,6 +8,8 @@ use native.Mathlib.Decide.{dec_le}
 use Rattle.std.proofs.lemmas.List.{get_or_past, get_or-take, get_or-drop, length-drop, length-take-le, take_all, length_push}
 use Rattle.std.proofs.lemmas.List.{length-append, get_or-set_same, get_or-set_other, length-set, get_or-map, length-map}
 use Rattle.std.specs.List.{All}
+use Rattle.std.specs.declared.vec.Vec.{Vec}
+use Rattle.std.specs.declared.alloc.Global.{Global}
 use Rattle.claims.specs.Views.{times}
 use Rattle.claims.proofs.Lists.{times-append}
 use Rattle.rounds.proofs.Times.{times_none, times_read}
@@ -86,7 +88,7 @@ between_at window from end_ begun low high =
 
 -- one without runs
 pub empty_window : (batch : Batch) (state : State) (window : Window) → window.first ≡ 0 → window.runs.items ≡ []
-    → window.valid.items ≡ [] → IsWindowAt batch window.first state window
+    → window.valid.items ≡ [] → IsWindowAt batch 0 state window
 empty_window batch state window first runs valid = record {
   begun = omega arith;
   flags = ap length valid ∙ sym (ap length runs);
@@ -380,22 +382,22 @@ shortened batch b state old new end_ at short =
           ];
     }
 
-module _ (batch : Batch) (end_ count : ℕ) (old settled new : Window) (before after : List Record)
-    (all : count ≡ length (blocks_of batch)) (done : AreSettled end_ old settled before after)
+module _ (batch : Batch) (from end_ count : ℕ) (old settled new : Window) (before after : Vec Record Global)
+    (all : count ≡ length (blocks_of batch)) (done : AreSettled from end_ old settled before after)
     (short : IsShortened count settled new) (low : end_ ≤ count) where
   -- where the first runs are committed, and those past the last transaction dropped, the same runs are valid as before
   pub settled_flag : (state : State) → IsWindowAt batch end_ state old → (i : ℕ) → end_ ≤ i → flag_at new i ≡ flag_at old i
-  settled_flag state at i from =
+  settled_flag state at i later =
       let first = done.first in
       let few = at.within in
       let flag = short_flag count settled new short done.flags i (omega arith) in
       elim (dec_le count i) [
         | yes past ↦ flag.1 past ∙ sym (none_past old i at.flags (omega arith))
-        | no within ↦ flag.0 (omega arith) ∙ done.valid i from
+        | no within ↦ flag.0 (omega arith) ∙ done.valid i later
       ]
 
   -- they are still those of their transactions
-  pub settled_window : (state : State) → IsWindowAt batch end_ state old → IsWindowAt batch new.first state new
+  pub settled_window : (state : State) → IsWindowAt batch end_ state old → IsWindowAt batch end_ state new
   settled_window state at =
       let first = done.first in
       let same = short.first in
@@ -405,7 +407,7 @@ module _ (batch : Batch) (end_ count : ℕ) (old settled new : Window) (before a
         begun = omega arith;
         flags = short_flags count settled new short done.flags;
         within = omega arith;
-        made = λ i d from valid_here.
+        made = λ i d later valid_here.
             let was = sym (settled_flag state at i (omega arith)) ∙ valid_here in
             elim (dec_le (end_of old) i) [
               | yes past ↦ absurd (false≢true (sym (none_past old i at.flags past) ∙ was))
@@ -416,23 +418,23 @@ module _ (batch : Batch) (end_ count : ℕ) (old settled new : Window) (before a
             ];
       }
 
--- an opening stays one with another window that begins at the same number
+-- an opening stays one with another window, where the same transactions are committed
 pub other_window : (batch : Batch) (old new : Opening) → IsOpening batch old → new.objects ≡ old.objects → new.records ≡ old.records
-    → new.reused.nets ≡ old.reused.nets → new.rounds ≡ old.rounds → new.window.first ≡ old.window.first
-    → IsWindowAt batch old.window.first old.objects new.window → IsOpening batch new
-other_window batch old new at objects records nets rounds first window =
+    → new.reused.nets ≡ old.reused.nets → new.rounds ≡ old.rounds → new.committed ≡ old.committed
+    → IsWindowAt batch old.committed old.objects new.window → IsOpening batch new
+other_window batch old new at objects records nets rounds count window =
     let within = at.within in
     let few = at.few_rounds in
     let start = start_of batch in
     let blocks = blocks_of batch in
     record {
       within = omega arith;
-      objects = objects ∙ (at.objects ∙ ap (state_at start blocks) (sym first));
-      window = subst (λ b. IsWindowAt batch b new.objects new.window) (sym first)
-          (subst (λ s. IsWindowAt batch old.window.first s new.window) (sym objects) window);
+      objects = objects ∙ (at.objects ∙ ap (state_at start blocks) (sym count));
+      window = subst (λ b. IsWindowAt batch b new.objects new.window) (sym count)
+          (subst (λ s. IsWindowAt batch old.committed s new.window) (sym objects) window);
       cleared = nets ∙ at.cleared;
-      committed = ap (λ rs. map record_view rs.items) records ∙ (at.committed ∙ ap (shown_from start blocks 0) (sym first));
+      committed = ap (λ rs. map record_view rs.items) records ∙ (at.committed ∙ ap (shown_from start blocks 0) (sym count));
       few_rounds = omega arith;
       all_rounds = λ more from. subst (λ n. Rounds start blocks (n + more)) (sym rounds)
-          (at.all_rounds more (subst (λ b. RoundsFrom start blocks b more) first from));
+          (at.all_rounds more (subst (λ b. RoundsFrom start blocks b more) count from));
     }

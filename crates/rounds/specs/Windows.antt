@@ -1,6 +1,8 @@
 -- Openings, with the runs that the rounds have come to. No public contract names it.
 use Rattle.std.specs.Prelude.{◌≡◌, ◌≢◌, ◌⊎◌, ℕ, ◌-◌, ◌+◌, ◌<◌, ◌≤◌, Bool, true, false, List, [], ◌++◌, suc, length, take, drop, map}
 use Rattle.std.specs.Prelude.{set, slice_index_or}
+use Rattle.std.specs.declared.vec.Vec.{Vec}
+use Rattle.std.specs.declared.alloc.Global.{Global}
 use Rattle.objects.specs.Entries.{State}
 use Rattle.objects.specs.declared.entry.Entry.{Entry}
 use Rattle.objects.specs.Entries.{AllCommute}
@@ -125,12 +127,20 @@ pub record IsFreedAt (number : ℕ) (old new : Window) : Type 0 where
   pub others : (i : ℕ) (d : PendingRun) → old.first ≤ i → i ≢ number → run_at new i d ≡ run_at old i d
   pub here : (meant : OneRun Taken) (d : PendingRun) → IsCommittable meant (run_at old number d) → IsCommittable meant (run_at new number d)
 
--- The window begins with a number, and the records of the runs before it were added to a list. The later runs are as they were, and
--- none past them is valid.
-pub record AreSettled (end : ℕ) (old new : Window) (before after : List Record) : Type 0 where
-  pub first : new.first ≡ end
+-- the runs at the first places aren't valid, and all else is as before
+pub record AreCleared (count : ℕ) (old new : Window) : Type 0 where
+  pub first : new.first ≡ old.first
+  pub runs : new.runs ≡ old.runs
+  pub flags : length new.valid.items ≡ length old.valid.items
+  pub here : (k : ℕ) → k < count → slice_index_or new.valid.items k false ≡ false
+  pub others : (k : ℕ) → count ≤ k → slice_index_or new.valid.items k false ≡ slice_index_or old.valid.items k false
+
+-- The records of the runs from one number on and before another were added to a list. The later runs are as they were, and none past
+-- them is valid. The window begins no later than with the second number.
+pub record AreSettled (from end : ℕ) (old new : Window) (before after : Vec Record Global) : Type 0 where
+  pub first : new.first ≤ end
   pub flags : length new.valid.items ≡ length new.runs.items
-  pub pushed : after ≡ before ++ map (λ r. r.tree) (take (end - old.first) old.runs.items)
+  pub pushed : after.items ≡ before.items ++ map (λ r. r.tree) (runs_between old from end)
   pub same : (i : ℕ) (d : PendingRun) → end ≤ i → i < end_of old → run_at new i d ≡ run_at old i d
   pub valid : (i : ℕ) → end ≤ i → flag_at new i ≡ flag_at old i
 
@@ -172,16 +182,16 @@ pub record IsRoundSeen (batch : Batch) (b : ℕ) (window : Window) (nets : List 
   pub listed : IsListedTo batch b seen.first window (take seen.upto nets)
   pub reached : seen.first ≤ end_of window
 
--- What is at hand at an opening: the objects are those after the transactions before the window, whose records are those of one
--- thread. The list that the next round uses again is empty.
+-- What is at hand at an opening: the objects are those after the committed transactions, whose records are those of one thread. The
+-- list that the next round uses again is empty.
 pub record IsOpening (batch : Batch) (at : Opening) : Type 0 where
-  pub within : at.window.first ≤ length (blocks_of batch)
-  pub objects : at.objects ≡ state_at (start_of batch) (blocks_of batch) at.window.first
-  pub window : IsWindowAt batch at.window.first at.objects at.window
+  pub within : at.committed ≤ length (blocks_of batch)
+  pub objects : at.objects ≡ state_at (start_of batch) (blocks_of batch) at.committed
+  pub window : IsWindowAt batch at.committed at.objects at.window
   pub cleared : at.reused.nets ≡ []
-  pub committed : map record_view at.records.items ≡ shown_from (start_of batch) (blocks_of batch) 0 at.window.first
-  pub few_rounds : at.rounds ≤ at.window.first
-  pub all_rounds : (more : ℕ) → RoundsFrom (start_of batch) (blocks_of batch) at.window.first more
+  pub committed : map record_view at.records.items ≡ shown_from (start_of batch) (blocks_of batch) 0 at.committed
+  pub few_rounds : at.rounds ≤ at.committed
+  pub all_rounds : (more : ℕ) → RoundsFrom (start_of batch) (blocks_of batch) at.committed more
       → Rounds (start_of batch) (blocks_of batch) (at.rounds + more)
 
 -- the entries of transaction i, run at opening b, commute forward with all that the round from b to m commits
@@ -190,12 +200,12 @@ Stands batch b m i = AllCommute (entries (record_of (alone (start_of batch) (blo
 
 -- A round leads from one opening to the next. Of the valid runs that it doesn't commit those stay so that hold past what it did.
 pub record IsRound (batch : Batch) (old new : Opening) : Type 0 where
-  pub next : IsNextOpening (start_of batch) (blocks_of batch) old.window.first new.window.first
-  pub on : old.window.first < new.window.first
+  pub next : IsNextOpening (start_of batch) (blocks_of batch) old.committed new.committed
+  pub on : old.committed < new.committed
   pub one : new.rounds ≡ old.rounds + 1
-  pub kept : (i : ℕ) → new.window.first ≤ i → IsValid old.window i
-      → (IsValid new.window i × Stands batch old.window.first new.window.first i)
-      ⊎ ((flag_at new.window i ≡ false) × (¬ Stands batch old.window.first new.window.first i))
+  pub kept : (i : ℕ) → new.committed ≤ i → IsValid old.window i
+      → (IsValid new.window i × Stands batch old.committed new.committed i)
+      ⊎ ((flag_at new.window i ≡ false) × (¬ Stands batch old.committed new.committed i))
 
 -- How often each run was made. Those of an opening that aren't valid count where they are made.
 pub record AreCountsAt (batch : Batch) (b rounds : ℕ) (window : Window) (counts : List ℕ) : Type 0 where
@@ -207,8 +217,8 @@ pub record AreCountsAt (batch : Batch) (b rounds : ℕ) (window : Window) (count
 
 -- so it is with the runs of the window at an opening
 abbrev pub AreCountsOn : Batch → Opening → ℕ → List ℕ → Type 0
-AreCountsOn batch at rounds counts = AreCountsAt batch at.window.first rounds at.window counts
+AreCountsOn batch at rounds counts = AreCountsAt batch at.committed rounds at.window counts
 
 -- each transaction that isn't committed has a valid run
 abbrev pub AllPending : Batch → Opening → Type 0
-AllPending batch at = AllValid at.window at.window.first (length (blocks_of batch))
+AllPending batch at = AllValid at.window at.committed (length (blocks_of batch))

@@ -39,6 +39,8 @@ fn no_counts(alloc: Global, count: usize) -> Result<Vec<u32>, NoMemory>
 struct Opening {
     objects: Objects,
     records: Vec<Record>,
+    // How many transactions are committed, from the first on.
+    committed: usize,
     window: Window,
     reused: Reused,
     // How many runs the next round looks at first, and how many entries it is expected to list.
@@ -51,12 +53,13 @@ struct Opening {
 // pieces for each worker first.
 fn begin(alloc: Global, batch: &Batch, plan: Plan) -> Result<Opening, NoMemory>
     ensures opening { IfOk result (IsOpening batch.now) }
-    ensures first { IfOk result (λ at. (at.window.first ≡ 0) × (at.rounds ≡ 0)) }
+    ensures first { IfOk result (λ at. (at.committed ≡ 0) × (at.rounds ≡ 0)) }
     ensures none { IfOk result (λ at. at.window.valid.items ≡ []) }
 {
     Ok(Opening {
         objects: batch.objects.copy()?,
         records: Vec::with_capacity(alloc, batch.transactions.len())?,
+        committed: 0,
         window: Window::new(alloc),
         reused: Reused::new(alloc, batch),
         ahead: 2 * plan.workers as usize * plan.cut as usize,
@@ -72,11 +75,11 @@ fn round<R: Threads + Sync, G: Gate>(
     at: &mut Opening,
 ) -> Result<(), NoMemory>
     requires at { IsOpening batch.now at.old }
-    requires going { at.old.window.first < length batch.now.transactions.items }
+    requires going { at.old.committed < length batch.now.transactions.items }
     ensures at { OnOk result (IsOpening batch.now at.new) }
     ensures round { OnOk result (IsRound batch.now at.old at.new) }
 {
-    let opened = at.window.first;
+    let opened = at.committed;
     let ahead = at.ahead.max(1);
     at.reused.nets.expect(at.listed)?;
     let seen = seek(
@@ -97,7 +100,9 @@ fn round<R: Threads + Sync, G: Gate>(
         &mut at.objects,
     )?;
     at.window.keep(crew, first, &at.reused.nets, seen.upto)?;
-    at.window.settle(crew.alloc, first, &mut at.records)?;
+    at.window
+        .settle(crew.alloc, opened, first, &mut at.records)?;
+    at.committed = first;
     at.window.shorten(batch.transactions.len());
     at.reused.nets.clear();
     at.ahead = (first - opened).saturating_mul(2);
@@ -115,9 +120,9 @@ fn round<R: Threads + Sync, G: Gate>(
 // Drops the runs that the next round doesn't look at first, so that it hasn't to decide about them.
 fn drop_later(at: &mut Opening)
     ensures at { (batch : OneBatch) → IsOpening batch at.old → IsOpening batch at.new }
-    ensures same { at.new.window.first ≡ at.old.window.first }
+    ensures same { at.new.committed ≡ at.old.committed }
 {
-    let end = at.window.first.saturating_add(at.ahead);
+    let end = at.committed.saturating_add(at.ahead);
     at.window.shorten(end);
 }
 
@@ -143,13 +148,13 @@ fn make_rest<R: Threads + Sync, G: Gate>(
     requires at { IsOpening batch.now at.old }
     requires counts { AreCountsOn batch.now at.old at.old.rounds counts.old.items }
     ensures at { OnOk result (IsOpening batch.now at.new) }
-    ensures same { OnOk result (at.new.window.first ≡ at.old.window.first) }
+    ensures same { OnOk result (at.new.committed ≡ at.old.committed) }
     ensures rounds { OnOk result (at.new.rounds ≡ at.old.rounds) }
     ensures valid { OnOk result (AllPending batch.now at.new) }
     ensures counts { OnOk result (AreCountsOn batch.now at.new (at.old.rounds + 1) counts.new.items) }
 {
     let all = batch.transactions.len();
-    let opened = at.window.first;
+    let opened = at.committed;
     at.window
         .reach(crew.alloc, batch, opened, &at.objects, all)?;
     let made = at
@@ -209,7 +214,7 @@ pub fn execute<R: Threads + Sync, G: Gate>(
     let crew = Crew::of(threads, alloc, batch, plan, gate);
     let mut at = begin(alloc, batch, plan)?;
     let mut counts = no_counts(alloc, batch.transactions.len())?;
-    'opening: while at.window.first < batch.transactions.len() {
+    'opening: while at.committed < batch.transactions.len() {
         make_rest(&crew, batch, &mut at, &mut counts)?;
         round(&crew, batch, &mut at)?;
     }
@@ -236,7 +241,7 @@ pub fn execute_ahead<R: Threads + Sync, G: Gate>(
 {
     let crew = Crew::of(threads, alloc, batch, plan, gate);
     let mut at = begin(alloc, batch, plan)?;
-    'opening: while at.window.first < batch.transactions.len() {
+    'opening: while at.committed < batch.transactions.len() {
         round(&crew, batch, &mut at)?;
         drop_later(&mut at);
     }

@@ -1,5 +1,5 @@
 //! The check of a round. It makes the runs that it comes to, in blocks, up to the first conflict.
-ghost use Rattle.std.specs.Prelude.{◌≡◌, ◌≤◌, [], length, IfOk, OnOk};
+ghost use Rattle.std.specs.Prelude.{◌≡◌, ◌<◌, ◌≤◌, [], length, IfOk, OnOk};
 ghost use Rattle.meaning.specs.Batch.{state_at};
 ghost use Rattle.rounds.specs.Desks.{IsDeskOn};
 ghost use Rattle.rounds.specs.Views.{start_of, blocks_of};
@@ -126,8 +126,7 @@ pub(crate) fn seek<R: Threads + Sync, G: Gate>(
     reused: &mut Reused,
 ) -> Result<Seen, NoMemory>
     requires opening { objects.now ≡ state_at (start_of batch.now) (blocks_of batch.now) opened }
-    requires within { opened ≤ length (blocks_of batch.now) }
-    requires begun { window.old.first ≡ opened }
+    requires going { opened < length (blocks_of batch.now) }
     requires window { IsWindowAt batch.now opened objects.now window.old }
     requires some { 1 ≤ expected }
     requires none { reused.old.nets ≡ [] }

@@ -6,7 +6,7 @@ ghost use Rattle.rounds.specs.Desks.{IsDeskOn};
 ghost use Rattle.rounds.specs.Passes.{CanBeMade};
 ghost use Rattle.rounds.specs.PendingRuns.{IsPendingOf, HoldsPast};
 ghost use Rattle.rounds.specs.Views.{blocks_of, meaning};
-ghost use Rattle.rounds.specs.Windows.{flag_at, end_of, runs_between, IsValid, AllValid, IsWindowAt, IsOpenedBy, HasGrown, IsPut, AreFallen, AreStale, AreKept, IsFreedAt, AreSettled, IsShortened, AreMissing, IsDecided};
+ghost use Rattle.rounds.specs.Windows.{flag_at, end_of, runs_between, IsValid, AllValid, IsWindowAt, IsOpenedBy, HasGrown, IsPut, AreFallen, AreStale, AreKept, IsFreedAt, AreCleared, AreSettled, IsShortened, AreMissing, IsDecided};
 ghost use Rattle.rounds.specs.declared.pending_run.PendingRun.{PendingRun as OnePending};
 ghost use Rattle.meaning.specs.declared.limits.TheConstants.{MAX_TRANSACTIONS};
 ghost use Rattle.plan.specs.declared.plan.TheConstants.{MAX_WORKERS};
@@ -27,12 +27,13 @@ use workers::{Bench, give_all};
 /// The runs of the transactions that are pending and that a round came to.
 #[derive(Drop)]
 pub(crate) struct Window {
-    /// The number of the first, counted from 0. The transactions before it are committed.
+    /// The number of the first, counted from 0. The transactions before it are committed, and some
+    /// from it on may be.
     pub(crate) first: usize,
     /// The runs by number, from that of the first on.
     pub(crate) runs: Vec<PendingRun>,
-    /// Which of the runs are those of their transactions on the objects of the opening. The others
-    /// are still to be made.
+    /// Which of the runs are those of their transactions on the objects of the opening, where these
+    /// aren't committed. The others are still to be made.
     pub(crate) valid: Vec<bool>,
 }
 
@@ -291,39 +292,19 @@ impl Window {
     }
 
     // The numbers, from one on, of the valid runs that don't stand past what was committed, which
-    // is the first `upto` entries of the nets. One worker decides them in turn.
-    fn fallen_in_turn<G: Gate>(
-        &self,
-        alloc: Global,
-        gate: &G,
-        from: usize,
-        nets: &Committed,
-        upto: usize,
-    ) -> Result<Vec<usize>, NoMemory>
-        requires flags { length self.now.valid.items ≡ length self.now.runs.items }
-        requires few { end_of self.now ≤ MAX_TRANSACTIONS }
-        requires upto { upto ≤ length nets.now }
-        requires from { (self.now.first ≤ from) × (from ≤ end_of self.now) }
-        ensures { IfOk result (λ numbers. AreFallen self.now (take upto nets.now) from (end_of self.now) numbers.items) }
-    {
-        let mut numbers = Vec::new(alloc);
-        for number in from..self.end() {
-            let piece = (number - from) as u32;
-            self.tell(gate, piece, number, nets, upto, &mut numbers)?;
-        }
-        Ok(numbers)
-    }
-
-    // The same, by as many workers as pay. They decide the runs side by side, a run as a piece.
+    // is the first `upto` entries of the nets. So many workers decide the runs side by side, a run
+    // as a piece.
     fn fallen<R: Threads + Sync, G: Gate>(
         &self,
         crew: &Crew<R, G>,
+        workers: u32,
         from: usize,
         nets: &Committed,
         upto: usize,
     ) -> Result<Vec<usize>, NoMemory>
         requires flags { length self.now.valid.items ≡ length self.now.runs.items }
         requires few { end_of self.now ≤ MAX_TRANSACTIONS }
+        requires workers { (1 ≤ workers) × (workers ≤ MAX_WORKERS) }
         requires upto { upto ≤ length nets.now }
         requires from { (self.now.first ≤ from) × (from ≤ end_of self.now) }
         ensures { IfOk result (λ numbers. AreFallen self.now (take upto nets.now) from (end_of self.now) numbers.items) }
@@ -335,10 +316,6 @@ impl Window {
             ..
         } = *crew;
         let count = self.end() - from;
-        let workers = checkers(crew, count);
-        if workers == 1 {
-            return self.fallen_in_turn(alloc, gate, from, nets, upto);
-        }
         give_all(
             threads,
             alloc,
@@ -366,6 +343,25 @@ impl Window {
         }
     }
 
+    // Keeps of the runs from one number on those that stand past what was committed. One worker
+    // decides them in turn.
+    fn keep_in_turn<G: Gate>(&mut self, gate: &G, from: usize, nets: &Committed, upto: usize)
+        requires flags { length self.old.valid.items ≡ length self.old.runs.items }
+        requires few { end_of self.old ≤ MAX_TRANSACTIONS }
+        requires upto { upto ≤ length nets.now }
+        requires from { (self.old.first ≤ from) × (from ≤ end_of self.old) }
+        ensures { AreKept from (take upto nets.now) self.old self.new }
+    {
+        for number in from..self.end() {
+            let place = number - self.first;
+            if self.valid[place] {
+                let piece = (number - from) as u32;
+                gate.pass(0, MAX_TRANSACTIONS as u32 + piece + 1);
+                self.valid[place] = stands_past(&self.runs, place, nets, upto);
+            }
+        }
+    }
+
     /// Keeps of the runs from one number on those that stand past what was committed, which is the
     /// first `upto` entries of the nets. The others aren't valid then.
     ///
@@ -383,7 +379,12 @@ impl Window {
         requires from { (self.old.first ≤ from) × (from ≤ end_of self.old) }
         ensures { OnOk result (AreKept from (take upto nets.now) self.old self.new) }
     {
-        let fallen = self.fallen(crew, from, nets, upto)?;
+        let workers = checkers(crew, self.end() - from);
+        if workers == 1 {
+            self.keep_in_turn(crew.gate, from, nets, upto);
+            return Ok(());
+        }
+        let fallen = self.fallen(crew, workers, from, nets, upto)?;
         self.forget(&fallen);
         Ok(())
     }
@@ -406,28 +407,44 @@ impl Window {
         self.runs[place].free_sums(alloc);
     }
 
-    /// Moves the records of the runs before a number to the end of a list. The window begins with
-    /// this number then. The memory of those runs is kept for runs of later transactions.
+    // The runs at the first places aren't valid any more.
+    fn clear(&mut self, count: usize)
+        requires { count ≤ length self.old.valid.items }
+        ensures { AreCleared count self.old self.new }
+    {
+        for place in 0..count {
+            self.valid[place] = false;
+        }
+    }
+
+    /// Moves the records of the runs from one number on and before another to the end of a list.
+    /// Those of the runs before them were moved earlier. The memory of all these runs is kept for
+    /// runs of later transactions: where they have at least half of the places, these come to the
+    /// end, and the window begins after them. So a transaction costs two moves of a place at most.
     ///
     /// Returns `NoMemory` where a request for memory was refused.
     pub(crate) fn settle(
         &mut self,
         alloc: Global,
+        from: usize,
         end: usize,
-        list: &mut Vec<Record>,
+        records: &mut Vec<Record>,
     ) -> Result<(), NoMemory>
         requires flags { length self.old.valid.items ≡ length self.old.runs.items }
-        requires end { (self.old.first ≤ end) × (end ≤ end_of self.old) }
-        ensures { OnOk result (AreSettled end self.old self.new list.old.items list.new.items) }
+        requires from { (self.old.first ≤ from) × (from ≤ end) }
+        requires end { end ≤ end_of self.old }
+        ensures { OnOk result (AreSettled from end self.old self.new records.old records.new) }
     {
         let count = end - self.first;
-        for place in 0..count {
-            list.push(self.runs[place].take_record(alloc))?;
-            self.valid[place] = false;
+        for place in from - self.first..count {
+            records.push(self.runs[place].take_record(alloc))?;
         }
-        self.runs.rotate_left(count);
-        self.valid.rotate_left(count);
-        self.first = end;
+        if count >= self.runs.len() - count {
+            self.clear(count);
+            self.runs.rotate_left(count);
+            self.valid.rotate_left(count);
+            self.first = end;
+        }
         Ok(())
     }
 }

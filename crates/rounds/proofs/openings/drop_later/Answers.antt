@@ -5,5 +5,5 @@ use Rattle.rounds.proofs.openings.drop_later.Goals as goal
 pub returns-clause-at : goal.returns-clause-at
 returns-clause-at c batch here =
     let old = c.args.at.now in
-    other_window batch old _ here refl refl refl refl c.shorten.ensures.first
-    (shortened batch old.window.first old.objects old.window c.shorten.new.self c.saturating_add-end.result here.window c.shorten.ensures)
+    other_window batch old _ here refl refl refl refl refl
+    (shortened batch old.committed old.objects old.window c.shorten.new.self c.saturating_add-end.result here.window c.shorten.ensures)

@@ -9,4 +9,4 @@ invariant-opening g l = record {
 }
 
 abbrev pub decreases-opening : goal.decreases-opening
-decreases-opening g l = length l.batch.transactions.items - l.at.window.first
+decreases-opening g l = length l.batch.transactions.items - l.at.committed

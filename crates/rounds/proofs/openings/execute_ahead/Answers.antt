@@ -27,7 +27,7 @@ returns-clause-records g c =
     let blocks : length (blocks_of batch) ≡ length batch.transactions.items = length-map batch.transactions.items block_view in
     let over = c.opening-test.false in
     let count = c.len.ensures in
-    let done : length (blocks_of batch) ≤ c.opening.at.window.first = omega arith in
+    let done : length (blocks_of batch) ≤ c.opening.at.committed = omega arith in
     ap (λ rs. map record_view rs.items) c.outcome_of.ensures.records ∙ end_shown batch c.opening.at c.opening.invariant done
 
 pub returns-clause-few_objects : goal.returns-clause-few_objects
@@ -36,7 +36,7 @@ returns-clause-few_objects g c =
     let blocks : length (blocks_of batch) ≡ length batch.transactions.items = length-map batch.transactions.items block_view in
     let over = c.opening-test.false in
     let count = c.len.ensures in
-    let done : length (blocks_of batch) ≤ c.opening.at.window.first = omega arith in
+    let done : length (blocks_of batch) ≤ c.opening.at.committed = omega arith in
     subst (λ s. length s ≤ MAX_OBJECTS) (sym c.outcome_of.ensures.objects) (end_few batch c.opening.at c.opening.invariant done)
 
 pub returns-clause-objects : goal.returns-clause-objects
@@ -45,7 +45,7 @@ returns-clause-objects g c =
     let blocks : length (blocks_of batch) ≡ length batch.transactions.items = length-map batch.transactions.items block_view in
     let over = c.opening-test.false in
     let count = c.len.ensures in
-    let done : length (blocks_of batch) ≤ c.opening.at.window.first = omega arith in
+    let done : length (blocks_of batch) ≤ c.opening.at.committed = omega arith in
     c.outcome_of.ensures.objects ∙ end_state batch c.opening.at c.opening.invariant done
 
 pub returns-clause-net : goal.returns-clause-net
@@ -54,7 +54,7 @@ returns-clause-net g c =
     let blocks : length (blocks_of batch) ≡ length batch.transactions.items = length-map batch.transactions.items block_view in
     let over = c.opening-test.false in
     let count = c.len.ensures in
-    let done : length (blocks_of batch) ≤ c.opening.at.window.first = omega arith in
+    let done : length (blocks_of batch) ≤ c.opening.at.committed = omega arith in
     c.outcome_of.ensures.objects ∙ end_nets batch c.opening.at c.opening.invariant done
 
 pub returns-clause-rounds : goal.returns-clause-rounds
@@ -63,7 +63,7 @@ returns-clause-rounds g c =
     let blocks : length (blocks_of batch) ≡ length batch.transactions.items = length-map batch.transactions.items block_view in
     let over = c.opening-test.false in
     let count = c.len.ensures in
-    let done : length (blocks_of batch) ≤ c.opening.at.window.first = omega arith in
+    let done : length (blocks_of batch) ≤ c.opening.at.committed = omega arith in
     subst (Rounds (start_of batch) (blocks_of batch)) (sym c.outcome_of.ensures.rounds)
     (end_rounds batch c.opening.at c.opening.invariant done)
 

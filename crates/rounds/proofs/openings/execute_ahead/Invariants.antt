@@ -6,4 +6,4 @@ abbrev pub invariant-opening : goal.invariant-opening
 invariant-opening g l = IsOpening l.batch l.at
 
 abbrev pub decreases-opening : goal.decreases-opening
-decreases-opening g l = length l.batch.transactions.items - l.at.window.first
+decreases-opening g l = length l.batch.transactions.items - l.at.committed

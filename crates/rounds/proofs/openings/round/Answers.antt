@@ -2,23 +2,25 @@ use Rattle.std.proofs.Common.{◌≡◌, ◌⊎◌, suc, ◌+◌, false, true, l
 use Rattle.std.proofs.lemmas.List.{length-map}
 use Rattle.objects.specs.Entries.{after, AreLegal}
 use Rattle.intentions.specs.Levels.{AllHaveRoom}
-use Rattle.meaning.specs.Batch.{state_at, shown_from}
-use Rattle.meaning.specs.Rounds.{Rounds, RoundsFrom, IsNextOpening}
+use Rattle.meaning.specs.Rounds.{Rounds}
 use Rattle.meaning.proofs.Openings.{comes_on}
 use Rattle.batch.specs.Views.{block_view}
 use Rattle.rounds.specs.Views.{start_of, blocks_of}
 use Rattle.rounds.specs.PendingRuns.{own_nets, AreSpanned}
-use Rattle.rounds.specs.Windows.{flag_at, IsValid, Stands}
+use Rattle.rounds.specs.Windows.{Stands}
 use Rattle.rounds.proofs.Rounding.{commits, moved_on, kept_at, kept_window, committed_on}
 use Rattle.rounds.proofs.WindowLemmas.{settled_flag, settled_window}
 use Rattle.rounds.proofs.openings.round.Goals as goal
+
+pub seek-requires-clause-going : goal.seek-requires-clause-going
+seek-requires-clause-going g c κs within = omega (arith, length-map c.args.batch.now.transactions.items block_view, c.requires.going)
 
 pub commit-requires-clause-spans : goal.commit-requires-clause-spans
 commit-requires-clause-spans g c κs within =
     let batch = c.args.batch.now in
     let seen = c.in_ok-seen.seen in
     let saw = c.in_ok-seen.ensures.seen in
-    let opened = c.args.at.now.window.first in
+    let opened = c.args.at.now.committed in
     let state = c.args.at.now.objects in
     subst (AreSpanned (blocks_of batch) opened) (sym c.between.ensures)
     (commits batch opened seen.first state c.seek.new.window (take seen.upto c.seek.new.reused.nets) c.requires.at.objects
@@ -29,7 +31,7 @@ commit-requires-clause-legal g c κs within =
     let batch = c.args.batch.now in
     let seen = c.in_ok-seen.seen in
     let saw = c.in_ok-seen.ensures.seen in
-    let opened = c.args.at.now.window.first in
+    let opened = c.args.at.now.committed in
     let state = c.args.at.now.objects in
     subst (λ rs. AreLegal state (own_nets (blocks_of batch) opened rs)) (sym c.between.ensures)
     (commits batch opened seen.first state c.seek.new.window (take seen.upto c.seek.new.reused.nets) c.requires.at.objects
@@ -40,7 +42,7 @@ commit-requires-clause-room g c κs within =
     let batch = c.args.batch.now in
     let seen = c.in_ok-seen.seen in
     let saw = c.in_ok-seen.ensures.seen in
-    let opened = c.args.at.now.window.first in
+    let opened = c.args.at.now.committed in
     let state = c.args.at.now.objects in
     subst (λ rs. AllHaveRoom state (own_nets (blocks_of batch) opened rs)) (sym c.between.ensures)
     (commits batch opened seen.first state c.seek.new.window (take seen.upto c.seek.new.reused.nets) c.requires.at.objects
@@ -56,7 +58,7 @@ returns-clause-at g c =
     let all : c.len.result ≡ length blocks = omega arith in
     let seen = c.in_ok-seen.seen in
     let saw = c.in_ok-seen.ensures.seen in
-    let opened = c.args.at.now.window.first in
+    let opened = c.args.at.now.committed in
     let state = c.args.at.now.objects in
     let listed = take seen.upto c.seek.new.reused.nets in
     let window = c.seek.new.window in
@@ -70,19 +72,17 @@ returns-clause-at g c =
     let still = kept_window batch opened seen.first state window listed c.requires.at.objects c.requires.at.within saw.pending
     saw.reached saw.listed c.commit.new.objects kept next c.in_ok-keep.ensures in
     let done = c.in_ok-settle.ensures in
-    let begins : new.first ≡ seen.first = c.shorten.ensures.first ∙ done.first in
     let rounds = c.args.at.now.rounds in
     let few = c.requires.at.few_rounds in
     record {
       within = omega arith;
-      objects = next ∙ ap (state_at start blocks) (sym begins);
-      window = settled_window batch seen.first c.len.result kept c.settle.new.self new c.args.at.now.records.items
-          c.settle.new.list.items all done c.shorten.ensures (omega arith) c.commit.new.objects still;
+      objects = next;
+      window = settled_window batch opened seen.first c.len.result kept c.settle.new.self new c.args.at.now.records
+          c.settle.new.records all done c.shorten.ensures (omega arith) c.commit.new.objects still;
       cleared = c.clear.ensures;
       committed = committed_on batch opened seen.first state window listed c.requires.at.objects c.requires.at.within saw.pending
-          saw.reached saw.listed c.commit.new.objects kept next c.in_ok-keep.ensures c.settle.new.self c.args.at.now.records.items
-          c.settle.new.list.items c.in_ok-seen.ensures.grown.first c.requires.at.committed done
-          ∙ ap (shown_from start blocks 0) (sym begins);
+          saw.reached saw.listed c.commit.new.objects kept next c.in_ok-keep.ensures c.settle.new.self c.args.at.now.records
+          c.settle.new.records c.requires.at.committed done;
       few_rounds = omega arith;
       all_rounds = λ more from.
           let same : rounds + suc more ≡ (rounds + 1) + more = omega arith in
@@ -90,7 +90,7 @@ returns-clause-at g c =
             omega (arith, count, all, c.requires.going),
             seen.first,
             saw.opening,
-            subst (λ b. RoundsFrom start blocks b more) begins from,
+            from,
           ));
     }
 
@@ -104,7 +104,7 @@ returns-clause-round g c =
     let all : c.len.result ≡ length blocks = omega arith in
     let seen = c.in_ok-seen.seen in
     let saw = c.in_ok-seen.ensures.seen in
-    let opened = c.args.at.now.window.first in
+    let opened = c.args.at.now.committed in
     let state = c.args.at.now.objects in
     let listed = take seen.upto c.seek.new.reused.nets in
     let window = c.seek.new.window in
@@ -118,18 +118,17 @@ returns-clause-round g c =
     let still = kept_window batch opened seen.first state window listed c.requires.at.objects c.requires.at.within saw.pending
     saw.reached saw.listed c.commit.new.objects kept next c.in_ok-keep.ensures in
     let done = c.in_ok-settle.ensures in
-    let begins : new.first ≡ seen.first = c.shorten.ensures.first ∙ done.first in
+    let begun = c.requires.at.window.begun in
     record {
-      next = subst (IsNextOpening start blocks opened) (sym begins) saw.opening;
+      next = saw.opening;
       on = omega arith;
       one = refl;
       kept = λ i low valid.
-          let flag = settled_flag batch seen.first c.len.result kept c.settle.new.self new
-          c.args.at.now.records.items c.settle.new.list.items all done c.shorten.ensures (omega arith) c.commit.new.objects still
-          i (omega arith) in
-          subst (λ n. (IsValid new i × Stands batch opened n i) ⊎ ((flag_at new i ≡ false) × (¬ Stands batch opened n i))) (sym begins)
-          (subst (λ f. ((f ≡ true) × Stands batch opened seen.first i) ⊎ ((f ≡ false) × (¬ Stands batch opened seen.first i))) (sym flag)
+          let flag = settled_flag batch opened seen.first c.len.result kept c.settle.new.self new
+          c.args.at.now.records c.settle.new.records all done c.shorten.ensures (omega arith) c.commit.new.objects still
+          i low in
+          subst (λ f. ((f ≡ true) × Stands batch opened seen.first i) ⊎ ((f ≡ false) × (¬ Stands batch opened seen.first i))) (sym flag)
           (kept_at batch opened seen.first state window listed c.requires.at.objects c.requires.at.within saw.pending saw.reached
-          saw.listed c.commit.new.objects kept next c.in_ok-keep.ensures i (omega arith)
-          (c.in_ok-seen.ensures.grown.still i (omega arith) valid)));
+          saw.listed c.commit.new.objects kept next c.in_ok-keep.ensures i low
+          (c.in_ok-seen.ensures.grown.still i (omega arith) valid));
     }

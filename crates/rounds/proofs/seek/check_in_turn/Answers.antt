@@ -51,7 +51,7 @@ returns-then-not-stands_past-clause-seen g c =
     let end = c.requires.places.1 in
     let all = c.loop-number.invariant.all in
     let shown = ap (λ (v : View). v.snapshot) c.loop-number.invariant.ready.opened in
-    let so_far = still_listed batch opened number c.loop-number.window window nets (omega arith) c.in_ok-make_at.ensures.grown
+    let so_far = still_listed batch opened number c.loop-number.window window nets (λ some. omega arith) c.in_ok-make_at.ensures.grown
     c.loop-number.invariant.listed in
     let listed = all_taken nets upto c.len-upto.ensures in
     let failed = c.if-not-stands_past.true in
@@ -85,7 +85,7 @@ loop-number-preserved g c =
     let low = c.loop-number-test.true in
     let end = c.requires.places.1 in
     let all = c.loop-number.invariant.all in
-    let so_far = still_listed batch opened number c.loop-number.window window nets (omega arith) c.in_ok-make_at.ensures.grown
+    let so_far = still_listed batch opened number c.loop-number.window window nets (λ some. omega arith) c.in_ok-make_at.ensures.grown
     c.loop-number.invariant.listed in
     let listed = all_taken nets c.len-upto.result c.len-upto.ensures in
     let run = c.index.result.now in

@@ -16,8 +16,8 @@ looking-init g c = record {
   listed = none_listed c.args.batch.now c.args.opened c.args.window.now c.give-memory.new.self.nets
       c.requires.window.begun (c.give-memory.ensures ∙ c.requires.none);
   ready = record { opened = c.open_in-desk.ensures.opened; unlabelled = c.open_in-desk.ensures.unlabelled };
-  within = c.requires.within;
-  reached = let begun = c.requires.begun in omega arith;
+  within = let going = c.requires.going in omega arith;
+  reached = λ some. absurd (omega arith);
   some = c.requires.some;
 }
 
@@ -69,7 +69,7 @@ looking-preserved g c =
           (all_taken nets c.in_ok-seen.seen.upto (saw.all last)) saw.listed);
       ready = c.in_ok-seen.ensures.ready;
       within = let end = c.min-end.ensures in let count = c.len-count.ensures in omega arith;
-      reached =
+      reached = λ some.
           let all = c.in_ok-seen.ensures.reached in
           let first = c.in_ok-seen.ensures.grown.first in
           let end = c.in_ok-reach.ensures.reached in
@@ -95,5 +95,5 @@ returns-clause-seen g c =
       upto = omega arith;
       listed = subst (IsListedTo batch opened c.looking.from c.looking.window) (sym (all_taken nets c.len-upto.result size))
           so_far.listed;
-      reached = so_far.reached;
+      reached = so_far.reached (let going = c.requires.going in omega arith);
     })

@@ -1,4 +1,4 @@
-use Rattle.std.proofs.Common.{◌≤◌, ◌-◌, length}
+use Rattle.std.proofs.Common.{◌<◌, ◌≤◌, ◌-◌, length}
 use Rattle.rounds.specs.Desks.{IsDeskOn}
 use Rattle.rounds.specs.Views.{blocks_of}
 use Rattle.rounds.specs.Windows.{end_of, IsWindowAt, HasGrown, IsListedTo}
@@ -11,7 +11,7 @@ invariant-looking g l = record {
   listed : IsListedTo l.batch l.opened l.from l.window l.reused.nets;
   ready : IsDeskOn l.objects l.desk;
   within : l.from ≤ length (blocks_of l.batch);
-  reached : l.from ≤ end_of l.window;
+  reached : l.opened < l.from → l.from ≤ end_of l.window;
   some : 1 ≤ l.block;
 }
 
