@@ -156,7 +156,7 @@ none_kept from since window = record {
   later = λ i le. refl;
 }
 
--- a run is kept where it stands
+-- the flag of a run that was decided says whether it is kept
 kept_by : (flag : Bool) (since : List Entry) (old new : Window) (number : ℕ) (d : PendingRun) → old.first ≤ number → number < end_of old
     → flag_at new number ≡ flag → (IsTrue flag ↔ ((o : PendingRun) → HoldsPast since (run_at old number o)))
     → KeptAt since old new number d
