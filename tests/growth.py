@@ -1,6 +1,8 @@
 """How many more requests for memory, and threads, a document of twice the size takes. Counts, not seconds."""
 
 import os
+import resource
+import subprocess
 import tempfile
 
 import preloaded
@@ -245,6 +247,18 @@ def try_refusing(program, library):
                         (got[1], made <= most, None), (1, True, None))
 
 
+def try_late_fault(program):
+    """A fault at the end of a long transaction is found by a tree of one step at a time: as one tree, they would take 180 MB."""
+    steps = [op("a", "deposit", 7)] * 160_000 + [op("a", "depposit", 7)]
+    with tempfile.TemporaryFile() as given:
+        given.write(document([ACCOUNT], [block(*steps)], version=4))
+        given.seek(0)
+        done = subprocess.run([program.path, "check"], stdin=given, capture_output=True,
+                              preexec_fn=lambda: resource.setrlimit(resource.RLIMIT_AS, (1 << 26, 1 << 26)))
+    program.compare("a late fault in 64 MB", ["check"], (done.stdout, done.returncode, done.stderr),
+                    (b"", 1, b"fault 6 transaction 1\n"))
+
+
 def try_plan(program, library, plan):
     for shape, size, times in SHAPES:
         try_shape(program, library, plan, shape, size, times)
@@ -253,6 +267,7 @@ def try_plan(program, library, plan):
 def try_all(program, library):
     """All but the shapes, whose plans `try_plan` tries one by one, since they take long."""
     try_refusing(program, library)
+    try_late_fault(program)
     try_reading(program, library)
     try_starts(program, library)
     try_input(program, library)

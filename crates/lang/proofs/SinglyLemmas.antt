@@ -1,4 +1,4 @@
--- Documents that are read a transaction at a time.
+-- Documents that are read a step at a time.
 use Rattle.std.proofs.Common.{◌≡◌, ◌≤◌, ℕ, [], Option, None, Some, Result, Ok, Err, subst, ap, ◌∙◌}
 use Rattle.std.specs.Prelude.{MatchOption, MatchResult, codes}
 use Rattle.serde_json.specs.Data.{Items}

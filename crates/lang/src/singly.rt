@@ -1,34 +1,97 @@
-//! Reads a document with a tree of one transaction at a time.
+//! Reads a document with a tree of one step at a time.
 //!
 //! Where the document's members come in another order, or twice, the whole document is read as one tree
 //! (`document`).
-ghost use Rattle.std.specs.Prelude.{◌≡◌, [], ◌∷◌, map, IfOk, MatchResult, ◌≤◌};
-ghost use Rattle.serde_json.specs.Data.{Data, Items};
+ghost use Rattle.std.specs.Prelude.{◌≡◌, [], ◌∷◌, map, IfOk, MatchResult, ◌≤◌, ◌-◌};
+ghost use Rattle.serde_json.specs.Data.{Data, Items, array};
 ghost use Rattle.serde_json.specs.Events.{items_len};
-ghost use Rattle.batch.specs.Views.{block_view};
+ghost use Rattle.batch.specs.Views.{block_view, step_view};
 ghost use Rattle.spelling.specs.Answer.{AreMet, IsFirstOf, IsMet};
-ghost use Rattle.spelling.specs.Asked.{document_shape_asked, setting_in};
+ghost use Rattle.spelling.specs.Asked.{document_shape_asked, scope_after, setting_in};
 ghost use Rattle.pull.specs.Pulled.{ReadsItems, ReadsValue};
-ghost use Rattle.spelling.specs.Places.{placed, transaction_placed, transactions_placed};
+ghost use Rattle.spelling.specs.Places.{block_placed, placed, step_placed, transaction_placed, transactions_placed};
 ghost use Rattle.spelling.specs.Scope.{numbers_of, scope_of, setting_of};
-ghost use Rattle.spelling.specs.Spelled.{block_of, blocks_of, parts_in, spelled};
+ghost use Rattle.spelling.specs.Spelled.{block_of, blocks_of, parts_in, spelled, step_of};
 ghost use Rattle.rules.specs.Limits.{limits_of};
 ghost use Rattle.meaning.specs.declared.limits.TheConstants.{MAX_DEPTH};
 
-use batch::Block;
+use batch::{Block, Step};
 use faults::Fault;
-use json::Reader;
-use pull::pass::pass_items;
+use json::{Reader, Token};
+use meaning::limits::MAX_DEPTH;
+use pull::pass::{pass_from, pass_items};
 use pull::pull::{PART_DEPTH, pull_end_object, pull_head, pull_value};
 use pull::stop::Stop;
-use rules::Limits;
+use rules::{Limits, Rule, ShapeRule};
 use spelling::declared::{Declared, Parts};
+use spelling::labels::leave_block;
 use spelling::starts::read_objects;
 use spelling::state::State;
-use spelling::steps::read_transaction;
+use spelling::steps::read_step;
 use std::alloc::Global;
 
-/// The next transaction, by a tree of it alone, or its first fault.
+/// The next step of a transaction, by a tree of it alone, or its first fault.
+fn one_step(
+    alloc: Global,
+    reader: &mut Reader<'_>,
+    declared: &Declared,
+    state: &mut State,
+) -> Result<Result<Step, Fault>, Stop>
+    ensures { IfOk result (λ answer. (d : Data) × ReadsValue 124 reader.old d reader.new
+        × MatchResult answer
+        (λ step. AreMet state.old.counts (step_placed (block_placed (setting_of declared.now)
+        (MAX_DEPTH - 1)) (setting_of declared.now) (scope_of state.old.labels.entries) d)
+        state.new.counts
+        × ((step_view step, numbers_of state.new.numbering)
+        ≡ step_of (block_of (setting_of declared.now) (MAX_DEPTH - 1)) (setting_of declared.now)
+        (scope_of state.old.labels.entries) (numbers_of state.old.numbering) d)
+        × (scope_of state.new.labels.entries
+        ≡ scope_after (setting_of declared.now) (scope_of state.old.labels.entries) d))
+        (IsFirstOf state.old.counts (step_placed (block_placed (setting_of declared.now)
+        (MAX_DEPTH - 1)) (setting_of declared.now) (scope_of state.old.labels.entries) d))) }
+{
+    let value = pull_value(alloc, reader, PART_DEPTH - 1)?;
+    match read_step(alloc, &value, MAX_DEPTH - 1, declared, state) {
+        Ok(step) => Ok(Ok(step)),
+        Err(unmet) => Ok(Err(unmet.failure.fault())),
+    }
+}
+
+/// The steps of a transaction up to the end of their array, or their first fault.
+fn each_step(
+    alloc: Global,
+    reader: &mut Reader<'_>,
+    declared: &Declared,
+    state: &mut State,
+) -> Result<Result<Block, Fault>, Stop>
+    requires { scope_of state.old.labels.entries ≡ [] }
+    ensures { IfOk result (λ answer. (ds : Items) × ReadsItems 124 reader.old ds reader.new
+        × MatchResult answer
+        (λ block. AreMet state.old.counts (block_placed (setting_of declared.now) MAX_DEPTH []
+        (array ds)) state.new.counts
+        × ((block_view block, numbers_of state.new.numbering)
+        ≡ block_of (setting_of declared.now) MAX_DEPTH [] (numbers_of state.old.numbering)
+        (array ds))
+        × (scope_of state.new.labels.entries ≡ []))
+        (IsFirstOf state.old.counts (block_placed (setting_of declared.now) MAX_DEPTH []
+        (array ds)))) }
+{
+    let mut steps = Vec::new(alloc);
+    while !reader.take_end_array() {
+        match one_step(alloc, reader, declared, state)? {
+            Ok(step) => steps.push(step)?,
+            Err(found) => {
+                pass_items(reader, PART_DEPTH - 1)?;
+                return Ok(Err(found));
+            }
+        }
+    }
+    steps.shrink_to_fit();
+    leave_block(&mut state.labels, 0);
+    Ok(Ok(Block { steps }))
+}
+
+/// The next transaction, by trees of its steps, or its first fault.
 fn one_transaction(
     alloc: Global,
     reader: &mut Reader<'_>,
@@ -46,11 +109,14 @@ fn one_transaction(
         × (scope_of state.new.labels.entries ≡ []))
         (IsFirstOf state.old.counts (transaction_placed number (setting_of declared.now) d))) }
 {
-    let value = pull_value(alloc, reader, PART_DEPTH)?;
-    match read_transaction(alloc, &value, number, declared, state) {
-        Ok(block) => Ok(Ok(block)),
-        Err(unmet) => Ok(Err(unmet.failure.fault())),
+    state.counts.transaction = number;
+    let token = reader.next().ok_or(Stop::OtherForm)?;
+    if let Token::BeginArray = token {
+        return each_step(alloc, reader, declared, state);
     }
+    pass_from(token, reader, PART_DEPTH)?;
+    let broken = state.counts.broken(Rule::Shape(ShapeRule::Block));
+    Ok(Err(broken.fault()))
 }
 
 /// The transactions up to the end of their array, or their first fault.

@@ -17,7 +17,7 @@ use spelling::numbers::number_of;
 
 /// What is seen of a value that is passed.
 #[derive(Clone, Copy, Drop)]
-pub(crate) enum Seen {
+pub enum Seen {
     /// A whole number that fits 64 bits with a sign.
     Whole(i64),
     /// An array of so many items; the greatest number stands for more, too.
@@ -48,11 +48,7 @@ pub(crate) fn pass_value(reader: &mut Reader<'_>, depth: usize) -> Result<Seen, 
 
 /// A value whose first token has been read.
 #[cycle(pass)]
-pub(crate) fn pass_from(
-    token: Token<'_>,
-    reader: &mut Reader<'_>,
-    depth: usize,
-) -> Result<Seen, Invalid>
+pub fn pass_from(token: Token<'_>, reader: &mut Reader<'_>, depth: usize) -> Result<Seen, Invalid>
     ensures ok { IfOk result (λ seen. (d : Data)
         × ReadsValue depth (token_of token.entry ∷ reader.old) d reader.new × (seen ≡ seen_as d)) }
     ensures err { IfErr result

@@ -1,0 +1,125 @@
+use Rattle.std.proofs.Common.{◌≡◌, List, [], ◌∷◌, ◌++◌, Some, None, map, length, refl, sym, subst, ap, ap₂, ◌∙◌, ◌+◌, ◌-◌, arith, rules}
+use Rattle.std.proofs.lemmas.List.{length-append, map-append}
+use Rattle.json.specs.Json.{after_end_array}
+use Rattle.serde_json.specs.Data.{array, item, no_items}
+use Rattle.meaning.specs.Trees as tree
+use Rattle.meaning.specs.declared.limits.TheConstants.{MAX_DEPTH}
+use Rattle.batch.specs.Views.{step_view, steps_of}
+use Rattle.batch.specs.declared.tree.Block.{roll-Block}
+use Rattle.batch.proofs.ViewLemmas.{block_view-is}
+use Rattle.spelling.specs.Asked.{scope_after}
+use Rattle.spelling.specs.Places.{block_placed, fault_in, item_at, seek, step_placed, steps_placed}
+use Rattle.spelling.specs.Scope.{Numbers, Scope, numbers_of, scope_of, setting_of}
+use Rattle.spelling.specs.Spelled.{block_of, spelled_map, steps_spelled}
+use Rattle.spelling.proofs.BlockLemmas.{block_asks, block_spells}
+use Rattle.spelling.proofs.ListLemmas.{in_front, in_front_none, in_front_push}
+use Rattle.spelling.proofs.PlaceLemmas.{part_met}
+use Rattle.pull.specs.Pulled.{ReadsValue}
+use Rattle.pull.proofs.PulledLemmas.{reads_item, reads_no_items, reads_shorter}
+use Rattle.lang.proofs.SinglyLemmas.{fault_inside, matched_err, matched_ok}
+use Rattle.lang.proofs.singly.each_step.Goals as goal
+
+pub loop-alloc-init : goal.loop-alloc-init
+loop-alloc-init c =
+    let none : c.new-steps.result.items ≡ [] = c.new-steps.ensures.items in
+    let setting = setting_of c.args.declared.now in
+    let unseen = c.requires in (
+      λ ds. ds,
+      λ ds new reads. reads,
+      λ ds. ap₂ (λ (s : Scope) (vs : List _). seek c.args.state.now.counts
+          (steps_placed (block_placed setting (MAX_DEPTH - 1)) setting s (length vs) ds)) (sym unseen) (sym none),
+      λ ds. ap₂ (λ (s : Scope) (vs : List _). in_front (map step_view vs)
+          (steps_spelled (block_of setting (MAX_DEPTH - 1)) setting s (numbers_of c.args.state.now.numbering) ds)) (sym unseen) (sym none),
+    )
+
+pub loop-alloc-smaller : goal.loop-alloc-smaller
+loop-alloc-smaller c =
+    let going : (after_end_array c.loop-alloc.reader ≡ None) × (c.take_end_array.new.self ≡ c.loop-alloc.reader) = grind arith in
+    let done = c.in_ok-step.ensures in
+    let less = reads_shorter 124 _ done.0 _ done.1 in
+    omega (arith, less, ap length going.1)
+
+pub loop-alloc-preserved : goal.loop-alloc-preserved
+loop-alloc-preserved c =
+    let l = c.loop-alloc in
+    let setting = setting_of c.args.declared.now in
+    let places = block_placed setting (MAX_DEPTH - 1) in
+    let block = block_of setting (MAX_DEPTH - 1) in
+    let here = scope_of l.state.labels.entries in
+    let going : (after_end_array l.reader ≡ None) × (c.take_end_array.new.self ≡ l.reader) = grind arith in
+    let answer = c.in_ok-step.ensures in
+    let d = answer.0 in
+    let mid = c.one_step.new.reader in
+    let counts = c.one_step.new.state.counts in
+    let after = numbers_of c.one_step.new.state.numbering in
+    let next = scope_of c.one_step.new.state.labels.entries in
+    let read = map step_view l.steps.items in
+    let x = c.in-Ok.step in
+    let done = matched_ok c.in_ok-step.field-0 x _ _ c.in-Ok.is answer.2 in
+    let pushed : c.push.new.self.items ≡ l.steps.items ++ x ∷ [] = grind (arith, rules) in
+    let index = length l.steps.items in
+    let after_it : length c.push.new.self.items ≡ index + 1 = ap length pushed ∙ length-append l.steps.items (x ∷ []) in (
+      λ ds. l.invariant.0 (item d ds),
+      λ ds new reads. l.invariant.1 (item d ds) new
+          (reads_item 124 l.reader mid new d ds going.0 (subst (λ ts. ReadsValue 124 ts d mid) going.1 answer.1) reads),
+      λ ds. l.invariant.2 (item d ds)
+          ∙ part_met l.state.counts counts (item_at index) (step_placed places setting here d)
+          (steps_placed places setting (scope_after setting here d) (index + 1) ds) done.0
+          ∙ ap₂ (λ (s : Scope) i. seek counts (steps_placed places setting s i ds)) (sym done.2) (sym after_it),
+      λ ds. l.invariant.3 (item d ds)
+          ∙ ap₂ (λ (s : Scope) (p : tree.Step × Numbers). in_front read
+          (p.0 ∷ (steps_spelled block setting s p.1 ds).0, (steps_spelled block setting s p.1 ds).1)) (sym done.2) (sym done.1)
+          ∙ sym (in_front_push read (step_view x) (steps_spelled block setting next after ds))
+          ∙ ap (λ ys. in_front ys (steps_spelled block setting next after ds))
+          (sym (map-append step_view l.steps.items (x ∷ [])) ∙ ap (map step_view) (sym pushed)),
+    )
+
+pub returns-in-Err : goal.returns-in-Err
+returns-in-Err c =
+    let l = c.loop-alloc in
+    let start = c.args.state.now.counts in
+    let setting = setting_of c.args.declared.now in
+    let places = block_placed setting (MAX_DEPTH - 1) in
+    let here = scope_of l.state.labels.entries in
+    let going : (after_end_array l.reader ≡ None) × (c.take_end_array.new.self ≡ l.reader) = grind arith in
+    let answer = c.in_ok-step.ensures in
+    let d = answer.0 in
+    let mid = c.one_step.new.reader in
+    let new = c.pass_items.new.reader in
+    let e = c.in-Err.found in
+    let failed = matched_err c.in_ok-step.field-0 e _ _ c.in-Err.is answer.2 in
+    let index = length l.steps.items in
+    let rest = c.in_ok-pass_items-in-Err.ensures.ok in
+    let ds = rest.0 in
+    let all = l.invariant.0 (item d ds) in (
+      all,
+      l.invariant.1 (item d ds) new
+          (reads_item 124 l.reader mid new d ds going.0 (subst (λ ts. ReadsValue 124 ts d mid) going.1 answer.1) rest.1),
+      λ other. ap (λ p. fault_in (seek start p)) (block_asks setting [] (array all) (MAX_DEPTH - 1) MAX_DEPTH all (omega arith) refl)
+          ∙ ap fault_in (l.invariant.2 (item d ds))
+          ∙ fault_inside l.state.counts (item_at index) (step_placed places setting here d)
+          (steps_placed places setting (scope_after setting here d) (index + 1) ds) e (failed other),
+    )
+
+pub returns : goal.returns
+returns c =
+    let l = c.loop-alloc in
+    let start = c.args.state.now.counts in
+    let setting = setting_of c.args.declared.now in
+    let first = numbers_of c.args.state.now.numbering in
+    let numbers = numbers_of l.state.numbering in
+    let closed : after_end_array l.reader ≡ Some c.take_end_array.new.self = grind arith in
+    let all = l.invariant.0 no_items in
+    let kept : c.shrink_to_fit.new.self.items ≡ l.steps.items = grind (arith, rules) in
+    let shown = block_view-is (roll-Block (record { steps = c.shrink_to_fit.new.self })) in (
+      all,
+      l.invariant.1 no_items _ (reads_no_items 124 l.reader _ closed),
+      (
+        ap (seek start) (block_asks setting [] (array all) (MAX_DEPTH - 1) MAX_DEPTH all (omega arith) refl) ∙ l.invariant.2 no_items,
+        ap (λ (b : tree.Block). (b, numbers)) shown
+            ∙ ap (λ (vs : List _). (steps_of (map step_view vs), numbers)) kept
+            ∙ ap (spelled_map steps_of) (sym (l.invariant.3 no_items ∙ in_front_none (map step_view l.steps.items) numbers))
+            ∙ sym (block_spells setting [] (array all) (MAX_DEPTH - 1) MAX_DEPTH first all (omega arith) refl),
+        c.leave_block.ensures [] (scope_of l.state.labels.entries, refl) refl,
+      ),
+    )

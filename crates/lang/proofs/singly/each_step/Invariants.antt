@@ -1,0 +1,28 @@
+use Rattle.std.proofs.Common.{◌≡◌, List, [], ◌-◌, length, map}
+use Rattle.json.specs.Token.{Token}
+use Rattle.serde_json.specs.Data.{Items}
+use Rattle.meaning.specs.declared.limits.TheConstants.{MAX_DEPTH}
+use Rattle.batch.specs.Views.{step_view}
+use Rattle.spelling.specs.Places.{block_placed, seek, steps_placed}
+use Rattle.pull.specs.Pulled.{ReadsItems}
+use Rattle.spelling.specs.Scope.{numbers_of, scope_of, setting_of}
+use Rattle.spelling.specs.Spelled.{block_of, steps_spelled}
+use Rattle.spelling.proofs.ListLemmas.{in_front}
+use Rattle.lang.proofs.singly.each_step.Given as goal
+
+-- what was read comes before any items that follow
+abbrev pub invariant-loop-alloc : goal.invariant-loop-alloc
+invariant-loop-alloc l =
+    (before : Items → Items)
+    × ((ds : Items) (new : List Token) → ReadsItems 124 l.reader ds new → ReadsItems 124 l.initial.reader (before ds) new)
+    × ((ds : Items) → seek l.initial.state.counts
+    (steps_placed (block_placed (setting_of l.declared) (MAX_DEPTH - 1)) (setting_of l.declared) [] 0 (before ds))
+    ≡ seek l.state.counts (steps_placed (block_placed (setting_of l.declared) (MAX_DEPTH - 1)) (setting_of l.declared)
+    (scope_of l.state.labels.entries) (length l.steps.items) ds))
+    × ((ds : Items) → steps_spelled (block_of (setting_of l.declared) (MAX_DEPTH - 1)) (setting_of l.declared) []
+    (numbers_of l.initial.state.numbering) (before ds)
+    ≡ in_front (map step_view l.steps.items) (steps_spelled (block_of (setting_of l.declared) (MAX_DEPTH - 1)) (setting_of l.declared)
+    (scope_of l.state.labels.entries) (numbers_of l.state.numbering) ds))
+
+abbrev pub decreases-loop-alloc : goal.decreases-loop-alloc
+decreases-loop-alloc l = length l.reader
