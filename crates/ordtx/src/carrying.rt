@@ -76,7 +76,7 @@ pub(crate) fn carried_of<T: Threads + Sync>(
 ) -> Result<String, Uncarried>
     ensures { GivesCarried (IsCarriedOf document.items) (IsCarryFaultOf document.items) result }
 {
-    let batch = batch_at_once(threads, alloc, plan.workers, document)?;
+    let batch = batch_at_once(threads, alloc, plan, document)?;
     let text = carried_of_batch(alloc, &batch)?;
     free(batch, plan);
     Ok(text)
@@ -135,14 +135,15 @@ pub(crate) fn carried_into_of<T: Threads + Sync>(
     ensures { GivesCarried (IsCarriedIntoOf first.items next.items)
         (IsCarryIntoFaultOf first.items next.items) result }
 {
-    let hashing = NameHashing::of(first.as_slice());
-    let batch = batch_at_once(threads, alloc, plan.workers, first)?;
-    let next_batch = match read_at_once(threads, alloc, plan.workers, next.as_slice()) {
+    let Plan { workers, keys, .. } = plan;
+    let hashing = NameHashing::keyed(keys, first.as_slice());
+    let batch = batch_at_once(threads, alloc, plan, first)?;
+    let next_batch = match read_at_once(threads, alloc, workers, keys, next.as_slice()) {
         Ok(batch) => batch,
         Err(fault) => return Err(Uncarried::Next(fault)),
     };
     let names = name_table(alloc, &batch.names, batch.objects.len() as u32, hashing)?;
-    let next_hashing = NameHashing::of(next.as_slice());
+    let next_hashing = NameHashing::keyed(keys, next.as_slice());
     let next_names = name_table(
         alloc,
         &next_batch.names,

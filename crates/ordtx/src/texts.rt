@@ -29,14 +29,15 @@ pub(crate) fn batch_of(alloc: Global, document: Vec<u8>) -> Result<Batch, Fault>
 pub(crate) fn batch_at_once<T: Threads + Sync>(
     threads: &T,
     alloc: Global,
-    workers: u32,
+    plan: Plan,
     document: Vec<u8>,
 ) -> Result<Batch, Fault>
     ensures batch { IfOk result (λ batch. reading document.items ≡ Ok (document_of batch)) }
     ensures fault { IfErr result (λ fault. fault ≢ memory_fault → IsFaultOf document.items fault) }
     ensures code { IfErr result (λ fault. is_of_reading fault.code ≡ true) }
 {
-    read_at_once(threads, alloc, workers, document.as_slice())
+    let Plan { workers, keys, .. } = plan;
+    read_at_once(threads, alloc, workers, keys, document.as_slice())
 }
 
 // Frees a value, or leaves its memory to the end of the program, which comes after a last call.
@@ -81,7 +82,7 @@ pub(crate) fn report_of<T: Threads + Sync, G: Gate>(
 ) -> Result<Vec<String>, Fault>
     ensures { GivesParts IsReportOf document.items result }
 {
-    let batch = batch_at_once(threads, alloc, plan.workers, document)?;
+    let batch = batch_at_once(threads, alloc, plan, document)?;
     let parts = report_of_batch(threads, alloc, &batch, plan, false, gate)?;
     free(batch, plan);
     Ok(parts)
@@ -97,7 +98,7 @@ pub(crate) fn audit_of<T: Threads + Sync, G: Gate>(
 ) -> Result<Vec<String>, Fault>
     ensures { GivesParts IsAuditOf document.items result }
 {
-    let batch = batch_at_once(threads, alloc, plan.workers, document)?;
+    let batch = batch_at_once(threads, alloc, plan, document)?;
     let parts = report_of_batch(threads, alloc, &batch, plan, true, gate)?;
     free(batch, plan);
     Ok(parts)
@@ -115,7 +116,7 @@ pub(crate) fn explanation_of<T: Threads + Sync, G: Gate>(
 ) -> Result<Vec<String>, Fault>
     ensures { GivesParts (IsExplainedOf audit) document.items result }
 {
-    let batch = batch_at_once(threads, alloc, plan.workers, document)?;
+    let batch = batch_at_once(threads, alloc, plan, document)?;
     let parts = explanation_of_batch(threads, alloc, &batch, plan, audit, gate)?;
     free(batch, plan);
     Ok(parts)
@@ -166,7 +167,7 @@ pub(crate) fn plain_parts_of<T: Threads + Sync>(
 ) -> Result<Vec<String>, Fault>
     ensures { GivesParts IsPlainReportOf document.items result }
 {
-    let batch = batch_at_once(threads, alloc, plan.workers, document)?;
+    let batch = batch_at_once(threads, alloc, plan, document)?;
     let parts = plain_parts_of_batch(threads, alloc, &batch, plan)?;
     free(batch, plan);
     Ok(parts)
@@ -206,7 +207,7 @@ pub(crate) fn check_at_once_of<T: Threads + Sync>(
 ) -> Result<String, Fault>
     ensures { GivesText IsCheckOf document.items result }
 {
-    let batch = batch_at_once(threads, alloc, plan.workers, document)?;
+    let batch = batch_at_once(threads, alloc, plan, document)?;
     let counts = render_check(alloc, &batch)?;
     free(batch, plan);
     Ok(counts)

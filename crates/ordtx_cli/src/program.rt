@@ -10,6 +10,7 @@ use ordtx::{
     check_at_once_stream, explain_stream, line, locate_stream, run_stream, serial_at_once_stream,
 };
 use std::alloc::{AllocError, Global};
+use std::hash::RandomState;
 use std::process::ExitCode;
 use std::rt::Env;
 use std::thread::Threads;
@@ -44,6 +45,10 @@ fn asked(rt: &HostRuntime) -> Result<Line, Refused> {
     let mut asked = line(alloc, words.as_slice())?;
     // The program ends after the call.
     asked.plan = asked.plan.of_last_call();
+    // Where the system has no random bytes, names are hashed by the document's.
+    if let Ok(keys) = RandomState::new(rt) {
+        asked.plan = asked.plan.with_keys(keys);
+    }
     if asked.into.is_some()
         && is_standard(text_in(&asked.file))
         && is_standard(text_in(&asked.into))

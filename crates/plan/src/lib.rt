@@ -1,5 +1,5 @@
-//! A plan: how many workers a run has, how many transactions a piece of their work has, and how
-//! many of the workers share so much work.
+//! A plan: how many workers a run has, how many transactions a piece of their work has, how many of
+//! the workers share so much work, and by which keys names are hashed.
 #![tactic(auto)]
 
 mod plan;

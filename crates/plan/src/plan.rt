@@ -1,6 +1,8 @@
 //! A plan, and what follows from it for a pass and for a run.
-ghost use Rattle.std.specs.Prelude.{◌≡◌, ◌≤◌, ◌<◌, ◌-◌, ◌*◌, ◌/◌, ◌↔◌, min, max, IsSome, IfSome, false, true};
+ghost use Rattle.std.specs.Prelude.{◌≡◌, ◌≤◌, ◌<◌, ◌-◌, ◌*◌, ◌/◌, ◌↔◌, min, max, IsSome, IfSome, None, Some, false, true};
 ghost use Rattle.plan.specs.Plans.{IsPlan, width_of};
+
+use std::hash::RandomState;
 
 /// How many workers there are at most.
 pub const MAX_WORKERS: u32 = 64;
@@ -13,7 +15,7 @@ pub const MAX_CUT: u32 = 1_000;
 const OPERATIONS: usize = 256;
 
 /// A plan of 1 to 64 workers, and pieces of 1 to 1,000 transactions.
-#[derive(Clone, Copy, Debug, PartialEq, Eq)]
+#[derive(Clone, Copy, Debug)]
 pub struct Plan {
     /// How many workers there are, 1 to 64.
     pub workers: u32,
@@ -21,16 +23,19 @@ pub struct Plan {
     pub cut: u32,
     /// Whether the program ends after the call with this plan.
     pub last: bool,
+    /// The keys by which the names of a document are hashed. Without keys its bytes are the key.
+    pub keys: Option<RandomState>,
     pub ghost is_plan: { IsPlan workers cut },
 }
 
 impl Plan {
-    /// The plan of these numbers for a call after which the program goes on, or none outside the
-    /// limits.
+    /// The plan of these numbers for a call after which the program goes on, without keys. It is none
+    /// outside the limits.
     pub fn new(workers: u32, cut: u32) -> Option<Plan>
         ensures some { IsSome result ↔ IsPlan workers cut }
         ensures is { IfSome result (λ plan. (plan.workers ≡ workers) × (plan.cut ≡ cut)) }
         ensures not_last { IfSome result (λ plan. plan.last ≡ false) }
+        ensures no_keys { IfSome result (λ plan. plan.keys ≡ None) }
     {
         if workers < 1 || workers > MAX_WORKERS || cut < 1 || cut > MAX_CUT {
             return None;
@@ -39,6 +44,7 @@ impl Plan {
             workers,
             cut,
             last: false,
+            keys: None,
         })
     }
 
@@ -47,11 +53,33 @@ impl Plan {
     pub fn of_last_call(self) -> Plan
         ensures same { (result.workers ≡ self.workers) × (result.cut ≡ self.cut) }
         ensures last { result.last ≡ true }
+        ensures keys { result.keys ≡ self.keys }
     {
         Plan {
             workers: self.workers,
             cut: self.cut,
             last: true,
+            keys: self.keys,
+        }
+    }
+
+    /// The same plan with keys that no author of a document knows. The results are the same for any.
+    pub fn with_keys(self, keys: RandomState) -> Plan
+        ensures same { (result.workers ≡ self.workers) × (result.cut ≡ self.cut) }
+        ensures last { result.last ≡ self.last }
+        ensures keys { result.keys ≡ Some keys }
+    {
+        let Plan {
+            workers,
+            cut,
+            last,
+            ..
+        } = self;
+        Plan {
+            workers,
+            cut,
+            last,
+            keys: Some(keys),
         }
     }
 

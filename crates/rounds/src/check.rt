@@ -152,6 +152,7 @@ pub fn first_conflict<R: Threads + Sync, G: Gate>(
             workers,
             cut: 1,
             last: false,
+            keys: None,
         },
         gate,
         operations_each: 1,

@@ -9,9 +9,11 @@ use ordtx::{
     serial_at_once_stream, serial_stream,
 };
 use std::alloc::AllocGlobal;
+use std::hash::RandomState;
 use std::io;
 use std::io::{ErrorKind, Read, Write};
 use std::process::Abort;
+use std::random::RandomSource;
 use std::thread::Threads;
 
 const DOCUMENT: &[u8] =
@@ -98,6 +100,26 @@ fn runs_of_a_document_meet(rt: HostRuntime) {
         .is_ok()
     );
     assert!(rt; gate.has_met());
+    assert!(rt; sink.taken() == REPORT);
+}
+
+/// Gives fives.
+struct Fives;
+
+impl RandomSource for Fives {
+    fn fill_bytes(&self, bytes: &mut [u8]) -> io::Result<()> {
+        bytes.fill(5);
+        Ok(())
+    }
+}
+
+#[test]
+fn keys_change_no_report(rt: HostRuntime) {
+    let keys = RandomState::new(&Fives).expect(&rt, "keys");
+    let plan = Plan::new(2, 16).expect(&rt, "a plan").with_keys(keys);
+    let mut source = Marked::new(DOCUMENT);
+    let mut sink = TestSink::new(&rt, ALWAYS, ALWAYS);
+    assert!(rt; run_stream(&rt, rt.alloc(), &mut source, &mut sink, plan, &NoGate).is_ok());
     assert!(rt; sink.taken() == REPORT);
 }
 

@@ -2,19 +2,19 @@
 ghost use Rattle.std.specs.Prelude.{◌≡◌};
 ghost use Rattle.objects.specs.Hashing.{begun_with};
 ghost use Rattle.std.specs.Hash.DefaultHasher.{finish};
-ghost use Rattle.spelling.specs.Hashing.{behind};
+ghost use Rattle.spelling.specs.Hashing.{begun, behind};
 
 use indexmap::{IndexMap, IndexSet};
 use objects::EntryHashing;
 use rules::Subject;
-use std::hash::{BuildHasher, DefaultHasher, Hasher};
+use std::hash::{BuildHasher, DefaultHasher, Hasher, RandomState};
 
-/// Hashes each name as what follows the whole document.
+/// Hashes names by SipHash-1-3 with random keys or, without keys, as what follows the whole document.
 ///
 /// The author of a document picks its names, and with a hash that is known beforehand he could pick
-/// names that all fall on one place of a table, so that each look-up walks through all of them. Here
-/// a change of any name moves all the others, and the same bytes are still read in the same way.
-/// SipHash-1-3 with a known key is not cryptographic: this only makes such names hard to find.
+/// names that all fall on one place of a table, so that each look-up walks through all of them. He
+/// doesn't know random keys. Without keys a change of any name moves all the others, which only makes
+/// such names hard to find: SipHash-1-3 with a known key is not cryptographic.
 #[derive(Clone, Copy, Drop)]
 pub struct NameHashing {
     document: DefaultHasher,
@@ -36,6 +36,19 @@ impl NameHashing {
         // Up to a whole word, so that each name begins a word.
         document.write(&[0; 8][bytes.len() % 8..]);
         NameHashing { document }
+    }
+
+    /// For the names of the document that the bytes write, by these keys. Without keys the bytes are
+    /// the key, as in [`NameHashing::of`].
+    pub fn keyed(keys: Option<RandomState>, bytes: &[u8]) -> NameHashing
+        ensures { result.document ≡ begun keys bytes.now }
+    {
+        match keys {
+            Some(keys) => NameHashing {
+                document: keys.build_hasher(),
+            },
+            None => NameHashing::of(bytes),
+        }
     }
 
     /// How tables of the document's entries are hashed.
