@@ -162,9 +162,10 @@ pub(crate) fn pull_begin_array(reader: &mut Reader<'_>) -> Result<(), Stop>
 pub(crate) fn pull_end_array(reader: &mut Reader<'_>) -> Result<(), Stop>
     ensures { IfOk result (λ _. reader.old ≡ token.end_array ∷ reader.new) }
 {
-    match reader.next() {
-        Some(Token::EndArray) => Ok(()),
-        _ => Err(Stop::OtherForm),
+    if reader.take_end_array() {
+        Ok(())
+    } else {
+        Err(Stop::OtherForm)
     }
 }
 
