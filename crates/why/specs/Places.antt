@@ -1,5 +1,5 @@
 -- The operations of a run in memory. No public contract names it.
-use Rattle.std.specs.Prelude.{List, map, string_bytes}
+use Rattle.std.specs.Prelude.{◌≡◌, ◌++◌, List, map, string_bytes}
 use Rattle.why.specs.Why.{Placed}
 use Rattle.why.specs.declared.places.Place.{Place}
 
@@ -8,3 +8,7 @@ place_view place = record { path = string_bytes place.path; entry = place.entry;
 
 abbrev pub places_view : List Place → List Placed
 places_view places = map place_view places
+
+-- these operations were added to the list, after those before
+abbrev pub AreAdded : List Place → List Place → List Placed → Type 0
+AreAdded old new these = places_view new ≡ places_view old ++ these

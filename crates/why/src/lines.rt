@@ -1,11 +1,11 @@
 //! The lines that say why each round but the last ended.
 ghost use Rattle.std.specs.Prelude.{◌≡◌, ◌++◌, ◌+◌, ◌<◌, [], IfOk, OnOk, length, string_bytes};
-ghost use Rattle.meaning.specs.Batch.{state_at, alone, run_nets};
-ghost use Rattle.objects.specs.Entries.{CommuteForward, CommutesWith};
+ghost use Rattle.meaning.specs.Batch.{alone, run_nets};
+ghost use Rattle.objects.specs.Entries.{CommutesWith};
 ghost use Rattle.batch.specs.Names.{names_of};
 ghost use Rattle.batch.specs.Parts.{start_of, blocks_of};
 ghost use Rattle.speculate.specs.Runs.{IsRunOf};
-ghost use Rattle.why.specs.Why.{IsConflict, IsFirstWithout, IsWhyText, place_text, placed_nets, why_line};
+ghost use Rattle.why.specs.Why.{IsWhyText, place_text};
 ghost use Rattle.why.specs.Places.{place_view};
 ghost use Rattle.why.specs.Rounds.{AreRuns, HasReached, HasPassed, IsRound, IsStopped, HasEarly, IsEarliest, IsWritten};
 
@@ -42,6 +42,13 @@ pub fn render_why<T: Threads + Sync>(
     Ok(out)
 }
 
+// A batch, when so many of its transactions are committed.
+#[derive(Clone, Copy, Drop)]
+struct OpenedBatch<'a> {
+    batch: &'a Batch,
+    opened: usize,
+}
+
 // Writes the line of each round but the last. The objects are those of the start, and become those
 // of the last opening.
 fn write_rounds<T: Threads + Sync>(
@@ -58,8 +65,9 @@ fn write_rounds<T: Threads + Sync>(
     let mut opened: usize = 0;
     let mut number: usize = 1;
     'opening: while opened < batch.transactions.len() {
+        let at = OpenedBatch { batch, opened };
         let round = round_from(threads, alloc, batch, objects, opened)?;
-        if !pass_round(alloc, out, batch, opened, number, &round, objects)? {
+        if !pass_round(alloc, out, at, number, &round, objects)? {
             return Ok(());
         }
         opened += round.passed.len();
@@ -73,20 +81,20 @@ fn write_rounds<T: Threads + Sync>(
 fn pass_round(
     alloc: Global,
     out: &mut String,
-    batch: &Batch,
-    opened: usize,
+    at: OpenedBatch<'_>,
     number: usize,
     round: &Round,
     objects: &mut Objects,
 ) -> Result<bool, NoMemory>
-    requires reached { HasReached batch.now opened number objects.old (string_bytes out.old) }
-    requires round { IsRound batch.now opened round.now }
-    ensures { IfOk result (HasPassed batch.now opened number round.now objects.new (string_bytes out.new)) }
+    requires reached { HasReached at.batch.now at.opened number objects.old (string_bytes out.old) }
+    requires round { IsRound at.batch.now at.opened round.now }
+    ensures { IfOk result (HasPassed at.entry.batch.now at.entry.opened number round.now
+        objects.new (string_bytes out.new)) }
 {
     let Some(stopped) = &round.conflict else {
         return Ok(false);
     };
-    write_round(alloc, out, batch, opened, number, round, stopped)?;
+    write_round(alloc, out, at, number, round, stopped)?;
     perform_each(objects, round.nets.entries())?;
     Ok(true)
 }
@@ -95,17 +103,20 @@ fn pass_round(
 fn write_round(
     alloc: Global,
     out: &mut String,
-    batch: &Batch,
-    opened: usize,
+    at: OpenedBatch<'_>,
     number: usize,
     round: &Round,
     stopped: &Run,
 ) -> Result<(), NoMemory>
-    requires round { IsRound batch.now opened round.now }
-    requires stopped { IsStopped batch.now opened (opened + length round.now.passed.items) round.now stopped.now }
-    ensures { OnOk result (IsWritten batch.now opened (opened + length round.now.passed.items) number (string_bytes out.old) (string_bytes out.new)) }
+    requires round { IsRound at.batch.now at.opened round.now }
+    requires stopped { IsStopped at.batch.now at.opened
+        (at.opened + length round.now.passed.items) round.now stopped.now }
+    ensures { OnOk result (IsWritten at.entry.batch.now at.entry.opened
+        (at.entry.opened + length round.now.passed.items) number
+        (string_bytes out.old) (string_bytes out.new)) }
 {
-    let place = opened + round.passed.len();
+    let batch = at.batch;
+    let place = at.opened + round.passed.len();
     let block = &batch.transactions[place];
     let places = places_of(alloc, &batch.names, place + 1, block, &stopped.tree)?;
     let Some(late) = first_late(&places, &round.nets) else {
@@ -114,7 +125,7 @@ fn write_round(
     write!(out, "why {number} ")?;
     write_place(out, &batch.names, late)?;
     write!(out, " after ")?;
-    write_earliest(alloc, out, batch, opened, &round.passed, &late.entry)?;
+    write_earliest(alloc, out, at, &round.passed, &late.entry)?;
     write!(out, "\n")?;
     Ok(())
 }
@@ -123,18 +134,20 @@ fn write_round(
 fn write_earliest(
     alloc: Global,
     out: &mut String,
-    batch: &Batch,
-    opened: usize,
+    at: OpenedBatch<'_>,
     passed: &[Run],
     late: &Entry,
 ) -> Result<(), NoMemory>
-    requires runs { AreRuns batch.now opened passed.now }
-    requires within { opened + length passed.now < length (blocks_of batch.now) }
-    requires conflicts { ¬ CommutesWith late.now (run_nets (start_of batch.now) (blocks_of batch.now) opened opened (length passed.now)) }
-    ensures { OnOk result (IsEarliest batch.now opened (length passed.now) late.now (string_bytes out.old) (string_bytes out.new)) }
+    requires runs { AreRuns at.batch.now at.opened passed.now }
+    requires within { at.opened + length passed.now < length (blocks_of at.batch.now) }
+    requires conflicts { ¬ CommutesWith late.now
+        (run_nets (start_of at.batch.now) (blocks_of at.batch.now) at.opened at.opened
+        (length passed.now)) }
+    ensures { OnOk result (IsEarliest at.entry.batch.now at.entry.opened (length passed.now)
+        late.now (string_bytes out.old) (string_bytes out.new)) }
 {
     for (index, run) in passed.iter().enumerate() {
-        if write_early(alloc, out, batch, opened, opened + index, run, late)? {
+        if write_early(alloc, out, at, at.opened + index, run, late)? {
             return Ok(());
         }
     }
@@ -146,16 +159,18 @@ fn write_earliest(
 fn write_early(
     alloc: Global,
     out: &mut String,
-    batch: &Batch,
-    opened: usize,
+    at: OpenedBatch<'_>,
     place: usize,
     run: &Run,
     late: &Entry,
 ) -> Result<bool, NoMemory>
-    requires run { IsRunOf (alone (start_of batch.now) (blocks_of batch.now) place opened) run.now }
-    requires within { place < length (blocks_of batch.now) }
-    ensures { IfOk result (HasEarly batch.now opened place late.now (string_bytes out.old) (string_bytes out.new)) }
+    requires run { IsRunOf
+        (alone (start_of at.batch.now) (blocks_of at.batch.now) place at.opened) run.now }
+    requires within { place < length (blocks_of at.batch.now) }
+    ensures { IfOk result (HasEarly at.entry.batch.now at.entry.opened place late.now
+        (string_bytes out.old) (string_bytes out.new)) }
 {
+    let batch = at.batch;
     let block = &batch.transactions[place];
     let places = places_of(alloc, &batch.names, place + 1, block, &run.tree)?;
     let Some(early) = first_early(&places, late) else {

@@ -1,10 +1,10 @@
 //! The operations of a run, each with the path of its step.
-ghost use Rattle.std.specs.Prelude.{◌≡◌, [], ◌∷◌, ◌++◌, ◌&&◌, IfOk, OnOk, map, option_copied, string_bytes};
+ghost use Rattle.std.specs.Prelude.{◌≡◌, [], ◌∷◌, ◌&&◌, IfOk, OnOk, option_copied};
 ghost use Rattle.std.specs.Fmt.{decimal};
 ghost use Rattle.batch.specs.Names.{names_of};
 ghost use Rattle.batch.specs.Views.{block_view, record_view, step_view, taken_view, subaction_view, tried_view, children_view, all_tried_view};
 ghost use Rattle.why.specs.Why.{has_ended, placed, placed_step, placed_child, placed_children};
-ghost use Rattle.why.specs.Places.{places_view};
+ghost use Rattle.why.specs.Places.{places_view, AreAdded};
 
 use batch::{Block, Names, NoMemory, Record, Step, Subaction, Taken};
 use meaning::End;
@@ -20,6 +20,15 @@ pub(crate) struct Place {
     pub(crate) left: bool,
 }
 
+// Where operations are placed: the path that they are under, the names of their batch, and whether
+// the run leaves them.
+#[derive(Clone, Copy, Drop)]
+struct Spot<'a> {
+    names: &'a Names,
+    path: &'a str,
+    left: bool,
+}
+
 /// The operations of the run of the transaction of this number, in order.
 pub(crate) fn places_of(
     alloc: Global,
@@ -28,12 +37,18 @@ pub(crate) fn places_of(
     block: &Block,
     done: &Record,
 ) -> Result<Vec<Place>, NoMemory>
-    ensures { IfOk result (λ places. places_view places.items ≡ placed (names_of names.now) (decimal number) 1 (has_ended done.now.outcome) (block_view block.now) (record_view done.now)) }
+    ensures { IfOk result (λ places. places_view places.items
+        ≡ placed (names_of names.now) (decimal number) 1 (has_ended done.now.outcome)
+        (block_view block.now) (record_view done.now)) }
 {
     let mut places = Vec::new(alloc);
     let path = format!(in alloc; "{number}")?;
-    let left = has_ended(done.outcome);
-    place_block(alloc, &mut places, names, path.as_str(), left, block, done)?;
+    let spot = Spot {
+        names,
+        path: path.as_str(),
+        left: has_ended(done.outcome),
+    };
+    place_block(alloc, &mut places, spot, block, done)?;
     Ok(places)
 }
 
@@ -41,21 +56,25 @@ pub(crate) fn places_of(
 fn place_block(
     alloc: Global,
     places: &mut Vec<Place>,
-    names: &Names,
-    path: &str,
-    left: bool,
+    spot: Spot<'_>,
     block: &Block,
     done: &Record,
 ) -> Result<(), NoMemory>
-    ensures { OnOk result (places_view places.new.items ≡ places_view places.old.items ++ placed (names_of names.now) path.now 1 left (block_view block.now) (record_view done.now)) }
+    ensures { OnOk result (AreAdded places.old.items places.new.items
+        (placed (names_of spot.entry.names.now) spot.entry.path.now 1 spot.entry.left
+        (block_view block.now) (record_view done.now))) }
 {
     for (index, taken) in done.taken.iter().enumerate() {
         if index >= block.steps.len() {
             return Ok(());
         }
         let step = &block.steps[index];
-        let step_path = part_path(alloc, path, index + 1)?;
-        place_step(alloc, places, names, step_path.as_str(), left, step, taken)?;
+        let step_path = part_path(alloc, spot.path, index + 1)?;
+        let at = Spot {
+            path: step_path.as_str(),
+            ..spot
+        };
+        place_step(alloc, places, at, step, taken)?;
     }
     Ok(())
 }
@@ -64,21 +83,21 @@ fn place_block(
 fn place_step(
     alloc: Global,
     places: &mut Vec<Place>,
-    names: &Names,
-    path: &str,
-    left: bool,
+    spot: Spot<'_>,
     step: &Step,
     taken: &Taken,
 ) -> Result<(), NoMemory>
-    ensures { OnOk result (places_view places.new.items ≡ places_view places.old.items ++ placed_step (names_of names.now) path.now left (step_view step.now) (taken_view taken.now)) }
+    ensures { OnOk result (AreAdded places.old.items places.new.items
+        (placed_step (names_of spot.entry.names.now) spot.entry.path.now spot.entry.left
+        (step_view step.now) (taken_view taken.now))) }
 {
     match (step, taken) {
         (Step::Op { object, call, .. }, Taken::Op(reply)) => {
-            place_operation(alloc, places, path, left, *object, call, reply)
+            place_operation(alloc, places, spot, *object, call, reply)
         }
         (Step::Fill(filling), Taken::Filled(made)) => {
             let object = filling.object;
-            place_operation(alloc, places, path, left, object, &made.call, &made.reply)
+            place_operation(alloc, places, spot, object, &made.call, &made.reply)
         }
         (
             Step::If {
@@ -89,31 +108,18 @@ fn place_step(
             Taken::If(holds, record),
         ) => {
             let branch = if *holds { then } else { otherwise };
-            let branch_path = branch_path(alloc, path, *holds)?;
-            place_block(
-                alloc,
-                places,
-                names,
-                branch_path.as_str(),
-                left,
-                branch,
-                record,
-            )
+            let branch_path = branch_path(alloc, spot.path, *holds)?;
+            let at = Spot {
+                path: branch_path.as_str(),
+                ..spot
+            };
+            place_block(alloc, places, at, branch, record)
         }
         (Step::Sub(child), Taken::Sub(body, handler)) => {
-            place_child(
-                alloc,
-                places,
-                names,
-                path,
-                left,
-                child,
-                body,
-                handler.as_deref(),
-            )
+            place_child(alloc, places, spot, child, body, handler.as_deref())
         }
         (Step::Parallel(children), Taken::Parallel(tried)) => {
-            place_children(alloc, places, names, path, left, children, tried)
+            place_children(alloc, places, spot, children, tried)
         }
         _ => Ok(()),
     }
@@ -123,74 +129,62 @@ fn place_step(
 fn place_child(
     alloc: Global,
     places: &mut Vec<Place>,
-    names: &Names,
-    path: &str,
-    left: bool,
+    spot: Spot<'_>,
     child: &Subaction,
     body: &Record,
     handler: Option<&Record>,
 ) -> Result<(), NoMemory>
     ensures { OnOk result (let child = subaction_view child.now in
-        places_view places.new.items ≡ places_view places.old.items ++ placed_child (names_of names.now) path.now left child.body child.handlers (tried_view (body.now, option_copied handler.entry))) }
+        AreAdded places.old.items places.new.items
+        (placed_child (names_of spot.entry.names.now) spot.entry.path.now spot.entry.left
+        child.body child.handlers (tried_view (body.now, option_copied handler.entry)))) }
 {
+    let path = spot.path;
     let body_path = format!(in alloc; "{path}.b")?;
-    let stays = is_left(left, body.outcome);
-    place_block(
-        alloc,
-        places,
-        names,
-        body_path.as_str(),
-        stays,
-        &child.body,
-        body,
-    )?;
+    let in_body = Spot {
+        path: body_path.as_str(),
+        left: is_left(spot.left, body.outcome),
+        ..spot
+    };
+    place_block(alloc, places, in_body, &child.body, body)?;
     let Some(done) = handler else {
         return Ok(());
     };
     let reason = reason_of(body.outcome);
-    let Some((handler_path, block)) = handler_place(alloc, names, path, child, reason)? else {
+    let Some((handler_path, block)) = handler_place(alloc, spot.names, path, child, reason)? else {
         return Ok(());
     };
-    place_block(
-        alloc,
-        places,
-        names,
-        handler_path.as_str(),
-        left,
-        block,
-        done,
-    )
+    let in_handler = Spot {
+        path: handler_path.as_str(),
+        ..spot
+    };
+    place_block(alloc, places, in_handler, block, done)
 }
 
 #[cycle(places)]
 fn place_children(
     alloc: Global,
     places: &mut Vec<Place>,
-    names: &Names,
-    path: &str,
-    left: bool,
+    spot: Spot<'_>,
     children: &[Subaction],
     all_tried: &[(Record, Option<Record>)],
 ) -> Result<(), NoMemory>
-    ensures { OnOk result (places_view places.new.items ≡ places_view places.old.items ++ placed_children (names_of names.now) path.now 1 left (children_view children.now) (all_tried_view all_tried.now)) }
+    ensures { OnOk result (AreAdded places.old.items places.new.items
+        (placed_children (names_of spot.entry.names.now) spot.entry.path.now 1 spot.entry.left
+        (children_view children.now) (all_tried_view all_tried.now))) }
 {
     for (index, tried) in all_tried.iter().enumerate() {
         if index >= children.len() {
             return Ok(());
         }
         let child = &children[index];
-        let child_path = part_path(alloc, path, index + 1)?;
+        let child_path = part_path(alloc, spot.path, index + 1)?;
+        let at = Spot {
+            path: child_path.as_str(),
+            ..spot
+        };
         let (body, handler) = tried;
-        place_child(
-            alloc,
-            places,
-            names,
-            child_path.as_str(),
-            left,
-            child,
-            body,
-            handler.as_ref(),
-        )?;
+        place_child(alloc, places, at, child, body, handler.as_ref())?;
     }
     Ok(())
 }
@@ -198,20 +192,24 @@ fn place_children(
 fn place_operation(
     alloc: Global,
     places: &mut Vec<Place>,
-    path: &str,
-    left: bool,
+    spot: Spot<'_>,
     object: u32,
     call: &Call,
     reply: &Reply,
 ) -> Result<(), NoMemory>
-    ensures { OnOk result (places_view places.new.items ≡ places_view places.old.items ++ record { path = path.now; entry = record { object = object; call = call.now; reply = reply.now }; left = left } ∷ []) }
+    ensures { OnOk result (AreAdded places.old.items places.new.items (record {
+      path = spot.entry.path.now;
+      entry = record { object = object; call = call.now; reply = reply.now };
+      left = spot.entry.left;
+    } ∷ [])) }
 {
-    let path = String::from_str(alloc, path)?;
+    let path = String::from_str(alloc, spot.path)?;
     let entry = Entry {
         object,
         call: *call,
         reply: *reply,
     };
+    let left = spot.left;
     places.push(Place { path, entry, left })?;
     Ok(())
 }

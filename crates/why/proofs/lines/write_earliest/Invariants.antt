@@ -10,5 +10,5 @@ abbrev pub invariant-loop-index : goal.invariant-loop-index
 invariant-loop-index l = record {
   text : string_bytes l.out ≡ string_bytes l.fn.out;
   none : All (λ p. CommuteForward l.late p.entry)
-      (placed_nets (names_of l.batch.names) (start_of l.batch) (blocks_of l.batch) l.opened l.opened l.index);
+      (placed_nets (names_of l.at.batch.now.names) (start_of l.at.batch.now) (blocks_of l.at.batch.now) l.at.opened l.at.opened l.index);
 }

@@ -12,13 +12,13 @@ use Rattle.why.proofs.lines.write_early.Goals as goal
 
 pub returns-in_default : goal.returns-in_default
 returns-in_default c =
-    let batch = c.args.batch.now in
+    let batch = c.args.at.batch.now in
     let blocks : length (blocks_of batch) ≡ length batch.transactions.items = length-map batch.transactions.items block_view in
     let within : c.args.place < length batch.transactions.items = omega (arith, c.requires.within, blocks) in
     let here : places_view c.deref.result.now
-    ≡ placed_run (names_of batch.names) (start_of batch) (blocks_of batch) c.args.place c.args.opened =
+    ≡ placed_run (names_of batch.names) (start_of batch) (blocks_of batch) c.args.place c.args.at.opened =
     ap places_view c.deref.ensures.value ∙ c.in_ok-places.ensures
-    ∙ run_places (names_of batch.names) batch c.args.opened c.args.place c.args.run.now c.index-block.result.now c.requires.run within
+    ∙ run_places (names_of batch.names) batch c.args.at.opened c.args.place c.args.run.now c.index-block.result.now c.requires.run within
     c.index-block.ensures in
     record {
       none = subst (λ ps. All (λ p. CommuteForward c.args.late.now p.entry) (filter (λ p. p.left) ps)) here
@@ -28,13 +28,13 @@ returns-in_default c =
 
 pub returns : goal.returns
 returns c =
-    let batch = c.args.batch.now in
+    let batch = c.args.at.batch.now in
     let blocks : length (blocks_of batch) ≡ length batch.transactions.items = length-map batch.transactions.items block_view in
     let within : c.args.place < length batch.transactions.items = omega (arith, c.requires.within, blocks) in
     let here : places_view c.deref.result.now
-    ≡ placed_run (names_of batch.names) (start_of batch) (blocks_of batch) c.args.place c.args.opened =
+    ≡ placed_run (names_of batch.names) (start_of batch) (blocks_of batch) c.args.place c.args.at.opened =
     ap places_view c.deref.ensures.value ∙ c.in_ok-places.ensures
-    ∙ run_places (names_of batch.names) batch c.args.opened c.args.place c.args.run.now c.index-block.result.now c.requires.run within
+    ∙ run_places (names_of batch.names) batch c.args.at.opened c.args.place c.args.run.now c.index-block.result.now c.requires.run within
     c.index-block.ensures in
     record {
       early = place_view c.in-Some.early.now;

@@ -9,12 +9,14 @@ use Rattle.why.proofs.places.+places.Given as goal
 abbrev pub invariant-place_block-loop-index : goal.invariant-place_block-loop-index
 invariant-place_block-loop-index l =
     places_view l.places.items
-    ++ rest_placed (names_of l.names) l.path l.left l.index l.block.steps.items l.done.taken.items l.done.outcome
+    ++ rest_placed (names_of l.spot.names.now) l.spot.path.now l.spot.left l.index l.block.steps.items l.done.taken.items l.done.outcome
     ≡ places_view l.fn.places.items
-    ++ placed (names_of l.fn.names) l.fn.path 1 l.fn.left (block_view l.fn.block) (record_view l.fn.done)
+    ++ placed (names_of l.fn.spot.names.now) l.fn.spot.path.now 1 l.fn.spot.left (block_view l.fn.block) (record_view l.fn.done)
 
 abbrev pub invariant-place_children-loop-index : goal.invariant-place_children-loop-index
 invariant-place_children-loop-index l =
-    places_view l.places.items ++ rest_children_placed (names_of l.names) l.path l.left l.index l.children l.all_tried
+    places_view l.places.items
+    ++ rest_children_placed (names_of l.spot.names.now) l.spot.path.now l.spot.left l.index l.children l.all_tried
     ≡ places_view l.fn.places.items
-    ++ placed_children (names_of l.fn.names) l.fn.path 1 l.fn.left (children_view l.fn.children) (all_tried_view l.fn.all_tried)
+    ++ placed_children (names_of l.fn.spot.names.now) l.fn.spot.path.now 1 l.fn.spot.left (children_view l.fn.children)
+    (all_tried_view l.fn.all_tried)
