@@ -1,13 +1,17 @@
 -- A view: what is seen of it, and what its parts keep.
-use Rattle.std.proofs.Common.{◌≡◌, ℕ, ◌≤◌, arith, List, [], ◌∷◌, ◌++◌, length, reverse, take, drop, refl, sym, ap, ◌∙◌, subst}
+use Rattle.std.proofs.Common.{◌≡◌, ℕ, ◌+◌, ◌≤◌, vec_capacity, arith, List, [], ◌∷◌, ◌++◌, length, reverse, take, drop, refl, sym, ap, ◌∙◌, subst}
 use Rattle.std.proofs.lemmas.List.{take-append-drop, length-append, length-take-le}
+use Rattle.std.specs.declared.vec.Vec.{Vec}
+use Rattle.std.specs.declared.alloc.Global.{Global}
 use Rattle.objects.specs.declared.value.Value.{Value}
 use Rattle.objects.specs.declared.entry.Entry.{Entry}
 use Rattle.objects.specs.Entries.{after, AreLegal}
+use Rattle.intentions.specs.declared.view.NetList.{NetList}
+use Rattle.intentions.specs.declared.view.NetList.TheVariants.{Entries, Own}
 use Rattle.intentions.specs.declared.view.View.TheInside.{Inside}
-use Rattle.intentions.specs.Levels.{Intentions, shown_values, all_levels, committed, AllHaveRoom}
+use Rattle.intentions.specs.Levels.{Intentions, shown_values, all_levels, committed, listed_by, AllHaveRoom}
 use Rattle.intentions.specs.Starts.{IsNested, innermost, around, at_starts}
-use Rattle.intentions.specs.Layers.{States, IsKept}
+use Rattle.intentions.specs.Layers.{States, IsKept, CanList}
 use Rattle.intentions.proofs.EntriesLemmas.{after-append, length-after, legal-append, room-append, legal-take, room-take}
 use Rattle.intentions.proofs.LayersLemmas.{states_of}
 use Rattle.intentions.proofs.StartsLemmas.{nested_more, at_starts-append, innermost_joined, around-take}
@@ -27,17 +31,40 @@ joined_around : (starts : List ℕ) (xs : List Entry) → all_levels (around sta
 joined_around [] xs = refl
 joined_around (start ∷ starts) xs = ap (λ ys. ys ++ drop start xs) (joined_around starts (take start xs)) ∙ take-append-drop start xs
 
+-- the nets of all levels, the outermost first
+abbrev pub nets_of : Inside → List Entry
+nets_of v = listed_by v.listed v.entries.items v.net.items
+
 abbrev pub KeptView : Inside → Type 0
-KeptView v = IsKept v.snapshot.now v.net.items (reverse v.marks.items) v.layers
+KeptView v = IsKept v.snapshot.now (nets_of v) (reverse v.marks.items) v.layers × CanList v.listed v.entries.items v.net
 
 abbrev pub view_of : Inside → Intentions
-view_of v = view_parts v.snapshot.now v.entries.items v.net.items (reverse v.marks.items)
+view_of v = view_parts v.snapshot.now v.entries.items (nets_of v) (reverse v.marks.items)
+
+-- more room in the same list
+pub can_list_grown : (listed : NetList) (entries : List Entry) (old new : Vec Entry Global) → CanList listed entries old
+    → new.items ≡ old.items → vec_capacity old ≤ vec_capacity new → CanList listed entries new
+can_list_grown Entries entries old new can is le = (is ∙ can.0, omega (arith, can.1, le))
+can_list_grown Own entries old new can is le = tt
+
+-- one more entry in a list of all, and in the list of the net if it has one
+pub can_list_more : (listed : NetList) (entries : List Entry) (entry : Entry) (old new : Vec Entry Global) → CanList listed entries old
+    → length (listed_by listed entries old.items) + 1 ≤ vec_capacity new
+    → new.items ≡ listed_by listed old.items (old.items ++ entry ∷ []) → CanList listed (entries ++ entry ∷ []) new
+can_list_more Entries entries entry old new can le is = (is ∙ can.0, rw (length-append) le)
+can_list_more Own entries entry old new can le is = tt
+
+-- the net then has one more
+pub listed_more : (listed : NetList) (entries own : List Entry) (entry : Entry)
+    → listed_by listed (entries ++ entry ∷ []) (listed_by listed own (own ++ entry ∷ [])) ≡ listed_by listed entries own ++ entry ∷ []
+listed_more Entries entries own entry = refl
+listed_more Own entries own entry = refl
 
 -- a view shows what its layers show
 pub same_shown : (inside : Inside) (v : Intentions) → view_of inside ≡ v → KeptView inside → shown_values v ≡ inside.layers.shown
 same_shown inside v is kept =
-    sym (ap shown_values is) ∙ ap (after inside.snapshot.now) (joined_around (reverse inside.marks.items) inside.net.items)
-    ∙ sym (ap (λ (s : States). s.shown) kept.shows)
+    sym (ap shown_values is) ∙ ap (after inside.snapshot.now) (joined_around (reverse inside.marks.items) (nets_of inside))
+    ∙ sym (ap (λ (s : States). s.shown) kept.0.shows)
 
 pub committed_view : (snapshot : List Value) (entries net : List Entry) (start : ℕ) (starts : List ℕ) (v : Intentions)
     → view_parts snapshot entries net (start ∷ starts) ≡ v → IsNested (start ∷ starts) (length net)
@@ -88,4 +115,4 @@ kept_aborting snapshot net new_net start starts layers new kept back net_is =
 
 -- a view shows as many objects as its snapshot has
 pub length-layers : (inside : Inside) → KeptView inside → length inside.layers.shown ≡ length inside.snapshot.now
-length-layers inside kept = ap (λ (s : States). length s.shown) kept.shows ∙ length-after inside.snapshot.now inside.net.items
+length-layers inside kept = ap (λ (s : States). length s.shown) kept.0.shows ∙ length-after inside.snapshot.now (nets_of inside)

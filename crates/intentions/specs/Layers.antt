@@ -1,11 +1,15 @@
 -- Drafts of changed values over a snapshot, with one journal of their changes. No public contract names it.
-use Rattle.std.specs.Prelude.{◌≡◌, ℕ, zero, suc, List, [], ◌∷◌, length, map, take, drop, reverse, unwrap_or}
+use Rattle.std.specs.Prelude.{◌≡◌, ⊤, ℕ, zero, suc, ◌≤◌, List, [], ◌∷◌, length, map, take, drop, reverse, unwrap_or, vec_capacity}
+use Rattle.std.specs.declared.vec.Vec.{Vec}
+use Rattle.std.specs.declared.alloc.Global.{Global}
 use Rattle.objects.specs.declared.value.Value.{Value}
 use Rattle.objects.specs.declared.entry.Entry.{Entry}
 use Rattle.objects.specs.Entries.{after, AreLegal}
 use Rattle.drafts.specs.History.{History, unchanged, undone}
 use Rattle.intentions.specs.DraftTables.{Drafts}
 use Rattle.intentions.specs.Levels.{AllHaveRoom}
+use Rattle.intentions.specs.declared.view.NetList.{NetList}
+use Rattle.intentions.specs.declared.view.NetList.TheVariants.{Entries, Own}
 use Rattle.intentions.specs.Starts.{IsNested, at_starts}
 
 -- what layers show, and what they showed at the begin of each open level, from the innermost
@@ -54,3 +58,8 @@ pub record IsKept (snapshot : List Value) (net : List Entry) (starts : List ℕ)
   pub nested : IsNested starts (length net)
   pub legal : AreLegal snapshot net
   pub room : AllHaveRoom snapshot net
+
+-- where the net has no list of its own, the one that is kept for it is empty and has room for it
+abbrev pub CanList : NetList → List Entry → Vec Entry Global → Type 0
+CanList Entries entries own = (own.items ≡ []) × (length entries ≤ vec_capacity own)
+CanList Own entries own = ⊤

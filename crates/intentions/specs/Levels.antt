@@ -4,6 +4,8 @@ use Rattle.objects.specs.Entries.{after}
 pub use Rattle.objects.specs.Entries.{AllHaveRoom}
 use Rattle.objects.specs.declared.value.Value.{Value}
 use Rattle.objects.specs.declared.entry.Entry.{Entry}
+use Rattle.intentions.specs.declared.view.NetList.{NetList}
+use Rattle.intentions.specs.declared.view.NetList.TheVariants.{Entries, Own}
 
 -- what is seen of a view
 pub record Intentions : Type 0 where
@@ -54,3 +56,8 @@ aborted v = record v { net = parent v.outer; outer = parents v.outer }
 -- two more lists
 abbrev pub absorbed : Intentions → List Entry → List Entry → Intentions
 absorbed v entries net = record v { entries = v.entries ++ entries; net = v.net ++ net }
+
+-- the net of a run that lists it there, of its entries and of a list of its own
+abbrev pub listed_by : NetList → List Entry → List Entry → List Entry
+listed_by Entries entries own = entries
+listed_by Own entries own = own

@@ -14,4 +14,4 @@ mod view;
 pub use committed::{Committed, FEW_ENTRIES, Mark, MarkedEntry, Span, mark_all, summarize};
 pub use objects::{Call, Entry, EntryHashing, NoMemory, Objects, Reply, Value};
 pub use places::PagedPlaces;
-pub use view::{Lists, View, perform_each};
+pub use view::{Lists, NetList, View, perform_each};

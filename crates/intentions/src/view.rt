@@ -1,7 +1,9 @@
 //! Views: what a transaction sees while its intentions are recorded.
-ghost use Rattle.std.specs.Prelude.{◌≡◌, ◌↔◌, ◌+◌, ◌<◌, ◌≤◌, ◌++◌, [], length, vec_len, vec_capacity, IsTrue, Some, IsOk, IfOk, OnOk, OnErr};
+ghost use Rattle.std.specs.Prelude.{◌≡◌, ◌↔◌, ◌+◌, ◌^◌, ◌<◌, ◌≤◌, ◌++◌, [], ◌∷◌, length, vec_len, vec_capacity, IsTrue, Some, IsOk, IfOk, OnOk, OnErr};
 ghost use Rattle.objects.specs.Objects.{objects, Fits, ObjectHasRoom};
-ghost use Rattle.intentions.specs.Levels.{shown_values, opened, with_entry, begun, committed, aborted, absorbed, AllHaveRoom};
+ghost use Rattle.intentions.specs.Levels.{shown_values, opened, with_entry, begun, committed, aborted, absorbed, listed_by, AllHaveRoom};
+ghost use Rattle.intentions.specs.Layers.{CanList};
+ghost use Rattle.intentions.specs.declared.view.NetList.TheVariants.{Own};
 ghost use Rattle.objects.specs.Entries.{after, AreLegal};
 
 use crate::layers::Layers;
@@ -9,7 +11,7 @@ use crate::places::PagedPlaces;
 use objects::{Call, Entry, NoMemory, Objects, Reply};
 use std::alloc::Global;
 use std::marker::Model;
-use std::mem::swap;
+use std::mem::{replace, swap};
 
 /// What a view recorded: the entries of all calls in their order, and the net, which is those that
 /// no aborted level took back.
@@ -34,6 +36,71 @@ impl Lists {
     }
 }
 
+/// Where the net of a run is listed.
+#[derive(Clone, Copy, Debug, Drop, PartialEq, Eq)]
+pub enum NetList {
+    /// Nothing was taken back: the net is all of the entries, and has no list of its own.
+    Entries,
+    /// In a list of its own.
+    Own,
+}
+
+impl NetList {
+    /// The net of these entries, or of this list of its own.
+    pub fn of<'a>(self, entries: &'a [Entry], own: &'a [Entry]) -> &'a [Entry]
+        ensures { result.now ≡ listed_by self entries.now own.now }
+    {
+        match self {
+            NetList::Entries => entries,
+            NetList::Own => own,
+        }
+    }
+
+    // Reserves room for a list of the net, and for so many more.
+    fn reserve(self, entries: &[Entry], own: &mut Vec<Entry>, more: usize) -> Result<(), NoMemory>
+        requires { length entries.now + more < 2 ^ 64 }
+        ensures items { own.new.items ≡ own.old.items }
+        ensures capacity { vec_capacity own.old ≤ vec_capacity own.new }
+        ensures ok { OnOk result
+            (length (listed_by self entries.now own.old.items) + more ≤ vec_capacity own.new) }
+        ensures spare { OnOk result (vec_len own.new + more ≤ vec_capacity own.new) }
+    {
+        match self {
+            NetList::Entries => own.reserve(entries.len() + more)?,
+            NetList::Own => own.reserve(more)?,
+        }
+        Ok(())
+    }
+
+    // Adds an entry, for which room was reserved, to the list of the net, if it has one.
+    fn push_reserved(self, own: &mut Vec<Entry>, entry: Entry)
+        requires { vec_len own.old < vec_capacity own.old }
+        ensures items { own.new.items ≡ listed_by self own.old.items (own.old.items ++ entry ∷ []) }
+        ensures capacity { vec_capacity own.new ≡ vec_capacity own.old }
+    {
+        match self {
+            NetList::Entries => {}
+            NetList::Own => own.push_reserved(entry),
+        }
+    }
+
+    // Lists the net on its own, which takes no memory.
+    fn make_own(&mut self, entries: &[Entry], own: &mut Vec<Entry>)
+        requires { CanList self.old entries.now own.old }
+        ensures listed { self.new ≡ Own }
+        ensures net { own.new.items ≡ listed_by self.old entries.now own.old.items }
+        ensures capacity { vec_capacity own.old ≤ vec_capacity own.new }
+    {
+        match *self {
+            NetList::Entries => {
+                extend_reserved(own, entries);
+                *self = NetList::Own;
+            }
+            NetList::Own => {}
+        }
+    }
+}
+
 /// A borrowed state, and the intentions of a transaction on it. It shows what the state would be
 /// after them, and leaves the state as it is (Weihl 1988, intentions lists).
 ///
@@ -45,8 +112,10 @@ pub struct View<'s> {
     snapshot: &'s Objects,
     layers: Layers<'s>,
     entries: Vec<Entry>,
-    /// The nets of all levels, the outermost first.
+    /// The nets of all levels, the outermost first, once they have a list of their own. Until then
+    /// it is empty, and has room for them.
     net: Vec<Entry>,
+    listed: NetList,
     /// For each open level but the base, how long the net was when it was opened.
     marks: Vec<usize>,
 }
@@ -59,9 +128,9 @@ impl<'s> Model for View<'s> {
     ghost use Rattle.std.proofs.Common.{refl};
     ghost use Rattle.objects.specs.contracts.value.Value as one_value_type;
     ghost use Rattle.objects.specs.contracts.entry.Entry as one_entry_type;
-    ghost use Rattle.intentions.specs.Levels.{Intentions};
+    ghost use Rattle.intentions.specs.Levels.{Intentions, listed_by};
     ghost use Rattle.intentions.specs.Starts.{innermost, around};
-    ghost use Rattle.intentions.specs.Layers.{IsKept};
+    ghost use Rattle.intentions.specs.Layers.{IsKept, CanList};
 
     ghost Value = { Intentions };
 
@@ -70,11 +139,14 @@ impl<'s> Model for View<'s> {
     ghost view = { λ v. record {
       snapshot = v.snapshot.now;
       entries = v.entries.items;
-      net = innermost (reverse v.marks.items) v.net.items;
-      outer = around (reverse v.marks.items) v.net.items;
+      net = innermost (reverse v.marks.items) (listed_by v.listed v.entries.items v.net.items);
+      outer = around (reverse v.marks.items) (listed_by v.listed v.entries.items v.net.items);
     } };
 
-    ghost invariant = { λ v. IsKept v.snapshot.now v.net.items (reverse v.marks.items) v.layers };
+    ghost invariant = { λ v.
+        IsKept v.snapshot.now (listed_by v.listed v.entries.items v.net.items)
+        (reverse v.marks.items) v.layers
+        × CanList v.listed v.entries.items v.net };
 }
 
 impl<'s> View<'s> {
@@ -96,6 +168,7 @@ impl<'s> View<'s> {
             layers: Layers::open(alloc, snapshot, places),
             entries: Vec::new(alloc),
             net: Vec::new(alloc),
+            listed: NetList::Entries,
             marks: Vec::new(alloc),
         }
     }
@@ -130,9 +203,10 @@ impl<'s> View<'s> {
     pub fn net(&self) -> &[Entry]
         ensures { result.now ≡ self.now.net }
     {
+        let nets = self.listed.of(&self.entries, &self.net);
         match self.marks.last() {
-            Some(mark) => &self.net[*mark..],
-            None => &self.net,
+            Some(mark) => &nets[*mark..],
+            None => nets,
         }
     }
 
@@ -160,6 +234,7 @@ impl<'s> View<'s> {
 
     /// Performs a call on what is shown, and returns its reply. The call is recorded in the entries
     /// and in the net of the innermost level. On `NoMemory` the view is unchanged.
+    #[tactic(auto, using(crate::proofs::ViewLemmas::can_list_grown))]
     pub fn perform(&mut self, object: u32, call: &Call) -> Result<Reply, NoMemory>
         requires fits { Fits (shown_values self.old) object call.now }
         requires room { ObjectHasRoom (shown_values self.old) object call.now }
@@ -168,7 +243,7 @@ impl<'s> View<'s> {
         ensures err { OnErr result (self.new ≡ self.old) }
     {
         self.entries.reserve(1)?;
-        self.net.reserve(1)?;
+        self.listed.reserve(&self.entries, &mut self.net, 1)?;
         let reply = self.layers.perform(object, call)?;
         let entry = Entry {
             object,
@@ -176,7 +251,7 @@ impl<'s> View<'s> {
             reply,
         };
         self.entries.push_reserved(entry);
-        self.net.push_reserved(entry);
+        self.listed.push_reserved(&mut self.net, entry);
         Ok(reply)
     }
 
@@ -187,7 +262,8 @@ impl<'s> View<'s> {
     {
         self.marks.reserve(1)?;
         self.layers.begin()?;
-        self.marks.push_reserved(self.net.len());
+        let start = self.listed.of(&self.entries, &self.net).len();
+        self.marks.push_reserved(start);
         Ok(())
     }
 
@@ -214,12 +290,14 @@ impl<'s> View<'s> {
         let Some(mark) = self.marks.pop() else {
             unreachable!()
         };
+        self.listed.make_own(&self.entries, &mut self.net);
         self.net.truncate(mark);
         self.layers.abort();
     }
 
     /// Takes in what a child recorded on a copy of what is shown: its entries, and its net, which
     /// joins the net of the innermost level. On `NoMemory` the view is unchanged.
+    #[tactic(auto, using(crate::proofs::ViewLemmas::can_list_grown))]
     pub fn absorb(&mut self, entries: &[Entry], net: &[Entry]) -> Result<(), NoMemory>
         requires legal { AreLegal (shown_values self.old) net.now }
         requires room { AllHaveRoom (shown_values self.old) net.now }
@@ -227,8 +305,10 @@ impl<'s> View<'s> {
         ensures err { OnErr result (self.new ≡ self.old) }
     {
         self.entries.reserve(entries.len())?;
-        self.net.reserve(net.len())?;
+        self.listed
+            .reserve(&self.entries, &mut self.net, net.len())?;
         self.layers.perform_whole(net)?;
+        self.listed.make_own(&self.entries, &mut self.net);
         extend_reserved(&mut self.entries, entries);
         extend_reserved(&mut self.net, net);
         Ok(())
@@ -243,19 +323,19 @@ impl<'s> View<'s> {
             // There are so many objects that a `u32` can't number them all.
             Err(_) => {
                 let mut state = self.snapshot.copy()?;
-                perform_each(&mut state, &self.net)?;
+                perform_each(&mut state, self.listed.of(&self.entries, &self.net))?;
                 Ok(state)
             }
         }
     }
 
     /// Exchanges the entries and the net of the base for the memory of two lists, whose items are
-    /// dropped. The view is then as if it had just been opened on the same snapshot. This takes no
-    /// memory.
-    pub fn take_run(&mut self, entries: &mut Vec<Entry>, net: &mut Vec<Entry>)
+    /// dropped, and returns where the net is listed. The view is then as if it had just been opened
+    /// on the same snapshot. This takes no memory.
+    pub fn take_run(&mut self, entries: &mut Vec<Entry>, net: &mut Vec<Entry>) -> NetList
         requires { length self.old.outer ≡ 0 }
         ensures entries { entries.new.items ≡ self.old.entries }
-        ensures net { net.new.items ≡ self.old.net }
+        ensures net { listed_by result entries.new.items net.new.items ≡ self.old.net }
         ensures opened { self.new ≡ opened self.old.snapshot }
     {
         entries.clear();
@@ -263,6 +343,7 @@ impl<'s> View<'s> {
         swap(&mut self.entries, entries);
         swap(&mut self.net, net);
         self.layers.restart(self.snapshot);
+        replace(&mut self.listed, NetList::Entries)
     }
 
     /// The entries, and the net of the base.
@@ -271,10 +352,14 @@ impl<'s> View<'s> {
         ensures entries { result.entries.items ≡ self.entry.entries }
         ensures net { result.net.items ≡ self.entry.net }
     {
-        Lists {
-            entries: self.entries,
-            net: self.net,
-        }
+        let View {
+            entries,
+            mut net,
+            mut listed,
+            ..
+        } = self;
+        listed.make_own(&entries, &mut net);
+        Lists { entries, net }
     }
 }
 
@@ -293,7 +378,8 @@ pub fn perform_each(state: &mut Objects, entries: &[Entry]) -> Result<(), NoMemo
 // Appends entries, for which room was reserved.
 fn extend_reserved(list: &mut Vec<Entry>, entries: &[Entry])
     requires { vec_len list.old + length entries.now ≤ vec_capacity list.old }
-    ensures { list.new.items ≡ list.old.items ++ entries.now }
+    ensures items { list.new.items ≡ list.old.items ++ entries.now }
+    ensures capacity { vec_capacity list.old ≤ vec_capacity list.new }
 {
     match list.extend_from_slice(entries) {
         Ok(()) => {}

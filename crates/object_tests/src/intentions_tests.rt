@@ -1,7 +1,7 @@
 //! Tests of views.
 ghost use Rattle.std.specs.Prelude.{◌≡◌};
 
-use intentions::{Call, Entry, Lists, Objects, Reply, Value, View, perform_each};
+use intentions::{Call, Entry, Lists, NetList, Objects, Reply, Value, View, perform_each};
 use objects::{
     AccountCall, AccountReply, Amount, CounterCall, CounterReply, Directory, DirectoryCall,
     DirectoryReply, Item, ItemSet, MaxCall, MaxReply, Queue, QueueCall, QueueReply, SetCall,
@@ -108,12 +108,19 @@ fn follow_in(rt: &impl Abort, alloc: Global, snapshot: &Objects, steps: &[Step])
     follow(rt, &mut view, steps);
 }
 
-/// Takes the lists of a view with no level but the base, which is then used again. Stops the test
-/// where they have other lengths.
-fn take_run(rt: &impl Abort, view: &mut View<'_>, lists: &mut Lists, expected: (usize, usize)) {
+/// Takes the lists of a view with no level but the base, which is then used again, and returns
+/// where its net is listed. Stops the test where the entries and the net have other lengths.
+fn take_run(
+    rt: &impl Abort,
+    view: &mut View<'_>,
+    lists: &mut Lists,
+    expected: (usize, usize),
+) -> NetList {
     assert!(rt; view.depth() == 0);
-    view.take_run(&mut lists.entries, &mut lists.net);
-    assert_eq!(rt; (lists.entries.len(), lists.net.len()), expected);
+    let listed = view.take_run(&mut lists.entries, &mut lists.net);
+    let net = listed.of(&lists.entries, &lists.net);
+    assert_eq!(rt; (lists.entries.len(), net.len()), expected);
+    listed
 }
 
 /// Stops the test where the lists at the end of a view have other lengths.
@@ -285,10 +292,49 @@ fn a_view_is_used_again(rt: HostRuntime) {
     let mut view = open(&rt, rt.alloc(), &snapshot);
     follow(&rt, &mut view, &first);
     let mut lists = Lists::empty(rt.alloc());
-    take_run(&rt, &mut view, &mut lists, (1, 1));
+    assert_eq!(rt;
+        take_run(&rt, &mut view, &mut lists, (1, 1)),
+        NetList::Entries
+    );
     follow(&rt, &mut view, &second);
-    take_run(&rt, &mut view, &mut lists, (3, 3));
+    assert_eq!(rt;
+        take_run(&rt, &mut view, &mut lists, (3, 3)),
+        NetList::Entries
+    );
     follow(&rt, &mut view, &[Step::HasLengths(0, 0, 0)]);
+}
+
+#[test]
+fn a_net_is_listed_once_something_was_taken_back(rt: HostRuntime) {
+    let ok = Reply::Account(AccountReply::Ok);
+    let kept = Call::Account(AccountCall::Deposit(amount(&rt, 5)));
+    let undone = Call::Account(AccountCall::Withdraw(amount(&rt, 3)));
+    let committed = [
+        Step::Begins,
+        Step::Performs(0, kept, ok),
+        Step::Commits,
+        Step::Performs(0, undone, ok),
+    ];
+    let aborted = [
+        Step::Performs(0, kept, ok),
+        Step::Begins,
+        Step::Performs(0, undone, ok),
+        Step::Aborts,
+        Step::Performs(0, kept, ok),
+    ];
+    let snapshot = objects(&rt, rt.alloc());
+    let mut view = open(&rt, rt.alloc(), &snapshot);
+    let mut lists = Lists::empty(rt.alloc());
+    follow(&rt, &mut view, &committed);
+    let listed = take_run(&rt, &mut view, &mut lists, (2, 2));
+    assert!(rt; listed == NetList::Entries && lists.net.is_empty());
+    follow(&rt, &mut view, &aborted);
+    let listed = take_run(&rt, &mut view, &mut lists, (3, 2));
+    assert!(rt; listed == NetList::Own && lists.net.iter().all(|entry| entry.call == kept));
+    follow(&rt, &mut view, &committed);
+    let listed = take_run(&rt, &mut view, &mut lists, (2, 2));
+    assert!(rt; listed == NetList::Entries);
+    assert!(rt; matches!(lists.entries.first(), Some(entry) if entry.call == kept));
 }
 
 #[test]

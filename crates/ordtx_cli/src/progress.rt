@@ -31,6 +31,10 @@ impl Gate for ProgressLine<'_> {
 
     fn made(&self, _transaction: u32, _run: &Run) {}
 
+    fn looks(&self) -> bool {
+        false
+    }
+
     fn ended(&self, progress: &Progress) {
         let Progress {
             round,

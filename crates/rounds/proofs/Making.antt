@@ -9,14 +9,15 @@ use Rattle.rounds.specs.Desks.{IsDeskOn}
 use Rattle.rounds.specs.declared.desk.Desk.{Desk}
 use Rattle.meaning.specs.Records.{Taken, entries as entries_in}
 use Rattle.meaning.specs.OneThread.{Run as OneRun, record_of}
-use Rattle.speculate.specs.Runs.{IsRunOf}
+use Rattle.intentions.specs.declared.view.NetList.{NetList}
+use Rattle.speculate.specs.Runs.{IsListedRunOf}
 use Rattle.speculate.specs.declared.speculated.Run.{Run}
 use Rattle.rounds.specs.declared.pending_run.PendingRun.{PendingRun}
 use Rattle.batch.specs.Views.{record_view}
 use Rattle.batch.specs.declared.batch.Batch.{Batch}
 use Rattle.rounds.specs.declared.make.NumberedRun.{NumberedRun}
 use Rattle.claims.specs.Views.{bit, times}
-use Rattle.rounds.specs.PendingRuns.{AreSumsOf, IsPendingOf, IsListed, listed_net, numbers_of}
+use Rattle.rounds.specs.PendingRuns.{AreSumsOf, IsPendingOf, IsListed, listed_net, net_of_run, numbers_of}
 use Rattle.rounds.specs.PendingRuns.{IsMade, AreMade}
 use Rattle.committed.specs.Spans.{AreIn}
 use Rattle.claims.proofs.Lists.{times-append}
@@ -98,16 +99,17 @@ all_front P (x ∷ xs) y all =
     let rest = all_front P xs y (λ k d lt. all (suc k) d (omega arith)) in
     (front P x xs (all 0 x (omega arith)) rest.0, rest.1)
 
--- a pending run of a run of a meaning
-pub pending_of : (meant : OneRun Taken) (run : Run) (pending : PendingRun) → IsRunOf meant run → pending.tree ≡ run.tree
-    → (IsListed pending.net → listed_net pending ≡ run.net.items)
-    → AreSumsOf pending.sums run.entries.items run.net.items → AreIn pending.span run.net.items → IsPendingOf meant pending
-pending_of meant run pending is tree net are inside = record {
+-- a pending run of a run of a meaning, whose net is listed there
+pub pending_of : (listed : NetList) (meant : OneRun Taken) (run : Run) (pending : PendingRun) → IsListedRunOf listed meant run
+    → pending.tree ≡ run.tree → (IsListed pending.net → listed_net pending ≡ net_of_run listed run)
+    → AreSumsOf pending.sums run.entries.items (net_of_run listed run) → AreIn pending.span (net_of_run listed run)
+    → IsPendingOf meant pending
+pending_of listed meant run pending is tree net are inside = record {
   committable = record {
     tree = ap record_view tree ∙ is.tree;
-    net = λ listed. net listed ∙ is.net;
+    net = λ in_list. net in_list ∙ is.net;
     span = subst (AreIn pending.span) is.net inside;
   };
   sums = subst (AreSumsOf pending.sums (entries_in (record_of meant))) is.net
-      (subst (λ es. AreSumsOf pending.sums es run.net.items) is.entries are);
+      (subst (λ es. AreSumsOf pending.sums es (net_of_run listed run)) is.entries are);
 }

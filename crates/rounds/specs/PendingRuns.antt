@@ -18,6 +18,8 @@ use Rattle.rounds.specs.declared.pending_run.PendingRun.{PendingRun}
 use Rattle.rounds.specs.declared.pending_run.Sums.{Sums}
 use Rattle.rounds.specs.declared.pending_run.Net.{Net}
 use Rattle.rounds.specs.declared.pending_run.Net.TheVariants.{Summed, Listed, Recorded}
+use Rattle.intentions.specs.Levels.{listed_by}
+use Rattle.intentions.specs.declared.view.NetList.{NetList}
 use Rattle.meaning.specs.Trees.{Block}
 use Rattle.batch.specs.Left.{left_by_transaction}
 use Rattle.rounds.specs.declared.make.NumberedRun.{NumberedRun}
@@ -52,6 +54,10 @@ listed_net run = net_in (left_by run.sums) [] run.net
 -- the net of a run of this block
 abbrev pub own_net : Block → PendingRun → List Entry
 own_net block run = net_in (left_by run.sums) (left_by_transaction block (record_view run.tree)) run.net
+
+-- the net of a run that lists it there
+abbrev pub net_of_run : NetList → Run → List Entry
+net_of_run listed run = listed_by listed run.entries.items run.net.items
 
 -- summaries of these entries and of this net
 pub record AreSumsOf (sums : Sums) (entries net : List Entry) : Type 0 where

@@ -114,7 +114,7 @@ impl<'s> Desk<'s> {
     {
         swap(&mut pending.tree, &mut self.run.tree);
         self.run.make_room(self.room)?;
-        run_in(
+        let listed = run_in(
             threads,
             alloc,
             &mut self.view,
@@ -125,7 +125,7 @@ impl<'s> Desk<'s> {
             gate,
             &mut self.run,
         )?;
-        pending.put(alloc, batch.hashing, &mut self.run)?;
+        pending.put(alloc, batch.hashing, &mut self.run, listed)?;
         Ok(())
     }
 }

@@ -5,10 +5,10 @@ ghost use Rattle.committed.specs.Summaries.{entries_of};
 ghost use Rattle.committed.specs.declared.summary.TheConstants.{FEW_ENTRIES};
 ghost use Rattle.meaning.specs.Records.{Taken};
 ghost use Rattle.meaning.specs.OneThread.{Run as OneRun};
-ghost use Rattle.rounds.specs.PendingRuns.{left_by, listed_net, IsListed, AreSumsOf, IsCommittable};
+ghost use Rattle.rounds.specs.PendingRuns.{left_by, listed_net, net_of_run, IsListed, AreSumsOf, IsCommittable};
 
 use batch::Record;
-use intentions::{Entry, EntryHashing, FEW_ENTRIES, MarkedEntry, Span, summarize};
+use intentions::{Entry, EntryHashing, FEW_ENTRIES, MarkedEntry, NetList, Span, summarize};
 use meaning::End;
 use speculate::{NoMemory, Run};
 use std::alloc::Global;
@@ -136,7 +136,8 @@ impl PendingRun {
         }
     }
 
-    /// Puts this run in the place of the one before it, whose memory it leaves in its own.
+    /// Puts this run, whose net is listed there, in the place of the one before it, whose memory it
+    /// leaves in its own.
     ///
     /// Returns `NoMemory` where a request for memory was refused. Both are of no further use then.
     pub(crate) fn put(
@@ -144,22 +145,25 @@ impl PendingRun {
         alloc: Global,
         hashing: EntryHashing,
         run: &mut Run,
+        listed: NetList,
     ) -> Result<(), NoMemory>
-        requires whole { length run.old.net.items ≡ length run.old.entries.items → run.old.net.items ≡ run.old.entries.items }
+        requires whole { length (net_of_run listed run.old) ≡ length run.old.entries.items
+            → net_of_run listed run.old ≡ run.old.entries.items }
         ensures tree { OnOk result (self.new.tree ≡ run.old.tree) }
-        ensures sums { OnOk result (AreSumsOf self.new.sums run.old.entries.items run.old.net.items) }
-        ensures net { OnOk result (IsListed self.new.net → listed_net self.new ≡ run.old.net.items) }
-        ensures span { OnOk result (AreIn self.new.span run.old.net.items) }
+        ensures sums { OnOk result
+            (AreSumsOf self.new.sums run.old.entries.items (net_of_run listed run.old)) }
+        ensures net { OnOk result
+            (IsListed self.new.net → listed_net self.new ≡ net_of_run listed run.old) }
+        ensures span { OnOk result (AreIn self.new.span (net_of_run listed run.old)) }
     {
-        let whole = run.net.len() == run.entries.len();
-        self.span = self
-            .sums
-            .renew(alloc, hashing, &run.entries, &run.net, whole)?;
+        let net = listed.of(&run.entries, &run.net);
+        let whole = net.len() == run.entries.len();
+        self.span = self.sums.renew(alloc, hashing, &run.entries, net, whole)?;
         let spare = replace(&mut self.net, Net::Recorded).into_list(alloc);
-        self.net = if run.net.len() <= FEW_ENTRIES {
+        self.net = if net.len() <= FEW_ENTRIES {
             Net::Summed
-        } else if run.net.len() <= MOST_LISTED {
-            Net::Listed(copied(spare, &run.net)?)
+        } else if net.len() <= MOST_LISTED {
+            Net::Listed(copied(spare, net)?)
         } else {
             Net::Recorded
         };

@@ -2,7 +2,7 @@
 ghost use Rattle.std.specs.Prelude.{◌<◌, IfSome};
 
 use batch::Taken;
-use objects::{AccountReply, Reply};
+use objects::{AccountReply, Entry, Reply};
 use speculate::{Gate, Progress, Run};
 use std::sync::atomic::{AtomicU32, Ordering};
 
@@ -10,14 +10,16 @@ use std::sync::atomic::{AtomicU32, Ordering};
 const COUNTED: usize = 3;
 
 /// Counts, for each of the first three transactions, the runs that began and those that were made.
-/// It keeps which was the last run of each whose first reply was `no`. It also counts the runs that
-/// began of all transactions.
+/// It keeps which was the last run of each whose first reply was `no`, and how long the lists of
+/// the last run of each were. It also counts the runs that began of all transactions.
 #[derive(Drop)]
 pub struct Counting {
     all: AtomicU32,
     begun: [AtomicU32; COUNTED],
     made: [AtomicU32; COUNTED],
     refused: [AtomicU32; COUNTED],
+    entries: [AtomicU32; COUNTED],
+    net: [AtomicU32; COUNTED],
 }
 
 impl Counting {
@@ -28,6 +30,8 @@ impl Counting {
             begun: [AtomicU32::new(0), AtomicU32::new(0), AtomicU32::new(0)],
             made: [AtomicU32::new(0), AtomicU32::new(0), AtomicU32::new(0)],
             refused: [AtomicU32::new(0), AtomicU32::new(0), AtomicU32::new(0)],
+            entries: [AtomicU32::new(0), AtomicU32::new(0), AtomicU32::new(0)],
+            net: [AtomicU32::new(0), AtomicU32::new(0), AtomicU32::new(0)],
         }
     }
 
@@ -50,6 +54,21 @@ impl Counting {
     pub fn refused(&self) -> [u32; COUNTED] {
         counts(&self.refused)
     }
+
+    /// How many entries the last run of each transaction had.
+    pub fn entries(&self) -> [u32; COUNTED] {
+        counts(&self.entries)
+    }
+
+    /// How many entries there were in the net of the last run of each transaction.
+    pub fn net(&self) -> [u32; COUNTED] {
+        counts(&self.net)
+    }
+}
+
+// How many entries there are, where a counter can say so.
+fn length_of(entries: &[Entry]) -> u32 {
+    u32::try_from(entries.len()).unwrap_or(u32::MAX)
 }
 
 fn counts(all: &[AtomicU32; COUNTED]) -> [u32; COUNTED] {
@@ -86,6 +105,8 @@ impl Gate for Counting {
     fn made(&self, transaction: u32, run: &Run) {
         let Some(i) = place(transaction) else { return };
         let before = self.made[i].fetch_add(1, Ordering::SeqCst);
+        self.entries[i].store(length_of(&run.entries), Ordering::SeqCst);
+        self.net[i].store(length_of(&run.net), Ordering::SeqCst);
         if let Some(Taken::Op(Reply::Account(AccountReply::No))) = run.tree.taken.first() {
             self.refused[i].store(before.saturating_add(1), Ordering::SeqCst);
         }

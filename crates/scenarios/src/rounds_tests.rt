@@ -5,7 +5,7 @@ use crate::{Counting, FIRST_DECISION, Meeting, SECOND_DECISION, Tally};
 use batch::{Record, Taken};
 use intentions::Entry;
 use objects::{AccountCall, AccountReply, Amount, Call, Reply};
-use rounds::{NoGate, Plan, execute, first_conflict};
+use rounds::{NoGate, Plan, execute, execute_ahead, first_conflict};
 use speculate::{Gate, Run};
 use std::alloc::AllocGlobal;
 use std::process::Abort;
@@ -143,6 +143,21 @@ fn deposits_are_made_again_after_a_balance(rt: HostRuntime) {
     assert_eq!(rt; rounds_of(&rt, ACCOUNTS, transactions, &gate), 3);
     assert_eq!(rt; gate.begun(), [1, 2, 2]);
     assert_eq!(rt; gate.all(), 7);
+}
+
+#[test]
+fn a_gate_that_looks_sees_the_whole_net(rt: HostRuntime) {
+    let transactions =
+        "[{\"op\":[\"a\",\"deposit\",1]},{\"op\":[\"a\",\"deposit\",2]}],[{\"sub\":[{\"op\":[\"b\",\"deposit\",1]},{\"abort\":true}],\"handler\":[]},{\"op\":[\"b\",\"deposit\",2]}],[{\"op\":[\"c\",\"deposit\",1]},{\"op\":[\"c\",\"deposit\",2]}]";
+    let batch = batch_of(&rt, 1, ACCOUNTS, transactions);
+    let plan = Plan::new(1, 16).expect(&rt, "a plan");
+    let gate = Counting::new();
+    let Ok(_outcome) = execute_ahead(&rt, rt.alloc(), &batch, plan, &gate) else {
+        panic!(rt; "no memory")
+    };
+    assert_eq!(rt; gate.made(), [1, 1, 1]);
+    assert_eq!(rt; gate.entries(), [2, 2, 2]);
+    assert_eq!(rt; gate.net(), [2, 1, 2]);
 }
 
 /// A list of one item.

@@ -26,8 +26,15 @@ pub struct Progress {
 pub trait Gate: Sync {
     fn pass(&self, transaction: u32, child: u32);
 
-    /// Called when a run of the transaction has been made.
+    /// Called when a run of the transaction has been made. Where the gate looks at runs, this one
+    /// has its record, its entries and its net. Where it doesn't, the list of the net is of no use.
     fn made(&self, transaction: u32, run: &Run);
+
+    /// Whether it looks at the runs that were made. For a gate that doesn't, a net that is all of the
+    /// entries isn't listed.
+    fn looks(&self) -> bool {
+        true
+    }
 
     /// Called as a round ends, from the thread that runs the batch.
     fn ended(&self, progress: &Progress);
@@ -41,6 +48,10 @@ impl Gate for NoGate {
     fn pass(&self, _transaction: u32, _child: u32) {}
 
     fn made(&self, _transaction: u32, _run: &Run) {}
+
+    fn looks(&self) -> bool {
+        false
+    }
 
     fn ended(&self, _progress: &Progress) {}
 }

@@ -1,8 +1,10 @@
 //! Speculative runs of transactions, as they are kept.
-ghost use Rattle.std.specs.Prelude.{◌≡◌, []};
+ghost use Rattle.std.specs.Prelude.{◌≡◌, [], OnOk};
+ghost use Rattle.intentions.specs.Levels.{listed_by};
+ghost use Rattle.intentions.specs.declared.view.NetList.TheVariants.{Own};
 
 use batch::Record;
-use intentions::{Entry, Lists, NoMemory};
+use intentions::{Entry, Lists, NetList, NoMemory};
 use meaning::End;
 use std::alloc::Global;
 
@@ -15,6 +17,7 @@ pub struct Run {
     /// among them.
     pub entries: Vec<Entry>,
     /// The operations that no aborted subaction has. There are none where the transaction aborted.
+    /// After `run_in` they are listed here only where it returns `NetList::Own`.
     pub net: Vec<Entry>,
 }
 
@@ -48,6 +51,28 @@ impl Run {
         self.net.clear();
         self.entries.reserve(operations)?;
         self.net.reserve(operations)?;
+        Ok(())
+    }
+
+    /// Lists the net on its own, where it is all of the entries.
+    ///
+    /// Returns `NoMemory` where a request for memory was refused. The run is of no further use
+    /// then.
+    pub(crate) fn list_net(&mut self, listed: &mut NetList) -> Result<(), NoMemory>
+        ensures listed { OnOk result (listed.new ≡ Own) }
+        ensures tree { self.new.tree ≡ self.old.tree }
+        ensures entries { self.new.entries.items ≡ self.old.entries.items }
+        ensures net { OnOk result
+            (self.new.net.items ≡ listed_by listed.old self.old.entries.items self.old.net.items) }
+    {
+        match *listed {
+            NetList::Entries => {
+                self.net.clear();
+                self.net.extend_from_slice(&self.entries)?;
+                *listed = NetList::Own;
+            }
+            NetList::Own => {}
+        }
         Ok(())
     }
 }

@@ -5,7 +5,7 @@ ghost use Rattle.batch.specs.Views.{block_view};
 ghost use Rattle.objects.specs.Entries.{kinds};
 ghost use Rattle.meaning.specs.OneThread.{one};
 ghost use Rattle.meaning.specs.Batch.{block_at};
-ghost use Rattle.speculate.specs.Runs.{IsRunOf, IsWithinOthers};
+ghost use Rattle.speculate.specs.Runs.{IsRunOf, IsListedRunOf, IsWithinOthers};
 ghost use Rattle.plan.specs.declared.plan.TheConstants.{MAX_WORKERS};
 
 use crate::ahead::Shared;
@@ -13,7 +13,7 @@ use crate::executor::{Making, run_block};
 use crate::gate::Gate;
 use crate::speculated::Run;
 use batch::Batch;
-use intentions::{NoMemory, Objects, View};
+use intentions::{NetList, NoMemory, Objects, View};
 use meaning::{End, Held};
 use std::alloc::Global;
 use std::mem::replace;
@@ -44,7 +44,7 @@ pub fn run<T: Threads + Sync, G: Gate>(
     let mut labels = Vec::new(alloc);
     let mut run = Run::empty(alloc);
     run.make_room(batch.operations_of(number as usize - 1) as usize)?;
-    run_in(
+    let mut listed = run_in(
         threads,
         alloc,
         &mut view,
@@ -55,12 +55,15 @@ pub fn run<T: Threads + Sync, G: Gate>(
         gate,
         &mut run,
     )?;
+    run.list_net(&mut listed)?;
     Ok(run)
 }
 
 /// Runs transaction `number` (from 1) of the batch as [`run`] does, in a view that is as it was
 /// opened on the objects, and with no labels. It leaves both so for the next run. The run takes the
 /// place of an earlier one, and uses its memory again.
+///
+/// Returns where the net of the run is listed. It is in its own list where the gate looks at runs.
 ///
 /// After it returns `NoMemory`, the view, the labels and the run are of no further use.
 pub fn run_in<T: Threads + Sync, G: Gate>(
@@ -73,7 +76,7 @@ pub fn run_in<T: Threads + Sync, G: Gate>(
     width: u32,
     gate: &G,
     run: &mut Run,
-) -> Result<(), NoMemory>
+) -> Result<NetList, NoMemory>
     requires first { 1 ≤ number }
     requires last { number ≤ length batch.now.transactions.items }
     requires narrow { (1 ≤ width) × (width ≤ MAX_WORKERS) }
@@ -81,7 +84,9 @@ pub fn run_in<T: Threads + Sync, G: Gate>(
     requires unlabelled { labels.old.items ≡ [] }
     requires same_kinds { kinds view.old.snapshot ≡ kinds batch.now.objects }
     requires room { IsWithinOthers (map block_view batch.now.transactions.items) (number - 1) view.old.snapshot }
-    ensures run { OnOk result (IsRunOf (one (block_at (map block_view batch.now.transactions.items) (number - 1)) [] view.old.snapshot) run.new) }
+    ensures run { IfOk result (λ listed. IsListedRunOf listed
+        (one (block_at (map block_view batch.now.transactions.items) (number - 1)) []
+        view.old.snapshot) run.new) }
     ensures again { OnOk result (view.new ≡ view.old) }
     ensures unlabelled { OnOk result (labels.new.items ≡ []) }
 {
@@ -101,12 +106,15 @@ pub fn run_in<T: Threads + Sync, G: Gate>(
     };
     let spare = replace(&mut run.tree.taken, Vec::new(alloc));
     run.tree = run_block(&making, block, labels, view, width, spare)?;
-    view.take_run(&mut run.entries, &mut run.net);
-    match run.tree.outcome {
-        End::Ended => {}
-        // What an aborted transaction did is not in its net.
-        End::Aborted(_) => run.net.clear(),
+    let mut listed = view.take_run(&mut run.entries, &mut run.net);
+    // What an aborted transaction did is not in its net.
+    if matches!(run.tree.outcome, End::Aborted(_)) {
+        run.net.clear();
+        listed = NetList::Own;
+    }
+    if gate.looks() {
+        run.list_net(&mut listed)?;
     }
     gate.made(number, run);
-    Ok(())
+    Ok(listed)
 }

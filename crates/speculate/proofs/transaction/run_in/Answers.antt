@@ -13,4 +13,4 @@ run_block-requires-after_bounds g c κs within =
     (c.args.number - 1) state c.index-block.result.now c.args.batch.now.is_batch c.requires.same_kinds c.requires.room below
     c.index-block.ensures in
     rw c.requires.unlabelled (subst (λ v. CanRunHere (block_view c.index-block.result.now) [] (state_of_view v))
-    (sym c.take_run.ensures.opened) can)
+    (sym c.take_run-listed.ensures.opened) can)

@@ -1,8 +1,8 @@
-use Rattle.std.proofs.Common.{sym, ap, ◌∙◌}
+use Rattle.std.proofs.Common.{◌≡◌, sym, ap, ◌∙◌}
 use Rattle.std.proofs.lemmas.Result.{IfOk-weaker}
 use Rattle.intentions.specs.Layers.{States}
 use Rattle.objects.specs.Entries.{after}
-use Rattle.intentions.proofs.ViewLemmas.{same_shown, length-layers}
+use Rattle.intentions.proofs.ViewLemmas.{nets_of, same_shown, length-layers}
 use Rattle.intentions.proofs.view.View.state.Goals as goal
 
 pub state-requires : goal.state-requires
@@ -17,5 +17,6 @@ returns-in-Ok c =
 pub returns-in_ok-perform_each-in-Err : goal.returns-in_ok-perform_each-in-Err
 returns-in_ok-perform_each-in-Err c =
     let same = same_shown c.self.inside c.args.self.now c.self.view_is c.self.invariant in
-    c.in_ok-perform_each-in-Err.ensures ∙ ap (λ ws. after ws c.deref.result.now) c.in_ok-state-in-Err.ensures
-    ∙ ap (after c.self.inside.snapshot.now) c.deref.ensures.value ∙ sym (ap (λ (s : States). s.shown) c.self.invariant.shows) ∙ sym same
+    let nets : c.of.result.now ≡ nets_of c.self.inside = c.of.ensures ∙ cc in
+    c.in_ok-perform_each-in-Err.ensures ∙ ap (λ ws. after ws c.of.result.now) c.in_ok-state-in-Err.ensures
+    ∙ ap (after c.self.inside.snapshot.now) nets ∙ sym (ap (λ (s : States). s.shown) c.self.invariant.0.shows) ∙ sym same

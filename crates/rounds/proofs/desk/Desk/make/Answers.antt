@@ -1,5 +1,5 @@
 use Rattle.std.proofs.Common.{◌≡◌, ℕ, ◌+◌, ◌-◌, ◌∙◌, length, sym, ap, subst, arith}
-use Rattle.speculate.specs.Runs.{IsRunOf}
+use Rattle.speculate.specs.Runs.{IsListedRunOf}
 use Rattle.rounds.specs.Views.{meaning}
 use Rattle.meaning.specs.OneThread.{record_of, outcome_of}
 use Rattle.rounds.proofs.Making.{pending_of}
@@ -13,7 +13,7 @@ same_number n = omega arith
 pub put-requires : goal.put-requires
 put-requires g c =
     let meant = meaning c.args.batch.now ((c.args.number + 1) - 1) c.args.self.now.view.snapshot in
-    let made = c.in_ok-run_in.ensures.run in
+    let made = c.in_ok-listed.ensures.run in
     record {
       whole = λ same. made.net ∙ (net_whole (record_of meant) (outcome_of meant)
           (sym (ap length made.net) ∙ (same ∙ ap length made.entries)) ∙ sym made.entries);
@@ -23,6 +23,7 @@ pub returns-clause-made : goal.returns-clause-made
 returns-clause-made g c =
     let meant : ℕ → _ = λ n. meaning c.args.batch.now n c.args.self.now.view.snapshot in
     let run = c.run_in.new.run in
-    let made = subst (λ n. IsRunOf (meant n) run) (same_number c.args.number) c.in_ok-run_in.ensures.run in
-    pending_of (meant c.args.number) run c.put.new.self made c.in_ok-put.ensures.tree c.in_ok-put.ensures.net c.in_ok-put.ensures.sums
-    c.in_ok-put.ensures.span
+    let listed = c.in_ok-listed.listed in
+    let made = subst (λ n. IsListedRunOf listed (meant n) run) (same_number c.args.number) c.in_ok-listed.ensures.run in
+    pending_of listed (meant c.args.number) run c.put.new.self made c.in_ok-put.ensures.tree c.in_ok-put.ensures.net
+    c.in_ok-put.ensures.sums c.in_ok-put.ensures.span
