@@ -1,7 +1,7 @@
 """Names that all have one hash under a hasher without a key, beside as many ordinary names.
 
 `alike` makes names that the kit's own hasher (`FoldHasher`) can't tell apart. The program hashes
-names by the document's bytes, so it reads them as it reads others. While it compares names it calls
+names by random keys, so it reads them as it reads others. While it compares names it calls
 nothing that a library loaded before it could count, so its processor time is measured, with much
 room: with that hasher so many names would take a hundred times as long.
 """
