@@ -114,7 +114,8 @@ pub fn carried(
     objects: &Objects,
 ) -> Result<String, NoMemory>
     requires { length objects.now < 2 ^ 32 }
-    ensures { IfOk result (λ t. string_bytes t ≡ carried_text version (names_of names.now) objects.now) }
+    ensures { IfOk result (λ t. string_bytes t ≡ carried_text version (names_of names.now)
+        objects.now) }
 {
     let mut out = String::new(alloc);
     write_head(&mut out, version)?;
@@ -133,7 +134,8 @@ pub(crate) fn write_head(out: &mut String, version: u8) -> Result<(), NoMemory>
 
 fn write_objects(out: &mut String, names: &Names, objects: &Objects) -> Result<(), NoMemory>
     requires { length objects.now < 2 ^ 32 }
-    ensures { OnOk result (string_bytes out.new ≡ string_bytes out.old ++ joined (codes ",\n") (object_texts (names_of names.now) 0 objects.now)) }
+    ensures { OnOk result (string_bytes out.new ≡ string_bytes out.old
+        ++ joined (codes ",\n") (object_texts (names_of names.now) 0 objects.now)) }
 {
     let mut between = "";
     for object in 0..objects.len() as u32 {
@@ -153,7 +155,8 @@ pub(crate) fn write_object(
     object: u32,
     value: &Value,
 ) -> Result<(), NoMemory>
-    ensures { OnOk result (string_bytes out.new ≡ string_bytes out.old ++ object_text (names_of names.now) object value.now) }
+    ensures { OnOk result (string_bytes out.new ≡ string_bytes out.old
+        ++ object_text (names_of names.now) object value.now) }
 {
     let name = object_name(names, object);
     let kind = kind_text(value.kind());
@@ -167,7 +170,8 @@ pub(crate) fn write_object(
 }
 
 fn write_start(out: &mut String, names: &Names, value: &Value) -> Result<(), NoMemory>
-    ensures { OnOk result (string_bytes out.new ≡ string_bytes out.old ++ start_text (names_of names.now) value.now) }
+    ensures { OnOk result (string_bytes out.new ≡ string_bytes out.old
+        ++ start_text (names_of names.now) value.now) }
 {
     match value {
         Value::Account(number) | Value::Max(number) => write!(out, "{number}")?,
@@ -192,7 +196,8 @@ fn write_start(out: &mut String, names: &Names, value: &Value) -> Result<(), NoM
 }
 
 fn write_members(out: &mut String, names: &Names, set: &ItemSet) -> Result<(), NoMemory>
-    ensures { OnOk result (string_bytes out.new ≡ string_bytes out.old ++ joined (codes ", ") (map (item_text (names_of names.now)) (members set.now))) }
+    ensures { OnOk result (string_bytes out.new ≡ string_bytes out.old
+        ++ joined (codes ", ") (map (item_text (names_of names.now)) (members set.now))) }
 {
     let mut between = "";
     for member in set.items().iter() {
@@ -204,7 +209,8 @@ fn write_members(out: &mut String, names: &Names, set: &ItemSet) -> Result<(), N
 }
 
 fn write_queue(out: &mut String, names: &Names, queue: &Queue) -> Result<(), NoMemory>
-    ensures { OnOk result (string_bytes out.new ≡ string_bytes out.old ++ joined (codes ", ") (map (item_text (names_of names.now)) queue.now)) }
+    ensures { OnOk result (string_bytes out.new ≡ string_bytes out.old
+        ++ joined (codes ", ") (map (item_text (names_of names.now)) queue.now)) }
 {
     let mut between = "";
     for item in queue.items().iter() {
@@ -216,7 +222,9 @@ fn write_queue(out: &mut String, names: &Names, queue: &Queue) -> Result<(), NoM
 }
 
 fn write_pairs(out: &mut String, names: &Names, directory: &Directory) -> Result<(), NoMemory>
-    ensures { OnOk result (string_bytes out.new ≡ string_bytes out.old ++ joined (codes ", ") (map (pair_text (names_of names.now)) (finite_map.entries directory.now))) }
+    ensures { OnOk result (string_bytes out.new ≡ string_bytes out.old
+        ++ joined (codes ", ") (map (pair_text (names_of names.now)) (finite_map.entries
+        directory.now))) }
 {
     let mut between = "";
     for (key, item) in directory.entries().iter() {

@@ -69,7 +69,8 @@ pub fn join<'a>(
     requires few_next { length next.objects.now < 2 ^ 32 }
     requires first_named { texts_of first_names.now.keys ≡ first.names.now.objects }
     requires next_named { texts_of next_names.now.keys ≡ next.names.now.objects }
-    ensures { IfOk result (λ starts. map start_view starts.items ≡ joined (named_view first.entry) (named_view next.entry)) }
+    ensures { IfOk result (λ starts. map start_view starts.items
+        ≡ joined (named_view first.entry) (named_view next.entry)) }
 {
     let mut starts = Vec::new(alloc);
     add_own(&mut starts, first, next, first_names)?;
@@ -88,7 +89,8 @@ fn add_own<'a>(
     requires few_next { length next.objects.now < 2 ^ 32 }
     requires named { texts_of first_names.now.keys ≡ first.names.now.objects }
     ensures { OnOk result (map start_view starts.new.items
-        ≡ map start_view starts.old.items ++ own (named_view first.entry) (named_view next.entry) 0 next.entry.objects.now) }
+        ≡ map start_view starts.old.items ++ own (named_view first.entry) (named_view next.entry) 0
+        next.entry.objects.now) }
 {
     for place in 0..next.objects.len() as u32 {
         let Some(value) = next.objects.value(place) else {
@@ -145,7 +147,8 @@ fn add_others<'a>(
 ) -> Result<(), NoMemory>
     requires few { length first.objects.now < 2 ^ 32 }
     ensures { OnOk result (map start_view starts.new.items
-        ≡ map start_view starts.old.items ++ added (named_view first.entry) (texts_of next_names.now.keys) 0 first.entry.objects.now) }
+        ≡ map start_view starts.old.items ++ added (named_view first.entry) (texts_of
+        next_names.now.keys) 0 first.entry.objects.now) }
 {
     for place in 0..first.objects.len() as u32 {
         let Some(value) = first.objects.value(place) else {
@@ -224,8 +227,8 @@ pub fn start_name<'a>(start: &Start<'a>) -> &'a str
 
 // Writes the starts, one a line.
 pub(crate) fn write_starts(out: &mut String, starts: &[Start<'_>]) -> Result<(), NoMemory>
-    ensures { OnOk result (string_bytes out.new
-        ≡ string_bytes out.old ++ joined_texts (codes ",\n") (map object_text_of (map start_view starts.now))) }
+    ensures { OnOk result (string_bytes out.new ≡ string_bytes out.old
+        ++ joined_texts (codes ",\n") (map object_text_of (map start_view starts.now))) }
 {
     let mut between = "";
     for start in starts.iter() {

@@ -24,7 +24,8 @@ pub fn carried_into(
     starts: &[Start<'_>],
     document: &[u8],
 ) -> Result<String, NoMemory>
-    ensures { IfOk result (λ t. string_bytes t ≡ joined_text version (map start_view starts.now) document.now) }
+    ensures { IfOk result (λ t. string_bytes t ≡ joined_text version (map start_view starts.now)
+        document.now) }
 {
     let mut out = String::new(alloc);
     write_head(&mut out, version)?;
@@ -37,7 +38,8 @@ pub fn carried_into(
 
 // Writes the transactions of a document, one a line.
 fn write_transactions(alloc: Global, out: &mut String, document: &[u8]) -> Result<(), NoMemory>
-    ensures { OnOk result (string_bytes out.new ≡ string_bytes out.old ++ joined (codes ",\n") (transaction_texts document.now)) }
+    ensures { OnOk result (string_bytes out.new ≡ string_bytes out.old
+        ++ joined (codes ",\n") (transaction_texts document.now)) }
 {
     let mut scratch = Scratch::new(alloc);
     match Value::from_slice(alloc, document, &mut scratch) {
@@ -51,8 +53,8 @@ fn write_transactions(alloc: Global, out: &mut String, document: &[u8]) -> Resul
 // Writes the transactions of the document that a value is.
 fn write_transactions_of(alloc: Global, out: &mut String, tree: &Value<'_>) -> Result<(), NoMemory>
     requires { HasNumbers (value_view tree.now) }
-    ensures { OnOk result (string_bytes out.new
-        ≡ string_bytes out.old ++ joined (codes ",\n") (item_texts (transactions_of (Some (value_view tree.now))))) }
+    ensures { OnOk result (string_bytes out.new ≡ string_bytes out.old
+        ++ joined (codes ",\n") (item_texts (transactions_of (Some (value_view tree.now))))) }
 {
     match transactions_of(tree) {
         Some(transactions) => write_items(alloc, out, transactions),

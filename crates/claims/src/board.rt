@@ -66,8 +66,11 @@ fn deal(words: &Words, mut first: Token, seats: u32, all: &mut Vec<Seat>)
     requires words { words.now.table_id.words ≡ 3 }
     requires some { 0 < seats }
     requires room { (all.old.items ≡ []) × (vec_capacity all.old ≡ seats) }
-    ensures { all.new.items
-        ≡ replicate seats record { board = words.now.table_id; view = fresh 1 words.now.key.pieces } }
+    ensures { all.new.items ≡ replicate seats record {
+      board = words.now.table_id;
+      view = fresh 1
+          words.now.key.pieces;
+    } }
 {
     for _dealt in 0..seats - 1 {
         let token = words.split_seat::<OneShare>(&mut first);
@@ -169,8 +172,8 @@ impl Board {
         Claim::Done
     }
 
-    /// Stops all seats: one exchange on STOP. A later claim of each returns `Stopped`, the next one
-    /// of this seat. Nothing of the seat changes but that it raised.
+    /// Raises STOP: one exchange. The next claim of this seat returns `Stopped`, and so does a claim
+    /// of another seat that sees the raise. Nothing of the seat changes but that it raised.
     pub fn raise(&self, seat: &mut Seat)
         requires { IsSeatOf self.now seat.old }
         ensures board { IsSeatOf self.now seat.new }

@@ -3,9 +3,9 @@
 //!
 //! [`Board::open`] makes a board of so many pieces and its seats, one for each worker. A worker
 //! claims with its seat until a claim returns `Done` or `Stopped`. Any seat may *raise*, which
-//! stops all of them at their next claim. Any seat may *lower* the board's bound, which begins at
-//! the number of pieces: a search for the least piece that fails does so. [`Board::gather`] takes
-//! all seats back and returns what they did together.
+//! stops it at its next claim, and each other seat at a claim that sees the raise. Any seat may
+//! *lower* the board's bound, which begins at the number of pieces: a search for the least piece
+//! that fails does so. [`Board::gather`] takes all seats back and returns what they did together.
 //!
 //! The board is three words, NEXT, STOP and FIRST, that change in single atomic exchanges
 //! (`atomic_table`). What is promised holds for every interleaving of these. `specs/Rule.antt` is

@@ -62,7 +62,8 @@ pub fn line<'a>(alloc: Global, words: &'a [&'a str]) -> Result<Line, Refused>
     ensures line { IfOk result (IsLineOf (map (λ word. word.now) words.entry.now)) }
     ensures faultless { OnOk result (faults_of (map (λ word. word.now) words.entry.now) ≡ []) }
     // Words that `clap` takes are refused for want of memory alone.
-    ensures taken { IsTaken (map (λ word. word.now) words.entry.now) → IfErr result (λ refused. refused ≡ Refused.Memory) }
+    ensures taken { IsTaken (map (λ word. word.now) words.entry.now)
+        → IfErr result (λ refused. refused ≡ Refused.Memory) }
     // Help is for words that ask for it, and a message for words with a mistake.
     ensures refused { IfErr result (IsRefusalOf (map (λ word. word.now) words.entry.now)) }
 {
@@ -114,7 +115,8 @@ fn command_named(name: &str) -> Command
 }
 
 fn held_text(alloc: Global, held: &ArgMatches<'_>, id: &str) -> Result<Option<String>, AllocError>
-    ensures { IfOk result (λ text. option_map (λ file. string_bytes file) text ≡ first_of id.now (rows_of (found_of held.now))) }
+    ensures { IfOk result (λ text. option_map (λ file. string_bytes file) text
+        ≡ first_of id.now (rows_of (found_of held.now))) }
 {
     match held.get_str(id) {
         Some(text) => Ok(Some(String::from_str(alloc, text)?)),
@@ -138,7 +140,8 @@ fn held_plan(held: &ArgMatches<'_>, workers: u32) -> Plan
     requires default { (1 ≤ workers) × (workers ≤ MAX_WORKERS) }
     requires workers { HoldsFrom1 (codes "workers") MAX_WORKERS (rows_of (found_of held.now)) }
     requires cut { HoldsFrom1 (codes "cut") MAX_CUT (rows_of (found_of held.now)) }
-    ensures workers { HoldsNumber (one_of (codes "workers") (rows_of (found_of held.now))) workers result.workers }
+    ensures workers { HoldsNumber (one_of (codes "workers") (rows_of (found_of held.now))) workers
+        result.workers }
     ensures cut { HoldsNumber (one_of (codes "cut") (rows_of (found_of held.now))) 16 result.cut }
 {
     let workers = held_number(held, "workers", workers);
@@ -263,8 +266,8 @@ fn ordtx_command<'a>(alloc: Global) -> Result<clap::Command<'a>, AllocError>
 // The program's command with those that run a document.
 fn command_to_carry<'a>(alloc: Global) -> Result<clap::Command<'a>, AllocError>
     ensures { IfOk result (λ command. app_of command
-        ≡ with_subcommand (with_subcommand (with_subcommand (titled (new_app (codes "ordtx"))) run_app.top)
-        (shared_app (codes "serial")).top) carry_app.top) }
+        ≡ with_subcommand (with_subcommand (with_subcommand (titled (new_app (codes "ordtx")))
+        run_app.top) (shared_app (codes "serial")).top) carry_app.top) }
 {
     let run = command_to_run(alloc)?;
     let serial = run.subcommand(shared_command(
@@ -296,7 +299,8 @@ fn carry_command<'a>(alloc: Global) -> Result<clap::Command<'a>, AllocError>
 
 // The program's command with `run` alone.
 fn command_to_run<'a>(alloc: Global) -> Result<clap::Command<'a>, AllocError>
-    ensures { IfOk result (λ command. app_of command ≡ with_subcommand (titled (new_app (codes "ordtx"))) run_app.top) }
+    ensures { IfOk result (λ command. app_of command
+        ≡ with_subcommand (titled (new_app (codes "ordtx"))) run_app.top) }
 {
     let run = run_command(alloc)?;
     clap::Command::new(alloc, "ordtx")

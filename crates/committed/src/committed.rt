@@ -160,6 +160,19 @@ impl Committed {
         Ok(())
     }
 
+    /// Whether of each of these entries a listed one is known to be as strict, so that `append_new`
+    /// appends none of them. It takes no memory.
+    pub fn covers_all(&self, entries: &[MarkedEntry]) -> bool
+        ensures { IsTrue result → IsSummary self.now (self.now ++ entries_of entries.now) }
+    {
+        for marked in entries {
+            if !self.covers(marked) {
+                return false;
+            }
+        }
+        true
+    }
+
     /// Whether a listed entry is known to be as strict as this one. Where none is, the filter mostly
     /// says so without a look at the index.
     fn covers(&self, marked: &MarkedEntry) -> bool

@@ -16,7 +16,8 @@ const PIECE: usize = 65_536;
 pub fn read_input<R: Source>(alloc: Global, source: &mut R, most: usize) -> Result<Vec<u8>, Fault>
     requires unended { R.has_ended source.old ≡ false }
     requires unread { R.has_failed source.old ≡ false }
-    ensures bytes { IfOk result (λ bytes. ReadsUpTo most (R.remaining source.old) (R.remaining source.new) bytes.items) }
+    ensures bytes { IfOk result (λ bytes. ReadsUpTo most (R.remaining source.old)
+        (R.remaining source.new) bytes.items) }
     ensures faults { IfErr result (λ fault. (fault ≡ memory_fault) ⊎ (fault ≡ input_fault)) }
     ensures mark { R.has_failed source.new ≡ true ↔ result ≡ Err input_fault }
 {
@@ -67,7 +68,8 @@ fn fetch_at<R: Source>(source: &mut R, bytes: &mut Vec<u8>, filled: usize) -> Re
     ensures len { vec_len bytes.new ≡ vec_len bytes.old }
     ensures front { take filled bytes.new.items ≡ take filled bytes.old.items }
     ensures fits { IfOk result (λ count. filled + count ≤ vec_len bytes.new) }
-    ensures given { IfOk result (λ count. Consumes (R.remaining source.old) (R.remaining source.new) (take count (drop filled bytes.new.items))) }
+    ensures given { IfOk result (λ count. Consumes (R.remaining source.old) (R.remaining source.new)
+        (take count (drop filled bytes.new.items))) }
     ensures end { IfOk result (λ count. count ≡ 0 → IsAtEnd (R.remaining source.new)) }
     ensures more { IfOk result (λ count. 0 < count → R.has_ended source.new ≡ false) }
     ensures mark { R.has_failed source.new ≡ is_err result }

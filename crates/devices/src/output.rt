@@ -13,7 +13,8 @@ use faults::{Code, Fault};
 pub fn write_text<W: Sink>(sink: &mut W, text: &[u8]) -> Result<(), Fault>
     requires { W.has_failed sink.old ≡ false }
     ensures whole { OnOk result (Appends (W.taken sink.old) (W.taken sink.new) text.now) }
-    ensures beginning { OnErr result ((count : ℕ) × Appends (W.taken sink.old) (W.taken sink.new) (take count text.now)) }
+    ensures beginning { OnErr result ((count : ℕ)
+        × Appends (W.taken sink.old) (W.taken sink.new) (take count text.now)) }
     ensures fault { IfErr result (λ fault. fault ≡ output_fault) }
     ensures mark { W.has_failed sink.new ≡ true ↔ result ≡ Err output_fault }
 {
@@ -31,8 +32,11 @@ pub fn write_text<W: Sink>(sink: &mut W, text: &[u8]) -> Result<(), Fault>
 /// put that failed. A beginning of what the texts are together was written then.
 pub fn write_texts<W: Sink>(sink: &mut W, texts: &[String]) -> Result<(), Fault>
     requires { W.has_failed sink.old ≡ false }
-    ensures whole { OnOk result (Appends (W.taken sink.old) (W.taken sink.new) (flat_map string_bytes texts.now)) }
-    ensures beginning { OnErr result ((count : ℕ) × Appends (W.taken sink.old) (W.taken sink.new) (take count (flat_map string_bytes texts.now))) }
+    ensures whole { OnOk result (Appends (W.taken sink.old) (W.taken sink.new)
+        (flat_map string_bytes texts.now)) }
+    ensures beginning { OnErr result ((count : ℕ)
+        × Appends (W.taken sink.old) (W.taken sink.new) (take count (flat_map string_bytes
+        texts.now))) }
     ensures fault { IfErr result (λ fault. fault ≡ output_fault) }
     ensures mark { W.has_failed sink.new ≡ true ↔ result ≡ Err output_fault }
 {

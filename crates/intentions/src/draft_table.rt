@@ -72,7 +72,8 @@ impl<'s> DraftTable<'s> {
     /// The draft that was found, or else the borrowed value.
     pub fn shown(&self, found: Option<usize>, lent: &'s Value) -> Shown<'_, 's>
         requires { IfSome found (λ place. IsSome (draft_at self.now place)) }
-        ensures { shown_value result ≡ (unwrap_or (option_and_then (draft_at self.now) found) (unchanged lent.now)).value }
+        ensures { shown_value result ≡ (unwrap_or (option_and_then (draft_at self.now) found)
+            (unchanged lent.now)).value }
     {
         match found {
             Some(place) => Shown::Changed(&self.drafts[place].draft),
@@ -106,7 +107,8 @@ impl<'s> DraftTable<'s> {
     /// `NoMemory` the table is unchanged.
     fn add(&mut self, alloc: Global, object: u32, lent: &'s Value) -> Result<usize, NoMemory>
         ensures place { IfOk result (λ place. IsPlaceOf self.new object place) }
-        ensures ok { OnOk result (IsPut (drafts_of self.old) (drafts_of self.new) object (unchanged lent.now)) }
+        ensures ok { OnOk result (IsPut (drafts_of self.old) (drafts_of self.new) object
+            (unchanged lent.now)) }
         ensures err { OnErr result ((q : ℕ) → drafts_of self.new q ≡ drafts_of self.old q) }
     {
         let place = self.drafts.len();
@@ -121,12 +123,17 @@ impl<'s> DraftTable<'s> {
     /// Performs a call that changes the draft at this place, and returns its reply. On `NoMemory`
     /// the draft is as before.
     pub fn perform_at(&mut self, place: usize, call: &Call) -> Result<Reply, NoMemory>
-        requires fits { IsSomeAnd (draft_at self.old place) (λ h. kind_of_value h.value ≡ kind_of_call call.now) }
+        requires fits { IsSomeAnd (draft_at self.old place) (λ h. kind_of_value h.value
+            ≡ kind_of_call call.now) }
         requires room { IfSome (draft_at self.old place) (λ h. HasRoom h.value call.now) }
-        requires changes { IfSome (draft_at self.old place) (λ h. IsSome (value_change h.value call.now)) }
-        ensures reply { IfOk result (λ reply. IfSome (draft_at self.old place) (λ h. one_value.reply h.value call.now ≡ Some reply)) }
-        ensures ok { OnOk result ((object : ℕ) → IsPlaceOf self.old object place → IfSome (draft_at self.old place)
-            (λ h. IsPut (drafts_of self.old) (drafts_of self.new) object (changed h (one_value.after h.value call.now)))) }
+        requires changes { IfSome (draft_at self.old place) (λ h.
+            IsSome (value_change h.value call.now)) }
+        ensures reply { IfOk result (λ reply. IfSome (draft_at self.old place) (λ h.
+            one_value.reply h.value call.now ≡ Some reply)) }
+        ensures ok { OnOk result ((object : ℕ) → IsPlaceOf self.old object place
+            → IfSome (draft_at self.old place) (λ h.
+            IsPut (drafts_of self.old) (drafts_of self.new) object (changed h
+            (one_value.after h.value call.now)))) }
         ensures err { OnErr result ((q : ℕ) → drafts_of self.new q ≡ drafts_of self.old q) }
     {
         self.drafts[place].draft.perform(call)
@@ -135,12 +142,17 @@ impl<'s> DraftTable<'s> {
     /// Performs a call as `perform_at` does, for good: no change of the draft before it can be
     /// taken back. This takes no memory for a number.
     pub fn settle_at(&mut self, place: usize, call: &Call) -> Result<Reply, NoMemory>
-        requires fits { IsSomeAnd (draft_at self.old place) (λ h. kind_of_value h.value ≡ kind_of_call call.now) }
+        requires fits { IsSomeAnd (draft_at self.old place) (λ h. kind_of_value h.value
+            ≡ kind_of_call call.now) }
         requires room { IfSome (draft_at self.old place) (λ h. HasRoom h.value call.now) }
-        requires changes { IfSome (draft_at self.old place) (λ h. IsSome (value_change h.value call.now)) }
-        ensures reply { IfOk result (λ reply. IfSome (draft_at self.old place) (λ h. one_value.reply h.value call.now ≡ Some reply)) }
-        ensures ok { OnOk result ((object : ℕ) → IsPlaceOf self.old object place → IfSome (draft_at self.old place)
-            (λ h. IsPut (drafts_of self.old) (drafts_of self.new) object (unchanged (one_value.after h.value call.now)))) }
+        requires changes { IfSome (draft_at self.old place) (λ h.
+            IsSome (value_change h.value call.now)) }
+        ensures reply { IfOk result (λ reply. IfSome (draft_at self.old place) (λ h.
+            one_value.reply h.value call.now ≡ Some reply)) }
+        ensures ok { OnOk result ((object : ℕ) → IsPlaceOf self.old object place
+            → IfSome (draft_at self.old place) (λ h.
+            IsPut (drafts_of self.old) (drafts_of self.new) object (unchanged
+            (one_value.after h.value call.now)))) }
         ensures err { OnErr result ((q : ℕ) → drafts_of self.new q ≡ drafts_of self.old q) }
     {
         self.drafts[place].draft.settle(call)

@@ -94,8 +94,12 @@ impl<'s> Layers<'s> {
     pub fn perform(&mut self, object: u32, call: &Call) -> Result<Reply, NoMemory>
         requires fits { Fits self.old.shown object call.now }
         requires room { ObjectHasRoom self.old.shown object call.now }
-        ensures reply { IfOk result (λ reply. objects.reply self.old.shown (object, call.now) ≡ Some reply) }
-        ensures ok { OnOk result (self.new ≡ record self.old { shown = objects.after self.old.shown (object, call.now) }) }
+        ensures reply { IfOk result (λ reply. objects.reply self.old.shown (object, call.now)
+            ≡ Some reply) }
+        ensures ok { OnOk result (self.new ≡ record self.old {
+          shown = objects.after self.old.shown
+              (object, call.now);
+        }) }
         ensures err { OnErr result (self.new ≡ self.old) }
     {
         let Some(lent) = self.snapshot.value(object) else {
@@ -136,7 +140,10 @@ impl<'s> Layers<'s> {
     pub fn perform_whole(&mut self, entries: &[Entry]) -> Result<(), NoMemory>
         requires legal { AreLegal self.old.shown entries.now }
         requires room { AllHaveRoom self.old.shown entries.now }
-        ensures ok { OnOk result (self.new ≡ record self.old { shown = after self.old.shown entries.now }) }
+        ensures ok { OnOk result (self.new ≡ record self.old {
+          shown = after self.old.shown
+              entries.now;
+        }) }
         ensures err { OnErr result (self.new ≡ self.old) }
     {
         self.begin()?;
@@ -169,7 +176,10 @@ impl<'s> Layers<'s> {
 
     /// Opens a level.
     pub fn begin(&mut self) -> Result<(), NoMemory>
-        ensures ok { OnOk result (self.new ≡ record self.old { begun = self.old.shown ∷ self.old.begun }) }
+        ensures ok { OnOk result (self.new ≡ record self.old {
+          begun = self.old.shown
+              ∷ self.old.begun;
+        }) }
         ensures err { OnErr result (self.new ≡ self.old) }
     {
         self.starts.push(self.journal.len())?;
@@ -203,7 +213,8 @@ impl<'s> Layers<'s> {
 fn undo_from(drafts: &mut DraftTable<'_>, journal: &mut Vec<u32>, start: usize)
     requires { start ≤ length journal.old.items }
     ensures drafts { (snapshot : List Value) → histories snapshot (drafts_of drafts.new)
-        ≡ drafts_rewound (histories snapshot (drafts_of drafts.old)) (reverse (drop start journal.old.items)) }
+        ≡ drafts_rewound (histories snapshot (drafts_of drafts.old)) (reverse
+        (drop start journal.old.items)) }
     ensures journal { journal.new.items ≡ take start journal.old.items }
 {
     while journal.len() > start {

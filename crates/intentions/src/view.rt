@@ -224,7 +224,8 @@ impl<'s> View<'s> {
     pub fn has_room(&self, object: u32, call: &Call) -> Result<bool, NoMemory>
         requires { Fits (shown_values self.now) object call.now }
         ensures succeeds { IsOk result }
-        ensures room { IfOk result (λ room. IsTrue room ↔ ObjectHasRoom (shown_values self.now) object call.now) }
+        ensures room { IfOk result (λ room. IsTrue room
+            ↔ ObjectHasRoom (shown_values self.now) object call.now) }
     {
         match self.layers.value(object) {
             Some(value) => Ok(value.has_room(call)),
@@ -238,8 +239,10 @@ impl<'s> View<'s> {
     pub fn perform(&mut self, object: u32, call: &Call) -> Result<Reply, NoMemory>
         requires fits { Fits (shown_values self.old) object call.now }
         requires room { ObjectHasRoom (shown_values self.old) object call.now }
-        ensures reply { IfOk result (λ reply. objects.reply (shown_values self.old) (object, call.now) ≡ Some reply) }
-        ensures ok { IfOk result (λ reply. self.new ≡ with_entry self.old (record { object = object; call = call.now; reply = reply })) }
+        ensures reply { IfOk result (λ reply. objects.reply (shown_values self.old)
+            (object, call.now) ≡ Some reply) }
+        ensures ok { IfOk result (λ reply. self.new
+            ≡ with_entry self.old (record { object = object; call = call.now; reply = reply })) }
         ensures err { OnErr result (self.new ≡ self.old) }
     {
         self.entries.reserve(1)?;

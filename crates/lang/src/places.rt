@@ -88,7 +88,8 @@ pub fn locate(alloc: Global, bytes: &[u8], fault: Fault) -> Result<Mistake, Faul
 // What is said of more bytes than a document of this version may have.
 fn too_long(alloc: Global, version: u8) -> Result<Mistake, AllocError>
     ensures place { IfOk result (λ mistake. mistake.place ≡ Whole) }
-    ensures words { IfOk result (λ mistake. IsSaid (Few (Bytes version)) null (string_bytes mistake.words)) }
+    ensures words { IfOk result (λ mistake. IsSaid (Few (Bytes version)) null
+        (string_bytes mistake.words)) }
 {
     let words = words(alloc, Rule::Few(CountRule::Bytes(version)), &Value::Null)?;
     Ok(Mistake {

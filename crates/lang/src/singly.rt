@@ -164,12 +164,11 @@ pub(crate) fn each_part(
 ) -> Result<Result<Parts, Fault>, Stop>
     requires { scope_of state.old.labels.entries ≡ [] }
     ensures { IfOk result (λ answer. (d : Data) × ReadsValue 127 reader.old d reader.new
-        × MatchResult answer
-        (λ parts. AreMet state.old.counts (placed d) state.new.counts
+        × MatchResult answer (λ parts. AreMet state.old.counts (placed d) state.new.counts
         × (setting_of parts.declared ≡ setting_in d)
-        × (spelled parts.declared.objects (map block_view parts.transactions.items) (numbers_of state.new.numbering)
-        ≡ parts_in (numbers_of state.old.numbering) d))
-        (λ fault. IsMet state.old.counts (document_shape_asked d) state.old.counts
+        × (spelled parts.declared.objects (map block_view parts.transactions.items)
+        (numbers_of state.new.numbering) ≡ parts_in (numbers_of state.old.numbering) d)) (λ fault.
+        IsMet state.old.counts (document_shape_asked d) state.old.counts
         → IsFirstOf state.old.counts (placed d) fault)) }
 {
     let (version, objects) = pull_head(alloc, reader)?;

@@ -30,5 +30,6 @@ pub fn faults_are_determined()
     ensures carry_faults { OneFaultLaw IsCarryFaultOf }
     ensures carried { FaultlessLaw IsCarriedOf IsCarryFaultOf }
     ensures into_faults { (first : List ℕ) → OneFaultLaw (IsCarryIntoFaultOf first) }
-    ensures into { (first : List ℕ) → FaultlessLaw (IsCarriedIntoOf first) (IsCarryIntoFaultOf first) }
+    ensures into { (first : List ℕ) → FaultlessLaw (IsCarriedIntoOf first)
+        (IsCarryIntoFaultOf first) }
 {}

@@ -73,9 +73,8 @@ impl Notes {
 fn note_members(reader: &mut Reader<'_>) -> Result<Notes, Invalid>
     ensures ok { IfOk result (λ notes. (ms : Members)
         × ReadsMembers 126 no_members reader.old ms reader.new × IsNoted notes ms) }
-    ensures err { IfErr result
-        (λ _. converted (λ js. of_members js no_members) (members (value 126) (length reader.old) reader.old)
-        ≡ None) }
+    ensures err { IfErr result (λ _. converted (λ js.
+        of_members js no_members) (members (value 126) (length reader.old) reader.old) ≡ None) }
 {
     let mut notes = Notes::none();
     'members: while let Some(name) = reader.next_key()? {

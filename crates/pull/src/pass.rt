@@ -99,10 +99,10 @@ pub fn pass_items(reader: &mut Reader<'_>, depth: usize) -> Result<u32, Invalid>
 /// The members of an object whose beginning has been read, with its end.
 #[cycle(pass)]
 fn pass_members(reader: &mut Reader<'_>, depth: usize) -> Result<(), Invalid>
-    ensures ok { IfOk result (λ _. (ms : Members) × ReadsMembers depth no_members reader.old ms reader.new) }
-    ensures err { IfErr result
-        (λ _. converted (λ js. of_members js no_members) (members (value depth) (length reader.old) reader.old)
-        ≡ None) }
+    ensures ok { IfOk result (λ _. (ms : Members)
+        × ReadsMembers depth no_members reader.old ms reader.new) }
+    ensures err { IfErr result (λ _. converted (λ js.
+        of_members js no_members) (members (value depth) (length reader.old) reader.old) ≡ None) }
 {
     'members: while let Some(_) = reader.next_key()? {
         pass_value(reader, depth)?;

@@ -102,7 +102,8 @@ fn amount_of(text: &str) -> Option<Amount>
 
 /// The size of the number below 0 that a text writes, if it has no point or exponent and fits.
 fn size_below_0(text: &str) -> Option<u64>
-    ensures { IfSome result (λ n. (0 < n) × (n ≤ 9223372036854775807) × (number_of text.now ≡ Some (negative (with_sign true n)))) }
+    ensures { IfSome result (λ n. (0 < n) × (n ≤ 9223372036854775807)
+        × (number_of text.now ≡ Some (negative (with_sign true n)))) }
 {
     let bytes = text.as_bytes();
     if bytes.is_empty() || bytes[0] != b'-' {
@@ -118,7 +119,8 @@ fn size_below_0(text: &str) -> Option<u64>
 
 /// The whole number that a text writes, if it has no point or exponent and fits.
 fn whole_of(text: &str) -> Option<i64>
-    ensures { IfSome result (λ n. (x : Num) × (number_of text.now ≡ Some x) × (as_i64 x ≡ Some n) × (of_integer n ≡ x)) }
+    ensures { IfSome result (λ n. (x : Num) × (number_of text.now ≡ Some x) × (as_i64 x ≡ Some n)
+        × (of_integer n ≡ x)) }
 {
     if let Some(number) = unsigned_of(text) {
         return if number <= MOST_WHOLE {
@@ -132,8 +134,9 @@ fn whole_of(text: &str) -> Option<i64>
 }
 
 pub(crate) fn pull_whole(reader: &mut Reader<'_>) -> Result<i64, Stop>
-    ensures { IfOk result (λ n. (s : List ℕ) × (x : Num) × (reader.old ≡ token.number s ∷ reader.new)
-        × (number_of s ≡ Some x) × (as_i64 x ≡ Some n)) }
+    ensures { IfOk result (λ n. (s : List ℕ) × (x : Num)
+        × (reader.old ≡ token.number s ∷ reader.new) × (number_of s ≡ Some x)
+        × (as_i64 x ≡ Some n)) }
 {
     match reader.next() {
         Some(Token::Number(text)) => whole_of(text).ok_or(Stop::OtherForm),
@@ -452,13 +455,14 @@ pub(crate) fn pull_operation(
     declared: &Declared,
     state: &mut State,
 ) -> Result<Step, Stop>
-    ensures { IfOk result (λ step. (d : Data) × ReadsValue 3 (token.begin_object ∷ token.key (codes "op") ∷ reader.old) d reader.new
-        × ((places : Places) → AreMet state.old.counts
-        (step_placed places (setting_of declared.now) (scope_of state.old.labels.entries) d)
-        state.new.counts)
-        × ((block : Spelling) → (step_view step, numbers_of state.new.numbering)
-        ≡ step_of block (setting_of declared.now) (scope_of state.old.labels.entries) (numbers_of state.old.numbering) d)
-        × (scope_of state.new.labels.entries ≡ scope_after (setting_of declared.now) (scope_of state.old.labels.entries) d)) }
+    ensures { IfOk result (λ step. (d : Data) × ReadsValue 3 (token.begin_object
+        ∷ token.key (codes "op") ∷ reader.old) d reader.new × ((places : Places)
+        → AreMet state.old.counts (step_placed places (setting_of declared.now)
+        (scope_of state.old.labels.entries) d) state.new.counts) × ((block : Spelling)
+        → (step_view step, numbers_of state.new.numbering)
+        ≡ step_of block (setting_of declared.now) (scope_of state.old.labels.entries) (numbers_of
+        state.old.numbering) d) × (scope_of state.new.labels.entries
+        ≡ scope_after (setting_of declared.now) (scope_of state.old.labels.entries) d)) }
 {
     pull_begin_array(reader)?;
     let object = pull_text(reader)?;
@@ -553,7 +557,8 @@ pub(crate) fn pull_members(
     depth: usize,
     before: Map<String, Value>,
 ) -> Result<Map<String, Value>, Stop>
-    ensures { IfOk result (λ map. ReadsMembers depth (members_view before.entries) reader.old (members_view map.entries) reader.new) }
+    ensures { IfOk result (λ map. ReadsMembers depth (members_view before.entries) reader.old
+        (members_view map.entries) reader.new) }
 {
     let mut found = before;
     while let Some(name) = reader.next_key()? {
@@ -590,7 +595,8 @@ pub(crate) fn pull_object(
     reader: &mut Reader<'_>,
     depth: usize,
 ) -> Result<Value, Stop>
-    ensures { IfOk result (λ v. ReadsValue (depth + 1) (token.begin_object ∷ token.key name.now ∷ reader.old) (view v) reader.new) }
+    ensures { IfOk result (λ v. ReadsValue (depth + 1) (token.begin_object ∷ token.key name.now
+        ∷ reader.old) (view v) reader.new) }
 {
     pull_more_members(alloc, name, reader, depth, Map::new(alloc))
 }
@@ -633,7 +639,8 @@ pub(crate) fn pull_beginning(reader: &mut Reader<'_>) -> Result<u8, Stop>
 /// The trees of the objects up to the end of their array, if they are no more than a document may
 /// have.
 fn pull_trees(alloc: Global, reader: &mut Reader<'_>, version: u8) -> Result<Vec<Value>, Stop>
-    ensures reads { IfOk result (λ list. ReadsItems 125 reader.old (items_view list.items) reader.new) }
+    ensures reads { IfOk result (λ list. ReadsItems 125 reader.old (items_view list.items)
+        reader.new) }
     ensures few { IfOk result (λ list. length list.items ≤ (limits_of version).objects) }
 {
     let mut found = Vec::new(alloc);

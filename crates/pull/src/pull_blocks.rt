@@ -100,14 +100,14 @@ fn pull_ascending(
     state: &mut State,
 ) -> Result<Vec<Handler>, Stop>
     requires few { levels ≤ MAX_DEPTH }
-    ensures { IfOk result (λ handlers. (hs : Members) × ReadsMembers (5 * levels) no_members reader.old hs reader.new
+    ensures { IfOk result (λ handlers. (hs : Members)
+        × ReadsMembers (5 * levels) no_members reader.old hs reader.new
         × AreMet state.old.counts (members_placed declared.now.version
-        (block_placed (setting_of declared.now) levels)
-        (scope_of state.old.labels.entries) hs) state.new.counts
-        × ((map handler_view handlers.items, numbers_of state.new.numbering)
+        (block_placed (setting_of declared.now) levels) (scope_of state.old.labels.entries) hs)
+        state.new.counts × ((map handler_view handlers.items, numbers_of state.new.numbering)
         ≡ members_of (block_of (setting_of declared.now) levels) (scope_of state.old.labels.entries)
-        (numbers_of state.old.numbering) hs)
-        × (scope_of state.new.labels.entries ≡ scope_of state.old.labels.entries)) }
+        (numbers_of state.old.numbering) hs) × (scope_of state.new.labels.entries
+        ≡ scope_of state.old.labels.entries)) }
 {
     let mut handlers = Vec::new(alloc);
     let mut before = None;
@@ -131,14 +131,14 @@ fn pull_sorted(
     state: &mut State,
 ) -> Result<Vec<Handler>, Stop>
     requires few { levels ≤ MAX_DEPTH }
-    ensures { IfOk result (λ handlers. (hs : Members) × ReadsMembers (5 * levels) no_members reader.old hs reader.new
+    ensures { IfOk result (λ handlers. (hs : Members)
+        × ReadsMembers (5 * levels) no_members reader.old hs reader.new
         × AreMet state.old.counts (members_placed declared.now.version
-        (block_placed (setting_of declared.now) levels)
-        (scope_of state.old.labels.entries) hs) state.new.counts
-        × ((map handler_view handlers.items, numbers_of state.new.numbering)
+        (block_placed (setting_of declared.now) levels) (scope_of state.old.labels.entries) hs)
+        state.new.counts × ((map handler_view handlers.items, numbers_of state.new.numbering)
         ≡ members_of (block_of (setting_of declared.now) levels) (scope_of state.old.labels.entries)
-        (numbers_of state.old.numbering) hs)
-        × (scope_of state.new.labels.entries ≡ scope_of state.old.labels.entries)) }
+        (numbers_of state.old.numbering) hs) × (scope_of state.new.labels.entries
+        ≡ scope_of state.old.labels.entries)) }
 {
     let members = pull_members(alloc, reader, 5 * levels, Map::new(alloc))?;
     let handlers = read_members(alloc, &members, levels, declared, state)?;
@@ -155,15 +155,14 @@ fn pull_handlers(
     state: &mut State,
 ) -> Result<Vec<Handler>, Stop>
     requires few { levels ≤ MAX_DEPTH }
-    ensures { IfOk result (λ handlers. (hs : Members) × ReadsValue (5 * levels + 1) reader.old (object hs) reader.new
-        × (3 ≤ declared.now.version)
+    ensures { IfOk result (λ handlers. (hs : Members)
+        × ReadsValue (5 * levels + 1) reader.old (object hs) reader.new × (3 ≤ declared.now.version)
         × AreMet state.old.counts (members_placed declared.now.version
-        (block_placed (setting_of declared.now) levels)
-        (scope_of state.old.labels.entries) hs) state.new.counts
-        × ((map handler_view handlers.items, numbers_of state.new.numbering)
+        (block_placed (setting_of declared.now) levels) (scope_of state.old.labels.entries) hs)
+        state.new.counts × ((map handler_view handlers.items, numbers_of state.new.numbering)
         ≡ members_of (block_of (setting_of declared.now) levels) (scope_of state.old.labels.entries)
-        (numbers_of state.old.numbering) hs)
-        × (scope_of state.new.labels.entries ≡ scope_of state.old.labels.entries)) }
+        (numbers_of state.old.numbering) hs) × (scope_of state.new.labels.entries
+        ≡ scope_of state.old.labels.entries)) }
 {
     if declared.version < 3 {
         return Err(Stop::OtherForm);
@@ -195,14 +194,12 @@ fn pull_sub_rest<'a>(
     requires few { levels ≤ MAX_DEPTH }
     ensures { IfOk result (λ rest. (now : List token.Token)
         × SubTail (5 * levels + 1) declared.now.version (block_placed (setting_of declared.now)
-        levels)
-        (block_of (setting_of declared.now) levels) (scope_of state.old.labels.entries)
-        reader.old state.old.counts (numbers_of state.old.numbering)
-        (option_map (λ list. map handler_view list.items) rest.handlers) (option_map block_view rest.handler)
-        (option_map (λ text. text.now) rest.label)
-        now state.new.counts (numbers_of state.new.numbering)
-        × (read_key now ≡ Some (None, reader.new))
-        × (scope_of state.new.labels.entries ≡ scope_of state.old.labels.entries)) }
+        levels) (block_of (setting_of declared.now) levels) (scope_of state.old.labels.entries)
+        reader.old state.old.counts (numbers_of state.old.numbering) (option_map (λ list.
+        map handler_view list.items) rest.handlers) (option_map block_view rest.handler) (option_map
+        (λ text. text.now) rest.label) now state.new.counts (numbers_of state.new.numbering)
+        × (read_key now ≡ Some (None, reader.new)) × (scope_of state.new.labels.entries
+        ≡ scope_of state.old.labels.entries)) }
 {
     let mut handlers = None;
     let mut handler = None;
@@ -235,20 +232,17 @@ fn pull_sub<'a>(
     state: &mut State,
 ) -> Result<(Subaction, Option<&'a str>), Stop>
     requires few { levels ≤ MAX_DEPTH }
-    ensures { IfOk result (λ read. (d : Data)
-        × ReadsValue (5 * levels + 2) (token.begin_object ∷ token.key (codes "sub") ∷ reader.old) d reader.new
-        × ((earlier : Scope) → IsMet state.new.counts
-        (label_asked declared.now.version (scope_of state.old.labels.entries) earlier (label_in d))
-        state.new.counts
-        → AreMet state.old.counts (sub_placed declared.now.version (block_placed (setting_of
-        declared.now) levels)
-        (scope_of state.old.labels.entries) earlier d) state.new.counts)
-        × ((subaction_view read.0, numbers_of state.new.numbering)
+    ensures { IfOk result (λ read. (d : Data) × ReadsValue (5 * levels + 2) (token.begin_object
+        ∷ token.key (codes "sub") ∷ reader.old) d reader.new × ((earlier : Scope)
+        → IsMet state.new.counts (label_asked declared.now.version
+        (scope_of state.old.labels.entries) earlier (label_in d)) state.new.counts
+        → AreMet state.old.counts (sub_placed declared.now.version
+        (block_placed (setting_of declared.now) levels) (scope_of state.old.labels.entries) earlier
+        d) state.new.counts) × ((subaction_view read.0, numbers_of state.new.numbering)
         ≡ sub_of (block_of (setting_of declared.now) levels) (scope_of state.old.labels.entries)
-        (numbers_of state.old.numbering) d)
-        × (option_map (λ text. text.now) read.1 ≡ label_in d)
-        × (sort_of d ≡ Some Sort.Sub)
-        × (scope_of state.new.labels.entries ≡ scope_of state.old.labels.entries)) }
+        (numbers_of state.old.numbering) d) × (option_map (λ text. text.now) read.1 ≡ label_in d)
+        × (sort_of d ≡ Some Sort.Sub) × (scope_of state.new.labels.entries
+        ≡ scope_of state.old.labels.entries)) }
 {
     state.counts.one_more_node(declared.version)?;
     let body = pull_block(alloc, reader, levels, declared, state)?;
@@ -268,14 +262,15 @@ fn pull_sub_step(
     state: &mut State,
 ) -> Result<Step, Stop>
     requires few { levels ≤ MAX_DEPTH }
-    ensures { IfOk result (λ step. (d : Data)
-        × ReadsValue (5 * levels + 2) (token.begin_object ∷ token.key (codes "sub") ∷ reader.old) d reader.new
+    ensures { IfOk result (λ step. (d : Data) × ReadsValue (5 * levels + 2) (token.begin_object
+        ∷ token.key (codes "sub") ∷ reader.old) d reader.new
         × AreMet state.old.counts (step_placed (block_placed (setting_of declared.now) levels)
         (setting_of declared.now) (scope_of state.old.labels.entries) d) state.new.counts
         × ((step_view step, numbers_of state.new.numbering)
-        ≡ step_of (block_of (setting_of declared.now) levels) (setting_of declared.now)
-        (scope_of state.old.labels.entries) (numbers_of state.old.numbering) d)
-        × (scope_of state.new.labels.entries ≡ scope_after (setting_of declared.now) (scope_of state.old.labels.entries) d)) }
+        ≡ step_of (block_of (setting_of declared.now) levels) (setting_of declared.now) (scope_of
+        state.old.labels.entries) (numbers_of state.old.numbering) d)
+        × (scope_of state.new.labels.entries ≡ scope_after (setting_of declared.now)
+        (scope_of state.old.labels.entries) d)) }
 {
     let (read, label) = pull_sub(alloc, reader, levels, declared, state)?;
     let step = new_sub_step(
@@ -303,14 +298,15 @@ fn pull_children(
     state: &mut State,
 ) -> Result<Vec<Subaction>, Stop>
     requires few { levels ≤ MAX_DEPTH }
-    ensures { IfOk result (λ children. (ds : Items) × ReadsItems (5 * levels + 2) reader.old ds reader.new
+    ensures { IfOk result (λ children. (ds : Items)
+        × ReadsItems (5 * levels + 2) reader.old ds reader.new
         × (AreUnseen (scope_of earlier.new.entries) (scope_of state.old.labels.entries)
-        → AreMet state.old.counts (children_placed declared.now.version (block_placed (setting_of
-        declared.now) levels)
-        (scope_of state.old.labels.entries) (scope_of earlier.old.entries) 0 ds) state.new.counts)
+        → AreMet state.old.counts (children_placed declared.now.version
+        (block_placed (setting_of declared.now) levels) (scope_of state.old.labels.entries)
+        (scope_of earlier.old.entries) 0 ds) state.new.counts)
         × ((map subaction_view children.items, numbers_of state.new.numbering)
-        ≡ children_spelled (block_of (setting_of declared.now) levels) (scope_of state.old.labels.entries)
-        (numbers_of state.old.numbering) ds)
+        ≡ children_spelled (block_of (setting_of declared.now) levels) (scope_of
+        state.old.labels.entries) (numbers_of state.old.numbering) ds)
         × (scope_of earlier.new.entries ≡ labels_of (scope_of earlier.old.entries) ds)
         × (scope_of state.new.labels.entries ≡ scope_of state.old.labels.entries)) }
 {
@@ -343,14 +339,15 @@ fn pull_parallel(
     state: &mut State,
 ) -> Result<Step, Stop>
     requires few { levels ≤ MAX_DEPTH }
-    ensures { IfOk result (λ step. (d : Data)
-        × ReadsValue (5 * levels + 4) (token.begin_object ∷ token.key (codes "parallel") ∷ reader.old) d reader.new
+    ensures { IfOk result (λ step. (d : Data) × ReadsValue (5 * levels + 4) (token.begin_object
+        ∷ token.key (codes "parallel") ∷ reader.old) d reader.new
         × AreMet state.old.counts (step_placed (block_placed (setting_of declared.now) levels)
         (setting_of declared.now) (scope_of state.old.labels.entries) d) state.new.counts
         × ((step_view step, numbers_of state.new.numbering)
-        ≡ step_of (block_of (setting_of declared.now) levels) (setting_of declared.now)
-        (scope_of state.old.labels.entries) (numbers_of state.old.numbering) d)
-        × (scope_of state.new.labels.entries ≡ scope_after (setting_of declared.now) (scope_of state.old.labels.entries) d)) }
+        ≡ step_of (block_of (setting_of declared.now) levels) (setting_of declared.now) (scope_of
+        state.old.labels.entries) (numbers_of state.old.numbering) d)
+        × (scope_of state.new.labels.entries ≡ scope_after (setting_of declared.now)
+        (scope_of state.old.labels.entries) d)) }
 {
     begin_parallel(reader, declared.version, &mut state.counts)?;
     let mut earlier = no_labels(alloc, &state.labels);
@@ -370,12 +367,13 @@ pub(crate) fn pull_test(
     numbering: &mut Numbering,
 ) -> Result<Test, Stop>
     ensures { IfOk result (λ test. (key : TestKey) × (v : Data)
-        × ((k : ℕ) (found ms : Members) (new : List token.Token) → ReadsMembers k (put (test_key key) v found) reader.new ms new
-        → ReadsMembers k found reader.old ms new)
-        × ((label : List ℕ) (first : Data) (second : Option Data) (counts : Counts)
-        → IsMet counts (test_asked version subject (if_step label key v first second)) counts)
-        × ((label : List ℕ) (first : Data) (second : Option Data)
-        → (test, numbers_of numbering.new) ≡ test_of subject (numbers_of numbering.old) (if_step label key v first second))) }
+        × ((k : ℕ) (found ms : Members) (new : List token.Token)
+        → ReadsMembers k (put (test_key key) v found) reader.new ms new
+        → ReadsMembers k found reader.old ms new) × ((label : List ℕ) (first : Data) (second :
+        Option Data) (counts : Counts) → IsMet counts (test_asked version subject (if_step label key
+        v first second)) counts) × ((label : List ℕ) (first : Data) (second : Option Data)
+        → (test, numbers_of numbering.new) ≡ test_of subject (numbers_of numbering.old) (if_step
+        label key v first second))) }
 {
     match reader.next() {
         Some(Token::Key("is")) => {
@@ -416,13 +414,13 @@ fn pull_else(
     state: &mut State,
 ) -> Result<Block, Stop>
     requires few { levels ≤ MAX_DEPTH }
-    ensures { IfOk result (λ block. (second : Option Data)
-        × ((found : Members) → ReadsMembers (5 * levels) found reader.old (with_else second found) reader.new)
+    ensures { IfOk result (λ block. (second : Option Data) × ((found : Members)
+        → ReadsMembers (5 * levels) found reader.old (with_else second found) reader.new)
         × AreMet state.old.counts (block_placed_if (block_placed (setting_of declared.now) levels)
         (scope_of state.old.labels.entries) second) state.new.counts
         × ((block_view block, numbers_of state.new.numbering)
-        ≡ spelled_map or_no_step (block_of_if (block_of (setting_of declared.now) levels) (scope_of state.old.labels.entries)
-        (numbers_of state.old.numbering) second))
+        ≡ spelled_map or_no_step (block_of_if (block_of (setting_of declared.now) levels)
+        (scope_of state.old.labels.entries) (numbers_of state.old.numbering) second))
         × (scope_of state.new.labels.entries ≡ scope_of state.old.labels.entries)) }
 {
     match reader.next() {
@@ -448,14 +446,15 @@ fn pull_if(
     state: &mut State,
 ) -> Result<Step, Stop>
     requires few { levels ≤ MAX_DEPTH }
-    ensures { IfOk result (λ step. (d : Data)
-        × ReadsValue (5 * levels + 1) (token.begin_object ∷ token.key (codes "if") ∷ reader.old) d reader.new
+    ensures { IfOk result (λ step. (d : Data) × ReadsValue (5 * levels + 1) (token.begin_object
+        ∷ token.key (codes "if") ∷ reader.old) d reader.new
         × AreMet state.old.counts (step_placed (block_placed (setting_of declared.now) levels)
         (setting_of declared.now) (scope_of state.old.labels.entries) d) state.new.counts
         × ((step_view step, numbers_of state.new.numbering)
-        ≡ step_of (block_of (setting_of declared.now) levels) (setting_of declared.now)
-        (scope_of state.old.labels.entries) (numbers_of state.old.numbering) d)
-        × (scope_of state.new.labels.entries ≡ scope_after (setting_of declared.now) (scope_of state.old.labels.entries) d)) }
+        ≡ step_of (block_of (setting_of declared.now) levels) (setting_of declared.now) (scope_of
+        state.old.labels.entries) (numbers_of state.old.numbering) d)
+        × (scope_of state.new.labels.entries ≡ scope_after (setting_of declared.now)
+        (scope_of state.old.labels.entries) d)) }
 {
     let head = pull_if_head(alloc, reader, declared.version, state)?;
     let then = pull_block(alloc, reader, levels, declared, state)?;
@@ -466,9 +465,10 @@ fn pull_if(
 
 /// The reason of an abort, where it has one and the version has reasons, and the step's end.
 fn pull_reason<'a>(reader: &mut Reader<'a>, version: u8) -> Result<Option<&'a str>, Stop>
-    ensures { IfOk result (λ reason. ReadsValue 1 (token.begin_object ∷ token.key (codes "abort") ∷ reader.old)
-        (abort_step (option_map (λ text. text.now) reason)) reader.new
-        × (is_abort version (part (codes "abort") (abort_step (option_map (λ text. text.now) reason))) ≡ true)) }
+    ensures { IfOk result (λ reason. ReadsValue 1 (token.begin_object ∷ token.key (codes "abort")
+        ∷ reader.old) (abort_step (option_map (λ text. text.now) reason)) reader.new
+        × (is_abort version (part (codes "abort") (abort_step (option_map (λ text.
+        text.now) reason))) ≡ true)) }
 {
     match reader.next() {
         Some(Token::Bool(true)) => {
@@ -493,14 +493,14 @@ fn pull_abort(
     declared: &Declared,
     state: &mut State,
 ) -> Result<Step, Stop>
-    ensures { IfOk result (λ step. (d : Data)
-        × ReadsValue 1 (token.begin_object ∷ token.key (codes "abort") ∷ reader.old) d reader.new
-        × ((places : Places) → AreMet state.old.counts
-        (step_placed places (setting_of declared.now) (scope_of state.old.labels.entries) d)
-        state.new.counts)
-        × ((block : Spelling) → (step_view step, numbers_of state.new.numbering)
-        ≡ step_of block (setting_of declared.now) (scope_of state.old.labels.entries) (numbers_of state.old.numbering) d)
-        × (scope_of state.new.labels.entries ≡ scope_after (setting_of declared.now) (scope_of state.old.labels.entries) d)) }
+    ensures { IfOk result (λ step. (d : Data) × ReadsValue 1 (token.begin_object
+        ∷ token.key (codes "abort") ∷ reader.old) d reader.new × ((places : Places)
+        → AreMet state.old.counts (step_placed places (setting_of declared.now)
+        (scope_of state.old.labels.entries) d) state.new.counts) × ((block : Spelling)
+        → (step_view step, numbers_of state.new.numbering)
+        ≡ step_of block (setting_of declared.now) (scope_of state.old.labels.entries) (numbers_of
+        state.old.numbering) d) × (scope_of state.new.labels.entries
+        ≡ scope_after (setting_of declared.now) (scope_of state.old.labels.entries) d)) }
 {
     let reason = pull_reason(reader, declared.version)?;
     state.counts.one_more_node(declared.version)?;
@@ -512,7 +512,8 @@ fn pull_abort(
 
 /// The beginning of a step, with its first key.
 fn pull_first_key<'a>(reader: &mut Reader<'a>) -> Result<&'a str, Stop>
-    ensures { IfOk result (λ name. reader.old ≡ token.begin_object ∷ token.key name.now ∷ reader.new) }
+    ensures { IfOk result (λ name. reader.old ≡ token.begin_object ∷ token.key name.now
+        ∷ reader.new) }
 {
     pull_begin_object(reader)?;
     pull_some_key(reader)
@@ -528,13 +529,15 @@ fn pull_other_step(
     state: &mut State,
 ) -> Result<Step, Stop>
     requires few { levels ≤ MAX_DEPTH }
-    ensures { IfOk result (λ step. (d : Data) × ReadsValue (5 * levels + 4) (token.begin_object ∷ token.key name.now ∷ reader.old) d reader.new
+    ensures { IfOk result (λ step. (d : Data) × ReadsValue (5 * levels + 4) (token.begin_object
+        ∷ token.key name.now ∷ reader.old) d reader.new
         × AreMet state.old.counts (step_placed (block_placed (setting_of declared.now) levels)
         (setting_of declared.now) (scope_of state.old.labels.entries) d) state.new.counts
         × ((step_view step, numbers_of state.new.numbering)
-        ≡ step_of (block_of (setting_of declared.now) levels) (setting_of declared.now)
-        (scope_of state.old.labels.entries) (numbers_of state.old.numbering) d)
-        × (scope_of state.new.labels.entries ≡ scope_after (setting_of declared.now) (scope_of state.old.labels.entries) d)) }
+        ≡ step_of (block_of (setting_of declared.now) levels) (setting_of declared.now) (scope_of
+        state.old.labels.entries) (numbers_of state.old.numbering) d)
+        × (scope_of state.new.labels.entries ≡ scope_after (setting_of declared.now)
+        (scope_of state.old.labels.entries) d)) }
 {
     // From a block to the next below it are at most five levels: the array of its steps, a step, the
     // array of its children, a child, and its handlers.
@@ -557,9 +560,10 @@ fn pull_step(
         × AreMet state.old.counts (step_placed (block_placed (setting_of declared.now) levels)
         (setting_of declared.now) (scope_of state.old.labels.entries) d) state.new.counts
         × ((step_view step, numbers_of state.new.numbering)
-        ≡ step_of (block_of (setting_of declared.now) levels) (setting_of declared.now)
-        (scope_of state.old.labels.entries) (numbers_of state.old.numbering) d)
-        × (scope_of state.new.labels.entries ≡ scope_after (setting_of declared.now) (scope_of state.old.labels.entries) d)) }
+        ≡ step_of (block_of (setting_of declared.now) levels) (setting_of declared.now) (scope_of
+        state.old.labels.entries) (numbers_of state.old.numbering) d)
+        × (scope_of state.new.labels.entries ≡ scope_after (setting_of declared.now)
+        (scope_of state.old.labels.entries) d)) }
 {
     let name = pull_first_key(reader)?;
     match name {
@@ -619,7 +623,8 @@ fn pull_steps(
     state: &mut State,
 ) -> Result<Vec<Step>, Stop>
     requires few { levels ≤ MAX_DEPTH }
-    ensures { IfOk result (λ steps. (ds : Items) × ReadsItems (5 * levels + 4) reader.old ds reader.new
+    ensures { IfOk result (λ steps. (ds : Items)
+        × ReadsItems (5 * levels + 4) reader.old ds reader.new
         × AreMet state.old.counts (steps_placed (block_placed (setting_of declared.now) levels)
         (setting_of declared.now) (scope_of state.old.labels.entries) 0 ds) state.new.counts
         × ((map step_view steps.items, numbers_of state.new.numbering)

@@ -40,16 +40,19 @@ pub(crate) fn pull_if_head(
 ) -> Result<PulledIf, Stop>
     ensures { IfOk result (λ head. (name : List ℕ) × (key : TestKey) × (v : Data)
         × ((k : ℕ) (ms : Members) (new : List token.Token)
-        → ReadsMembers k (put (test_key key) v (member (codes "if") (string name) no_members)) (token.key (codes "then") ∷ reader.new) ms new
+        → ReadsMembers k (put (test_key key) v (member (codes "if") (string name) no_members))
+        (token.key (codes "then") ∷ reader.new) ms new
         → ReadsMembers k no_members (token.key (codes "if") ∷ reader.old) ms new)
         × IsMet state.old.counts (one_more_node version ∷ []) state.new.counts
-        × IsMet state.new.counts (seen_asked (scope_of state.old.labels.entries) name) state.new.counts
-        × ((first : Data) (second : Option Data) → IsMet state.new.counts
-        (test_asked version (subject_of name (scope_of state.old.labels.entries))
-        (if_step name key v first second)) state.new.counts)
-        × ((first : Data) (second : Option Data) → (head.test, numbers_of state.new.numbering)
-        ≡ test_of (subject_of name (scope_of state.old.labels.entries)) (numbers_of state.old.numbering) (if_step name key v first second))
-        × (head.label ≡ label_number name (scope_of state.old.labels.entries))
+        × IsMet state.new.counts (seen_asked (scope_of state.old.labels.entries) name)
+        state.new.counts × ((first : Data) (second : Option Data)
+        → IsMet state.new.counts (test_asked version
+        (subject_of name (scope_of state.old.labels.entries)) (if_step name key v first second))
+        state.new.counts) × ((first : Data) (second : Option Data)
+        → (head.test, numbers_of state.new.numbering)
+        ≡ test_of (subject_of name (scope_of state.old.labels.entries)) (numbers_of
+        state.old.numbering) (if_step name key v first second)) × (head.label
+        ≡ label_number name (scope_of state.old.labels.entries))
         × (scope_of state.new.labels.entries ≡ scope_of state.old.labels.entries)) }
 {
     let name = pull_text(reader)?;
@@ -74,7 +77,8 @@ pub(crate) fn new_sub_step(
         (option_map (λ text. text.now) label.entry)) counts.now) }
     ensures value { IfOk result (λ step. step_view step ≡ sub_step (subaction_view child)) }
     ensures labels { IfOk result (λ _. scope_of labels.new.entries
-        ≡ with_label (option_map (λ text. text.now) label.entry) Subject.Outcome (scope_of labels.old.entries)) }
+        ≡ with_label (option_map (λ text. text.now) label.entry) Subject.Outcome (scope_of
+        labels.old.entries)) }
 {
     add_new_label(alloc, version, label, Subject::Outcome, labels, counts)?;
     Ok(Step::Sub(Box::new(alloc, child)?))
@@ -104,8 +108,10 @@ pub(crate) fn end_parallel(
     labels: &mut Labels,
 ) -> Result<Step, Stop>
     ensures tokens { IfOk result (λ _. reader.old ≡ token.end_object ∷ reader.new) }
-    ensures unseen { IfOk result (λ _. AreUnseen (scope_of earlier.entries) (scope_of labels.old.entries)) }
-    ensures value { IfOk result (λ step. step_view step ≡ tree.Parallel (children_of (map subaction_view children.items))) }
+    ensures unseen { IfOk result (λ _. AreUnseen (scope_of earlier.entries)
+        (scope_of labels.old.entries)) }
+    ensures value { IfOk result (λ step. step_view step
+        ≡ tree.Parallel (children_of (map subaction_view children.items))) }
     ensures labels { IfOk result (λ _. scope_of labels.new.entries
         ≡ with_labels (scope_of earlier.entries) (scope_of labels.old.entries)) }
 {

@@ -285,7 +285,9 @@ fn write_objects(
 
 fn write_object(out: &mut String, names: &Names, object: u32, value: &Value) -> Result<(), NoMemory>
     ensures { OnOk result (string_bytes out.new ≡ string_bytes out.old
-        ++ line (codes "= " ++ (names_of names.now).object object ++ codes " " ++ kind_text (kind_of_value value.now) ++ codes " " ++ value_text (names_of names.now) value.now)) }
+        ++ line (codes "= " ++ (names_of names.now).object object ++ codes " "
+        ++ kind_text (kind_of_value value.now) ++ codes " "
+        ++ value_text (names_of names.now) value.now)) }
 {
     let name = object_name(names, object);
     let kind = kind_text(value.kind());
@@ -296,7 +298,8 @@ fn write_object(out: &mut String, names: &Names, object: u32, value: &Value) -> 
 }
 
 pub(crate) fn write_counts(out: &mut String, counts: &[u32]) -> Result<(), NoMemory>
-    ensures { OnOk result (string_bytes out.new ≡ string_bytes out.old ++ counts_text 1 counts.now) }
+    ensures { OnOk result (string_bytes out.new ≡ string_bytes out.old
+        ++ counts_text 1 counts.now) }
 {
     for (index, count) in counts.iter().enumerate() {
         let number = index + 1;

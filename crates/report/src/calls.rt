@@ -15,7 +15,8 @@ use words::{Phrase, Verb, Word, phrase_of};
 
 /// Writes the words of a call.
 pub fn write_call(out: &mut String, names: &Names, call: &Call) -> Result<(), NoMemory>
-    ensures { OnOk result (string_bytes out.new ≡ string_bytes out.old ++ call_text (names_of names.now) call.now) }
+    ensures { OnOk result (string_bytes out.new ≡ string_bytes out.old
+        ++ call_text (names_of names.now) call.now) }
 {
     match phrase_of(call) {
         Phrase::OfAmount(verb, amount) => write_amount(out, Verb::OfAmount(verb), amount),
@@ -34,7 +35,8 @@ pub fn write_call(out: &mut String, names: &Names, call: &Call) -> Result<(), No
 
 /// Writes the words of a reply.
 pub fn write_reply(out: &mut String, names: &Names, reply: &Reply) -> Result<(), NoMemory>
-    ensures { OnOk result (string_bytes out.new ≡ string_bytes out.old ++ reply_text (names_of names.now) reply.now) }
+    ensures { OnOk result (string_bytes out.new ≡ string_bytes out.old
+        ++ reply_text (names_of names.now) reply.now) }
 {
     match reply {
         Reply::Account(AccountReply::Number(number))
@@ -113,7 +115,8 @@ fn write_word(out: &mut String, word: &str) -> Result<(), NoMemory>
 }
 
 fn write_amount(out: &mut String, verb: Verb, amount: Amount) -> Result<(), NoMemory>
-    ensures { OnOk result (string_bytes out.new ≡ string_bytes out.old ++ verb_text verb ++ codes " " ++ decimal amount.value) }
+    ensures { OnOk result (string_bytes out.new ≡ string_bytes out.old ++ verb_text verb
+        ++ codes " " ++ decimal amount.value) }
 {
     out.push_str(verb.text())?;
     out.push(' ')?;
@@ -122,7 +125,8 @@ fn write_amount(out: &mut String, verb: Verb, amount: Amount) -> Result<(), NoMe
 
 // The name of an item, after a space.
 fn write_item(out: &mut String, names: &Names, item: Item) -> Result<(), NoMemory>
-    ensures { OnOk result (string_bytes out.new ≡ string_bytes out.old ++ codes " " ++ (names_of names.now).item item) }
+    ensures { OnOk result (string_bytes out.new ≡ string_bytes out.old ++ codes " "
+        ++ (names_of names.now).item item) }
 {
     out.push(' ')?;
     out.push_str(item_name(names, item))?;

@@ -25,7 +25,9 @@ pub fn render_parts<R: Threads + Sync>(
     outcome: &Outcome,
 ) -> Result<Vec<String>, NoMemory>
     requires { length outcome.now.objects < 2 ^ 32 }
-    ensures { IfOk result (λ parts. flat_map string_bytes parts.items ≡ text (names_of batch.now.names) (map block_view batch.now.transactions.items) (map record_view outcome.now.records.items) outcome.now.objects outcome.now.rounds) }
+    ensures { IfOk result (λ parts. flat_map string_bytes parts.items
+        ≡ text (names_of batch.now.names) (map block_view batch.now.transactions.items) (map
+        record_view outcome.now.records.items) outcome.now.objects outcome.now.rounds) }
 {
     let (records, objects) = (&outcome.records, &outcome.objects);
     let mut parts = render_entry_parts(threads, alloc, workers, batch, records, objects)?;
@@ -47,7 +49,10 @@ pub fn render_audit_parts<R: Threads + Sync>(
     outcome: &Outcome,
 ) -> Result<Vec<String>, NoMemory>
     requires { length outcome.now.objects < 2 ^ 32 }
-    ensures { IfOk result (λ parts. flat_map string_bytes parts.items ≡ audit_text (names_of batch.now.names) (map block_view batch.now.transactions.items) (map record_view outcome.now.records.items) outcome.now.objects outcome.now.rounds outcome.now.runs.items) }
+    ensures { IfOk result (λ parts. flat_map string_bytes parts.items
+        ≡ audit_text (names_of batch.now.names) (map block_view batch.now.transactions.items) (map
+        record_view outcome.now.records.items) outcome.now.objects outcome.now.rounds
+        outcome.now.runs.items) }
 {
     let mut parts = render_parts(threads, alloc, workers, batch, outcome)?;
     let mut last = take_last(alloc, &mut parts);
@@ -83,7 +88,8 @@ pub fn render_plain_parts<R: Threads + Sync>(
 
 // Takes the last part away, to be written on.
 fn take_last(alloc: Global, parts: &mut Vec<String>) -> String
-    ensures { flat_map string_bytes parts.new.items ++ string_bytes result ≡ flat_map string_bytes parts.old.items }
+    ensures { flat_map string_bytes parts.new.items ++ string_bytes result
+        ≡ flat_map string_bytes parts.old.items }
 {
     match parts.pop() {
         Some(text) => text,

@@ -114,11 +114,14 @@ pub fn handler_place<'b>(
     child: &'b Subaction,
     reason: Option<u32>,
 ) -> Result<Option<(String, &'b Block)>, NoMemory>
-    ensures place { IfOk result (λ found. IfSome found (λ p.
-        (string_bytes p.0, block_view p.1.now) ≡ handler_place (names_of names.now) path.now reason (subaction_view child.now).handlers)) }
-    ensures taken { IfOk result (λ found. option_map (λ p. block_view p.1.now) found ≡ taker (subaction_view child.now).handlers reason) }
-    ensures none { IfOk result (λ found. IfNone found (handler_block (subaction_view child.now).handlers reason ≡ NoStep)) }
-    ensures inside { IfOk result (λ found. ForSome found (λ p. size-Block p.1.now < size-Subaction child.now)) }
+    ensures place { IfOk result (λ found. IfSome found (λ p. (string_bytes p.0, block_view p.1.now)
+        ≡ handler_place (names_of names.now) path.now reason (subaction_view child.now).handlers)) }
+    ensures taken { IfOk result (λ found. option_map (λ p. block_view p.1.now) found
+        ≡ taker (subaction_view child.now).handlers reason) }
+    ensures none { IfOk result (λ found. IfNone found
+        (handler_block (subaction_view child.now).handlers reason ≡ NoStep)) }
+    ensures inside { IfOk result (λ found. ForSome found (λ p. size-Block p.1.now
+        < size-Subaction child.now)) }
 {
     let mut text = path_with_room(alloc, path, HANDLER)?;
     match push_handler(&mut text, names, child, reason)? {

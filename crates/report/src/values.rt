@@ -10,7 +10,8 @@ use objects::{Directory, Item, ItemSet, NoMemory, Queue, Value};
 
 /// Writes the value of an object: members and keys in order.
 pub(crate) fn write_value(out: &mut String, names: &Names, value: &Value) -> Result<(), NoMemory>
-    ensures { OnOk result (string_bytes out.new ≡ string_bytes out.old ++ value_text (names_of names.now) value.now) }
+    ensures { OnOk result (string_bytes out.new ≡ string_bytes out.old
+        ++ value_text (names_of names.now) value.now) }
 {
     match value {
         Value::Account(number) | Value::Max(number) => write!(out, "{number}")?,
@@ -35,7 +36,8 @@ pub(crate) fn write_value(out: &mut String, names: &Names, value: &Value) -> Res
 }
 
 fn write_members(out: &mut String, names: &Names, set: &ItemSet) -> Result<(), NoMemory>
-    ensures { OnOk result (string_bytes out.new ≡ string_bytes out.old ++ spaced (map (names_of names.now).item (members set.now))) }
+    ensures { OnOk result (string_bytes out.new ≡ string_bytes out.old
+        ++ spaced (map (names_of names.now).item (members set.now))) }
 {
     let mut space = "";
     for member in set.items().iter() {
@@ -47,7 +49,8 @@ fn write_members(out: &mut String, names: &Names, set: &ItemSet) -> Result<(), N
 }
 
 fn write_queue(out: &mut String, names: &Names, queue: &Queue) -> Result<(), NoMemory>
-    ensures { OnOk result (string_bytes out.new ≡ string_bytes out.old ++ spaced (map (names_of names.now).item queue.now)) }
+    ensures { OnOk result (string_bytes out.new ≡ string_bytes out.old
+        ++ spaced (map (names_of names.now).item queue.now)) }
 {
     let mut space = "";
     for item in queue.items().iter() {
@@ -59,7 +62,8 @@ fn write_queue(out: &mut String, names: &Names, queue: &Queue) -> Result<(), NoM
 }
 
 fn write_bindings(out: &mut String, names: &Names, directory: &Directory) -> Result<(), NoMemory>
-    ensures { OnOk result (string_bytes out.new ≡ string_bytes out.old ++ spaced (map (binding_text (names_of names.now)) (finite_map.entries directory.now))) }
+    ensures { OnOk result (string_bytes out.new ≡ string_bytes out.old
+        ++ spaced (map (binding_text (names_of names.now)) (finite_map.entries directory.now))) }
 {
     let mut space = "";
     for (key, item) in directory.entries().iter() {

@@ -86,7 +86,8 @@ fn name_at<'v>(
 /// The item of a name, which joins the others if it is new.
 pub fn item_of(alloc: Global, name: &str, numbering: &mut Numbering) -> Result<Item, NoMemory>
     ensures value { IfOk result (λ item. item ≡ item_of name.now (numbers_of numbering.old)) }
-    ensures numbers { OnOk result (numbers_of numbering.new ≡ with_item name.now (numbers_of numbering.old)) }
+    ensures numbers { OnOk result (numbers_of numbering.new
+        ≡ with_item name.now (numbers_of numbering.old)) }
 {
     Ok(Item(number_of_item(alloc, numbering, name)?))
 }
@@ -98,7 +99,8 @@ pub(crate) fn items_of(
     second: &str,
     numbering: &mut Numbering,
 ) -> Result<(Item, Item), NoMemory>
-    ensures value { IfOk result (λ items. (items, numbers_of numbering.new) ≡ items_of first.now second.now (numbers_of numbering.old)) }
+    ensures value { IfOk result (λ items. (items, numbers_of numbering.new)
+        ≡ items_of first.now second.now (numbers_of numbering.old)) }
 {
     let first = item_of(alloc, first, numbering)?;
     let second = item_of(alloc, second, numbering)?;

@@ -43,7 +43,8 @@ pub(crate) fn if_shape_of<'v>(step: &'v Value, counts: &Counts) -> Result<IfShap
     ensures met { OnOk result (IsMet counts.now (if_shape_asked (view step.now)) counts.now) }
     ensures first { IfErr result (IsFirst counts.now (if_shape_asked (view step.now))) }
     ensures label { IfOk result (λ shape. shape.label.now ≡ if_label (view step.now)) }
-    ensures then { IfOk result (λ shape. view shape.then.now ≡ part (codes "then") (view step.now)) }
+    ensures then { IfOk result (λ shape. view shape.then.now
+        ≡ part (codes "then") (view step.now)) }
 {
     let form = Form::If;
     counts.demand(
@@ -85,7 +86,8 @@ pub(crate) fn read_test(
     ensures met { OnOk result (IsMet counts.now (test_asked version subject (view step.now))
         counts.now) }
     ensures first { IfErr result (IsFirst counts.now (test_asked version subject (view step.now))) }
-    ensures value { IfOk result (λ test. (test, numbers_of numbering.new) ≡ test_of subject (numbers_of numbering.old) (view step.now)) }
+    ensures value { IfOk result (λ test. (test, numbers_of numbering.new)
+        ≡ test_of subject (numbers_of numbering.old) (view step.now)) }
 {
     if has(step, "is") {
         let Some(word) = tested_word(subject, step) else {

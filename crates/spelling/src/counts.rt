@@ -39,8 +39,8 @@ impl Counts {
     /// Counts an operation of a document of a version. Returns the failure of `FewOperations` where
     /// the version has no more.
     pub fn one_more_operation(&mut self, version: u8) -> Result<(), Failure>
-        ensures { MatchResult result (λ _. IsMet self.old (one_more_operation version ∷ []) self.new)
-            (IsFirst self.old (one_more_operation version ∷ [])) }
+        ensures { MatchResult result (λ _. IsMet self.old (one_more_operation version
+            ∷ []) self.new) (IsFirst self.old (one_more_operation version ∷ [])) }
     {
         if self.operations as usize >= Limits::of(version).operations {
             return Err(self.broken(Rule::Few(CountRule::Operations(version))));

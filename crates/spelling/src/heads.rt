@@ -45,11 +45,14 @@ pub(crate) fn if_head<'v>(
         (scope_of state.old.labels.entries) (view step.now)) state.new.counts) }
     ensures first { IfErr result (IsFirst state.old.counts (if_head_asked version
         (scope_of state.old.labels.entries) (view step.now))) }
-    ensures label { IfOk result (λ head. head.label ≡ label_number (if_label (view step.now)) (scope_of state.old.labels.entries)) }
+    ensures label { IfOk result (λ head. head.label
+        ≡ label_number (if_label (view step.now)) (scope_of state.old.labels.entries)) }
     ensures test { IfOk result (λ head. (head.test, numbers_of state.new.numbering)
-        ≡ test_of (subject_of (if_label (view step.now)) (scope_of state.old.labels.entries)) (numbers_of state.old.numbering) (view step.now)) }
+        ≡ test_of (subject_of (if_label (view step.now)) (scope_of state.old.labels.entries))
+        (numbers_of state.old.numbering) (view step.now)) }
     ensures then { IfOk result (λ head. view head.then.now ≡ part (codes "then") (view step.now)) }
-    ensures labels { OnOk result (scope_of state.new.labels.entries ≡ scope_of state.old.labels.entries) }
+    ensures labels { OnOk result (scope_of state.new.labels.entries
+        ≡ scope_of state.old.labels.entries) }
 {
     let shape = if_shape_of(step, &state.counts)?;
     state.counts.one_more_node(version)?;
@@ -102,14 +105,17 @@ pub(crate) fn sub_head<'v>(
     earlier: Option<&Labels>,
     counts: &mut Counts,
 ) -> Result<SubShape<'v>, Failure>
-    ensures met { OnOk result (IsMet counts.old (sub_head_asked version (scope_of labels.now.entries)
-        (unwrap_or (option_map (λ labels. scope_of labels.now.entries) earlier.entry) []) (view step.now)) counts.new) }
-    ensures first { IfErr result (IsFirst counts.old (sub_head_asked version (scope_of labels.now.entries)
-        (unwrap_or (option_map (λ labels. scope_of labels.now.entries) earlier.entry) []) (view step.now))) }
+    ensures met { OnOk result (IsMet counts.old (sub_head_asked version
+        (scope_of labels.now.entries) (unwrap_or (option_map (λ labels.
+        scope_of labels.now.entries) earlier.entry) []) (view step.now)) counts.new) }
+    ensures first { IfErr result (IsFirst counts.old (sub_head_asked version
+        (scope_of labels.now.entries) (unwrap_or (option_map (λ labels.
+        scope_of labels.now.entries) earlier.entry) []) (view step.now))) }
     ensures body { IfOk result (λ shape. view shape.body.now ≡ part (codes "sub") (view step.now)) }
-    ensures label { IfOk result (λ shape. option_map (λ text. text.now) shape.label ≡ label_in (view step.now)) }
-    ensures handlers { IfOk result (λ shape. option_map (λ members. members_view members.now.entries) shape.handlers
-        ≡ handlers_in (view step.now)) }
+    ensures label { IfOk result (λ shape. option_map (λ text. text.now) shape.label
+        ≡ label_in (view step.now)) }
+    ensures handlers { IfOk result (λ shape. option_map (λ members.
+        members_view members.now.entries) shape.handlers ≡ handlers_in (view step.now)) }
 {
     let shape = sub_shape_of(step, version, counts)?;
     counts.one_more_node(version)?;
@@ -125,8 +131,8 @@ pub fn subaction_of(
     handler: Option<Block>,
     labelled: bool,
 ) -> Subaction
-    ensures { subaction_view result ≡ tried (block_view body) (option_map (λ list. map handler_view list.items) handlers)
-        (option_map block_view handler) labelled }
+    ensures { subaction_view result ≡ tried (block_view body) (option_map (λ list.
+        map handler_view list.items) handlers) (option_map block_view handler) labelled }
 {
     let (handlers, otherwise) = taking(alloc, handlers, handler);
     Subaction {
@@ -146,7 +152,8 @@ pub fn sub_step(
 ) -> Result<Step, NoMemory>
     ensures value { IfOk result (λ step. step_view step ≡ sub_step (subaction_view child)) }
     ensures labels { OnOk result (scope_of labels.new.entries
-        ≡ with_label (option_map (λ text. text.now) label.entry) Subject.Outcome (scope_of labels.old.entries)) }
+        ≡ with_label (option_map (λ text. text.now) label.entry) Subject.Outcome (scope_of
+        labels.old.entries)) }
 {
     add_label(alloc, label, Subject::Outcome, labels)?;
     Ok(Step::Sub(Box::new(alloc, child)?))
@@ -172,7 +179,8 @@ pub(crate) fn parallel_head<'v>(
         (view step.now)) counts.new) }
     ensures first { IfErr result (IsFirst counts.old (parallel_head_asked version
         (view step.now))) }
-    ensures children { IfOk result (λ list. items_view list.now.items ≡ children_in (view step.now)) }
+    ensures children { IfOk result (λ list. items_view list.now.items
+        ≡ children_in (view step.now)) }
 {
     let list = children_of(step, counts)?;
     counts.one_more_node(version)?;
@@ -181,7 +189,8 @@ pub(crate) fn parallel_head<'v>(
 
 /// Makes the labels of children seen after the others, and returns whether none of them was seen before.
 pub fn take_labels(alloc: Global, earlier: Labels, labels: &mut Labels) -> Result<bool, NoMemory>
-    ensures new { IfOk result (λ new. new ≡ true → AreUnseen (scope_of earlier.entries) (scope_of labels.old.entries)) }
+    ensures new { IfOk result (λ new. new ≡ true
+        → AreUnseen (scope_of earlier.entries) (scope_of labels.old.entries)) }
     ensures labels { OnOk result (scope_of labels.new.entries
         ≡ with_labels (scope_of earlier.entries) (scope_of labels.old.entries)) }
 {
@@ -195,7 +204,8 @@ pub(crate) fn parallel_step(
     earlier: Labels,
     labels: &mut Labels,
 ) -> Result<Step, NoMemory>
-    ensures value { IfOk result (λ step. step_view step ≡ tree.Parallel (children_of (map subaction_view children.items))) }
+    ensures value { IfOk result (λ step. step_view step
+        ≡ tree.Parallel (children_of (map subaction_view children.items))) }
     ensures labels { OnOk result (scope_of labels.new.entries
         ≡ with_labels (scope_of earlier.entries) (scope_of labels.old.entries)) }
 {

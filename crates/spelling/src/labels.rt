@@ -107,7 +107,8 @@ pub fn add_new_label(
         (label_asked version (scope_of labels.old.entries) []
         (option_map (λ text. text.now) label.entry))) }
     ensures labels { OnOk result (scope_of labels.new.entries
-        ≡ with_label (option_map (λ text. text.now) label.entry) subject (scope_of labels.old.entries)) }
+        ≡ with_label (option_map (λ text. text.now) label.entry) subject (scope_of
+        labels.old.entries)) }
 {
     let Some(name) = label else {
         return Ok(());
@@ -126,7 +127,8 @@ pub(crate) fn add_label(
     labels: &mut Labels,
 ) -> Result<(), NoMemory>
     ensures ok { OnOk result (scope_of labels.new.entries
-        ≡ with_label (option_map (λ text. text.now) label.entry) subject (scope_of labels.old.entries)) }
+        ≡ with_label (option_map (λ text. text.now) label.entry) subject (scope_of
+        labels.old.entries)) }
 {
     let Some(name) = label else {
         return Ok(());
@@ -166,10 +168,14 @@ pub fn leave_block(labels: &mut Labels, seen: usize)
 /// The number of a label that is seen, and what it is of.
 #[tactic(auto, using(crate::proofs::LabelLemmas::all_labels), unfolding(crate::specs::Asked::seen_asked))]
 pub fn seen_label(name: &str, labels: &Labels, counts: &Counts) -> Result<(u32, Subject), Failure>
-    ensures met { OnOk result (IsMet counts.now (seen_asked (scope_of labels.now.entries) name.now) counts.now) }
-    ensures first { IfErr result (IsFirst counts.now (seen_asked (scope_of labels.now.entries) name.now)) }
-    ensures number { IfOk result (λ label. label.0 ≡ label_number name.now (scope_of labels.now.entries)) }
-    ensures subject { IfOk result (λ label. label.1 ≡ subject_of name.now (scope_of labels.now.entries)) }
+    ensures met { OnOk result (IsMet counts.now (seen_asked (scope_of labels.now.entries) name.now)
+        counts.now) }
+    ensures first { IfErr result (IsFirst counts.now (seen_asked (scope_of labels.now.entries)
+        name.now)) }
+    ensures number { IfOk result (λ label. label.0
+        ≡ label_number name.now (scope_of labels.now.entries)) }
+    ensures subject { IfOk result (λ label. label.1
+        ≡ subject_of name.now (scope_of labels.now.entries)) }
 {
     match found_label(name, labels) {
         Some(found) => Ok(found),
@@ -181,8 +187,10 @@ pub fn seen_label(name: &str, labels: &Labels, counts: &Counts) -> Result<(u32, 
 #[tactic(auto, using(crate::proofs::LabelLemmas::all_labels))]
 pub fn found_label(name: &str, labels: &Labels) -> Option<(u32, Subject)>
     ensures seen { is_some result ≡ is_named name.now (scope_of labels.now.entries) }
-    ensures number { IfSome result (λ label. label.0 ≡ label_number name.now (scope_of labels.now.entries)) }
-    ensures subject { IfSome result (λ label. label.1 ≡ subject_of name.now (scope_of labels.now.entries)) }
+    ensures number { IfSome result (λ label. label.0
+        ≡ label_number name.now (scope_of labels.now.entries)) }
+    ensures subject { IfSome result (λ label. label.1
+        ≡ subject_of name.now (scope_of labels.now.entries)) }
 {
     let (number, _, subject) = labels.get_full(name)?;
     Some((fit(number), *subject))

@@ -35,12 +35,17 @@ pub struct Shape<'v> {
 
 #[tactic(auto, unfolding(crate::specs::Asked::operation_shape_asked))]
 fn shape_of<'v>(step: &'v Value, version: u8, counts: &Counts) -> Result<Shape<'v>, Failure>
-    ensures met { OnOk result (IsMet counts.now (operation_shape_asked version (view step.now)) counts.now) }
-    ensures first { IfErr result (IsFirst counts.now (operation_shape_asked version (view step.now))) }
+    ensures met { OnOk result (IsMet counts.now (operation_shape_asked version (view step.now))
+        counts.now) }
+    ensures first { IfErr result (IsFirst counts.now (operation_shape_asked version
+        (view step.now))) }
     ensures op { IfOk result (λ shape. view shape.op.now ≡ part (codes "op") (view step.now)) }
-    ensures object { IfOk result (λ shape. shape.object.now ≡ object_of (part (codes "op") (view step.now))) }
-    ensures call { IfOk result (λ shape. shape.call.now ≡ call_named (part (codes "op") (view step.now))) }
-    ensures label { IfOk result (λ shape. option_map (λ text. text.now) shape.label ≡ label_in (view step.now)) }
+    ensures object { IfOk result (λ shape. shape.object.now
+        ≡ object_of (part (codes "op") (view step.now))) }
+    ensures call { IfOk result (λ shape. shape.call.now
+        ≡ call_named (part (codes "op") (view step.now))) }
+    ensures label { IfOk result (λ shape. option_map (λ text. text.now) shape.label
+        ≡ label_in (view step.now)) }
 {
     let form = Form::Operation;
     counts.demand(
@@ -74,8 +79,10 @@ fn shape_of<'v>(step: &'v Value, version: u8, counts: &Counts) -> Result<Shape<'
 /// The place and the kind of the object of that name. Where its outline is found, the name isn't
 /// hashed.
 fn find(name: &str, declared: &Declared) -> Option<(u32, Kind)>
-    ensures place { option_map (λ found. found.0) result ≡ place_of name.now (texts_of declared.now.names.keys) }
-    ensures kind { option_map (λ found. found.1) result ≡ kind_named name.now (setting_of declared.now) }
+    ensures place { option_map (λ found. found.0) result
+        ≡ place_of name.now (texts_of declared.now.names.keys) }
+    ensures kind { option_map (λ found. found.1) result
+        ≡ kind_named name.now (setting_of declared.now) }
     ensures listed { is_some result ≡ is_listed name.now (texts_of declared.now.names.keys) }
 {
     if let Some(found) = declared.outlined(name) {
@@ -94,10 +101,14 @@ pub fn target_of(
     declared: &Declared,
     counts: &Counts,
 ) -> Result<(u32, Verb), Failure>
-    ensures met { OnOk result (IsMet counts.now (target_asked (setting_of declared.now) object.now call.now) counts.now) }
-    ensures first { IfErr result (IsFirst counts.now (target_asked (setting_of declared.now) object.now call.now)) }
-    ensures object { IfOk result (λ target. target.0 ≡ target_of (setting_of declared.now) object.now) }
-    ensures verb { IfOk result (λ target. target.1 ≡ operation_verb (setting_of declared.now) object.now call.now) }
+    ensures met { OnOk result (IsMet counts.now (target_asked (setting_of declared.now) object.now
+        call.now) counts.now) }
+    ensures first { IfErr result (IsFirst counts.now (target_asked (setting_of declared.now)
+        object.now call.now)) }
+    ensures object { IfOk result (λ target. target.0
+        ≡ target_of (setting_of declared.now) object.now) }
+    ensures verb { IfOk result (λ target. target.1
+        ≡ operation_verb (setting_of declared.now) object.now call.now) }
 {
     let Some((place, kind)) = find(object, declared) else {
         return Err(counts.broken(Rule::KnownObject));
@@ -125,12 +136,17 @@ fn head_of<'v>(
     declared: &Declared,
     counts: &mut Counts,
 ) -> Result<Head<'v>, Failure>
-    ensures met { OnOk result (IsMet counts.old (operation_head_asked (setting_of declared.now) (view step.now)) counts.new) }
-    ensures first { IfErr result (IsFirst counts.old (operation_head_asked (setting_of declared.now) (view step.now))) }
+    ensures met { OnOk result (IsMet counts.old (operation_head_asked (setting_of declared.now)
+        (view step.now)) counts.new) }
+    ensures first { IfErr result (IsFirst counts.old (operation_head_asked (setting_of declared.now)
+        (view step.now))) }
     ensures op { IfOk result (λ head. view head.op.now ≡ part (codes "op") (view step.now)) }
-    ensures label { IfOk result (λ head. option_map (λ text. text.now) head.label ≡ label_in (view step.now)) }
-    ensures object { IfOk result (λ head. head.object ≡ target_of (setting_of declared.now) (object_of (part (codes "op") (view step.now)))) }
-    ensures verb { IfOk result (λ head. head.verb ≡ verb_in (setting_of declared.now) (part (codes "op") (view step.now))) }
+    ensures label { IfOk result (λ head. option_map (λ text. text.now) head.label
+        ≡ label_in (view step.now)) }
+    ensures object { IfOk result (λ head. head.object
+        ≡ target_of (setting_of declared.now) (object_of (part (codes "op") (view step.now)))) }
+    ensures verb { IfOk result (λ head. head.verb
+        ≡ verb_in (setting_of declared.now) (part (codes "op") (view step.now))) }
 {
     let shape = shape_of(step, declared.version, counts)?;
     counts.one_more_operation(declared.version)?;
@@ -155,13 +171,15 @@ pub fn read_operation(
 ) -> Result<Step, Failure>
     ensures met { OnOk result (IsMet state.old.counts (operation_asked (setting_of declared.now)
         (scope_of state.old.labels.entries) (view step.now)) state.new.counts) }
-    ensures first { IfErr result (IsFirst state.old.counts (operation_asked (setting_of declared.now)
-        (scope_of state.old.labels.entries) (view step.now))) }
+    ensures first { IfErr result (IsFirst state.old.counts
+        (operation_asked (setting_of declared.now) (scope_of state.old.labels.entries)
+        (view step.now))) }
     ensures value { IfOk result (λ read. (step_view read, numbers_of state.new.numbering)
-        ≡ operation_of (setting_of declared.now) (scope_of state.old.labels.entries) (numbers_of state.old.numbering) (view step.now)) }
+        ≡ operation_of (setting_of declared.now) (scope_of state.old.labels.entries) (numbers_of
+        state.old.numbering) (view step.now)) }
     ensures labels { OnOk result (scope_of state.new.labels.entries
-        ≡ with_label (label_in (view step.now)) (Subject.Reply (verb_in (setting_of declared.now) (part (codes "op") (view step.now))))
-        (scope_of state.old.labels.entries)) }
+        ≡ with_label (label_in (view step.now)) (Subject.Reply (verb_in (setting_of declared.now)
+        (part (codes "op") (view step.now)))) (scope_of state.old.labels.entries)) }
 {
     let head = head_of(step, declared, &mut state.counts)?;
     let seen = Seen {
@@ -191,7 +209,8 @@ pub fn operation_step(
     labelled: bool,
     refusal: Refusal,
 ) -> Result<Step, NoMemory>
-    ensures { IfOk result (λ step. step_view step ≡ operation_step object template labelled refusal) }
+    ensures { IfOk result (λ step. step_view step
+        ≡ operation_step object template labelled refusal) }
 {
     match (template, refusal) {
         (Template::Given(call), Refusal::GoesOn) => Ok(Step::Op {

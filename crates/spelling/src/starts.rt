@@ -64,8 +64,10 @@ fn read_entry(
 ) -> Result<Item, Failure>
     ensures met { OnOk result (IsMet counts.old (entry_asked version (view value.now)) counts.new) }
     ensures first { IfErr result (IsFirst counts.old (entry_asked version (view value.now))) }
-    ensures item { IfOk result (λ item. item ≡ item_of (text_of (view value.now)) (numbers_of numbering.old)) }
-    ensures numbers { OnOk result (numbers_of numbering.new ≡ with_item (text_of (view value.now)) (numbers_of numbering.old)) }
+    ensures item { IfOk result (λ item. item ≡ item_of (text_of (view value.now))
+        (numbers_of numbering.old)) }
+    ensures numbers { OnOk result (numbers_of numbering.new
+        ≡ with_item (text_of (view value.now)) (numbers_of numbering.old)) }
 {
     let Some(name) = value.as_str() else {
         return Err(counts.broken(Rule::Start(StartRule::Entry)));
@@ -87,7 +89,8 @@ fn read_queue(
         (items_view list.now.items)) counts.new) }
     ensures unmet { IfErr result (IsFound counts.old (entries_placed version 0
         (items_view list.now.items))) }
-    ensures value { IfOk result (λ queue. (queue, numbers_of numbering.new) ≡ entries_of (numbers_of numbering.old) (items_view list.now.items)) }
+    ensures value { IfOk result (λ queue. (queue, numbers_of numbering.new)
+        ≡ entries_of (numbers_of numbering.old) (items_view list.now.items)) }
 {
     let mut queue = Queue::new(alloc);
     for (index, entry) in list.iter().enumerate() {
@@ -113,7 +116,8 @@ fn add_start(
         (texts_of earlier.old.keys) name.now) counts.new) }
     ensures first { IfErr result (IsFirst counts.old (new_start_asked version rule
         (texts_of earlier.old.keys) name.now)) }
-    ensures earlier { OnOk result (texts_of earlier.new.keys ≡ with_text name.now (texts_of earlier.old.keys)) }
+    ensures earlier { OnOk result (texts_of earlier.new.keys
+        ≡ with_text name.now (texts_of earlier.old.keys)) }
 {
     let new = add_text(alloc, earlier, name)?;
     counts.demand(new, rule)?;
@@ -135,9 +139,12 @@ fn read_element(
         (view value.now)) counts.new) }
     ensures first { IfErr result (IsFirst counts.old (element_asked version
         (texts_of earlier.old.keys) (view value.now))) }
-    ensures item { IfOk result (λ item. item ≡ item_of (text_of (view value.now)) (numbers_of numbering.old)) }
-    ensures numbers { OnOk result (numbers_of numbering.new ≡ with_item (text_of (view value.now)) (numbers_of numbering.old)) }
-    ensures earlier { OnOk result (texts_of earlier.new.keys ≡ with_text (text_of (view value.now)) (texts_of earlier.old.keys)) }
+    ensures item { IfOk result (λ item. item ≡ item_of (text_of (view value.now))
+        (numbers_of numbering.old)) }
+    ensures numbers { OnOk result (numbers_of numbering.new
+        ≡ with_item (text_of (view value.now)) (numbers_of numbering.old)) }
+    ensures earlier { OnOk result (texts_of earlier.new.keys
+        ≡ with_text (text_of (view value.now)) (texts_of earlier.old.keys)) }
 {
     let Some(name) = value.as_str() else {
         return Err(counts.broken(Rule::Start(StartRule::Entry)));
@@ -168,7 +175,9 @@ fn read_elements(
         (texts_of earlier.old.keys) 0 (items_view list.now.items)) counts.new) }
     ensures unmet { IfErr result (IsFound counts.old (elements_placed version
         (texts_of earlier.old.keys) 0 (items_view list.now.items))) }
-    ensures value { IfOk result (λ set. (set, numbers_of numbering.new) ≡ spelled_map (put_all finite_set.empty) (entries_of (numbers_of numbering.old) (items_view list.now.items))) }
+    ensures value { IfOk result (λ set. (set, numbers_of numbering.new)
+        ≡ spelled_map (put_all finite_set.empty) (entries_of (numbers_of numbering.old)
+        (items_view list.now.items))) }
 {
     let mut set = ItemSet::new(alloc);
     for (index, element) in list.iter().enumerate() {
@@ -191,7 +200,9 @@ fn read_set(
         (items_view list.now.items)) counts.new) }
     ensures unmet { IfErr result (IsFound counts.old (elements_placed version [] 0 (items_view
         list.now.items))) }
-    ensures value { IfOk result (λ set. (set, numbers_of numbering.new) ≡ spelled_map (put_all finite_set.empty) (entries_of (numbers_of numbering.old) (items_view list.now.items))) }
+    ensures value { IfOk result (λ set. (set, numbers_of numbering.new)
+        ≡ spelled_map (put_all finite_set.empty) (entries_of (numbers_of numbering.old)
+        (items_view list.now.items))) }
 {
     let mut earlier = IndexSet::with_capacity_and_hasher(
         alloc,
@@ -247,7 +258,8 @@ fn check_pair<'v>(
         (texts_of earlier.old.keys) (view value.now))) }
     ensures key { IfOk result (λ pair. pair.0.now ≡ key_of (view value.now)) }
     ensures value { IfOk result (λ pair. pair.1.now ≡ value_of (view value.now)) }
-    ensures earlier { OnOk result (texts_of earlier.new.keys ≡ with_text (key_of (view value.now)) (texts_of earlier.old.keys)) }
+    ensures earlier { OnOk result (texts_of earlier.new.keys
+        ≡ with_text (key_of (view value.now)) (texts_of earlier.old.keys)) }
 {
     let (key, bound) = pair_names(value, version, counts)?;
     add_start(
@@ -274,8 +286,10 @@ fn read_pair(
         (view value.now)) counts.new) }
     ensures first { IfErr result (IsFirst counts.old (pair_asked version
         (texts_of earlier.old.keys) (view value.now))) }
-    ensures pair { IfOk result (λ pair. (pair, numbers_of numbering.new) ≡ pair_of (numbers_of numbering.old) (view value.now)) }
-    ensures earlier { OnOk result (texts_of earlier.new.keys ≡ with_text (key_of (view value.now)) (texts_of earlier.old.keys)) }
+    ensures pair { IfOk result (λ pair. (pair, numbers_of numbering.new)
+        ≡ pair_of (numbers_of numbering.old) (view value.now)) }
+    ensures earlier { OnOk result (texts_of earlier.new.keys
+        ≡ with_text (key_of (view value.now)) (texts_of earlier.old.keys)) }
 {
     let (key_name, name) = check_pair(alloc, value, version, earlier, counts)?;
     let pair = items_of(alloc, key_name, name, numbering)?;
@@ -295,7 +309,9 @@ fn read_pairs(
         (items_view list.now.items)) counts.new) }
     ensures unmet { IfErr result (IsFound counts.old (pairs_placed version
         (texts_of earlier.old.keys) 0 (items_view list.now.items))) }
-    ensures value { IfOk result (λ directory. (directory, numbers_of numbering.new) ≡ spelled_map (bind_all finite_map.empty) (pairs_of (numbers_of numbering.old) (items_view list.now.items))) }
+    ensures value { IfOk result (λ directory. (directory, numbers_of numbering.new)
+        ≡ spelled_map (bind_all finite_map.empty) (pairs_of (numbers_of numbering.old)
+        (items_view list.now.items))) }
 {
     let mut directory = Directory::new(alloc);
     for (index, pair) in list.iter().enumerate() {
@@ -318,7 +334,9 @@ fn read_directory(
         (items_view list.now.items)) counts.new) }
     ensures unmet { IfErr result (IsFound counts.old (pairs_placed version [] 0 (items_view
         list.now.items))) }
-    ensures value { IfOk result (λ directory. (directory, numbers_of numbering.new) ≡ spelled_map (bind_all finite_map.empty) (pairs_of (numbers_of numbering.old) (items_view list.now.items))) }
+    ensures value { IfOk result (λ directory. (directory, numbers_of numbering.new)
+        ≡ spelled_map (bind_all finite_map.empty) (pairs_of (numbers_of numbering.old)
+        (items_view list.now.items))) }
 {
     let mut earlier = IndexSet::with_capacity_and_hasher(
         alloc,
@@ -341,7 +359,8 @@ fn read_set_start(
         counts.new) }
     ensures unmet { IfErr result (IsFound counts.old (start_placed version Kind.Set
         (view value.now))) }
-    ensures value { IfOk result (λ start. (start, numbers_of numbering.new) ≡ start_of Kind.Set (numbers_of numbering.old) (view value.now)) }
+    ensures value { IfOk result (λ start. (start, numbers_of numbering.new)
+        ≡ start_of Kind.Set (numbers_of numbering.old) (view value.now)) }
 {
     let Some(list) = value.as_array() else {
         return Err(Unmet::from(counts.broken(Rule::Start(StartRule::Of(Kind::Set)))));
@@ -363,7 +382,8 @@ fn read_queue_start(
         counts.new) }
     ensures unmet { IfErr result (IsFound counts.old (start_placed version Kind.Queue
         (view value.now))) }
-    ensures value { IfOk result (λ start. (start, numbers_of numbering.new) ≡ start_of Kind.Queue (numbers_of numbering.old) (view value.now)) }
+    ensures value { IfOk result (λ start. (start, numbers_of numbering.new)
+        ≡ start_of Kind.Queue (numbers_of numbering.old) (view value.now)) }
 {
     let Some(list) = value.as_array() else {
         return Err(Unmet::from(counts.broken(Rule::Start(StartRule::Of(Kind::Queue)))));
@@ -385,7 +405,8 @@ fn read_directory_start(
         (view value.now)) counts.new) }
     ensures unmet { IfErr result (IsFound counts.old (start_placed version Kind.Directory
         (view value.now))) }
-    ensures value { IfOk result (λ start. (start, numbers_of numbering.new) ≡ start_of Kind.Directory (numbers_of numbering.old) (view value.now)) }
+    ensures value { IfOk result (λ start. (start, numbers_of numbering.new)
+        ≡ start_of Kind.Directory (numbers_of numbering.old) (view value.now)) }
 {
     let Some(list) = value.as_array() else {
         return Err(Unmet::from(counts.broken(Rule::Start(StartRule::Of(Kind::Directory)))));
@@ -409,7 +430,8 @@ fn read_start(
     ensures met { OnOk result (AreMet counts.old (start_placed version kind
         (view value.now)) counts.new) }
     ensures unmet { IfErr result (IsFound counts.old (start_placed version kind (view value.now))) }
-    ensures value { IfOk result (λ start. (start, numbers_of numbering.new) ≡ start_of kind (numbers_of numbering.old) (view value.now)) }
+    ensures value { IfOk result (λ start. (start, numbers_of numbering.new)
+        ≡ start_of kind (numbers_of numbering.old) (view value.now)) }
 {
     match kind {
         Kind::Account => match number_start(value) {
@@ -444,11 +466,14 @@ struct Shape<'v> {
 /// these parts.
 #[tactic(auto, unfolding(crate::specs::Asked::object_shape_asked))]
 fn shape_of<'v>(value: &'v Value, version: u8, counts: &Counts) -> Result<Shape<'v>, Failure>
-    ensures met { OnOk result (IsMet counts.now (object_shape_asked version (view value.now)) counts.now) }
-    ensures first { IfErr result (IsFirst counts.now (object_shape_asked version (view value.now))) }
+    ensures met { OnOk result (IsMet counts.now (object_shape_asked version (view value.now))
+        counts.now) }
+    ensures first { IfErr result (IsFirst counts.now (object_shape_asked version
+        (view value.now))) }
     ensures name { IfOk result (λ shape. shape.name.now ≡ object_name (view value.now)) }
     ensures kind { IfOk result (λ shape. shape.kind ≡ kind_in version (view value.now)) }
-    ensures start { IfOk result (λ shape. view shape.start.now ≡ part (codes "start") (view value.now)) }
+    ensures start { IfOk result (λ shape. view shape.start.now
+        ≡ part (codes "start") (view value.now)) }
 {
     let form = Form::Object;
     counts.demand(
@@ -487,7 +512,8 @@ pub fn add_name(
         (object_name_asked version (texts_of names.old.keys) name.now) counts.now) }
     ensures first { IfErr result (IsFirst counts.now
         (object_name_asked version (texts_of names.old.keys) name.now)) }
-    ensures names { OnOk result (texts_of names.new.keys ≡ texts_of names.old.keys ++ name.now ∷ []) }
+    ensures names { OnOk result (texts_of names.new.keys
+        ≡ texts_of names.old.keys ++ name.now ∷ []) }
 {
     counts.demand(
         is_name(version, name),
@@ -514,8 +540,11 @@ pub fn read_object(
         (view value.now)) counts.new) }
     ensures unmet { IfErr result (IsFound counts.old (object_placed version (texts_of
         names.old.keys) (view value.now))) }
-    ensures value { IfOk result (λ start. (start, numbers_of numbering.new) ≡ start_of (kind_in version (view value.now)) (numbers_of numbering.old) (part (codes "start") (view value.now))) }
-    ensures names { OnOk result (texts_of names.new.keys ≡ texts_of names.old.keys ++ object_name (view value.now) ∷ []) }
+    ensures value { IfOk result (λ start. (start, numbers_of numbering.new)
+        ≡ start_of (kind_in version (view value.now)) (numbers_of numbering.old) (part
+        (codes "start") (view value.now))) }
+    ensures names { OnOk result (texts_of names.new.keys
+        ≡ texts_of names.old.keys ++ object_name (view value.now) ∷ []) }
 {
     let shape = shape_of(value, version, counts)?;
     add_name(alloc, shape.name, version, names, counts)?;
@@ -538,8 +567,10 @@ fn read_values(
         (items_view list.now.items)) counts.new) }
     ensures unmet { IfErr result (IsFound counts.old (objects_placed version (texts_of
         names.old.keys) 0 (items_view list.now.items))) }
-    ensures names { OnOk result (texts_of names.new.keys ≡ texts_of names.old.keys ++ names_of (items_view list.now.items)) }
-    ensures objects { IfOk result (λ objects. (objects, numbers_of numbering.new) ≡ starts_of version (numbers_of numbering.old) (items_view list.now.items)) }
+    ensures names { OnOk result (texts_of names.new.keys
+        ≡ texts_of names.old.keys ++ names_of (items_view list.now.items)) }
+    ensures objects { IfOk result (λ objects. (objects, numbers_of numbering.new)
+        ≡ starts_of version (numbers_of numbering.old) (items_view list.now.items)) }
 {
     let mut objects = Objects::new(alloc);
     for (index, object) in list.iter().enumerate() {
@@ -566,9 +597,12 @@ pub fn read_objects(
         list.now.items)) counts.new) }
     ensures unmet { IfErr result (IsFound counts.old (objects_placed version [] 0 (items_view
         list.now.items))) }
-    ensures names { IfOk result (λ declared. texts_of declared.names.keys ≡ names_of (items_view list.now.items)) }
-    ensures setting { IfOk result (λ declared. setting_of declared ≡ declared_by version (items_view list.now.items)) }
-    ensures objects { IfOk result (λ declared. (declared.objects, numbers_of numbering.new) ≡ starts_of version (numbers_of numbering.old) (items_view list.now.items)) }
+    ensures names { IfOk result (λ declared. texts_of declared.names.keys
+        ≡ names_of (items_view list.now.items)) }
+    ensures setting { IfOk result (λ declared. setting_of declared
+        ≡ declared_by version (items_view list.now.items)) }
+    ensures objects { IfOk result (λ declared. (declared.objects, numbers_of numbering.new)
+        ≡ starts_of version (numbers_of numbering.old) (items_view list.now.items)) }
 {
     let mut names = IndexSet::with_capacity_and_hasher(
         alloc,

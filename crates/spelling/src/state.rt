@@ -79,7 +79,8 @@ pub fn fit(number: usize) -> u32
 /// Adds a text to the others if it is new, and returns whether it is.
 pub(crate) fn add_text(alloc: Global, table: &mut Texts, text: &str) -> Result<bool, NoMemory>
     ensures new { IfOk result (λ new. new ≡ not (is_listed text.now (texts_of table.old.keys))) }
-    ensures table { OnOk result (texts_of table.new.keys ≡ with_text text.now (texts_of table.old.keys)) }
+    ensures table { OnOk result (texts_of table.new.keys
+        ≡ with_text text.now (texts_of table.old.keys)) }
 {
     let new = table.insert(String::from_str(alloc, text)?)?;
     Ok(new)
@@ -88,7 +89,8 @@ pub(crate) fn add_text(alloc: Global, table: &mut Texts, text: &str) -> Result<b
 /// The number of a text, which joins the others if it is new.
 pub fn number_of(alloc: Global, table: &mut Texts, text: &str) -> Result<u32, NoMemory>
     ensures number { IfOk result (λ number. number ≡ number_of text.now (texts_of table.old.keys)) }
-    ensures table { OnOk result (texts_of table.new.keys ≡ with_text text.now (texts_of table.old.keys)) }
+    ensures table { OnOk result (texts_of table.new.keys
+        ≡ with_text text.now (texts_of table.old.keys)) }
 {
     if let Some(number) = table.get_index_of(text) {
         return Ok(fit(number));
@@ -100,7 +102,8 @@ pub fn number_of(alloc: Global, table: &mut Texts, text: &str) -> Result<u32, No
 
 /// The place of an item's name, if it has one. Where no name fell on its slot, it is taken to be new.
 fn known_item(numbering: &Numbering, name: &str) -> Option<usize>
-    ensures { IfSome result (λ place. place_of name.now (texts_of numbering.now.items.keys) ≡ Some place) }
+    ensures { IfSome result (λ place. place_of name.now (texts_of numbering.now.items.keys)
+        ≡ Some place) }
 {
     let guess = numbering.hints.place(Digest::of(name))?;
     place_in(&numbering.items, name, guess)
@@ -108,8 +111,10 @@ fn known_item(numbering: &Numbering, name: &str) -> Option<usize>
 
 /// Adds an item's name to the others if it is new, and returns its place.
 fn add_item(alloc: Global, numbering: &mut Numbering, name: &str) -> Result<usize, NoMemory>
-    ensures place { IfOk result (λ place. fit place ≡ number_of name.now (texts_of numbering.old.items.keys)) }
-    ensures numbers { OnOk result (numbers_of numbering.new ≡ with_item name.now (numbers_of numbering.old)) }
+    ensures place { IfOk result (λ place. fit place
+        ≡ number_of name.now (texts_of numbering.old.items.keys)) }
+    ensures numbers { OnOk result (numbers_of numbering.new
+        ≡ with_item name.now (numbers_of numbering.old)) }
 {
     let (place, _) = numbering.items.insert_full(String::from_str(alloc, name)?)?;
     numbering
@@ -124,8 +129,10 @@ pub(crate) fn number_of_item(
     numbering: &mut Numbering,
     name: &str,
 ) -> Result<u32, NoMemory>
-    ensures number { IfOk result (λ number. number ≡ number_of name.now (texts_of numbering.old.items.keys)) }
-    ensures numbers { OnOk result (numbers_of numbering.new ≡ with_item name.now (numbers_of numbering.old)) }
+    ensures number { IfOk result (λ number. number
+        ≡ number_of name.now (texts_of numbering.old.items.keys)) }
+    ensures numbers { OnOk result (numbers_of numbering.new
+        ≡ with_item name.now (numbers_of numbering.old)) }
 {
     if let Some(place) = known_item(numbering, name) {
         return Ok(fit(place));

@@ -94,8 +94,10 @@ pub fn reason_number(
     ensures first { IfErr result (λ failure. failure ≢ Failure.NoMemory
         → (is_name version reason.now ≡ false)
         × (failure ≡ broken_at (Rule.Name version rule) counts.now)) }
-    ensures number { IfOk result (λ number. number ≡ number_of reason.now (texts_of reasons.old.keys)) }
-    ensures table { OnOk result (texts_of reasons.new.keys ≡ with_text reason.now (texts_of reasons.old.keys)) }
+    ensures number { IfOk result (λ number. number
+        ≡ number_of reason.now (texts_of reasons.old.keys)) }
+    ensures table { OnOk result (texts_of reasons.new.keys
+        ≡ with_text reason.now (texts_of reasons.old.keys)) }
 {
     counts.demand(is_name(version, reason), Rule::Name(version, rule))?;
     let number = number_of(alloc, reasons, reason)?;
@@ -118,7 +120,8 @@ pub fn read_reason(
         (reason_asked version rule (option_map (λ text. text.now) reason.entry))) }
     ensures value { IfOk result (λ number. (number, numbers_of state.new.numbering)
         ≡ reason_of (numbers_of state.old.numbering) (option_map (λ text. text.now) reason.entry)) }
-    ensures labels { OnOk result (scope_of state.new.labels.entries ≡ scope_of state.old.labels.entries) }
+    ensures labels { OnOk result (scope_of state.new.labels.entries
+        ≡ scope_of state.old.labels.entries) }
 {
     let Some(name) = reason else {
         return Ok(None);
@@ -134,9 +137,11 @@ fn abort_of<'v>(
     version: u8,
     counts: &mut Counts,
 ) -> Result<Option<&'v str>, Failure>
-    ensures met { OnOk result (IsMet counts.old (abort_shape_asked version (view step.now)) counts.new) }
+    ensures met { OnOk result (IsMet counts.old (abort_shape_asked version (view step.now))
+        counts.new) }
     ensures first { IfErr result (IsFirst counts.old (abort_shape_asked version (view step.now))) }
-    ensures reason { IfOk result (λ reason. option_map (λ text. text.now) reason ≡ as_str (part (codes "abort") (view step.now))) }
+    ensures reason { IfOk result (λ reason. option_map (λ text. text.now) reason
+        ≡ as_str (part (codes "abort") (view step.now))) }
 {
     let form = Form::Abort;
     counts.demand(
@@ -159,10 +164,13 @@ fn abort_of<'v>(
 /// Returns the first demand that isn't met, or that memory was refused.
 #[tactic(auto, using(crate::proofs::Checks::parts), unfolding(crate::specs::Asked::abort_asked, crate::specs::Spelled::abort_of))]
 fn read_abort(alloc: Global, step: &Value, version: u8, state: &mut State) -> Result<Step, Failure>
-    ensures met { OnOk result (IsMet state.old.counts (abort_asked version (view step.now)) state.new.counts) }
+    ensures met { OnOk result (IsMet state.old.counts (abort_asked version (view step.now))
+        state.new.counts) }
     ensures first { IfErr result (IsFirst state.old.counts (abort_asked version (view step.now))) }
-    ensures value { IfOk result (λ read. (step_view read, numbers_of state.new.numbering) ≡ abort_of (numbers_of state.old.numbering) (view step.now)) }
-    ensures labels { OnOk result (scope_of state.new.labels.entries ≡ scope_of state.old.labels.entries) }
+    ensures value { IfOk result (λ read. (step_view read, numbers_of state.new.numbering)
+        ≡ abort_of (numbers_of state.old.numbering) (view step.now)) }
+    ensures labels { OnOk result (scope_of state.new.labels.entries
+        ≡ scope_of state.old.labels.entries) }
 {
     let reason = abort_of(step, version, &mut state.counts)?;
     let number = read_reason(alloc, reason, version, NameRule::Reason, state)?;
@@ -190,7 +198,8 @@ fn read_part(
     ensures value { IfOk result (λ block. (block_view block, numbers_of state.new.numbering)
         ≡ block_of (setting_of declared.now) levels (scope_of state.old.labels.entries)
         (numbers_of state.old.numbering) (view value.now)) }
-    ensures labels { OnOk result (scope_of state.new.labels.entries ≡ scope_of state.old.labels.entries) }
+    ensures labels { OnOk result (scope_of state.new.labels.entries
+        ≡ scope_of state.old.labels.entries) }
 {
     match read_block(alloc, value, levels, declared, state) {
         Ok(block) => Ok(block),
@@ -216,7 +225,8 @@ fn read_if(
     ensures value { IfOk result (λ read. (step_view read, numbers_of state.new.numbering)
         ≡ if_of (block_of (setting_of declared.now) levels) (scope_of state.old.labels.entries)
         (numbers_of state.old.numbering) (view step.now)) }
-    ensures labels { OnOk result (scope_of state.new.labels.entries ≡ scope_of state.old.labels.entries) }
+    ensures labels { OnOk result (scope_of state.new.labels.entries
+        ≡ scope_of state.old.labels.entries) }
 {
     let head = if_head(alloc, step, declared.version, state)?;
     let then = read_part(alloc, "then", head.then, levels, declared, state)?;
@@ -239,11 +249,10 @@ fn handlers_of<'v>(
     version: u8,
     counts: &Counts,
 ) -> Result<Option<&'v Map<String, Value>>, Failure>
-    ensures { MatchResult result
-        (λ handlers. (handlers_are_members version (view step.now) ≡ true)
-        × (option_map (λ members. members_view members.now.entries) handlers ≡ handlers_in (view step.now)))
-        (λ failure. (handlers_are_members version (view step.now) ≡ false)
-        × (failure ≡ broken_at (Rule.Shape (ShapeRule.Handlers version)) counts.now)) }
+    ensures { MatchResult result (λ handlers. (handlers_are_members version (view step.now) ≡ true)
+        × (option_map (λ members. members_view members.now.entries) handlers
+        ≡ handlers_in (view step.now))) (λ failure. (handlers_are_members version (view step.now)
+        ≡ false) × (failure ≡ broken_at (Rule.Shape (ShapeRule.Handlers version)) counts.now)) }
 {
     let Some(handlers) = step.get("handlers") else {
         return Ok(None);
@@ -263,12 +272,14 @@ pub(crate) fn sub_shape_of<'v>(
     version: u8,
     counts: &Counts,
 ) -> Result<SubShape<'v>, Failure>
-    ensures met { OnOk result (IsMet counts.now (sub_shape_asked version (view step.now)) counts.now) }
+    ensures met { OnOk result (IsMet counts.now (sub_shape_asked version (view step.now))
+        counts.now) }
     ensures first { IfErr result (IsFirst counts.now (sub_shape_asked version (view step.now))) }
     ensures body { IfOk result (λ shape. view shape.body.now ≡ part (codes "sub") (view step.now)) }
-    ensures label { IfOk result (λ shape. option_map (λ text. text.now) shape.label ≡ label_in (view step.now)) }
-    ensures handlers { IfOk result (λ shape. option_map (λ members. members_view members.now.entries) shape.handlers
-        ≡ handlers_in (view step.now)) }
+    ensures label { IfOk result (λ shape. option_map (λ text. text.now) shape.label
+        ≡ label_in (view step.now)) }
+    ensures handlers { IfOk result (λ shape. option_map (λ members.
+        members_view members.now.entries) shape.handlers ≡ handlers_in (view step.now)) }
 {
     let form = Form::Subaction;
     counts.demand(
@@ -306,7 +317,8 @@ fn read_handler(
     ensures value { IfOk result (λ read. (handler_view read, numbers_of state.new.numbering)
         ≡ member_of (block_of (setting_of declared.now) levels) (scope_of state.old.labels.entries)
         (numbers_of state.old.numbering) reason.now (view value.now)) }
-    ensures labels { OnOk result (scope_of state.new.labels.entries ≡ scope_of state.old.labels.entries) }
+    ensures labels { OnOk result (scope_of state.new.labels.entries
+        ≡ scope_of state.old.labels.entries) }
 {
     let reasons = &mut state.numbering.reasons;
     let number = reason_number(
@@ -341,10 +353,15 @@ pub fn read_members(
     ensures unmet { IfErr result (IsFound state.old.counts (members_placed declared.now.version
         (block_placed (setting_of declared.now) levels)
         (scope_of state.old.labels.entries) (members_view members.now.entries))) }
-    ensures value { IfOk result (λ read. (map handler_view read.items, numbers_of state.new.numbering)
-        ≡ members_of (block_of (setting_of declared.now) levels) (scope_of state.old.labels.entries)
-        (numbers_of state.old.numbering) (members_view members.now.entries)) }
-    ensures labels { OnOk result (scope_of state.new.labels.entries ≡ scope_of state.old.labels.entries) }
+    ensures value { IfOk result (λ read. (
+      map handler_view read.items,
+      numbers_of
+          state.new.numbering,
+    ) ≡ members_of (block_of (setting_of declared.now) levels) (scope_of
+        state.old.labels.entries) (numbers_of state.old.numbering) (members_view
+        members.now.entries)) }
+    ensures labels { OnOk result (scope_of state.new.labels.entries
+        ≡ scope_of state.old.labels.entries) }
 {
     let mut handlers = Vec::with_capacity(alloc, members.len())?;
     for (reason, value) in members {
@@ -372,10 +389,16 @@ fn read_handlers(
         (block_placed (setting_of declared.now) levels) (scope_of
         state.old.labels.entries) (option_map (λ members. members_view members.now.entries)
         handlers.entry)) nothing)) }
-    ensures value { IfOk result (λ read. (option_map (λ list. map handler_view list.items) read, numbers_of state.new.numbering)
-        ≡ handlers_spelled (block_of (setting_of declared.now) levels) (scope_of state.old.labels.entries)
-        (numbers_of state.old.numbering) (option_map (λ members. members_view members.now.entries) handlers.entry)) }
-    ensures labels { OnOk result (scope_of state.new.labels.entries ≡ scope_of state.old.labels.entries) }
+    ensures value { IfOk result (λ read. (
+      option_map (λ list.
+          map handler_view list.items) read,
+      numbers_of state.new.numbering,
+    )
+        ≡ handlers_spelled (block_of (setting_of declared.now) levels) (scope_of
+        state.old.labels.entries) (numbers_of state.old.numbering) (option_map (λ members.
+        members_view members.now.entries) handlers.entry)) }
+    ensures labels { OnOk result (scope_of state.new.labels.entries
+        ≡ scope_of state.old.labels.entries) }
 {
     let Some(members) = handlers else {
         return Ok(None);
@@ -394,7 +417,8 @@ pub(crate) fn taking(
     handler: Option<Block>,
 ) -> (Vec<Handler>, Otherwise)
     ensures { for_reasons (map handler_view result.0.items) (otherwise_view result.1)
-        ≡ handlers_of (option_map (λ list. map handler_view list.items) handlers) (option_map block_view handler) }
+        ≡ handlers_of (option_map (λ list. map handler_view list.items) handlers) (option_map
+        block_view handler) }
 {
     match (handlers, handler) {
         (None, None) => (Vec::new(alloc), Otherwise::GoOn),
@@ -416,15 +440,18 @@ fn read_sub(
     state: &mut State,
 ) -> Result<Subaction, Unmet>
     ensures met { OnOk result (AreMet state.old.counts (sub_placed declared.now.version
-        (block_placed (setting_of declared.now) levels)
-        (scope_of state.old.labels.entries) (unwrap_or (option_map (λ labels. scope_of labels.now.entries) earlier.entry) []) (view step.now)) state.new.counts) }
+        (block_placed (setting_of declared.now) levels) (scope_of state.old.labels.entries)
+        (unwrap_or (option_map (λ labels. scope_of labels.now.entries) earlier.entry) []) (view
+        step.now)) state.new.counts) }
     ensures unmet { IfErr result (IsFound state.old.counts (sub_placed declared.now.version
-        (block_placed (setting_of declared.now) levels)
-        (scope_of state.old.labels.entries) (unwrap_or (option_map (λ labels. scope_of labels.now.entries) earlier.entry) []) (view step.now))) }
+        (block_placed (setting_of declared.now) levels) (scope_of state.old.labels.entries)
+        (unwrap_or (option_map (λ labels. scope_of labels.now.entries) earlier.entry) []) (view
+        step.now))) }
     ensures value { IfOk result (λ read. (subaction_view read, numbers_of state.new.numbering)
         ≡ sub_of (block_of (setting_of declared.now) levels) (scope_of state.old.labels.entries)
         (numbers_of state.old.numbering) (view step.now)) }
-    ensures labels { OnOk result (scope_of state.new.labels.entries ≡ scope_of state.old.labels.entries) }
+    ensures labels { OnOk result (scope_of state.new.labels.entries
+        ≡ scope_of state.old.labels.entries) }
 {
     let head = sub_head(
         step,
@@ -462,10 +489,11 @@ fn read_sub_step(
         (block_placed (setting_of declared.now) levels)
         (scope_of state.old.labels.entries) [] (view step.now))) }
     ensures value { IfOk result (λ read. (step_view read, numbers_of state.new.numbering)
-        ≡ spelled_map sub_step (sub_of (block_of (setting_of declared.now) levels) (scope_of state.old.labels.entries)
-        (numbers_of state.old.numbering) (view step.now))) }
+        ≡ spelled_map sub_step (sub_of (block_of (setting_of declared.now) levels)
+        (scope_of state.old.labels.entries) (numbers_of state.old.numbering) (view step.now))) }
     ensures labels { OnOk result (scope_of state.new.labels.entries
-        ≡ with_label (label_in (view step.now)) Subject.Outcome (scope_of state.old.labels.entries)) }
+        ≡ with_label (label_in (view step.now)) Subject.Outcome (scope_of
+        state.old.labels.entries)) }
 {
     let child = read_sub(alloc, step, levels, declared, None, state)?;
     let step = sub_step(alloc, child, text_member(step, "as"), &mut state.labels)?;
@@ -490,11 +518,17 @@ fn read_children(
         (block_placed (setting_of declared.now) levels)
         (scope_of state.old.labels.entries) (scope_of earlier.old.entries) 0 (items_view
         list.now.items))) }
-    ensures value { IfOk result (λ read. (map subaction_view read.items, numbers_of state.new.numbering)
-        ≡ children_spelled (block_of (setting_of declared.now) levels) (scope_of state.old.labels.entries)
-        (numbers_of state.old.numbering) (items_view list.now.items)) }
-    ensures earlier { OnOk result (scope_of earlier.new.entries ≡ labels_of (scope_of earlier.old.entries) (items_view list.now.items)) }
-    ensures labels { OnOk result (scope_of state.new.labels.entries ≡ scope_of state.old.labels.entries) }
+    ensures value { IfOk result (λ read. (
+      map subaction_view read.items,
+      numbers_of
+          state.new.numbering,
+    ) ≡ children_spelled (block_of (setting_of declared.now) levels)
+        (scope_of state.old.labels.entries) (numbers_of state.old.numbering) (items_view
+        list.now.items)) }
+    ensures earlier { OnOk result (scope_of earlier.new.entries
+        ≡ labels_of (scope_of earlier.old.entries) (items_view list.now.items)) }
+    ensures labels { OnOk result (scope_of state.new.labels.entries
+        ≡ scope_of state.old.labels.entries) }
 {
     let mut children = Vec::with_capacity(alloc, list.len())?;
     for (index, child) in list.iter().enumerate() {
@@ -513,7 +547,8 @@ fn read_children(
 pub(crate) fn children_of<'v>(step: &'v Value, counts: &Counts) -> Result<&'v Vec<Value>, Failure>
     ensures met { OnOk result (IsMet counts.now (parallel_shape_asked (view step.now)) counts.now) }
     ensures first { IfErr result (IsFirst counts.now (parallel_shape_asked (view step.now))) }
-    ensures children { IfOk result (λ list. items_view list.now.items ≡ children_in (view step.now)) }
+    ensures children { IfOk result (λ list. items_view list.now.items
+        ≡ children_in (view step.now)) }
 {
     let form = Form::Parallel;
     counts.demand(
@@ -541,10 +576,11 @@ fn read_parallel(
         (block_placed (setting_of declared.now) levels)
         (scope_of state.old.labels.entries) (view step.now))) }
     ensures value { IfOk result (λ read. (step_view read, numbers_of state.new.numbering)
-        ≡ parallel_of (block_of (setting_of declared.now) levels) (scope_of state.old.labels.entries)
-        (numbers_of state.old.numbering) (view step.now)) }
+        ≡ parallel_of (block_of (setting_of declared.now) levels) (scope_of
+        state.old.labels.entries) (numbers_of state.old.numbering) (view step.now)) }
     ensures labels { OnOk result (scope_of state.new.labels.entries
-        ≡ with_labels (labels_of [] (children_in (view step.now))) (scope_of state.old.labels.entries)) }
+        ≡ with_labels (labels_of [] (children_in (view step.now))) (scope_of
+        state.old.labels.entries)) }
 {
     let list = parallel_head(step, declared.version, &mut state.counts)?;
     let mut earlier = no_labels(alloc, &state.labels);
@@ -576,10 +612,15 @@ fn read_part_if(
     ensures unmet { IfErr result (IsFound state.old.counts (inside (member_named name.now)
         (block_placed_if (block_placed (setting_of declared.now) levels) (scope_of
         state.old.labels.entries) (option_map (λ v. view v.now) value.entry)) nothing)) }
-    ensures value { IfOk result (λ block. (option_map block_view block, numbers_of state.new.numbering)
-        ≡ block_of_if (block_of (setting_of declared.now) levels) (scope_of state.old.labels.entries)
-        (numbers_of state.old.numbering) (option_map (λ v. view v.now) value.entry)) }
-    ensures labels { OnOk result (scope_of state.new.labels.entries ≡ scope_of state.old.labels.entries) }
+    ensures value { IfOk result (λ block. (
+      option_map block_view block,
+      numbers_of
+          state.new.numbering,
+    ) ≡ block_of_if (block_of (setting_of declared.now) levels) (scope_of
+        state.old.labels.entries) (numbers_of state.old.numbering) (option_map (λ v.
+        view v.now) value.entry)) }
+    ensures labels { OnOk result (scope_of state.new.labels.entries
+        ≡ scope_of state.old.labels.entries) }
 {
     match value {
         Some(value) => {
@@ -602,9 +643,9 @@ pub fn read_step(
     declared: &Declared,
     state: &mut State,
 ) -> Result<Step, Unmet>
-    ensures met { OnOk result (AreMet state.old.counts (step_placed (block_placed (setting_of
-        declared.now) levels)
-        (setting_of declared.now) (scope_of state.old.labels.entries) (view step.now)) state.new.counts) }
+    ensures met { OnOk result (AreMet state.old.counts
+        (step_placed (block_placed (setting_of declared.now) levels) (setting_of declared.now)
+        (scope_of state.old.labels.entries) (view step.now)) state.new.counts) }
     ensures unmet { IfErr result (IsFound state.old.counts (step_placed (block_placed (setting_of
         declared.now) levels)
         (setting_of declared.now) (scope_of state.old.labels.entries) (view step.now))) }
@@ -612,7 +653,8 @@ pub fn read_step(
         ≡ step_of (block_of (setting_of declared.now) levels) (setting_of declared.now)
         (scope_of state.old.labels.entries) (numbers_of state.old.numbering) (view step.now)) }
     ensures labels { OnOk result (scope_of state.new.labels.entries
-        ≡ scope_after (setting_of declared.now) (scope_of state.old.labels.entries) (view step.now)) }
+        ≡ scope_after (setting_of declared.now) (scope_of state.old.labels.entries) (view
+        step.now)) }
 {
     match sort_of(step) {
         Some(Sort::Operation) => {
@@ -649,8 +691,10 @@ fn read_steps(
         list.now.items))) }
     ensures value { IfOk result (λ read. (map step_view read.items, numbers_of state.new.numbering)
         ≡ steps_spelled (block_of (setting_of declared.now) levels) (setting_of declared.now)
-        (scope_of state.old.labels.entries) (numbers_of state.old.numbering) (items_view list.now.items)) }
-    ensures labels { OnOk result (Extends (scope_of state.old.labels.entries) (scope_of state.new.labels.entries)) }
+        (scope_of state.old.labels.entries) (numbers_of state.old.numbering) (items_view
+        list.now.items)) }
+    ensures labels { OnOk result (Extends (scope_of state.old.labels.entries)
+        (scope_of state.new.labels.entries)) }
 {
     let mut steps = Vec::with_capacity(alloc, list.len())?;
     for (index, step) in list.iter().enumerate() {
@@ -680,7 +724,8 @@ fn read_block(
     ensures value { IfOk result (λ block. (block_view block, numbers_of state.new.numbering)
         ≡ block_of (setting_of declared.now) levels (scope_of state.old.labels.entries)
         (numbers_of state.old.numbering) (view value.now)) }
-    ensures labels { OnOk result (scope_of state.new.labels.entries ≡ scope_of state.old.labels.entries) }
+    ensures labels { OnOk result (scope_of state.new.labels.entries
+        ≡ scope_of state.old.labels.entries) }
 {
     let Some(list) = value.as_array() else {
         return Err(Unmet::from(state.counts.broken(Rule::Shape(ShapeRule::Block))));
@@ -713,7 +758,8 @@ pub fn read_transaction(
     ensures unmet { IfErr result (IsFound state.old.counts (transaction_placed number (setting_of
         declared.now) (view value.now))) }
     ensures value { IfOk result (λ block. (block_view block, numbers_of state.new.numbering)
-        ≡ block_of (setting_of declared.now) MAX_DEPTH [] (numbers_of state.old.numbering) (view value.now)) }
+        ≡ block_of (setting_of declared.now) MAX_DEPTH [] (numbers_of state.old.numbering) (view
+        value.now)) }
     ensures labels { OnOk result (scope_of state.new.labels.entries ≡ []) }
 {
     state.counts.transaction = number;
@@ -735,8 +781,12 @@ pub fn read_transactions(
         declared.now) 0 (items_view list.now.items)) state.new.counts) }
     ensures unmet { IfErr result (IsFound state.old.counts (transactions_placed (setting_of
         declared.now) 0 (items_view list.now.items))) }
-    ensures value { IfOk result (λ blocks. (map block_view blocks.items, numbers_of state.new.numbering)
-        ≡ blocks_of (setting_of declared.now) (numbers_of state.old.numbering) (items_view list.now.items)) }
+    ensures value { IfOk result (λ blocks. (
+      map block_view blocks.items,
+      numbers_of
+          state.new.numbering,
+    ) ≡ blocks_of (setting_of declared.now) (numbers_of state.old.numbering)
+        (items_view list.now.items)) }
 {
     let mut blocks = Vec::with_capacity(alloc, list.len())?;
     for (index, transaction) in list.iter().enumerate() {

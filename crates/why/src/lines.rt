@@ -34,7 +34,8 @@ pub fn render_why<T: Threads + Sync>(
     alloc: Global,
     batch: &Batch,
 ) -> Result<String, NoMemory>
-    ensures { IfOk result (λ t. IsWhyText (names_of batch.now.names) (start_of batch.now) (blocks_of batch.now) (string_bytes t)) }
+    ensures { IfOk result (λ t. IsWhyText (names_of batch.now.names) (start_of batch.now)
+        (blocks_of batch.now) (string_bytes t)) }
 {
     let mut out = String::new(alloc);
     let mut objects = batch.objects.copy()?;
@@ -60,7 +61,8 @@ fn write_rounds<T: Threads + Sync>(
 ) -> Result<(), NoMemory>
     requires start { objects.old ≡ start_of batch.now }
     requires empty { string_bytes out.old ≡ [] }
-    ensures { OnOk result (IsWhyText (names_of batch.now.names) (start_of batch.now) (blocks_of batch.now) (string_bytes out.new)) }
+    ensures { OnOk result (IsWhyText (names_of batch.now.names) (start_of batch.now)
+        (blocks_of batch.now) (string_bytes out.new)) }
 {
     let mut opened: usize = 0;
     let mut number: usize = 1;
@@ -181,7 +183,8 @@ fn write_early(
 }
 
 fn write_place(out: &mut String, names: &Names, place: &Place) -> Result<(), NoMemory>
-    ensures { OnOk result (string_bytes out.new ≡ string_bytes out.old ++ place_text (names_of names.now) (place_view place.now)) }
+    ensures { OnOk result (string_bytes out.new ≡ string_bytes out.old
+        ++ place_text (names_of names.now) (place_view place.now)) }
 {
     let path = place.path.as_str();
     let name = object_name(names, place.entry.object);

@@ -12,8 +12,10 @@ use objects::{Entry, commute};
 
 /// The first operation that doesn't commute forward with all of these entries, if there is one.
 pub(crate) fn first_late<'p>(places: &'p [Place], nets: &Committed) -> Option<&'p Place>
-    ensures found { IfSome result (λ place. IsFirstWithout (λ p. CommutesWith p.entry nets.now) (places_view places.now) (place_view place.now)) }
-    ensures none { IsNone result → All (λ p. CommutesWith p.entry nets.now) (places_view places.now) }
+    ensures found { IfSome result (λ place. IsFirstWithout (λ p.
+        CommutesWith p.entry nets.now) (places_view places.now) (place_view place.now)) }
+    ensures none { IsNone result → All (λ p. CommutesWith p.entry nets.now)
+        (places_view places.now) }
 {
     for place in places.iter() {
         if !commutes_with(&place.entry, nets) {
@@ -34,8 +36,11 @@ fn commutes_with(entry: &Entry, nets: &Committed) -> bool
 /// The first operation of those that are left with which the entry doesn't commute forward, if
 /// there is one.
 pub(crate) fn first_early<'p>(places: &'p [Place], late: &Entry) -> Option<&'p Place>
-    ensures found { IfSome result (λ place. IsFirstWithout (λ p. CommuteForward late.now p.entry) (filter (λ p. p.left) (places_view places.now)) (place_view place.now)) }
-    ensures none { IsNone result → All (λ p. CommuteForward late.now p.entry) (filter (λ p. p.left) (places_view places.now)) }
+    ensures found { IfSome result (λ place. IsFirstWithout (λ p.
+        CommuteForward late.now p.entry) (filter (λ p.
+        p.left) (places_view places.now)) (place_view place.now)) }
+    ensures none { IsNone result → All (λ p. CommuteForward late.now p.entry) (filter (λ p.
+        p.left) (places_view places.now)) }
 {
     for place in places {
         if place.left && !commute(late, &place.entry) {

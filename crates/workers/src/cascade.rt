@@ -94,7 +94,8 @@ fn seat_by_seat<R: Threads + Sync, X: Send + Drop, F: Fn(Seat, Claim) -> X + Syn
     requires next { AreNext board.now (F.post work.now) seats.items all.items (vec_capacity all) }
     requires can { CanWork board.now (F.pre work.now) }
     ensures room { vec_capacity result.0 ≡ vec_capacity all }
-    ensures count { length result.0.items + length result.1.items ≡ length all.items + length seats.items }
+    ensures count { length result.0.items + length result.1.items
+        ≡ length all.items + length seats.items }
     ensures some { 0 < length seats.items → length all.items < length result.0.items }
     ensures each { All (IsGivenBy (F.post work.now)) result.0.items }
     ensures unused { All (IsNewSeat board.now) result.1.items }
@@ -112,10 +113,11 @@ fn seat_by_seat<R: Threads + Sync, X: Send + Drop, F: Fn(Seat, Claim) -> X + Syn
         requires { IsSync R.row × IsSync F.row × IsSend X.row × CanWork board.now (F.pre work.now)
             × AreNext board.now (F.post work.now) seats.items all.items (vec_capacity all) }
         ensures { (vec_capacity result.0 ≡ vec_capacity all)
-            × (length result.0.items + length result.1.items ≡ length all.items + length seats.items)
+            × (length result.0.items + length result.1.items
+            ≡ length all.items + length seats.items)
             × All (IsGivenBy (F.post work.entry.now)) result.0.items
-            × All (IsNewSeat board.entry.now) result.1.items
-            × (0 < length seats.items → length all.items < length result.0.items) }
+            × All (IsNewSeat board.entry.now) result.1.items × (0 < length seats.items
+            → length all.items < length result.0.items) }
     { seat_by_seat(threads, board, work, seats, all) };
     let own = move || -> X
         requires { F.pre work.now seat first }

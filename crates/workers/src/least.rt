@@ -20,9 +20,11 @@ fn judge<F: Fn(u32) -> bool>(board: &Board, passes: &F, seat: &mut Seat, piece: 
     requires can { F.pre passes.now piece }
     ensures own { IsSeatOf board.now seat.new }
     ensures same { LowAndTold seat.old.view seat.new.view }
-    ensures kept { (j : ℕ) → Judged (Passing (F.post passes.now)) seat.old.view j → Judged (Passing (F.post passes.now)) seat.new.view j }
+    ensures kept { (j : ℕ) → Judged (Passing (F.post passes.now)) seat.old.view j
+        → Judged (Passing (F.post passes.now)) seat.new.view j }
     ensures judged { Judged (Passing (F.post passes.now)) seat.new.view piece }
-    ensures low { LowFails (Failing (F.post passes.now)) board.now.pieces seat.old.view → LowFails (Failing (F.post passes.now)) board.now.pieces seat.new.view }
+    ensures low { LowFails (Failing (F.post passes.now)) board.now.pieces seat.old.view
+        → LowFails (Failing (F.post passes.now)) board.now.pieces seat.new.view }
 {
     if board.bound(seat) <= piece {
         return;
@@ -36,7 +38,8 @@ fn judge<F: Fn(u32) -> bool>(board: &Board, passes: &F, seat: &mut Seat, piece: 
 fn seek<F: Fn(u32) -> bool>(board: &Board, passes: &F, mut seat: Seat, first: Claim) -> Seat
     requires first { HasClaimed board.now seat first }
     requires can { (k : ℕ) → k < board.now.pieces → F.pre passes.now k }
-    ensures sought { Sought (Passing (F.post passes.now)) (Failing (F.post passes.now)) board.now result }
+    ensures sought { Sought (Passing (F.post passes.now)) (Failing (F.post passes.now)) board.now
+        result }
     ensures over { is_over result.view ≡ true }
 {
     let mut claim = first;
@@ -60,7 +63,8 @@ fn seek_all<R: Threads + Sync, F: Fn(u32) -> bool + Sync>(
     requires can { (k : ℕ) → k < board.now.pieces → F.pre passes.now k }
     ensures count { IfOk result (λ p. length p.0.items + length p.1.items ≡ length seats.items) }
     ensures some { IfOk result (λ p. 0 < length seats.items → 0 < length p.0.items) }
-    ensures back { IfOk result (λ p. AreBack (Passing (F.post passes.now)) (Failing (F.post passes.now)) board.now p.0.items) }
+    ensures back { IfOk result (λ p. AreBack (Passing (F.post passes.now))
+        (Failing (F.post passes.now)) board.now p.0.items) }
     ensures unused { IfOk result (λ p. All (IsNewSeat board.now) p.1.items) }
 {
     at_each_seat(
@@ -68,9 +72,10 @@ fn seek_all<R: Threads + Sync, F: Fn(u32) -> bool + Sync>(
         alloc,
         board,
         &|seat: Seat, first: Claim| -> Seat
-            requires { HasClaimed board.now seat first × ((k : ℕ) → k < board.now.pieces → F.pre passes.now k) }
-            ensures { Sought (Passing (F.post passes.entry.now)) (Failing (F.post passes.entry.now)) board.entry.now result
-                × (is_over result.view ≡ true) }
+            requires { HasClaimed board.now seat first × ((k : ℕ) → k < board.now.pieces
+                → F.pre passes.now k) }
+            ensures { Sought (Passing (F.post passes.entry.now)) (Failing (F.post passes.entry.now))
+                board.entry.now result × (is_over result.view ≡ true) }
         { seek(board, passes, seat, first) },
         seats,
     )

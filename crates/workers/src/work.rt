@@ -120,7 +120,8 @@ fn work_all<
     requires can { CanGiveAll board.now.pieces (F.pre give.now) (F.post give.now) }
     ensures count { IfOk result (λ p. length p.0.items + length p.1.items ≡ length seats.items) }
     ensures some { IfOk result (λ p. 0 < length seats.items → 0 < length p.0.items) }
-    ensures worked { IfOk result (λ p. All (HasWorked (Gives (F.post give.now)) board.now) p.0.items) }
+    ensures worked { IfOk result (λ p. All (HasWorked (Gives (F.post give.now)) board.now)
+        p.0.items) }
     ensures unused { IfOk result (λ p. All (IsNewSeat board.now) p.1.items) }
 {
     at_each_seat(
@@ -128,7 +129,8 @@ fn work_all<
         alloc,
         board,
         &|seat: Seat, first: Claim| -> Worked<X>
-            requires { HasClaimed board.now seat first × CanGiveAll board.now.pieces (F.pre give.now) (F.post give.now) }
+            requires { HasClaimed board.now seat first
+                × CanGiveAll board.now.pieces (F.pre give.now) (F.post give.now) }
             ensures { HasWorked (Gives (F.post give.entry.now)) board.entry.now result }
         { work_one(alloc, board, give, seat, first) },
         seats,
@@ -162,8 +164,8 @@ fn part<X: Drop>(
 /// worker does all its pieces at one bench, one after the other. It begins without a desk.
 ///
 /// Returns `NoMemory` where there is no memory for the board, its seats or a list, and where `give`
-/// returned it for a piece. The worker that met it raises, and the others stop at their next claim.
-/// Nothing else is returned then.
+/// returned it for a piece. The worker that met it raises, and each other one stops at a claim that
+/// sees the raise. Nothing else is returned then.
 pub fn give_all<
     R: Threads + Sync,
     D: Send + Drop,
