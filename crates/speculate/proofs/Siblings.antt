@@ -1,15 +1,14 @@
 -- Runs of children that were made ahead, and what keeping them shows.
-use Rattle.std.proofs.Common.{◌≡◌, ℕ, zero, suc, ◌+◌, ◌-◌, ◌<◌, ◌≤◌, List, [], ◌∷◌, ◌++◌, length, get_or, take, drop, refl, sym, ap, subst}
-use Rattle.std.proofs.Common.{◌∙◌, arith, add-one, drop-cons, drop-drop, take-add, length-append, Option, Some, None, Bool, true, ◌↔◌}
+use Rattle.std.proofs.Common.{◌≡◌, ℕ, zero, suc, ◌+◌, ◌<◌, ◌≤◌, List, [], ◌∷◌, ◌++◌, length, get_or, max, take, drop, refl, sym, ap, subst}
+use Rattle.std.proofs.Common.{◌∙◌, arith, add-one, drop-cons, length-append, Option, Some, None, Bool, true, ◌↔◌}
 use Rattle.std.proofs.Common.{Global, Vec, Result, Ok, Err}
-use Rattle.std.proofs.lemmas.List.{append-nil}
+use Rattle.std.proofs.lemmas.List.{append-nil, length-take-le, take-append-drop, take_more}
+use denote.Param.Weighed.{most, most-append}
 use Rattle.std.proofs.Math.Seq.{drop-append_seam, take-length}
 use Rattle.std.specs.Vec.Iter.{into_iter_items, into_iter_len, into_iter_steps}
 use Rattle.std.specs.Bool.{IsTrue}
-use Rattle.std.specs.Int.{div_ceil}
 use Rattle.std.specs.Option.{ForSome}
 use Rattle.std.specs.Result.{IfOk, IsOkAnd}
-use Rattle.std.specs.List.{slice_range}
 use Rattle.std.specs.declared.vec.IntoIter.{IntoIter}
 use Rattle.objects.specs.declared.entry.Entry.{Entry}
 use Rattle.meaning.specs.declared.end.End.TheVariants.{Ended, Aborted}
@@ -25,13 +24,12 @@ use Rattle.meaning.proofs.Parts.{one_children-Child}
 use Rattle.meaning.proofs.Shift.{children_shift}
 use Rattle.batch.specs.Views.{Tried, subaction_view, children_view}
 use Rattle.batch.specs.Running.{CanTryHere, CanRunAllHere, acted}
-use Rattle.batch.specs.declared.tree.Subaction.{Subaction}
+use Rattle.batch.specs.declared.tree.Subaction.{Subaction, size-Subaction}
 use Rattle.batch.proofs.CanRun.{can_try}
 use Rattle.intentions.specs.Levels.{Intentions as View, shown_values as state_of_view, AllHaveRoom, opened, absorbed}
 use Rattle.committed.specs.Summaries.{entries_of, IsSummary}
 use Rattle.committed.specs.declared.marks.MarkedEntry.{MarkedEntry}
 use Rattle.committed.proofs.SummaryLemmas.{stands-summary}
-use Rattle.committed.proofs.StandsLemmas.{length-range}
 use Rattle.batch.specs.Shows.{ShowsTried}
 use Rattle.speculate.specs.Running.{in_view}
 use Rattle.speculate.specs.Ahead.{CanAllTry, Leads, IsRunAhead, AreRunAhead, IsRunBefore, IsKept}
@@ -179,7 +177,7 @@ ran_alone child held labels state fresh now tried run same opens shows tried_is 
       sums,
     )
 
--- ---- children from place to place
+-- ---- children that are run ahead, in halves and one after the other
 
 -- each child can be tried on the state of the step
 pub each_can_try : (children : List Subaction) (held : List Held) (state : State) → CanRunAllHere (children_view children) held state
@@ -203,76 +201,57 @@ runs-append (child ∷ front) back held state [] others same first second = absu
 runs-append (child ∷ front) back held state (run ∷ runs) others same first second =
     (first.0, runs-append front back held state runs others (omega arith) first.1 second)
 
--- what lies from one place to another, and then from there on
-range-append : {X : Type 0} (xs : List X) (a b c : ℕ) → a ≤ b → b ≤ c → slice_range xs a b ++ slice_range xs b c ≡ slice_range xs a c
-range-append xs a b c first second =
-    let from_b : a + (b - a) ≡ b = omega arith in
-    let to_c : (b - a) + (c - b) ≡ c - a = omega arith in
-    let there : drop (b - a) (drop a xs) ≡ drop b xs = drop-drop (b - a) a xs ∙ ap (λ n. drop n xs) from_b in
-    ap (λ ys. slice_range xs a b ++ take (c - b) ys) (sym there) ∙ sym (take-add (b - a) (c - b) (drop a xs))
-    ∙ ap (λ n. take n (drop a xs)) to_c
-
-range-one : {X : Type 0} (xs : List X) (i : ℕ) (x : X) → i < length xs → x ≡ get_or xs i x → slice_range xs i (i + 1) ≡ x ∷ []
-range-one xs i x lt is =
-    let one : (i + 1) - i ≡ 1 = omega arith in
-    ap (λ n. take n (drop i xs)) one ∙ ap (take 1) (drop-cons xs i x lt) ∙ ap (λ y. y ∷ []) (sym is)
-
--- two halves
-halves : (children : List Subaction) (from middle upto : ℕ) (held : List Held) (state : State) (runs others : List Ahead)
-    → from ≤ middle → middle ≤ upto → upto ≤ length children
-    → length runs ≡ middle - from → AreRunAhead (slice_range children from middle) held state runs
-    → AreRunAhead (slice_range children middle upto) held state others → AreRunAhead (slice_range children from upto) held state
-    (runs ++ others)
-halves children from middle upto held state runs others first second within all front back =
-    subst (λ cs. AreRunAhead cs held state (runs ++ others)) (range-append children from middle upto first second)
-    (runs-append (slice_range children from middle) (slice_range children middle upto) held state runs others
-    (all ∙ sym (length-range children from middle (omega arith))) front back)
-
-both_long : (runs others : List Ahead) (from middle upto : ℕ) → from ≤ middle → middle ≤ upto → length runs ≡ middle - from
-    → length others ≡ upto - middle → length (runs ++ others) ≡ upto - from
-both_long runs others from middle upto first second front back = omega (arith, length-append runs others)
-
--- all of a list
-pub range-all : {X : Type 0} (xs : List X) → slice_range xs 0 (length xs) ≡ xs
-range-all xs = let whole : length xs - 0 ≡ length xs = omega arith in ap (λ n. take n xs) whole ∙ take-length xs
-
--- these runs are those of the children from one place to another
-abbrev AreOfPart : List Subaction → ℕ → ℕ → List Held → State → List Ahead → Type 0
-AreOfPart children from upto held state runs =
-    (length runs ≡ upto - from) × AreRunAhead (slice_range children from upto) held state runs
+-- these are the runs of all of the children
+abbrev AreOfAll : List Subaction → List Held → State → List Ahead → Type 0
+AreOfAll children held state runs = (length runs ≡ length children) × AreRunAhead children held state runs
 
 -- two halves that were joined
-pub joined_halves : {E : Type 0} (children : List Subaction) (from middle upto : ℕ) (held : List Held) (state : State)
-    (front back : Result (Vec Ahead Global) E) (runs : List Ahead) → from ≤ middle → middle ≤ upto → upto ≤ length children
-    → IfOk front (λ first. AreOfPart children from middle held state first.items)
-    → IfOk back (λ second. AreOfPart children middle upto held state second.items)
-    → IsOkAnd front (λ first. IsOkAnd back (λ second. runs ≡ first.items ++ second.items))
-    → AreOfPart children from upto held state runs
-joined_halves children from middle upto held state (Ok first) (Ok second) runs lower upper within here there is =
-    subst (AreOfPart children from upto held state) (sym is) (
-      both_long first.items second.items from middle upto lower upper here.0 there.0,
-      halves children from middle upto held state first.items second.items lower upper within here.0 here.1 there.1,
-    )
-joined_halves children from middle upto held state (Ok first) (Err e) runs lower upper within here there is = absurd is
-joined_halves children from middle upto held state (Err e) back runs lower upper within here there is = absurd is
+pub joined_halves : {E : Type 0} (children older younger : List Subaction) (middle : ℕ) (held : List Held) (state : State)
+    (front back : Result (Vec Ahead Global) E) (runs : List Ahead) → older ≡ take middle children → younger ≡ drop middle children
+    → IfOk front (λ first. AreOfAll older held state first.items) → IfOk back (λ second. AreOfAll younger held state second.items)
+    → IsOkAnd front (λ first. IsOkAnd back (λ second. runs ≡ first.items ++ second.items)) → AreOfAll children held state runs
+joined_halves children older younger middle held state (Ok first) (Ok second) runs older_is younger_is here there is =
+    let long : length (first.items ++ second.items) ≡ length (older ++ younger) =
+    omega (arith, length-append first.items second.items, length-append older younger, here.0, there.0) in
+    let whole : older ++ younger ≡ children = ap (λ cs. cs ++ younger) older_is ∙ ap (λ cs. take middle children ++ cs) younger_is
+    ∙ take-append-drop middle children in
+    subst (AreOfAll children held state) (sym is)
+    (subst (λ cs. AreOfAll cs held state (first.items ++ second.items)) whole
+    (long, runs-append older younger held state first.items second.items here.0 here.1 there.1))
+joined_halves children older younger middle held state (Ok first) (Err e) runs older_is younger_is here there is = absurd is
+joined_halves children older younger middle held state (Err e) back runs older_is younger_is here there is = absurd is
 
--- the middle lies between
-pub to_middle : (from upto half : ℕ) → from ≤ upto → half ≡ div_ceil (upto - from) 2 → (from ≤ from + half) × (from + half ≤ upto)
-to_middle from upto half ordered is = (omega arith, omega (arith, is))
+-- a half of some children has none that is larger than all of them
+halves_largest : (children : List Subaction) (middle : ℕ)
+    → max (most size-Subaction (take middle children)) (most size-Subaction (drop middle children)) ≡ most size-Subaction children
+halves_largest children middle = sym (most-append size-Subaction (take middle children) (drop middle children))
+    ∙ ap (most size-Subaction) (take-append-drop middle children)
+
+pub older_no_larger : (children : List Subaction) (middle : ℕ)
+    → most size-Subaction (take middle children) ≤ most size-Subaction children
+older_no_larger children middle = omega (arith, halves_largest children middle)
+
+pub younger_no_larger : (children : List Subaction) (middle : ℕ)
+    → most size-Subaction (drop middle children) ≤ most size-Subaction children
+younger_no_larger children middle = omega (arith, halves_largest children middle)
+
+-- what shows that each half takes fewer calls
+pub ruleset no_larger_rules = (older_no_larger, younger_no_larger)
 
 -- one more
-pub one_more : (children : List Subaction) (from place : ℕ) (held : List Held) (state : State) (runs : List Ahead) (child : Subaction)
-    (run : Ahead) → from ≤ place → place < length children → child ≡ get_or children place child
-    → length runs ≡ place - from → AreRunAhead (slice_range children from place) held state runs
-    → IsRunAhead (subaction_view child) held state run → AreRunAhead (slice_range children from (place + 1)) held state
-    (runs ++ run ∷ [])
-one_more children from place held state runs child run first lt is all so_far last =
-    halves children from place (place + 1) held state runs (run ∷ []) first (omega arith) (omega arith) all so_far
-    (subst (λ cs. AreRunAhead cs held state (run ∷ [])) (sym (range-one children place child lt is)) (last, tt))
+pub one_more : (children : List Subaction) (place : ℕ) (held : List Held) (state : State) (runs : List Ahead) (child : Subaction)
+    (run : Ahead) → place < length children → child ≡ get_or children place child → length runs ≡ place
+    → AreRunAhead (take place children) held state runs → IsRunAhead (subaction_view child) held state run
+    → AreRunAhead (take (place + 1) children) held state (runs ++ run ∷ [])
+one_more children place held state runs child run lt is all so_far last =
+    let more : take place children ++ child ∷ [] ≡ take (place + 1) children =
+    ap (λ y. take place children ++ y ∷ []) is ∙ sym (take_more children place child lt) in
+    let long : length runs ≡ length (take place children) = omega (arith, all, length-take-le place children (omega arith)) in
+    subst (λ cs. AreRunAhead cs held state (runs ++ run ∷ [])) more
+    (runs-append (take place children) (child ∷ []) held state runs (run ∷ []) long so_far (last, tt))
 
-pub one_longer : (runs : List Ahead) (run : Ahead) (from place : ℕ) → from ≤ place → length runs ≡ place - from
-    → length (runs ++ run ∷ []) ≡ (place + 1) - from
-one_longer runs run from place first all = omega (arith, length-append runs (run ∷ []))
+pub one_longer : (runs : List Ahead) (run : Ahead) (place : ℕ) → length runs ≡ place → length (runs ++ run ∷ []) ≡ place + 1
+one_longer runs run place all = omega (arith, length-append runs (run ∷ []))
 
 -- ---- children that are kept one after the other
 

@@ -1,6 +1,6 @@
 //! Running a block depth first in a view of the objects. Where there is width for it, children of a
 //! parallel step are run ahead, at once, and are then kept in order.
-ghost use Rattle.std.specs.Prelude.{◌≡◌, ◌++◌, ◌-◌, ◌≤◌, IfOk, OnOk, length, take, slice_range};
+ghost use Rattle.std.specs.Prelude.{◌≡◌, ◌++◌, ◌+◌, ◌<◌, ◌^◌, IfOk, OnOk, length, take};
 ghost use Rattle.std.specs.Option.{ForSome};
 ghost use Rattle.std.specs.Thread.{IsSync};
 ghost use Rattle.intentions.specs.Levels.{shown_values as state_of_view};
@@ -20,15 +20,16 @@ use crate::step::{branch_of, forget, perform_filled, undo};
 use batch::{Block, Record, Step, Subaction, Taken, Tried, add_label, handled, test_holds};
 use intentions::{Committed, NoMemory, View};
 use meaning::{End, Held};
-use std::alloc::Global;
 use std::thread::{Threads, join};
 
-/// What the runs of all parts of a transaction share.
+/// What the runs of the parts of a transaction share. At most `width` children of a parallel step are
+/// run at once.
 #[derive(Drop)]
 pub(crate) struct Making<'a, T: Threads + Sync, G: Gate> {
     pub(crate) threads: &'a T,
     pub(crate) gate: &'a G,
     pub(crate) shared: Shared,
+    pub(crate) width: u32,
 }
 
 impl<T: Threads + Sync, G: Gate> Making<'_, T, G> {
@@ -39,6 +40,13 @@ impl<T: Threads + Sync, G: Gate> Making<'_, T, G> {
     }
 }
 
+/// A child of a parallel step, and its place (from 0) among its siblings.
+#[derive(Clone, Copy, Drop)]
+struct Sibling<'a> {
+    place: usize,
+    child: &'a Subaction,
+}
+
 /// Runs a block. Its labels are forgotten at its end. The record uses the memory of the spare list.
 #[cycle(run)]
 pub(crate) fn run_block<T: Threads + Sync, G: Gate>(
@@ -46,16 +54,15 @@ pub(crate) fn run_block<T: Threads + Sync, G: Gate>(
     block: &Block,
     labels: &mut Vec<Held>,
     view: &mut View<'_>,
-    width: u32,
     spare: Vec<Taken>,
 ) -> Result<Record, NoMemory>
     requires { CanRunHere (block_view block.now) labels.old.items (state_of_view view.old) }
-    ensures shows { IfOk result
-        (λ r. ShowsRun in_view (one (block_view block.now) labels.old.items (state_of_view view.old)) r view.old view.new) }
+    ensures shows { IfOk result (λ r. ShowsRun in_view (one (block_view block.now) labels.old.items
+        (state_of_view view.old)) r view.old view.new) }
     ensures labels { OnOk result (labels.new.items ≡ labels.old.items) }
 {
     let seen = labels.len();
-    let record = run_steps(making, &block.steps, labels, view, width, spare)?;
+    let record = run_steps(making, &block.steps, labels, view, spare)?;
     forget(labels, seen);
     Ok(record)
 }
@@ -68,12 +75,11 @@ fn run_steps<T: Threads + Sync, G: Gate>(
     steps: &[Step],
     labels: &mut Vec<Held>,
     view: &mut View<'_>,
-    width: u32,
     spare: Vec<Taken>,
 ) -> Result<Record, NoMemory>
     requires { CanRunHere (steps_view steps.now) labels.old.items (state_of_view view.old) }
-    ensures shows { IfOk result
-        (λ r. ShowsRun in_view (one (steps_view steps.now) labels.old.items (state_of_view view.old)) r view.old view.new) }
+    ensures shows { IfOk result (λ r. ShowsRun in_view (one (steps_view steps.now) labels.old.items
+        (state_of_view view.old)) r view.old view.new) }
     ensures labels { OnOk result (StillSeen labels.old.items labels.new.items) }
 {
     let mut taken = spare;
@@ -95,7 +101,7 @@ fn run_steps<T: Threads + Sync, G: Gate>(
             }
             continue;
         }
-        let (done, end) = run_other_step(making, step, labels, view, width, &mut taken, place)?;
+        let (done, end) = run_other_step(making, step, labels, view, &mut taken, place)?;
         put_at(&mut taken, place, done)?;
         match end {
             End::Ended => {}
@@ -114,14 +120,14 @@ fn run_other_step<T: Threads + Sync, G: Gate>(
     step: &Step,
     labels: &mut Vec<Held>,
     view: &mut View<'_>,
-    width: u32,
     taken: &mut Vec<Taken>,
     place: usize,
 ) -> Result<(Taken, End), NoMemory>
     requires other { IsNoOperation (step_view step.now) }
     requires can { CanStepHere (step_view step.now) labels.old.items (state_of_view view.old) }
-    ensures shows { IfOk result
-        (λ r. ShowsStep in_view (one_step (step_view step.now) labels.old.items (state_of_view view.old)) r.0 r.1 labels.old.items labels.new.items view.old view.new) }
+    ensures shows { IfOk result (λ r. ShowsStep in_view (one_step (step_view step.now)
+        labels.old.items (state_of_view view.old)) r.0 r.1 labels.old.items labels.new.items
+        view.old view.new) }
     ensures labels { OnOk result (StillSeen labels.old.items labels.new.items) }
     ensures length { length taken.new.items ≡ length taken.old.items }
     ensures before { take place taken.new.items ≡ take place taken.old.items }
@@ -139,7 +145,7 @@ fn run_other_step<T: Threads + Sync, G: Gate>(
             let branch = branch_of(holds, then, otherwise);
             let mut spare = spare_at(taken, place);
             let list = list_of(making.shared.alloc, &mut spare.body);
-            let record = run_block(making, branch, labels, view, width, list)?;
+            let record = run_block(making, branch, labels, view, list)?;
             let end = record.outcome;
             Ok((
                 Taken::If(holds, boxed(making.shared.alloc, &mut spare.body, record)?),
@@ -148,13 +154,13 @@ fn run_other_step<T: Threads + Sync, G: Gate>(
         }
         Step::Sub(child) => {
             let mut spare = spare_at(taken, place);
-            let tried = run_subaction(making, child, labels, view, width, &mut spare)?;
+            let tried = run_subaction(making, child, labels, view, &mut spare)?;
             let (done, end) = spare.into_step(making.shared.alloc, labels, child.labelled, tried)?;
             Ok((done, end))
         }
         Step::Abort(reason) => Ok((Taken::Abort, End::Aborted(*reason))),
         Step::Parallel(children) => {
-            let (reached, end) = run_children(making, children, labels, view, width)?;
+            let (reached, end) = run_children(making, children, labels, view)?;
             Ok((reached.into_taken(labels)?, end))
         }
     }
@@ -167,17 +173,17 @@ fn run_subaction<T: Threads + Sync, G: Gate>(
     child: &Subaction,
     labels: &mut Vec<Held>,
     view: &mut View<'_>,
-    width: u32,
     spare: &mut Spare,
 ) -> Result<Tried, NoMemory>
     requires { CanTryHere (subaction_view child.now) labels.old.items (state_of_view view.old) }
-    ensures shows { IfOk result
-        (λ r. ShowsTried in_view (subaction_view child.now) (acted (subaction_view child.now) labels.old.items (state_of_view view.old)) r view.old view.new) }
+    ensures shows { IfOk result (λ r. ShowsTried in_view (subaction_view child.now)
+        (acted (subaction_view child.now) labels.old.items (state_of_view view.old))
+        r view.old view.new) }
     ensures labels { OnOk result (labels.new.items ≡ labels.old.items) }
 {
     view.begin()?;
     let list = list_of(making.shared.alloc, &mut spare.body);
-    let body = run_block(making, &child.body, labels, view, width, list)?;
+    let body = run_block(making, &child.body, labels, view, list)?;
     match body.outcome {
         End::Ended => {
             view.commit()?;
@@ -190,7 +196,7 @@ fn run_subaction<T: Threads + Sync, G: Gate>(
         End::Aborted(reason) => match undo(child, reason, view) {
             Ok(block) => {
                 let list = list_of(making.shared.alloc, &mut spare.handler);
-                let done = run_block(making, block, labels, view, width, list)?;
+                let done = run_block(making, block, labels, view, list)?;
                 let (handler, end) = handled(done);
                 Ok(Tried { body, handler, end })
             }
@@ -211,19 +217,21 @@ fn run_children<T: Threads + Sync, G: Gate>(
     children: &[Subaction],
     labels: &mut Vec<Held>,
     view: &mut View<'_>,
-    width: u32,
 ) -> Result<(Reached, End), NoMemory>
-    requires { CanRunAllHere (children_view children.now) labels.old.items (state_of_view view.old) }
-    ensures shows { IfOk result
-        (λ r. ShowsChildren in_view (one_children (children_view children.now) labels.old.items (state_of_view view.old)) r.0.all.items r.1 r.0.outcomes.items view.old view.new) }
+    requires { CanRunAllHere (children_view children.now) labels.old.items
+        (state_of_view view.old) }
+    ensures shows { IfOk result (λ r. ShowsChildren in_view
+        (one_children (children_view children.now) labels.old.items (state_of_view view.old))
+        r.0.all.items r.1 r.0.outcomes.items view.old view.new) }
     ensures labels { OnOk result (labels.new.items ≡ labels.old.items) }
 {
     let mut reached = Reached::new(making.shared.alloc, children.len())?;
-    let mut ahead = run_if_wide(making, children, labels, view, width)?.into_iter();
+    let mut ahead = run_if_wide(making, children, labels, view)?.into_iter();
     let mut kept = Committed::hashed_by(making.shared.alloc, making.shared.hashing);
     for (place, child) in children.iter().enumerate() {
+        let sibling = Sibling { place, child };
         let run = ahead.next();
-        let tried = run_child(making, child, place, run, &mut kept, labels, view, width)?;
+        let tried = run_child(making, sibling, run, &mut kept, labels, view)?;
         let end = reached.add(child.labelled, tried)?;
         match end {
             End::Ended => {}
@@ -238,30 +246,32 @@ fn run_children<T: Threads + Sync, G: Gate>(
 #[cycle(run)]
 fn run_child<T: Threads + Sync, G: Gate>(
     making: &Making<'_, T, G>,
-    child: &Subaction,
-    place: usize,
+    sibling: Sibling<'_>,
     ahead: Option<Ahead>,
     kept: &mut Committed,
     labels: &mut Vec<Held>,
     view: &mut View<'_>,
-    width: u32,
 ) -> Result<Tried, NoMemory>
-    requires can { CanTryHere (subaction_view child.now) labels.old.items (state_of_view view.old) }
-    requires ahead { ForSome ahead (IsRunBefore (subaction_view child.now) labels.old.items kept.old (state_of_view view.old)) }
-    ensures shows { IfOk result
-        (λ r. ShowsTried in_view (subaction_view child.now) (acted (subaction_view child.now) labels.old.items (state_of_view view.old)) r view.old view.new) }
-    ensures kept { OnOk result (ForSome ahead
-        (λ _. kept.new ≡ kept.old ++ kept_of_child (record_of (acted (subaction_view child.now) labels.old.items (state_of_view view.old))))) }
+    requires can { CanTryHere (subaction_view sibling.child.now) labels.old.items
+        (state_of_view view.old) }
+    requires ahead { ForSome ahead (IsRunBefore (subaction_view sibling.child.now) labels.old.items
+        kept.old (state_of_view view.old)) }
+    ensures shows { IfOk result (λ r. ShowsTried in_view (subaction_view sibling.entry.child.now)
+        (acted (subaction_view sibling.entry.child.now) labels.old.items (state_of_view view.old))
+        r view.old view.new) }
+    ensures kept { OnOk result (ForSome ahead (λ _. kept.new ≡ kept.old
+        ++ kept_of_child (record_of (acted (subaction_view sibling.entry.child.now) labels.old.items
+        (state_of_view view.old))))) }
     ensures labels { OnOk result (labels.new.items ≡ labels.old.items) }
 {
     let Some(run) = ahead else {
-        making.pass(place);
-        return run_subaction(making, child, labels, view, width, &mut Spare::none());
+        making.pass(sibling.place);
+        return run_subaction(making, sibling.child, labels, view, &mut Spare::none());
     };
     if let Some(tried) = run.keep(kept, view)? {
         return Ok(tried);
     }
-    Ok(run_anew(making, child, place, kept, labels, view)?)
+    Ok(run_anew(making, sibling, kept, labels, view)?)
 }
 
 // Runs a child in its parent's view, after its earlier siblings, and lists what it leaves. It has a
@@ -269,22 +279,30 @@ fn run_child<T: Threads + Sync, G: Gate>(
 #[cycle(run)]
 fn run_anew<T: Threads + Sync, G: Gate>(
     making: &Making<'_, T, G>,
-    child: &Subaction,
-    place: usize,
+    sibling: Sibling<'_>,
     kept: &mut Committed,
     labels: &mut Vec<Held>,
     view: &mut View<'_>,
 ) -> Result<Tried, NoMemory>
-    requires { CanTryHere (subaction_view child.now) labels.old.items (state_of_view view.old) }
-    ensures shows { IfOk result
-        (λ r. ShowsTried in_view (subaction_view child.now) (acted (subaction_view child.now) labels.old.items (state_of_view view.old)) r view.old view.new) }
-    ensures kept { OnOk result
-        (kept.new ≡ kept.old ++ kept_of_child (record_of (acted (subaction_view child.now) labels.old.items (state_of_view view.old)))) }
+    requires { CanTryHere (subaction_view sibling.child.now) labels.old.items
+        (state_of_view view.old) }
+    ensures shows { IfOk result (λ r. ShowsTried in_view (subaction_view sibling.entry.child.now)
+        (acted (subaction_view sibling.entry.child.now) labels.old.items (state_of_view view.old))
+        r view.old view.new) }
+    ensures kept { OnOk result (kept.new ≡ kept.old
+        ++ kept_of_child (record_of (acted (subaction_view sibling.entry.child.now) labels.old.items
+        (state_of_view view.old)))) }
     ensures labels { OnOk result (labels.new.items ≡ labels.old.items) }
 {
     let before = view.net().len();
-    making.pass(place);
-    let tried = run_subaction(making, child, labels, view, 1, &mut Spare::none())?;
+    making.pass(sibling.place);
+    let narrow = Making {
+        threads: making.threads,
+        gate: making.gate,
+        shared: making.shared,
+        width: 1,
+    };
+    let tried = run_subaction(&narrow, sibling.child, labels, view, &mut Spare::none())?;
     list_since(kept, view, before)?;
     Ok(tried)
 }
@@ -296,12 +314,12 @@ fn run_if_wide<T: Threads + Sync, G: Gate>(
     children: &[Subaction],
     labels: &[Held],
     view: &View<'_>,
-    width: u32,
 ) -> Result<Vec<Ahead>, NoMemory>
     requires { CanAllTry children.now labels.now (state_of_view view.now) }
-    ensures { IfOk result (λ runs. AreRunAhead children.now labels.now (state_of_view view.now) runs.items) }
+    ensures { IfOk result
+        (λ runs. AreRunAhead children.now labels.now (state_of_view view.now) runs.items) }
 {
-    let fork = Fork::if_wide(making.shared, children, labels, view, width)?;
+    let fork = Fork::if_wide(making.shared, children, labels, view, making.width)?;
     let Some(fork) = fork else {
         return Ok(Vec::new(making.shared.alloc));
     };
@@ -309,78 +327,89 @@ fn run_if_wide<T: Threads + Sync, G: Gate>(
         making.threads,
         making.gate,
         &fork,
-        children,
         0,
-        children.len(),
-        width,
+        children,
+        making.width,
     )
 }
 
-// The runs of the children from one place to before another. While the width is for more than one,
-// they are made in two halves at once. The first half gets half of the width, rounded up, and the
-// other the rest. (The threads and the gate are passed by themselves: `join` says nothing of
-// closures that capture a struct which borrows.)
+// The runs of children that follow one another in their step. The first is at this place. While
+// the width is for more than one, they are made in two halves at once. The first half gets half of
+// the width, rounded up, and the other the rest. (The threads and the gate are passed by themselves:
+// `join` says nothing of closures that capture a struct which borrows.)
 #[cycle(run)]
+#[tactic(auto, using(crate::proofs::Siblings::no_larger_rules))]
 fn run_ahead<T: Threads + Sync, G: Gate>(
     threads: &T,
     gate: &G,
     fork: &Fork,
+    first: usize,
     children: &[Subaction],
-    from: usize,
-    upto: usize,
     width: u32,
 ) -> Result<Vec<Ahead>, NoMemory>
     requires can { CanAllTry children.now fork.now.labels.items fork.now.state }
-    requires ordered { from ≤ upto }
-    requires within { upto ≤ length children.now }
-    ensures all { IfOk result (λ runs. length runs.items ≡ upto - from) }
-    ensures runs { IfOk result (λ runs. AreRunAhead (slice_range children.now from upto) fork.now.labels.items fork.now.state runs.items) }
+    requires few { first + length children.now < 2 ^ 64 }
+    ensures all { IfOk result (λ runs. length runs.items ≡ length children.now) }
+    ensures runs { IfOk result
+        (λ runs. AreRunAhead children.now fork.now.labels.items fork.now.state runs.items) }
 {
-    if width < 2 || upto - from < 2 {
-        return run_part(threads, gate, fork, children, from, upto, width);
+    if width < 2 || children.len() < 2 {
+        return run_part(threads, gate, fork, first, children, width);
     }
-    let middle = from + (upto - from).div_ceil(2);
+    let middle = children.len().div_ceil(2);
+    let (older, younger) = children.split_at(middle);
+    let beyond = first + middle;
     let front_width = width.div_ceil(2);
     let back_width = width - front_width;
     let (front, back) = join(
         threads,
         || -> Result<Vec<Ahead>, NoMemory>
-            requires { IsSync T.row × IsSync G.row × CanAllTry children.now fork.now.labels.items fork.now.state × (from ≤ middle) × (middle ≤ length children.now) }
-            ensures { IfOk result (λ runs. (length runs.items ≡ middle - from) × AreRunAhead (slice_range children.entry.now from middle) fork.entry.now.labels.items fork.entry.now.state runs.items) }
-        { run_ahead(threads, gate, fork, children, from, middle, front_width) },
+            requires { IsSync T.row × IsSync G.row × (first + length older.now < 2 ^ 64)
+                × CanAllTry older.now fork.now.labels.items fork.now.state }
+            ensures { IfOk result (λ runs. (length runs.items ≡ length older.entry.now)
+                × AreRunAhead older.entry.now fork.entry.now.labels.items
+                fork.entry.now.state runs.items) }
+        { run_ahead(threads, gate, fork, first, older, front_width) },
         || -> Result<Vec<Ahead>, NoMemory>
-            requires { IsSync T.row × IsSync G.row × CanAllTry children.now fork.now.labels.items fork.now.state × (middle ≤ upto) × (upto ≤ length children.now) }
-            ensures { IfOk result (λ runs. (length runs.items ≡ upto - middle) × AreRunAhead (slice_range children.entry.now middle upto) fork.entry.now.labels.items fork.entry.now.state runs.items) }
-        { run_ahead(threads, gate, fork, children, middle, upto, back_width) },
+            requires { IsSync T.row × IsSync G.row × (beyond + length younger.now < 2 ^ 64)
+                × CanAllTry younger.now fork.now.labels.items fork.now.state }
+            ensures { IfOk result (λ runs. (length runs.items ≡ length younger.entry.now)
+                × AreRunAhead younger.entry.now fork.entry.now.labels.items
+                fork.entry.now.state runs.items) }
+        { run_ahead(threads, gate, fork, beyond, younger, back_width) },
     );
     Ok(both_halves(front, back)?)
 }
 
-// The runs of the children from one place to before another, one after the other.
+// Such runs, made one after the other.
 #[cycle(run)]
 fn run_part<T: Threads + Sync, G: Gate>(
     threads: &T,
     gate: &G,
     fork: &Fork,
+    first: usize,
     children: &[Subaction],
-    from: usize,
-    upto: usize,
     width: u32,
 ) -> Result<Vec<Ahead>, NoMemory>
     requires can { CanAllTry children.now fork.now.labels.items fork.now.state }
-    requires ordered { from ≤ upto }
-    requires within { upto ≤ length children.now }
-    ensures all { IfOk result (λ runs. length runs.items ≡ upto - from) }
-    ensures runs { IfOk result (λ runs. AreRunAhead (slice_range children.now from upto) fork.now.labels.items fork.now.state runs.items) }
+    requires few { first + length children.now < 2 ^ 64 }
+    ensures all { IfOk result (λ runs. length runs.items ≡ length children.now) }
+    ensures runs { IfOk result
+        (λ runs. AreRunAhead children.now fork.now.labels.items fork.now.state runs.items) }
 {
     let making = Making {
         threads,
         gate,
         shared: fork.shared,
+        width,
     };
-    let mut runs = Vec::with_capacity(fork.shared.alloc, upto - from)?;
-    for place in from..upto {
-        let run = run_alone(&making, fork, &children[place], place, width)?;
+    let mut runs = Vec::with_capacity(fork.shared.alloc, children.len())?;
+    for (place, child) in children.iter().enumerate() {
+        let sibling = Sibling {
+            place: first + place,
+            child,
+        };
+        let run = run_alone(&making, fork, sibling)?;
         runs.push(run)?;
     }
     Ok(runs)
@@ -391,22 +420,20 @@ fn run_part<T: Threads + Sync, G: Gate>(
 fn run_alone<T: Threads + Sync, G: Gate>(
     making: &Making<'_, T, G>,
     fork: &Fork,
-    child: &Subaction,
-    place: usize,
-    width: u32,
+    sibling: Sibling<'_>,
 ) -> Result<Ahead, NoMemory>
-    requires { CanTryHere (subaction_view child.now) fork.now.labels.items fork.now.state }
-    ensures { IfOk result (λ run. IsRunAhead (subaction_view child.now) fork.now.labels.items fork.now.state run) }
+    requires { CanTryHere (subaction_view sibling.child.now) fork.now.labels.items fork.now.state }
+    ensures { IfOk result (λ run. IsRunAhead (subaction_view sibling.entry.child.now)
+        fork.now.labels.items fork.now.state run) }
 {
-    making.pass(place);
+    making.pass(sibling.place);
     let mut labels = Vec::from_slice(making.shared.alloc, &fork.labels)?;
     let mut view = View::open(making.shared.alloc, &fork.state)?;
     let tried = run_subaction(
         making,
-        child,
+        sibling.child,
         &mut labels,
         &mut view,
-        width,
         &mut Spare::none(),
     )?;
     Ok(Ahead::of(making.shared, tried, view)?)

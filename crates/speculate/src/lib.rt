@@ -20,4 +20,4 @@ pub use meaning::{End, Held};
 pub use one_thread::plain;
 pub use plan::MAX_WORKERS;
 pub use speculated::Run;
-pub use transaction::{run, run_in};
+pub use transaction::{Maker, run, run_in};

@@ -19,6 +19,17 @@ use std::alloc::Global;
 use std::mem::replace;
 use std::thread::Threads;
 
+/// What a run is made with: the right to start threads, the allocator, the batch, the gate that sees
+/// the run, and how many children of a parallel block are run at once.
+#[derive(Drop)]
+pub struct Maker<'a, T: Threads + Sync, G: Gate> {
+    pub threads: &'a T,
+    pub alloc: Global,
+    pub batch: &'a Batch,
+    pub gate: &'a G,
+    pub width: u32,
+}
+
 /// Runs transaction `number` (from 1) of the batch on these objects, which stay as they are. At
 /// most `width` children of a parallel block are run at once.
 ///
@@ -44,17 +55,14 @@ pub fn run<T: Threads + Sync, G: Gate>(
     let mut labels = Vec::new(alloc);
     let mut run = Run::empty(alloc);
     run.make_room(batch.operations_of(number as usize - 1) as usize)?;
-    let mut listed = run_in(
+    let maker = Maker {
         threads,
         alloc,
-        &mut view,
-        &mut labels,
         batch,
-        number,
-        width,
         gate,
-        &mut run,
-    )?;
+        width,
+    };
+    let mut listed = run_in(&maker, number, &mut view, &mut labels, &mut run)?;
     run.list_net(&mut listed)?;
     Ok(run)
 }
@@ -67,54 +75,52 @@ pub fn run<T: Threads + Sync, G: Gate>(
 ///
 /// After it returns `NoMemory`, the view, the labels and the run are of no further use.
 pub fn run_in<T: Threads + Sync, G: Gate>(
-    threads: &T,
-    alloc: Global,
+    maker: &Maker<'_, T, G>,
+    number: u32,
     view: &mut View<'_>,
     labels: &mut Vec<Held>,
-    batch: &Batch,
-    number: u32,
-    width: u32,
-    gate: &G,
     run: &mut Run,
 ) -> Result<NetList, NoMemory>
     requires first { 1 ≤ number }
-    requires last { number ≤ length batch.now.transactions.items }
-    requires narrow { (1 ≤ width) × (width ≤ MAX_WORKERS) }
+    requires last { number ≤ length maker.now.batch.now.transactions.items }
+    requires narrow { (1 ≤ maker.now.width) × (maker.now.width ≤ MAX_WORKERS) }
     requires opened { view.old ≡ opened view.old.snapshot }
     requires unlabelled { labels.old.items ≡ [] }
-    requires same_kinds { kinds view.old.snapshot ≡ kinds batch.now.objects }
-    requires room { IsWithinOthers (map block_view batch.now.transactions.items) (number - 1) view.old.snapshot }
+    requires same_kinds { kinds view.old.snapshot ≡ kinds maker.now.batch.now.objects }
+    requires room { IsWithinOthers (map block_view maker.now.batch.now.transactions.items)
+        (number - 1) view.old.snapshot }
     ensures run { IfOk result (λ listed. IsListedRunOf listed
-        (one (block_at (map block_view batch.now.transactions.items) (number - 1)) []
+        (one (block_at (map block_view maker.now.batch.now.transactions.items) (number - 1)) []
         view.old.snapshot) run.new) }
     ensures again { OnOk result (view.new ≡ view.old) }
     ensures unlabelled { OnOk result (labels.new.items ≡ []) }
 {
-    gate.pass(number, 0);
+    maker.gate.pass(number, 0);
     let Run { entries, net, .. } = &mut *run;
     // The view gets the memory of the lists of the earlier run.
     view.take_run(entries, net);
-    let block = &batch.transactions[number as usize - 1];
+    let block = &maker.batch.transactions[number as usize - 1];
     let making = Making {
-        threads,
-        gate,
+        threads: maker.threads,
+        gate: maker.gate,
         shared: Shared {
             number,
-            alloc,
-            hashing: batch.hashing,
+            alloc: maker.alloc,
+            hashing: maker.batch.hashing,
         },
+        width: maker.width,
     };
-    let spare = replace(&mut run.tree.taken, Vec::new(alloc));
-    run.tree = run_block(&making, block, labels, view, width, spare)?;
+    let spare = replace(&mut run.tree.taken, Vec::new(maker.alloc));
+    run.tree = run_block(&making, block, labels, view, spare)?;
     let mut listed = view.take_run(&mut run.entries, &mut run.net);
     // What an aborted transaction did is not in its net.
     if matches!(run.tree.outcome, End::Aborted(_)) {
         run.net.clear();
         listed = NetList::Own;
     }
-    if gate.looks() {
+    if maker.gate.looks() {
         run.list_net(&mut listed)?;
     }
-    gate.made(number, run);
+    maker.gate.made(number, run);
     Ok(listed)
 }

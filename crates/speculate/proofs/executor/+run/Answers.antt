@@ -1,5 +1,5 @@
-use Rattle.std.proofs.Common.{true, false, ◌+◌, ◌<◌, ◌≡◌, ◌++◌, ◌∷◌, [], ◌∙◌, List, length, take, refl, sym, ap, subst, rules, arith}
-use Rattle.std.proofs.lemmas.List.{append-nil}
+use Rattle.std.proofs.Common.{true, false, ◌≡◌, ◌++◌, ◌∷◌, [], ◌∙◌, List, length, take, refl, sym, ap, subst, rules, arith}
+use Rattle.std.proofs.lemmas.List.{append-nil, take_all}
 use Rattle.speculate.proofs.Bodies.{body_ended, handler_can_run, taken_over, passed_on}
 use Rattle.meaning.specs.OneThread.{label_if}
 use Rattle.meaning.specs.declared.held.Held.{Held}
@@ -13,12 +13,11 @@ use Rattle.batch.proofs.Blocks.{block_shows, labels_left}
 use Rattle.batch.proofs.CanRun.{op-can, if-bound, still_same, still_then}
 use Rattle.batch.proofs.StepShows.{op-shows, sub-shows, abort-shows, parallel-shows}
 use Rattle.batch.proofs.PartTried.{part_tried-start, part_tried-can_try, part_tried-more, part_tried-aborted, part_tried-ended}
-use Rattle.speculate.proofs.Siblings.{ran_alone, range-all, next_before, net_is_legal, net_has_room, kept_shows, kept_listed, added_listed}
-use Rattle.speculate.proofs.Siblings.{each_can_try, one_more, one_longer, joined_halves, to_middle, left-start, left-more}
+use Rattle.speculate.proofs.Siblings.{ran_alone, next_before, net_is_legal, net_has_room, kept_shows, kept_listed, added_listed}
+use Rattle.speculate.proofs.Siblings.{each_can_try, one_more, one_longer, joined_halves, left-start, left-more}
 use denote.Param.Send.{sendable}
 use Rattle.speculate.proofs.Crossing.{runs_cross}
 use Rattle.speculate.proofs.Choices.{branch_can_run, branch_is_smaller, branch_shows}
-use Rattle.std.specs.List.{slice_range}
 use Rattle.speculate.specs.Ahead.{AreRunAhead}
 use Rattle.speculate.specs.Running.{in_view}
 use Rattle.speculate.proofs.InView.{ground}
@@ -186,29 +185,24 @@ run_ahead-join-front-requires-send-A g t c κs lives = search (sendable, runs_cr
 
 pub run_ahead-returns-clause-all : goal.run_ahead-returns-clause-all
 run_ahead-returns-clause-all g t c =
-    let middle = to_middle c.args.from c.args.upto c.div_ceil.result c.requires.ordered c.div_ceil.ensures in
-    (joined_halves c.args.children.now c.args.from (c.args.from + c.div_ceil.result) c.args.upto c.args.fork.now.labels.items
-    c.args.fork.now.state _ _ c.in_ok-both_halves.field-0.items middle.0 middle.1 c.requires.within c.join-front.ensures.first
-    c.join-front.ensures.second c.in_ok-both_halves.ensures).0
+    (joined_halves c.args.children.now c.split_at.result.0.now c.split_at.result.1.now c.div_ceil-middle.result
+    c.args.fork.now.labels.items c.args.fork.now.state _ _ c.in_ok-both_halves.field-0.items c.split_at.ensures.front
+    c.split_at.ensures.back c.join-front.ensures.first c.join-front.ensures.second c.in_ok-both_halves.ensures).0
 
 pub run_ahead-returns-clause-runs : goal.run_ahead-returns-clause-runs
 run_ahead-returns-clause-runs g t c =
-    let middle = to_middle c.args.from c.args.upto c.div_ceil.result c.requires.ordered c.div_ceil.ensures in
-    (joined_halves c.args.children.now c.args.from (c.args.from + c.div_ceil.result) c.args.upto c.args.fork.now.labels.items
-    c.args.fork.now.state _ _ c.in_ok-both_halves.field-0.items middle.0 middle.1 c.requires.within c.join-front.ensures.first
-    c.join-front.ensures.second c.in_ok-both_halves.ensures).1
+    (joined_halves c.args.children.now c.split_at.result.0.now c.split_at.result.1.now c.div_ceil-middle.result
+    c.args.fork.now.labels.items c.args.fork.now.state _ _ c.in_ok-both_halves.field-0.items c.split_at.ensures.front
+    c.split_at.ensures.back c.join-front.ensures.first c.join-front.ensures.second c.in_ok-both_halves.ensures).1
 
 pub run_part-loop-place-preserved : goal.run_part-loop-place-preserved
-run_part-loop-place-preserved g t c =
-    let children = c.args.children.now in
-    record {
-      all = rw c.in_ok-push.ensures.items (one_longer c.loop-place.runs.items c.in_ok-run.run' c.args.from c.loop-place.place
-          c.loop-place.auto.place c.loop-place.invariant.all);
-      runs = rw c.in_ok-push.ensures.items
-          (one_more children c.args.from c.loop-place.place c.args.fork.now.labels.items c.args.fork.now.state c.loop-place.runs.items
-          c.index-children-place.result c.in_ok-run.run' c.loop-place.auto.place (omega (arith, c.loop-place-test.true, c.requires.within))
-          c.index-children-place.is c.loop-place.invariant.all c.loop-place.invariant.runs c.in_ok-run.ensures);
-    }
+run_part-loop-place-preserved g t c = record {
+  all = rw c.in_ok-push.ensures.items (one_longer c.loop-place.runs.items c.in_ok-run.run' c.loop-place.place c.loop-place.invariant.all);
+  runs = rw c.in_ok-push.ensures.items
+      (one_more c.args.children.now c.loop-place.place c.args.fork.now.labels.items c.args.fork.now.state c.loop-place.runs.items
+      c.index-children-place.result c.in_ok-run.run' c.loop-place-test.true c.index-children-place.is c.loop-place.invariant.all
+      c.loop-place.invariant.runs c.in_ok-run.ensures);
+}
 
 -- ---- one child after another
 
@@ -216,24 +210,24 @@ pub run_child-keep-requires-clause-summary : goal.run_child-keep-requires-clause
 run_child-keep-requires-clause-summary g t c = (c.requires.ahead c.in-Some.run' c.in-Some.is).ahead.1
 
 pub run_child-keep-requires-clause-legal : goal.run_child-keep-requires-clause-legal
-run_child-keep-requires-clause-legal g t c = λ commute. net_is_legal (subaction_view c.args.child.now) c.args.labels.now.items
+run_child-keep-requires-clause-legal g t c = λ commute. net_is_legal (subaction_view c.args.sibling.child.now) c.args.labels.now.items
     c.args.kept.now
     (state_of_view c.args.view.now) c.in-Some.run' (c.requires.ahead c.in-Some.run' c.in-Some.is) commute
 
 pub run_child-keep-requires-clause-room : goal.run_child-keep-requires-clause-room
-run_child-keep-requires-clause-room g t c = λ commute. net_has_room (subaction_view c.args.child.now) c.args.labels.now.items
+run_child-keep-requires-clause-room g t c = λ commute. net_has_room (subaction_view c.args.sibling.child.now) c.args.labels.now.items
     c.args.kept.now
     (state_of_view c.args.view.now) c.in-Some.run' (c.requires.ahead c.in-Some.run' c.in-Some.is) commute c.requires.can
 
 pub run_child-returns-in-Some-2-clause-shows : goal.run_child-returns-in-Some-2-clause-shows
 run_child-returns-in-Some-2-clause-shows g t c =
-    kept_shows (subaction_view c.args.child.now) c.args.labels.now.items c.args.kept.now c.keep.new.kept c.in-Some.run' c.args.view.now
+    kept_shows (subaction_view c.args.sibling.child.now) c.args.labels.now.items c.args.kept.now c.keep.new.kept c.in-Some.run' c.args.view.now
     c.keep.new.view c.in-Some-2.tried (c.requires.ahead c.in-Some.run' c.in-Some.is)
     (c.in_ok-tried.ensures.taken_in c.in-Some-2.tried c.in-Some-2.is)
 
 pub run_child-returns-in-Some-2-clause-kept : goal.run_child-returns-in-Some-2-clause-kept
 run_child-returns-in-Some-2-clause-kept g t c = λ run is.
-    kept_listed (subaction_view c.args.child.now) c.args.labels.now.items c.args.kept.now c.keep.new.kept c.in-Some.run' c.args.view.now
+    kept_listed (subaction_view c.args.sibling.child.now) c.args.labels.now.items c.args.kept.now c.keep.new.kept c.in-Some.run' c.args.view.now
     c.keep.new.view c.in-Some-2.tried (c.requires.ahead c.in-Some.run' c.in-Some.is)
     (c.in_ok-tried.ensures.taken_in c.in-Some-2.tried c.in-Some-2.is)
 
@@ -351,7 +345,7 @@ run_anew-returns-clause-shows g t c = c.in_ok-tried.ensures.shows
 
 pub run_anew-returns-clause-kept : goal.run_anew-returns-clause-kept
 run_anew-returns-clause-kept g t c =
-    added_listed (subaction_view c.args.child.now) c.args.labels.now.items c.args.view.now c.run_subaction.new.view c.in_ok-tried.tried
+    added_listed (subaction_view c.args.sibling.child.now) c.args.labels.now.items c.args.view.now c.run_subaction.new.view c.in_ok-tried.tried
     c.net-before.result.now c.in_ok-tried.ensures.shows c.net-before.ensures c.args.kept.now c.list_since.new.kept
     c.in_ok-list_since.ensures
 
@@ -409,9 +403,8 @@ run_child-run_anew-requires-after_bounds g t c κs lives =
 
 pub run_part-run_alone-requires-after_bounds : goal.run_part-run_alone-requires-after_bounds
 run_part-run_alone-requires-after_bounds g t c κs lives =
-    let below : c.loop-place.place < length c.args.children.now = omega (arith, c.loop-place-test.true, c.requires.within) in
     subst (λ x. CanTryHere (subaction_view x) c.args.fork.now.labels.items c.args.fork.now.state) (sym c.index-children-place.is)
-    (c.requires.can c.loop-place.place c.index-children-place.result below)
+    (c.requires.can c.loop-place.place c.index-children-place.result c.loop-place-test.true)
 
 -- ---- a child after its run ahead did not hold, or where there is none
 
@@ -442,26 +435,24 @@ run_alone-returns g t c =
     let same : c.in_ok-labels.labels.items ≡ c.args.fork.now.labels.items = search rules in
     let fresh : c.in_ok-view.view ≡ opened c.args.fork.now.state = search rules in
     let made = c.in_ok-of.ensures in
-    ran_alone (subaction_view c.args.child.now) c.args.fork.now.labels.items c.in_ok-labels.labels.items c.args.fork.now.state
+    ran_alone (subaction_view c.args.sibling.child.now) c.args.fork.now.labels.items c.in_ok-labels.labels.items c.args.fork.now.state
     c.in_ok-view.view c.run_subaction.new.view c.in_ok-tried.tried c.in_ok-of.field-0 same fresh c.in_ok-tried.ensures.shows made.tried
     made.entries made.net made.summary
 
 pub run_part-loop-place-init : goal.run_part-loop-place-init
 run_part-loop-place-init g t c = record {
-  all = rw c.in_ok-runs.ensures.items (omega arith);
+  all = rw c.in_ok-runs.ensures.items refl;
   runs = rw c.in_ok-runs.ensures.items tt;
 }
 
 pub run_part-returns-clause-all : goal.run_part-returns-clause-all
 run_part-returns-clause-all g t c =
-    let all : c.loop-place.place ≡ c.args.upto = omega (arith, c.loop-place-test.false, c.loop-place.auto.place-end, c.requires.ordered) in
-    omega (arith, all, c.loop-place.invariant.all)
+    omega (arith, c.loop-place-test.false, c.loop-place.auto.place-end, c.loop-place.invariant.all)
 
 pub run_part-returns-clause-runs : goal.run_part-returns-clause-runs
 run_part-returns-clause-runs g t c =
-    let all : c.loop-place.place ≡ c.args.upto = omega (arith, c.loop-place-test.false, c.loop-place.auto.place-end, c.requires.ordered) in
-    subst (λ n. AreRunAhead (slice_range c.args.children.now c.args.from n) c.args.fork.now.labels.items c.args.fork.now.state
-    c.loop-place.runs.items) all c.loop-place.invariant.runs
+    subst (λ cs. AreRunAhead cs c.args.fork.now.labels.items c.args.fork.now.state c.loop-place.runs.items)
+    (take_all c.loop-place.place c.args.children.now (omega (arith, c.loop-place-test.false))) c.loop-place.invariant.runs
 
 pub run_ahead-returns-then-width-lt2-clause-all : goal.run_ahead-returns-then-width-lt2-clause-all
 run_ahead-returns-then-width-lt2-clause-all g t c = c.run_part.ensures.all
@@ -479,4 +470,4 @@ pub run_if_wide-returns : goal.run_if_wide-returns
 run_if_wide-returns g t c =
     let labels = c.in_ok-fork.ensures.labels c.in-Some.fork c.in-Some.is in
     let state = c.in_ok-fork.ensures.state c.in-Some.fork c.in-Some.is in
-    rw (range-all c.args.children.now, labels, state) at c.run_ahead.ensures.runs
+    rw (labels, state) at c.run_ahead.ensures.runs

@@ -1,6 +1,5 @@
-use Rattle.std.proofs.Common.{◌≡◌, ◌+◌, ◌-◌, ◌*◌, ◌<◌, ◌≤◌, length, take, drop}
+use Rattle.std.proofs.Common.{◌≡◌, ◌+◌, ◌*◌, ◌<◌, ◌≤◌, length, take, drop}
 use denote.Param.Weighed.{most}
-use Rattle.std.specs.List.{slice_range}
 use Rattle.std.specs.Vec.Iter.{into_iter_items, into_iter_len}
 use Rattle.batch.specs.declared.tree.Block.{size-Block}
 use Rattle.batch.specs.declared.tree.Step.{size-Step}
@@ -27,13 +26,13 @@ abbrev pub decreases-run_subaction : goal.decreases-run_subaction
 decreases-run_subaction g l = deep (size-Subaction l.child.now) 1
 
 abbrev pub decreases-run_child : goal.decreases-run_child
-decreases-run_child g l = deep (size-Subaction l.child.now) 3
+decreases-run_child g l = deep (size-Subaction l.sibling.child.now) 3
 
 abbrev pub decreases-run_anew : goal.decreases-run_anew
-decreases-run_anew g l = deep (size-Subaction l.child.now) 2
+decreases-run_anew g l = deep (size-Subaction l.sibling.child.now) 2
 
 abbrev pub decreases-run_alone : goal.decreases-run_alone
-decreases-run_alone g l = deep (size-Subaction l.child.now) 2
+decreases-run_alone g l = deep (size-Subaction l.sibling.child.now) 2
 
 abbrev pub decreases-run_part : goal.decreases-run_part
 decreases-run_part g l = deep (most size-Subaction l.children.now) 3
@@ -42,10 +41,10 @@ abbrev pub decreases-run_ahead : goal.decreases-run_ahead
 decreases-run_ahead g l = deep (most size-Subaction l.children.now) (4 + 2 * l.width)
 
 abbrev pub decreases-run_ahead-join+arg2 : goal.decreases-run_ahead-join+arg2
-decreases-run_ahead-join+arg2 g l = deep (most size-Subaction l.children.now) (5 + 2 * l.front_width)
+decreases-run_ahead-join+arg2 g l = deep (most size-Subaction l.older.now) (5 + 2 * l.front_width)
 
 abbrev pub decreases-run_ahead-join+arg3 : goal.decreases-run_ahead-join+arg3
-decreases-run_ahead-join+arg3 g l = deep (most size-Subaction l.children.now) (5 + 2 * l.back_width)
+decreases-run_ahead-join+arg3 g l = deep (most size-Subaction l.younger.now) (5 + 2 * l.back_width)
 
 abbrev pub decreases-run_if_wide : goal.decreases-run_if_wide
 decreases-run_if_wide g l = deep (most size-Subaction l.children.now) beyond_widths
@@ -69,6 +68,6 @@ invariant-run_children-loop-place g l = record {
 
 abbrev pub invariant-run_part-loop-place : goal.invariant-run_part-loop-place
 invariant-run_part-loop-place g l = record {
-  all : length l.runs.items ≡ l.place - l.from;
-  runs : AreRunAhead (slice_range l.children l.from l.place) l.fork.labels.items l.fork.state l.runs.items;
+  all : length l.runs.items ≡ l.place;
+  runs : AreRunAhead (take l.place l.children) l.fork.labels.items l.fork.state l.runs.items;
 }

@@ -7,10 +7,10 @@ use Rattle.speculate.proofs.transaction.run_in.Goals as goal
 
 pub run_block-requires-after_bounds : goal.run_block-requires-after_bounds
 run_block-requires-after_bounds g c κs within =
+    let batch = c.args.maker.now.batch.now in
     let state = c.args.view.now.snapshot in
-    let below : c.args.number - 1 < length c.args.batch.now.transactions.items = omega (arith, c.requires.first, c.requires.last) in
-    let can = transaction_can_run c.args.batch.now.objects c.args.batch.now.names c.args.batch.now.transactions.items
-    (c.args.number - 1) state c.index-block.result.now c.args.batch.now.is_batch c.requires.same_kinds c.requires.room below
-    c.index-block.ensures in
+    let below : c.args.number - 1 < length batch.transactions.items = omega (arith, c.requires.first, c.requires.last) in
+    let can = transaction_can_run batch.objects batch.names batch.transactions.items (c.args.number - 1) state
+    c.index-block.result.now batch.is_batch c.requires.same_kinds c.requires.room below c.index-block.ensures in
     rw c.requires.unlabelled (subst (λ v. CanRunHere (block_view c.index-block.result.now) [] (state_of_view v))
     (sym c.take_run-listed.ensures.opened) can)
