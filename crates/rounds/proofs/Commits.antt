@@ -1,6 +1,7 @@
 -- Runs are committed one after the other, each on some of the objects.
 use Rattle.std.proofs.Common.{◌≡◌, ℕ, suc, ◌+◌, ◌<◌, List, [], ◌∷◌, ◌++◌, length, get_or, drop, refl, sym, ap, subst, ◌∙◌, add-one, arith}
 use Rattle.std.proofs.Common.{drop-cons}
+use Rattle.std.proofs.lemmas.List.{drop-map, get_or-drop}
 use Rattle.std.specs.Prelude.{Result, Ok, Err, OnOk}
 use Rattle.objects.specs.declared.value.Value.{Value}
 use Rattle.objects.specs.declared.entry.Entry.{Entry}
@@ -8,10 +9,13 @@ use Rattle.objects.specs.Parts.{CanPerformOn, ArePerformedOn}
 use Rattle.objects.proofs.PartLemmas.{IsOutside, all_performed-outside, can-next, performed-append, performed-none}
 use Rattle.rounds.specs.declared.pending_run.PendingRun.{PendingRun}
 use Rattle.meaning.specs.Batch.{block_at}
-use Rattle.meaning.specs.Trees.{Block}
+use Rattle.meaning.specs.Trees.{Block, NoStep}
+use Rattle.batch.specs.Views.{block_view}
+use Rattle.batch.specs.declared.tree.Block as tree
 use Rattle.committed.specs.declared.span.Span.{Span}
 use Rattle.committed.specs.Spans.{IsIn, AreIn}
-use Rattle.rounds.specs.PendingRuns.{own_net, own_nets}
+use Rattle.rounds.specs.PendingRuns.{own_net, own_nets, AreSpanned}
+use Rattle.rounds.specs.Views.{views_of}
 
 -- of all entries these are left to be performed
 pub record AreLeft (first : ℕ) (old now : List Value) (all left : List Entry) : Type 0 where
@@ -55,6 +59,35 @@ next_nets_left blocks number runs i x lt is =
     ∙ (ap (λ (y : PendingRun). own_net (block_at blocks (number + i)) y
     ++ own_nets blocks (suc (number + i)) (drop (suc i) runs)) (sym is)
     ∙ (ap (λ n. here ++ own_nets blocks n (drop (suc i) runs)) next ∙ rw add-one refl))
+
+-- a block among those from one number on is one of all
+later_block : (blocks : List tree.Block) (from k : ℕ) → block_at (views_of (drop from blocks)) k ≡ block_at (views_of blocks) (from + k)
+later_block blocks from k =
+    ap (λ bs. block_at bs k) (sym (drop-map block_view from blocks)) ∙ get_or-drop from (views_of blocks) k NoStep
+
+nets_on : (blocks : List tree.Block) (from k : ℕ) (runs : List PendingRun)
+    → own_nets (views_of (drop from blocks)) k runs ≡ own_nets (views_of blocks) (from + k) runs
+nets_on blocks from k [] = refl
+nets_on blocks from k (run ∷ runs) =
+    let next : from + suc k ≡ suc (from + k) = omega arith in
+    ap (λ b. own_net b run ++ own_nets (views_of (drop from blocks)) (suc k) runs) (later_block blocks from k)
+    ∙ ap (λ ns. own_net (block_at (views_of blocks) (from + k)) run ++ ns)
+    (nets_on blocks from (suc k) runs ∙ ap (λ n. own_nets (views_of blocks) n runs) next)
+
+-- what runs of the blocks from one number on leave is what they leave among all blocks
+pub later_nets : (blocks : List tree.Block) (from : ℕ) (runs : List PendingRun)
+    → own_nets (views_of (drop from blocks)) 0 runs ≡ own_nets (views_of blocks) from runs
+later_nets blocks from runs =
+    let here : from + 0 ≡ from = omega arith in
+    nets_on blocks from 0 runs ∙ ap (λ n. own_nets (views_of blocks) n runs) here
+
+-- it is in their spans
+pub later_spans : (blocks : List tree.Block) (from : ℕ) (runs : List PendingRun) → AreSpanned (views_of blocks) from runs
+    → AreSpanned (views_of (drop from blocks)) 0 runs
+later_spans blocks from runs are k d lt =
+    let here : 0 + k ≡ k = omega arith in
+    subst (λ b. AreIn (get_or runs k d).span (own_net b (get_or runs k d)))
+    (sym (ap (block_at (views_of (drop from blocks))) here ∙ later_block blocks from k)) (are k d lt)
 
 -- entries of a span without one of the objects leave these as they are
 pub passed_over : (first : ℕ) (values : List Value) (span : Span) (entries : List Entry) → AreIn span entries

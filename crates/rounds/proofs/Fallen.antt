@@ -17,19 +17,16 @@ use Rattle.rounds.specs.Windows.{run_at, flag_at, end_of, IsValid, Told, IsFalle
 use Rattle.rounds.proofs.Times.{times_one, times_none}
 use Rattle.rounds.proofs.WindowLemmas.{flag_set, run_read, none_past}
 
--- nothing is listed of a run that holds past the entries or isn't valid
-pub stands_at : (window : Window) (since : List Entry) (place : ℕ)
-    → ((d : PendingRun) → IsValid window place → HoldsPast since (run_at window place d)) → IsFallenAt window since place []
-stands_at window since place stands = record {
-  here = λ d. inl (stands d, refl);
-  elsewhere = λ i other. refl;
-}
+-- where a run is left as it is, its number isn't listed
+pub not_listed : (window : Window) (since : List Entry) (place : ℕ) → ((d : PendingRun) → Told window since place 0 d)
+    → IsFallenAt window since place []
+not_listed window since place told = record { here = told; elsewhere = λ i other. refl }
 
--- of a valid one that doesn't its number is listed
-pub falls_at : (window : Window) (since : List Entry) (place : ℕ) → IsValid window place
-    → ((d : PendingRun) → ¬ HoldsPast since (run_at window place d)) → IsFallenAt window since place (place ∷ [])
-falls_at window since place valid falls = record {
-  here = λ d. inr (valid, falls d, times_one place);
+-- where it falls its number is listed
+pub falls_at : (window : Window) (since : List Entry) (place : ℕ) → ((d : PendingRun) → Told window since place 1 d)
+    → IsFallenAt window since place (place ∷ [])
+falls_at window since place told = record {
+  here = λ d. subst (λ n. Told window since place n d) (sym (times_one place)) (told d);
   elsewhere = λ i other. times_none i place (λ h. other (sym h));
 }
 

@@ -1,8 +1,10 @@
 pub mod Times
 pub mod Making
+pub mod Crossing
 pub mod WindowLemmas
 pub mod Settling
 pub mod Fallen
+pub mod Passing
 pub mod Firsts
 pub mod Conflicts
 pub mod Listing

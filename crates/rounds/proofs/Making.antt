@@ -5,6 +5,7 @@ use Rattle.std.proofs.lemmas.List.{take_more, map-append}
 use Rattle.std.proofs.lemmas.List.Elements.{All-nil, All-push, All-same}
 use Rattle.std.specs.List.{All, sum_by, range_with_len}
 use Rattle.objects.specs.Entries.{State}
+use Rattle.objects.specs.declared.entry.Entry.{Entry}
 use Rattle.rounds.specs.Desks.{IsDeskOn}
 use Rattle.rounds.specs.declared.desk.Desk.{Desk}
 use Rattle.meaning.specs.Records.{Taken, entries as entries_in}
@@ -35,11 +36,11 @@ pub times_numbers : (i : ℕ) (xs ys : List NumberedRun) → times i (numbers_of
 times_numbers i xs ys = ap (times i) (map-append (λ (m : NumberedRun). m.number) xs ys) ∙ times-append i (numbers_of xs) (numbers_of ys)
 
 -- one run more
-pub made_more : (batch : Batch) (state : State) (numbers : List ℕ) (i : ℕ) (m : NumberedRun) (made more : List NumberedRun)
-    → i < length numbers → m.number ≡ get_or numbers i 0 → more ≡ made ++ m ∷ [] → AreMade batch state (take i numbers) made
-    → IsMade batch state m → AreMade batch state (take (i + 1) numbers) more
-made_more batch state numbers i m made more lt is pushed so_far here = record {
-  each = All-same (IsMade batch state) more (made ++ m ∷ []) pushed (All-push (IsMade batch state) made m so_far.each here);
+pub made_more : (batch : Batch) (state : State) (listed : List Entry) (numbers : List ℕ) (i : ℕ) (m : NumberedRun)
+    (made more : List NumberedRun) → i < length numbers → m.number ≡ get_or numbers i 0 → more ≡ made ++ m ∷ []
+    → AreMade batch state listed (take i numbers) made → IsMade batch state listed m → AreMade batch state listed (take (i + 1) numbers) more
+made_more batch state listed numbers i m made more lt is pushed so_far here = record {
+  each = All-same (IsMade batch state listed) more (made ++ m ∷ []) pushed (All-push (IsMade batch state listed) made m so_far.each here);
   dealt = λ j.
       let left : times j (numbers_of more) ≡ times j (numbers_of made) + times j (m.number ∷ []) =
       ap (λ ms. times j (numbers_of ms)) pushed ∙ times_numbers j made (m ∷ []) in
@@ -50,21 +51,21 @@ made_more batch state numbers i m made more lt is pushed so_far here = record {
 }
 
 -- runs that were made and added to a list, and a desk that is ready for the next
-pub record IsGroupSoFar (batch : Batch) (state : State) (numbers : List ℕ) (desk : Desk)
+pub record IsGroupSoFar (batch : Batch) (state : State) (listed : List Entry) (numbers : List ℕ) (desk : Desk)
     (before all : List NumberedRun) : Type 0 where
   pub ready : IsDeskOn state desk
   pub own : List NumberedRun
   pub is : all ≡ before ++ own
-  pub all_made : AreMade batch state numbers own
+  pub all_made : AreMade batch state listed numbers own
 
 -- none is made yet
-pub none_made : (batch : Batch) (state : State) (numbers : List ℕ) (desk : Desk) (before : List NumberedRun)
-    → IsDeskOn state desk → IsGroupSoFar batch state (take 0 numbers) desk before before
-none_made batch state numbers desk before ready = record {
+pub none_made : (batch : Batch) (state : State) (listed : List Entry) (numbers : List ℕ) (desk : Desk) (before : List NumberedRun)
+    → IsDeskOn state desk → IsGroupSoFar batch state listed (take 0 numbers) desk before before
+none_made batch state listed numbers desk before ready = record {
   ready = ready;
   own = [];
   is = sym (append-nil before);
-  all_made = record { each = All-nil (IsMade batch state); dealt = λ i. refl };
+  all_made = record { each = All-nil (IsMade batch state listed); dealt = λ i. refl };
 }
 
 -- a number is in the chunks of a list, put together, as often as in the list
@@ -79,12 +80,12 @@ times_chunks i size count numbers some are =
     ∙ times_sum i (slice_chunk numbers size k)) some (size_of ∙ are) ∙ sym (times_sum i numbers))
 
 -- the groups' runs, each group once, are a run for each of the numbers
-pub all_groups : (batch : Batch) (state : State) (numbers : List ℕ) (cut count : ℕ) (made : List NumberedRun) → 0 < cut
-    → count ≡ div_ceil (length numbers) cut → AreGivenOnce (λ k. AreMade batch state (slice_chunk numbers cut k)) count made
-    → AreMade batch state numbers made
-all_groups batch state numbers cut count made some are given =
-    let IsGroup : ℕ → List NumberedRun → Type 0 = λ k. AreMade batch state (slice_chunk numbers cut k) in record {
-      each = each_given IsGroup (IsMade batch state) (λ k own here. here.each) given.order made given.given;
+pub all_groups : (batch : Batch) (state : State) (listed : List Entry) (numbers : List ℕ) (cut count : ℕ) (made : List NumberedRun)
+    → 0 < cut → count ≡ div_ceil (length numbers) cut
+    → AreGivenOnce (λ k. AreMade batch state listed (slice_chunk numbers cut k)) count made → AreMade batch state listed numbers made
+all_groups batch state listed numbers cut count made some are given =
+    let IsGroup : ℕ → List NumberedRun → Type 0 = λ k. AreMade batch state listed (slice_chunk numbers cut k) in record {
+      each = each_given IsGroup (IsMade batch state listed) (λ k own here. here.each) given.order made given.given;
       dealt = λ i. sum_given_once IsGroup (λ ms. times i (numbers_of ms)) refl (times_numbers i) (λ k. times i (slice_chunk numbers cut k))
           (λ k own here. here.dealt i) count made given ∙ times_chunks i cut count numbers some are;
     }

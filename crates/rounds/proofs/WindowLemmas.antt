@@ -180,7 +180,7 @@ later_window batch a b state window le at = record {
 }
 
 -- what is freed of a run changes no flag
-freed_flag : (number : ℕ) (old new : Window) (i : ℕ) → IsFreedAt number old new → flag_at new i ≡ flag_at old i
+pub freed_flag : (number : ℕ) (old new : Window) (i : ℕ) → IsFreedAt number old new → flag_at new i ≡ flag_at old i
 freed_flag number old new i freed = flag_read old new old.valid.items i freed.first (ap (λ v. v.items) freed.valid)
 
 -- from the next number on they are, where the summaries of the run with this one were freed

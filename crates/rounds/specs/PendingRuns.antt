@@ -1,6 +1,6 @@
 -- Pending runs, what they leave, and those that were made. No public contract names it.
 use Rattle.std.specs.Prelude.{◌≡◌, ⊤, ℕ, suc, ◌+◌, ◌<◌, Option, Some, None, List, [], ◌∷◌, ◌++◌, length, map}
-use Rattle.std.specs.Prelude.{slice_index_or}
+use Rattle.std.specs.Prelude.{slice_index_or, IsTrue}
 use Rattle.std.specs.List.{All}
 use Rattle.std.specs.declared.vec.Vec.{Vec}
 use Rattle.std.specs.declared.alloc.Global.{Global}
@@ -98,18 +98,24 @@ pub record AreSummed (runs : List Run) (pending : List PendingRun) : Type 0 wher
 abbrev pub numbers_of : List NumberedRun → List ℕ
 numbers_of = map (λ m. m.number)
 
--- a run of its number on this state
-abbrev pub IsMade : Batch → State → NumberedRun → Type 0
-IsMade batch state made = IsPendingOf (meaning batch made.number state) made.run.value
+-- the run holds past all of the list, which sums up what it leaves, too
+abbrev pub Passes : List Entry → PendingRun → Type 0
+Passes listed run = HoldsPast listed run × IsSummary listed (listed ++ left_by run.sums)
 
--- a run for each of the numbers, in any order, made on this state
-pub record AreMade (batch : Batch) (state : State) (numbers : List ℕ) (made : List NumberedRun) : Type 0 where
-  pub each : All (IsMade batch state) made
+-- a run of its number on this state, which passes this list where it says so
+abbrev pub IsMade : Batch → State → List Entry → NumberedRun → Type 0
+IsMade batch state listed made = IsPendingOf (meaning batch made.number state) made.run.value
+    × (IsTrue made.passes → Passes listed made.run.value)
+
+-- a run for each of the numbers, in any order, made on this state, and looked at with this list
+pub record AreMade (batch : Batch) (state : State) (listed : List Entry) (numbers : List ℕ) (made : List NumberedRun) : Type 0 where
+  pub each : All (IsMade batch state listed) made
   pub dealt : (i : ℕ) → times i (numbers_of made) ≡ times i numbers
 
--- a run for each of the numbers was added to a list, in any order, made on this state
-abbrev pub AreAdded : Batch → State → List ℕ → List NumberedRun → List NumberedRun → Type 0
-AreAdded batch state numbers before after = (own : List NumberedRun) × (after ≡ before ++ own) × AreMade batch state numbers own
+-- such runs were added to others
+abbrev pub AreAdded : Batch → State → List Entry → List ℕ → List NumberedRun → List NumberedRun → Type 0
+AreAdded batch state listed numbers before after =
+    (own : List NumberedRun) × (after ≡ before ++ own) × AreMade batch state listed numbers own
 
 -- what each run leaves is in its span; they are of the blocks from this number on
 abbrev pub AreSpanned : List Block → ℕ → List PendingRun → Type 0

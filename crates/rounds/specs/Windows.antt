@@ -1,6 +1,6 @@
 -- Openings, with the runs that the rounds have come to. No public contract names it.
 use Rattle.std.specs.Prelude.{◌≡◌, ◌≢◌, ◌⊎◌, ℕ, ◌-◌, ◌+◌, ◌<◌, ◌≤◌, Bool, true, false, List, [], ◌++◌, suc, length, take, drop, map}
-use Rattle.std.specs.Prelude.{set, slice_index_or}
+use Rattle.std.specs.Prelude.{set, slice_index_or, IsTrue, ◌↔◌}
 use Rattle.std.specs.declared.vec.Vec.{Vec}
 use Rattle.std.specs.declared.alloc.Global.{Global}
 use Rattle.objects.specs.Entries.{State}
@@ -16,7 +16,7 @@ use Rattle.batch.specs.Views.{record_view}
 use Rattle.batch.specs.declared.batch.Batch.{Batch}
 use Rattle.batch.specs.declared.record.Record.{Record}
 use Rattle.rounds.specs.Views.{start_of, blocks_of, meaning}
-use Rattle.rounds.specs.PendingRuns.{IsCommittable, IsPendingOf, HoldsPast}
+use Rattle.rounds.specs.PendingRuns.{IsCommittable, IsPendingOf, HoldsPast, Passes, left_by}
 use Rattle.rounds.specs.declared.check.Seen.{Seen}
 use Rattle.rounds.specs.declared.make.NumberedRun.{NumberedRun}
 use Rattle.rounds.specs.declared.pending_run.PendingRun.{PendingRun}
@@ -126,6 +126,20 @@ pub record IsFreedAt (number : ℕ) (old new : Window) : Type 0 where
   pub runs : length new.runs.items ≡ length old.runs.items
   pub others : (i : ℕ) (d : PendingRun) → old.first ≤ i → i ≢ number → run_at new i d ≡ run_at old i d
   pub here : (meant : OneRun Taken) (d : PendingRun) → IsCommittable meant (run_at old number d) → IsCommittable meant (run_at new number d)
+
+-- where the flag of a number is set, counted from one number on, the run passes this list
+abbrev pub ArePassing : List Entry → ℕ → Window → List Bool → Type 0
+ArePassing listed from window flags = (i : ℕ) (d : PendingRun) → from ≤ i → slice_index_or flags (i - from) false ≡ true
+    → Passes listed (run_at window i d)
+
+-- The run with a number was checked. Where it stands past the list, this sums up what the run leaves, too, and the summaries of the
+-- run were freed. Else all is as before.
+pub record IsChecked (number : ℕ) (listed more : List Entry) (old new : Window) (stands : Bool) : Type 0 where
+  pub holds : IsTrue stands ↔ ((d : PendingRun) → HoldsPast listed (run_at old number d))
+  pub summary : IsTrue stands → (d : PendingRun) → IsSummary more (listed ++ left_by (run_at old number d).sums)
+  pub freed : IsTrue stands → IsFreedAt number old new
+  pub same : stands ≡ false → (new ≡ old) × (more ≡ listed)
+  pub kept : take (length listed) more ≡ listed
 
 -- the runs at the first places aren't valid, and all else is as before
 pub record AreCleared (count : ℕ) (old new : Window) : Type 0 where

@@ -1,16 +1,15 @@
 //! The check of runs side by side: the first that doesn't stand past those before it.
 ghost use Rattle.std.specs.Prelude.{◌≡◌, ◌↔◌, ◌+◌, ◌<◌, ◌≤◌, ◌++◌, ℕ, [], IfOk, OnOk, IsTrue, length, take, slice_index_or};
 ghost use Rattle.rounds.specs.Passes.{IsFirstConflict};
-ghost use Rattle.rounds.specs.PendingRuns.{all_left, HoldsPast, AreSummed};
+ghost use Rattle.rounds.specs.PendingRuns.{all_left, HoldsPast, AreSummed, Passes};
 ghost use Rattle.rounds.specs.Checks.{AreStarts, HoldsFrom, IsFirstFrom, IsSeenPast};
 ghost use Rattle.rounds.specs.declared.pending_run.PendingRun.{PendingRun as OnePending};
 ghost use Rattle.meaning.specs.declared.limits.TheConstants.{MAX_TRANSACTIONS};
 ghost use Rattle.plan.specs.declared.plan.TheConstants.{MAX_WORKERS};
 
-use crate::crew::Crew;
+use crate::crew::Workers;
 use crate::pending_run::PendingRun;
 use intentions::{Committed, EntryHashing};
-use plan::Plan;
 use speculate::{Gate, NoMemory, Run};
 use std::alloc::Global;
 use std::thread::Threads;
@@ -33,6 +32,14 @@ pub(crate) fn stands_past(runs: &[PendingRun], place: usize, nets: &Committed, u
     upto == 0 || nets.stands(&runs[place].sums.entries, upto)
 }
 
+/// Whether a run stands past all of a list, which has for each entry of its net one that is as strict.
+/// Listing its net would change nothing then.
+pub(crate) fn passes_list(run: &PendingRun, nets: &Committed) -> bool
+    ensures { IsTrue result → Passes nets.now run.now }
+{
+    nets.covers_all(run.sums.net()) && nets.stands(&run.sums.entries, nets.len())
+}
+
 // Lists the nets of runs. Adds for each of them how many entries come before its net.
 fn list_nets(
     runs: &[PendingRun],
@@ -53,29 +60,29 @@ fn list_nets(
 // The first of these runs that doesn't stand past the entries that come before its net. The workers
 // check the runs side by side, a run as a piece. In the round there were some before them.
 fn first_from<R: Threads + Sync, G: Gate>(
-    crew: &Crew<R, G>,
+    workers: &Workers<R, G>,
     before: usize,
     runs: &[PendingRun],
     nets: &Committed,
     starts: &[usize],
 ) -> Result<usize, NoMemory>
+    requires workers { (1 ≤ workers.now.count) × (workers.now.count ≤ MAX_WORKERS) }
     requires few { before + length runs.now ≤ MAX_TRANSACTIONS }
     requires all { length starts.now ≡ length runs.now }
     requires within { (i : ℕ) → i < length runs.now → slice_index_or starts.now i 0 ≤ length nets.now }
     ensures { IfOk result (λ first. IsFirstFrom nets.now starts.now runs.now first) }
 {
-    let Crew {
+    let Workers {
         threads,
         alloc,
-        plan,
+        count,
         gate,
-        ..
-    } = *crew;
+    } = *workers;
     let passed = first_failing(
         threads,
         alloc,
         runs.len() as u32,
-        plan.workers,
+        count,
         &|piece: u32| -> bool
             requires { (piece < length runs.now) × (before + length runs.now ≤ MAX_TRANSACTIONS) × (length starts.now ≡ length runs.now) × ((i : ℕ) → i < length runs.now → slice_index_or starts.now i 0 ≤ length nets.now) }
             ensures { IsTrue result ↔ HoldsFrom nets.entry.now starts.entry.now runs.entry.now piece }
@@ -94,18 +101,19 @@ fn first_from<R: Threads + Sync, G: Gate>(
 ///
 /// Returns `NoMemory` where a request for memory was refused.
 pub(crate) fn check_at_once<R: Threads + Sync, G: Gate>(
-    crew: &Crew<R, G>,
+    workers: &Workers<R, G>,
     before: usize,
     runs: &[PendingRun],
     nets: &mut Committed,
 ) -> Result<Seen, NoMemory>
+    requires workers { (1 ≤ workers.now.count) × (workers.now.count ≤ MAX_WORKERS) }
     requires few { before + length runs.now ≤ MAX_TRANSACTIONS }
     ensures nets { OnOk result (nets.new ≡ nets.old ++ all_left runs.now) }
     ensures seen { IfOk result (IsSeenPast nets.old runs.now) }
 {
-    let mut starts = Vec::new(crew.alloc);
+    let mut starts = Vec::new(workers.alloc);
     list_nets(runs, nets, &mut starts)?;
-    let first = first_from(crew, before, runs, nets, &starts)?;
+    let first = first_from(workers, before, runs, nets, &starts)?;
     if first < runs.len() {
         let upto = starts[first];
         return Ok(Seen { first, upto });
@@ -145,20 +153,14 @@ pub fn first_conflict<R: Threads + Sync, G: Gate>(
     requires workers { (1 ≤ workers) × (workers ≤ MAX_WORKERS) }
     ensures { IfOk result (λ first. IsFirstConflict runs.now first) }
 {
-    let crew = Crew {
+    let workers = Workers {
         threads,
         alloc,
-        plan: Plan {
-            workers,
-            cut: 1,
-            last: false,
-            keys: None,
-        },
+        count: workers,
         gate,
-        operations_each: 1,
     };
     let pending = summed(alloc, runs)?;
     let mut nets = Committed::new(alloc);
-    let seen = check_at_once(&crew, 0, &pending, &mut nets)?;
+    let seen = check_at_once(&workers, 0, &pending, &mut nets)?;
     Ok(seen.first)
 }

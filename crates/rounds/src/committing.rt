@@ -1,8 +1,8 @@
 //! Commits runs: performs what they leave on the objects.
-ghost use Rattle.std.specs.Prelude.{◌≡◌, ◌+◌, ◌<◌, ◌≤◌, ◌^◌, length, OnOk};
+ghost use Rattle.std.specs.Prelude.{◌≡◌, ◌+◌, ◌<◌, ◌≤◌, ◌^◌, length, drop, OnOk};
 ghost use Rattle.std.specs.Thread.{IsSync, IsSend};
 ghost use Rattle.batch.specs.Views.{block_view};
-ghost use Rattle.rounds.specs.Views.{blocks_of};
+ghost use Rattle.rounds.specs.Views.{blocks_of, views_of};
 ghost use Rattle.objects.specs.Entries.{after, AreLegal, AllHaveRoom};
 ghost use Rattle.objects.specs.Parts.{CanPerformOn, ArePerformedOn};
 ghost use Rattle.committed.specs.Summaries.{entries_of};
@@ -59,89 +59,79 @@ fn commit_one(
     }
 }
 
-// Performs what runs of the transactions from this number on leave on these values. Runs that leave
+// Performs what runs of these blocks, from the first on, leave on these values. Runs that leave
 // nothing there are passed over.
 fn commit_on(
-    batch: &Batch,
-    from: usize,
+    blocks: &[Block],
     runs: &[PendingRun],
     first: usize,
     values: &mut [Value],
 ) -> Result<(), NoMemory>
-    requires within { from + length runs.now ≤ length batch.now.transactions.items }
-    requires spans { AreSpanned (blocks_of batch.now) from runs.now }
-    requires can { CanPerformOn first values.old (own_nets (blocks_of batch.now) from runs.now) }
-    ensures { OnOk result (ArePerformedOn first values.old values.new (own_nets (blocks_of batch.now) from runs.now)) }
+    requires within { length runs.now ≤ length blocks.now }
+    requires spans { AreSpanned (views_of blocks.now) 0 runs.now }
+    requires can { CanPerformOn first values.old (own_nets (views_of blocks.now) 0 runs.now) }
+    ensures { OnOk result (
+        ArePerformedOn first values.old values.new (own_nets (views_of blocks.now) 0 runs.now)) }
 {
     for place in 0..runs.len() {
         let run = &runs[place];
         if run.span.meets(first, values.len()) {
-            commit_one(&batch.transactions[from + place], run, first, values)?;
+            commit_one(&blocks[place], run, first, values)?;
         }
     }
     Ok(())
 }
 
-// The same by so many workers, each on a part of the values.
+// The same by so many workers, each on a part of the values. The first part is done in a new thread,
+// where one can be made.
 #[cycle(parts)]
 fn commit_by<R: Threads + Sync>(
     threads: &R,
     workers: u32,
-    batch: &Batch,
-    from: usize,
+    blocks: &[Block],
     runs: &[PendingRun],
     first: usize,
     values: &mut [Value],
 ) -> Result<(), NoMemory>
-    requires within { from + length runs.now ≤ length batch.now.transactions.items }
-    requires spans { AreSpanned (blocks_of batch.now) from runs.now }
+    requires within { length runs.now ≤ length blocks.now }
+    requires spans { AreSpanned (views_of blocks.now) 0 runs.now }
     requires few { first + length values.old < 2 ^ 64 }
-    requires can { CanPerformOn first values.old (own_nets (blocks_of batch.now) from runs.now) }
-    ensures { OnOk result (ArePerformedOn first values.old values.new (own_nets (blocks_of batch.now) from runs.now)) }
+    requires can { CanPerformOn first values.old (own_nets (views_of blocks.now) 0 runs.now) }
+    ensures { OnOk result (
+        ArePerformedOn first values.old values.new (own_nets (views_of blocks.now) 0 runs.now)) }
 {
     let share = values.len() / workers.max(1) as usize;
     if workers <= 1 || share == 0 {
-        return commit_on(batch, from, runs, first, values);
+        return commit_on(blocks, runs, first, values);
     }
     let (low, high) = values.split_at_mut(share);
-    commit_both(threads, workers - 1, batch, from, runs, first, low, high)
-}
-
-// The same on two parts: on the first in a new thread, where one can be made, and on the other by so
-// many workers.
-#[cycle(parts)]
-fn commit_both<R: Threads + Sync>(
-    threads: &R,
-    others: u32,
-    batch: &Batch,
-    from: usize,
-    runs: &[PendingRun],
-    first: usize,
-    low: &mut [Value],
-    high: &mut [Value],
-) -> Result<(), NoMemory>
-    requires within { from + length runs.now ≤ length batch.now.transactions.items }
-    requires spans { AreSpanned (blocks_of batch.now) from runs.now }
-    requires few { first + length low.old + length high.old < 2 ^ 64 }
-    requires can_low { CanPerformOn first low.old (own_nets (blocks_of batch.now) from runs.now) }
-    requires can_high { CanPerformOn (first + length low.old) high.old (own_nets (blocks_of batch.now) from runs.now) }
-    ensures low { OnOk result (ArePerformedOn first low.old low.new (own_nets (blocks_of batch.now) from runs.now)) }
-    ensures high { OnOk result (ArePerformedOn (first + length low.old) high.old high.new (own_nets (blocks_of batch.now) from runs.now)) }
-{
+    let others = workers - 1;
     let beyond = first + low.len();
     let mut on_low = || -> Result<(), NoMemory>
-        requires { (from + length runs.now ≤ length batch.now.transactions.items) × AreSpanned (blocks_of batch.now) from runs.now
-            × CanPerformOn first low.now (own_nets (blocks_of batch.now) from runs.now) }
-        ensures { OnOk result (ArePerformedOn first low.entry.now low.exit.now (own_nets (blocks_of batch.entry.now) from runs.entry.now)) }
-    { commit_on(batch, from, runs, first, low) };
+        requires { (length runs.now ≤ length blocks.now)
+            × AreSpanned (views_of blocks.now) 0 runs.now
+            × CanPerformOn first low.now (own_nets (views_of blocks.now) 0 runs.now) }
+        ensures { OnOk result (ArePerformedOn first low.entry.now low.exit.now
+            (own_nets (views_of blocks.entry.now) 0 runs.entry.now)) }
+    { commit_on(blocks, runs, first, low) };
     let mut on_high = || -> Result<(), NoMemory>
-        requires { IsSync R.row × (from + length runs.now ≤ length batch.now.transactions.items) × AreSpanned (blocks_of batch.now) from runs.now
-            × (beyond + length high.now < 2 ^ 64) × CanPerformOn beyond high.now (own_nets (blocks_of batch.now) from runs.now) }
-        ensures { OnOk result (ArePerformedOn beyond high.entry.now high.exit.now (own_nets (blocks_of batch.entry.now) from runs.entry.now)) }
-    { commit_by(threads, others, batch, from, runs, beyond, high) };
+        requires { IsSync R.row × (length runs.now ≤ length blocks.now)
+            × AreSpanned (views_of blocks.now) 0 runs.now × (beyond + length high.now < 2 ^ 64)
+            × CanPerformOn beyond high.now (own_nets (views_of blocks.now) 0 runs.now) }
+        ensures { OnOk result (ArePerformedOn beyond high.entry.now high.exit.now
+            (own_nets (views_of blocks.entry.now) 0 runs.entry.now)) }
+    { commit_by(threads, others, blocks, runs, beyond, high) };
     let (low_done, high_done) = join_mut(threads, &mut on_low, &mut on_high);
     low_done?;
     high_done
+}
+
+// The blocks of the transactions from this number on.
+fn blocks_from(batch: &Batch, from: usize) -> &[Block]
+    requires { from ≤ length batch.now.transactions.items }
+    ensures { result.now ≡ drop from batch.now.transactions.items }
+{
+    &batch.transactions[from..]
 }
 
 /// Commits runs of the transactions from this number on, counted from 0, in order. Where they have
@@ -149,25 +139,19 @@ fn commit_both<R: Threads + Sync>(
 /// calls may have been performed.
 pub(crate) fn commit<R: Threads + Sync, G>(
     crew: &Crew<R, G>,
-    batch: &Batch,
     from: usize,
     runs: &[PendingRun],
     objects: &mut Objects,
 ) -> Result<(), NoMemory>
-    requires within { from + length runs.now ≤ length batch.now.transactions.items }
-    requires spans { AreSpanned (blocks_of batch.now) from runs.now }
-    requires legal { AreLegal objects.old (own_nets (blocks_of batch.now) from runs.now) }
-    requires room { AllHaveRoom objects.old (own_nets (blocks_of batch.now) from runs.now) }
-    ensures { OnOk result (objects.new ≡ after objects.old (own_nets (blocks_of batch.now) from runs.now)) }
+    requires within { from + length runs.now ≤ length crew.now.batch.now.transactions.items }
+    requires spans { AreSpanned (blocks_of crew.now.batch.now) from runs.now }
+    requires legal { AreLegal objects.old (own_nets (blocks_of crew.now.batch.now) from runs.now) }
+    requires room { AllHaveRoom objects.old
+        (own_nets (blocks_of crew.now.batch.now) from runs.now) }
+    ensures { OnOk result (objects.new
+        ≡ after objects.old (own_nets (blocks_of crew.now.batch.now) from runs.now)) }
 {
     let workers = committers(crew, runs.len());
-    commit_by(
-        crew.threads,
-        workers,
-        batch,
-        from,
-        runs,
-        0,
-        objects.values_mut(),
-    )
+    let blocks = blocks_from(crew.batch, from);
+    commit_by(crew.threads, workers, blocks, runs, 0, objects.values_mut())
 }

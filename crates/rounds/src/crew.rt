@@ -1,16 +1,18 @@
 //! The crew: what the passes of a round are run with, and how many workers a pass gets.
 ghost use Rattle.std.specs.Prelude.{◌≡◌, ◌≤◌};
+ghost use Rattle.plan.specs.declared.plan.TheConstants.{MAX_WORKERS};
 
 use batch::Batch;
 use plan::Plan;
 use std::alloc::Global;
 
-/// The right to start threads, the allocator, how many workers there are, the gate that sees them,
-/// and how many operations a run is taken to have.
+/// The right to start threads, the allocator, the batch, how many workers there are, the gate that
+/// sees them, and how many operations a run is taken to have.
 #[derive(Drop)]
 pub(crate) struct Crew<'a, R, G> {
     pub(crate) threads: &'a R,
     pub(crate) alloc: Global,
+    pub(crate) batch: &'a Batch,
     pub(crate) plan: Plan,
     pub(crate) gate: &'a G,
     pub(crate) operations_each: usize,
@@ -21,20 +23,44 @@ impl<'a, R, G> Crew<'a, R, G> {
     pub(crate) fn of(
         threads: &'a R,
         alloc: Global,
-        batch: &Batch,
+        batch: &'a Batch,
         plan: Plan,
         gate: &'a G,
     ) -> Crew<'a, R, G>
-        ensures { result.plan ≡ plan }
+        ensures plan { result.plan ≡ plan }
+        ensures batch { result.batch.now ≡ batch.now }
     {
         Crew {
             threads,
             alloc,
+            batch,
             plan,
             gate,
             operations_each: operations_each(batch),
         }
     }
+
+    /// All of its workers.
+    pub(crate) fn workers(&self) -> Workers<'a, R, G>
+        ensures within { (1 ≤ result.count) × (result.count ≤ MAX_WORKERS) }
+        ensures all { result.count ≡ self.now.plan.workers }
+    {
+        Workers {
+            threads: self.threads,
+            alloc: self.alloc,
+            count: self.plan.workers,
+            gate: self.gate,
+        }
+    }
+}
+
+/// So many workers that check runs, with what they need for it.
+#[derive(Drop)]
+pub(crate) struct Workers<'a, R, G> {
+    pub(crate) threads: &'a R,
+    pub(crate) alloc: Global,
+    pub(crate) count: u32,
+    pub(crate) gate: &'a G,
 }
 
 /// About how many operations are checked in the time in which one is performed.

@@ -8,11 +8,11 @@ ghost use Rattle.rounds.specs.PendingRuns.{IsPendingOf};
 ghost use Rattle.meaning.specs.declared.limits.TheConstants.{MAX_TRANSACTIONS};
 ghost use Rattle.plan.specs.declared.plan.TheConstants.{MAX_WORKERS};
 
+use crate::crew::Crew;
 use crate::pending_run::PendingRun;
-use batch::Batch;
 use intentions::PagedPlaces;
 use meaning::Held;
-use speculate::{Gate, NoMemory, Objects, Run, View, run_in};
+use speculate::{Gate, Maker, NoMemory, Objects, Run, View, run_in};
 use std::alloc::Global;
 use std::mem::swap;
 use std::thread::Threads;
@@ -80,6 +80,13 @@ impl<'s> Desk<'s> {
         }
     }
 
+    /// The objects that it is on.
+    pub(crate) fn objects(&self) -> &Objects
+        ensures { result.now ≡ self.now.view.snapshot }
+    {
+        self.view.snapshot()
+    }
+
     /// Its memory, for the next round.
     pub(crate) fn into_memory(self) -> DeskMemory {
         DeskMemory {
@@ -94,38 +101,39 @@ impl<'s> Desk<'s> {
     /// After it returns `NoMemory`, the desk and the run are of no further use.
     pub(crate) fn make<R: Threads + Sync, G: Gate>(
         &mut self,
-        threads: &R,
-        alloc: Global,
-        batch: &Batch,
+        crew: &Crew<R, G>,
         number: usize,
         width: u32,
-        gate: &G,
         pending: &mut PendingRun,
     ) -> Result<(), NoMemory>
         requires few { number ≤ MAX_TRANSACTIONS }
-        requires can { CanBeMade batch.now self.old.view.snapshot number }
-        requires same_kinds { kinds self.old.view.snapshot ≡ kinds batch.now.objects }
+        requires can { CanBeMade crew.now.batch.now self.old.view.snapshot number }
+        requires same_kinds { kinds self.old.view.snapshot ≡ kinds crew.now.batch.now.objects }
         requires narrow { (1 ≤ width) × (width ≤ MAX_WORKERS) }
         requires opened { self.old.view ≡ opened self.old.view.snapshot }
         requires unlabelled { self.old.labels.items ≡ [] }
-        ensures made { OnOk result (IsPendingOf (meaning batch.now number self.old.view.snapshot) pending.new) }
+        ensures made { OnOk result (
+            IsPendingOf (meaning crew.now.batch.now number self.old.view.snapshot) pending.new) }
         ensures again { OnOk result (self.new.view ≡ self.old.view) }
         ensures unlabelled { OnOk result (self.new.labels.items ≡ []) }
     {
         swap(&mut pending.tree, &mut self.run.tree);
         self.run.make_room(self.room)?;
+        let maker = Maker {
+            threads: crew.threads,
+            alloc: crew.alloc,
+            batch: crew.batch,
+            gate: crew.gate,
+            width,
+        };
         let listed = run_in(
-            threads,
-            alloc,
+            &maker,
+            number as u32 + 1,
             &mut self.view,
             &mut self.labels,
-            batch,
-            number as u32 + 1,
-            width,
-            gate,
             &mut self.run,
         )?;
-        pending.put(alloc, batch.hashing, &mut self.run, listed)?;
+        pending.put(crew.alloc, crew.batch.hashing, &mut self.run, listed)?;
         Ok(())
     }
 }

@@ -9,10 +9,11 @@ ghost use Rattle.rounds.specs.PendingRuns.{AreMade, AreAdded};
 ghost use Rattle.meaning.specs.declared.limits.TheConstants.{MAX_TRANSACTIONS};
 ghost use Rattle.plan.specs.declared.plan.TheConstants.{MAX_CUT, MAX_WORKERS};
 
+use crate::check::passes_list;
 use crate::crew::{Crew, makers};
 use crate::desk::Desk;
 use crate::pending_run::PendingRun;
-use batch::Batch;
+use intentions::Committed;
 use plan::Plan;
 use speculate::{Gate, NoMemory, Objects};
 use std::alloc::Global;
@@ -25,33 +26,41 @@ use workers::{Bench, give_all};
 pub(crate) struct NumberedRun {
     pub(crate) number: usize,
     pub(crate) run: Box<PendingRun>,
+    /// Whether the worker that made it saw that it passes the nets that are listed.
+    pub(crate) passes: bool,
 }
 
-// Adds a run for each number of a group, one after the other, made at one desk.
+// Adds a run for each number of a group, one after the other, made at one desk. It looks whether each
+// passes these nets.
 fn make_group<R: Threads + Sync, G: Gate>(
-    threads: &R,
-    alloc: Global,
-    batch: &Batch,
+    crew: &Crew<R, G>,
     group: &[usize],
+    nets: &Committed,
     width: u32,
-    gate: &G,
     desk: &mut Desk<'_>,
     all: &mut Vec<NumberedRun>,
 ) -> Result<(), NoMemory>
-    requires few { length batch.now.transactions.items ≤ MAX_TRANSACTIONS }
-    requires within { All (λ n. CanBeMade batch.now desk.old.view.snapshot n) group.now }
-    requires same_kinds { kinds desk.old.view.snapshot ≡ kinds batch.now.objects }
+    requires few { length crew.now.batch.now.transactions.items ≤ MAX_TRANSACTIONS }
+    requires within { All (λ n. CanBeMade crew.now.batch.now desk.old.view.snapshot n) group.now }
+    requires same_kinds { kinds desk.old.view.snapshot ≡ kinds crew.now.batch.now.objects }
     requires narrow { (1 ≤ width) × (width ≤ MAX_WORKERS) }
     requires ready { IsDeskOn desk.old.view.snapshot desk.old }
     ensures ready { OnOk result (IsDeskOn desk.old.view.snapshot desk.new) }
-    ensures added { OnOk result (AreAdded batch.now desk.old.view.snapshot group.now all.old.items all.new.items) }
+    ensures added { OnOk result (
+        AreAdded crew.now.batch.now desk.old.view.snapshot nets.now group.now all.old.items
+        all.new.items) }
 {
     for number in group {
         let number = *number;
-        let mut run = PendingRun::empty(alloc);
-        desk.make(threads, alloc, batch, number, width, gate, &mut run)?;
-        let run = Box::new(alloc, run)?;
-        all.push(NumberedRun { number, run })?;
+        let mut run = PendingRun::empty(crew.alloc);
+        desk.make(crew, number, width, &mut run)?;
+        let passes = passes_list(&run, nets);
+        let run = Box::new(crew.alloc, run)?;
+        all.push(NumberedRun {
+            number,
+            run,
+            passes,
+        })?;
     }
     Ok(())
 }
@@ -70,6 +79,36 @@ fn desk_or_new<'s>(
         Some(desk) => Ok(desk),
         None => Ok(Box::new(alloc, Desk::open(alloc, objects, room)?)?),
     }
+}
+
+/// A worker's bench: a desk, and the runs that were made there.
+type RunBench<'s> = Bench<Box<Desk<'s>>, NumberedRun>;
+
+// Adds the runs of a group to those at a worker's bench. Its desk is opened where there is none.
+fn make_piece<'s, R: Threads + Sync, G: Gate>(
+    crew: &Crew<R, G>,
+    objects: &'s Objects,
+    group: &[usize],
+    nets: &Committed,
+    width: u32,
+    bench: RunBench<'s>,
+) -> Result<RunBench<'s>, NoMemory>
+    requires few { length crew.now.batch.now.transactions.items ≤ MAX_TRANSACTIONS }
+    requires within { All (λ n. CanBeMade crew.now.batch.now objects.now n) group.now }
+    requires same_kinds { kinds objects.now ≡ kinds crew.now.batch.now.objects }
+    requires narrow { (1 ≤ width) × (width ≤ MAX_WORKERS) }
+    requires ready { IfSome bench.desk (λ desk. IsDeskOn objects.now desk.value) }
+    ensures { IfOk result (λ after. IfSome after.desk (λ desk. IsDeskOn objects.now desk.value)
+        × AreAdded crew.now.batch.now objects.now nets.now group.now bench.entry.items.items
+        after.items.items) }
+{
+    let Bench { desk, mut items } = bench;
+    let mut desk = desk_or_new(crew.alloc, objects, crew.operations_each, desk)?;
+    make_group(crew, group, nets, width, desk.as_mut(), &mut items)?;
+    Ok(Bench {
+        desk: Some(desk),
+        items,
+    })
 }
 
 // The group that is this piece: at most `cut` of the numbers.
@@ -95,24 +134,26 @@ fn group_size(plan: Plan, numbers: usize, workers: u32) -> usize
 /// A run for each of the numbers, in any order, made on these objects. A piece of the workers is a
 /// group of at most `cut` of the numbers, and no more than an even share of them. Where there are at
 /// least twice as many workers as numbers, each run gets several workers for the children of parallel
-/// blocks.
+/// blocks. The worker that made a run looks whether it passes these nets.
 ///
 /// Returns `NoMemory` where a request for memory was refused.
 pub(crate) fn make_all<R: Threads + Sync, G: Gate>(
     crew: &Crew<R, G>,
-    batch: &Batch,
     objects: &Objects,
     numbers: &[usize],
+    nets: &Committed,
 ) -> Result<Vec<NumberedRun>, NoMemory>
     requires few { length numbers.now ≤ MAX_TRANSACTIONS }
-    requires few_blocks { length batch.now.transactions.items ≤ MAX_TRANSACTIONS }
-    requires within { All (λ n. CanBeMade batch.now objects.now n) numbers.now }
-    requires same_kinds { kinds objects.now ≡ kinds batch.now.objects }
-    ensures { IfOk result (λ made. AreMade batch.now objects.now numbers.now made.items) }
+    requires few_blocks { length crew.now.batch.now.transactions.items ≤ MAX_TRANSACTIONS }
+    requires within { All (λ n. CanBeMade crew.now.batch.now objects.now n) numbers.now }
+    requires same_kinds { kinds objects.now ≡ kinds crew.now.batch.now.objects }
+    ensures { IfOk result (λ made.
+        AreMade crew.now.batch.now objects.now nets.now numbers.now made.items) }
 {
     let Crew {
         threads,
         alloc,
+        batch,
         plan,
         gate,
         operations_each,
@@ -125,30 +166,28 @@ pub(crate) fn make_all<R: Threads + Sync, G: Gate>(
         alloc,
         numbers.len().div_ceil(cut) as u32,
         workers,
-        &|piece: u32, bench: Bench<Box<Desk<'_>>, NumberedRun>| -> Result<
-            Bench<Box<Desk<'_>>, NumberedRun>,
-            NoMemory,
-        >
-            requires { (cut ≤ MAX_CUT) × (piece * cut < length numbers.now) × (1 ≤ width) × (width ≤ MAX_WORKERS) × (kinds objects.now ≡ kinds batch.now.objects) × (length batch.now.transactions.items ≤ MAX_TRANSACTIONS) × All (λ n. CanBeMade batch.now objects.now n) numbers.now × IfSome bench.desk (λ desk. IsDeskOn objects.now desk.value) }
-            ensures { IfOk result (λ after. IfSome after.desk (λ desk. IsDeskOn objects.entry.now desk.value) × AreAdded batch.entry.now objects.entry.now (slice_chunk numbers.entry.now cut piece) bench.entry.items.items after.items.items) }
+        &|piece: u32, bench: RunBench<'_>| -> Result<RunBench<'_>, NoMemory>
+            requires { (cut ≤ MAX_CUT) × (piece * cut < length numbers.now) × (1 ≤ width)
+                × (width ≤ MAX_WORKERS) × (kinds objects.now ≡ kinds batch.now.objects)
+                × (length batch.now.transactions.items ≤ MAX_TRANSACTIONS)
+                × All (λ n. CanBeMade batch.now objects.now n) numbers.now
+                × IfSome bench.desk (λ desk. IsDeskOn objects.now desk.value) }
+            ensures { IfOk result (λ after.
+                IfSome after.desk (λ desk. IsDeskOn objects.entry.now desk.value)
+                × AreAdded batch.entry.now objects.entry.now nets.entry.now
+                (slice_chunk numbers.entry.now cut piece) bench.entry.items.items
+                after.items.items) }
         {
-            let Bench { desk, mut items } = bench;
-            let mut desk = desk_or_new(alloc, objects, operations_each, desk)?;
-            let group = group_at(numbers, cut, piece);
-            make_group(
+            let crew = Crew {
                 threads,
                 alloc,
                 batch,
-                group,
-                width,
+                plan,
                 gate,
-                desk.as_mut(),
-                &mut items,
-            )?;
-            Ok(Bench {
-                desk: Some(desk),
-                items,
-            })
+                operations_each,
+            };
+            let group = group_at(numbers, cut, piece);
+            make_piece(&crew, objects, group, nets, width, bench)
         },
     )
 }

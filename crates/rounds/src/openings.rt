@@ -69,22 +69,17 @@ fn begin(alloc: Global, batch: &Batch, plan: Plan) -> Result<Opening, NoMemory>
 }
 
 // A round leads from one opening to the next.
-fn round<R: Threads + Sync, G: Gate>(
-    crew: &Crew<R, G>,
-    batch: &Batch,
-    at: &mut Opening,
-) -> Result<(), NoMemory>
-    requires at { IsOpening batch.now at.old }
-    requires going { at.old.committed < length batch.now.transactions.items }
-    ensures at { OnOk result (IsOpening batch.now at.new) }
-    ensures round { OnOk result (IsRound batch.now at.old at.new) }
+fn round<R: Threads + Sync, G: Gate>(crew: &Crew<R, G>, at: &mut Opening) -> Result<(), NoMemory>
+    requires at { IsOpening crew.now.batch.now at.old }
+    requires going { at.old.committed < length crew.now.batch.now.transactions.items }
+    ensures at { OnOk result (IsOpening crew.now.batch.now at.new) }
+    ensures round { OnOk result (IsRound crew.now.batch.now at.old at.new) }
 {
     let opened = at.committed;
     let ahead = at.ahead.max(1);
     at.reused.nets.expect(at.listed)?;
     let seen = seek(
         crew,
-        batch,
         &at.objects,
         opened,
         ahead,
@@ -92,18 +87,13 @@ fn round<R: Threads + Sync, G: Gate>(
         &mut at.reused,
     )?;
     let first = seen.first;
-    commit(
-        crew,
-        batch,
-        opened,
-        at.window.between(opened, first),
-        &mut at.objects,
-    )?;
+    let runs = at.window.between(opened, first);
+    commit(crew, opened, runs, &mut at.objects)?;
     at.window.keep(crew, first, &at.reused.nets, seen.upto)?;
     at.window
         .settle(crew.alloc, opened, first, &mut at.records)?;
     at.committed = first;
-    at.window.shorten(batch.transactions.len());
+    at.window.shorten(crew.batch.transactions.len());
     at.reused.nets.clear();
     at.ahead = (first - opened).saturating_mul(2);
     at.listed = seen.upto;
@@ -112,7 +102,7 @@ fn round<R: Threads + Sync, G: Gate>(
         round: at.rounds,
         before: opened,
         committed: first,
-        transactions: batch.transactions.len(),
+        transactions: crew.batch.transactions.len(),
     });
     Ok(())
 }
@@ -141,26 +131,26 @@ fn count(numbers: &[usize], counts: &mut Vec<u32>)
 // Makes the runs of all transactions that aren't committed and have no valid run, and counts them.
 fn make_rest<R: Threads + Sync, G: Gate>(
     crew: &Crew<R, G>,
-    batch: &Batch,
     at: &mut Opening,
     counts: &mut Vec<u32>,
 ) -> Result<(), NoMemory>
-    requires at { IsOpening batch.now at.old }
-    requires counts { AreCountsOn batch.now at.old at.old.rounds counts.old.items }
-    ensures at { OnOk result (IsOpening batch.now at.new) }
+    requires at { IsOpening crew.now.batch.now at.old }
+    requires counts { AreCountsOn crew.now.batch.now at.old at.old.rounds counts.old.items }
+    ensures at { OnOk result (IsOpening crew.now.batch.now at.new) }
     ensures same { OnOk result (at.new.committed ≡ at.old.committed) }
     ensures rounds { OnOk result (at.new.rounds ≡ at.old.rounds) }
-    ensures valid { OnOk result (AllPending batch.now at.new) }
-    ensures counts { OnOk result (AreCountsOn batch.now at.new (at.old.rounds + 1) counts.new.items) }
+    ensures valid { OnOk result (AllPending crew.now.batch.now at.new) }
+    ensures counts { OnOk result (
+        AreCountsOn crew.now.batch.now at.new (at.old.rounds + 1) counts.new.items) }
 {
-    let all = batch.transactions.len();
+    let all = crew.batch.transactions.len();
     let opened = at.committed;
     at.window
-        .reach(crew.alloc, batch, opened, &at.objects, all)?;
+        .reach(crew.alloc, crew.batch, opened, &at.objects, all)?;
     let made = at
         .window
-        .make_missing(crew, batch, &at.objects, opened, all)?;
-    count(&made, counts);
+        .make_missing(crew, &at.objects, opened, all, &at.reused.nets)?;
+    count(&made.numbers, counts);
     Ok(())
 }
 
@@ -215,8 +205,8 @@ pub fn execute<R: Threads + Sync, G: Gate>(
     let mut at = begin(alloc, batch, plan)?;
     let mut counts = no_counts(alloc, batch.transactions.len())?;
     'opening: while at.committed < batch.transactions.len() {
-        make_rest(&crew, batch, &mut at, &mut counts)?;
-        round(&crew, batch, &mut at)?;
+        make_rest(&crew, &mut at, &mut counts)?;
+        round(&crew, &mut at)?;
     }
     Ok(outcome_of(at, counts))
 }
@@ -242,7 +232,7 @@ pub fn execute_ahead<R: Threads + Sync, G: Gate>(
     let crew = Crew::of(threads, alloc, batch, plan, gate);
     let mut at = begin(alloc, batch, plan)?;
     'opening: while at.committed < batch.transactions.len() {
-        round(&crew, batch, &mut at)?;
+        round(&crew, &mut at)?;
         drop_later(&mut at);
     }
     Ok(outcome_of(at, Vec::new(alloc)))

@@ -1,79 +1,151 @@
 //! The check of a round. It makes the runs that it comes to, in blocks, up to the first conflict.
-ghost use Rattle.std.specs.Prelude.{◌≡◌, ◌<◌, ◌≤◌, [], length, IfOk, OnOk};
-ghost use Rattle.meaning.specs.Batch.{state_at};
+ghost use Rattle.std.specs.Prelude.{◌≡◌, ◌<◌, ◌≤◌, [], false, length, slice_index_or, IfOk, OnOk, IsTrue};
 ghost use Rattle.rounds.specs.Desks.{IsDeskOn};
-ghost use Rattle.rounds.specs.Views.{start_of, blocks_of};
-ghost use Rattle.rounds.specs.Windows.{end_of, AllValid, IsWindowAt, IsListedTo, IsBlockSeen, IsRoundSeen, HasGrown};
+ghost use Rattle.rounds.specs.Views.{blocks_of, opening_state};
+ghost use Rattle.rounds.specs.Windows.{run_at, end_of, AllValid, IsWindowAt, IsListedTo, IsBlockSeen, IsRoundSeen, HasGrown, ArePassing, IsChecked};
+ghost use Rattle.rounds.specs.PendingRuns.{Passes};
+ghost use Rattle.rounds.specs.declared.pending_run.PendingRun.{PendingRun as OnePending};
 
 use crate::check::{Seen, check_at_once, stands_past};
 use crate::crew::{Crew, makers};
 use crate::desk::Desk;
 use crate::reused::Reused;
 use crate::window::Window;
-use batch::Batch;
 use intentions::Committed;
 use speculate::{Gate, NoMemory, Objects};
+use std::alloc::Global;
+use std::ops::Range;
 use std::thread::Threads;
 
+// Whether the run with this number stands past all that is listed. Its net is listed then, and its
+// summaries are freed. One that is known to pass the list isn't looked at.
+fn check_next(
+    alloc: Global,
+    number: usize,
+    passes: bool,
+    window: &mut Window,
+    nets: &mut Committed,
+) -> Result<bool, NoMemory>
+    requires number { (window.old.first ≤ number) × (number < end_of window.old) }
+    requires passes { IsTrue passes → (d : OnePending)
+        → Passes nets.old (run_at window.old number d) }
+    ensures { IfOk result (λ stands.
+        IsChecked number nets.old nets.new window.old window.new stands) }
+{
+    if !passes {
+        let upto = nets.len();
+        let place = number - window.first;
+        if !stands_past(&window.runs, place, nets, upto) {
+            return Ok(false);
+        }
+        nets.append_new(window.runs[place].sums.net())?;
+    }
+    window.free_sums(alloc, number);
+    Ok(true)
+}
+
 // Checks the runs of a block in order, and lists their nets, up to the first that conflicts. Those
-// that aren't valid are made at the desk first. The summaries of a run that was listed are freed.
-// Returns the first conflict, or the end of the block.
+// that aren't valid are made at the desk first. Returns the first conflict, or the end of the block.
 fn check_in_turn<R: Threads + Sync, G: Gate>(
     crew: &Crew<R, G>,
-    batch: &Batch,
     opened: usize,
-    from: usize,
-    end: usize,
+    block: Range<usize>,
     desk: &mut Desk<'_>,
     window: &mut Window,
     nets: &mut Committed,
 ) -> Result<Seen, NoMemory>
-    requires opening { desk.old.view.snapshot ≡ state_at (start_of batch.now) (blocks_of batch.now) opened }
-    requires window { IsWindowAt batch.now from desk.old.view.snapshot window.old }
-    requires places { (from ≤ end) × (end ≤ end_of window.old) }
-    requires listed { IsListedTo batch.now opened from window.old nets.old }
+    requires opening { desk.old.view.snapshot ≡ opening_state crew.now.batch.now opened }
+    requires window { IsWindowAt crew.now.batch.now block.start desk.old.view.snapshot window.old }
+    requires places { (block.start ≤ block.end) × (block.end ≤ end_of window.old) }
+    requires listed { IsListedTo crew.now.batch.now opened block.start window.old nets.old }
     requires ready { IsDeskOn desk.old.view.snapshot desk.old }
-    ensures grown { OnOk result (HasGrown from window.old window.new) }
+    ensures grown { OnOk result (HasGrown block.start window.old window.new) }
     ensures reached { OnOk result (length window.new.runs.items ≡ length window.old.runs.items) }
     ensures ready { OnOk result (IsDeskOn desk.old.view.snapshot desk.new) }
-    ensures seen { IfOk result (IsBlockSeen batch.now opened end window.new nets.new) }
+    ensures seen { IfOk result (
+        IsBlockSeen crew.now.batch.now opened block.end window.new nets.new) }
 {
-    let width = crew.plan.width((end - from) as u32);
-    for number in from..end {
-        window.make_at(crew, batch, number, number, width, desk)?;
+    let width = crew.plan.width((block.end - block.start) as u32);
+    for number in block.start..block.end {
+        window.make_at(crew, number, number, width, desk)?;
         crew.gate.pass(0, (number - opened) as u32 + 1);
         let upto = nets.len();
-        let place = number - window.first;
-        if !stands_past(&window.runs, place, nets, upto) {
+        let stands = check_next(crew.alloc, number, false, window, nets)?;
+        if !stands {
             let first = number;
             return Ok(Seen { first, upto });
         }
-        nets.append_new(window.runs[place].sums.net())?;
-        window.free_sums(crew.alloc, number);
     }
     let upto = nets.len();
-    Ok(Seen { first: end, upto })
+    let first = block.end;
+    Ok(Seen { first, upto })
+}
+
+// Whether the flag at this place is set.
+fn is_set(flags: &[bool], place: usize) -> bool
+    ensures { result ≡ slice_index_or flags.now place false }
+{
+    place < flags.len() && flags[place]
+}
+
+// The same of runs that are all made. Some of them were seen to pass the list as it is before the
+// block. These are passed over as long as it gets no longer.
+fn check_made<R, G: Gate>(
+    crew: &Crew<R, G>,
+    opened: usize,
+    block: Range<usize>,
+    passing: &[bool],
+    window: &mut Window,
+    nets: &mut Committed,
+) -> Result<Seen, NoMemory>
+    requires window { IsWindowAt crew.now.batch.now block.start
+        (opening_state crew.now.batch.now opened) window.old }
+    requires places { (block.start ≤ block.end) × (block.end ≤ end_of window.old) }
+    requires listed { IsListedTo crew.now.batch.now opened block.start window.old nets.old }
+    requires valid { AllValid window.old block.start block.end }
+    requires passing { ArePassing nets.old block.start window.old passing.now }
+    ensures grown { OnOk result (HasGrown block.start window.old window.new) }
+    ensures reached { OnOk result (length window.new.runs.items ≡ length window.old.runs.items) }
+    ensures seen { IfOk result (
+        IsBlockSeen crew.now.batch.now opened block.end window.new nets.new) }
+{
+    let before = nets.len();
+    for number in block.start..block.end {
+        crew.gate.pass(0, (number - opened) as u32 + 1);
+        let upto = nets.len();
+        let passes = upto == before && is_set(passing, number - block.start);
+        let stands = check_next(crew.alloc, number, passes, window, nets)?;
+        if !stands {
+            let first = number;
+            return Ok(Seen { first, upto });
+        }
+    }
+    let upto = nets.len();
+    let first = block.end;
+    Ok(Seen { first, upto })
 }
 
 // The same of runs that are all made, by all workers.
 fn check_block<R: Threads + Sync, G: Gate>(
     crew: &Crew<R, G>,
-    batch: &Batch,
     opened: usize,
-    from: usize,
-    end: usize,
+    block: Range<usize>,
     window: &Window,
     nets: &mut Committed,
 ) -> Result<Seen, NoMemory>
-    requires window { IsWindowAt batch.now from (state_at (start_of batch.now) (blocks_of batch.now) opened) window.now }
-    requires places { (from ≤ end) × (end ≤ end_of window.now) }
-    requires listed { IsListedTo batch.now opened from window.now nets.old }
-    requires valid { AllValid window.now from end }
-    ensures seen { IfOk result (IsBlockSeen batch.now opened end window.now nets.new) }
+    requires window { IsWindowAt crew.now.batch.now block.start
+        (opening_state crew.now.batch.now opened) window.now }
+    requires places { (block.start ≤ block.end) × (block.end ≤ end_of window.now) }
+    requires listed { IsListedTo crew.now.batch.now opened block.start window.now nets.old }
+    requires valid { AllValid window.now block.start block.end }
+    ensures seen { IfOk result (
+        IsBlockSeen crew.now.batch.now opened block.end window.now nets.new) }
 {
-    let Seen { first, upto } = check_at_once(crew, from - opened, window.between(from, end), nets)?;
+    let runs = window.between(block.start, block.end);
+    let before = block.start - opened;
+    let Seen { first, upto } = check_at_once(&crew.workers(), before, runs, nets)?;
     Ok(Seen {
-        first: from + first,
+        first: block.start + first,
         upto,
     })
 }
@@ -82,33 +154,31 @@ fn check_block<R: Threads + Sync, G: Gate>(
 // cut of 1 they check them at once, too.
 fn check<R: Threads + Sync, G: Gate>(
     crew: &Crew<R, G>,
-    batch: &Batch,
     opened: usize,
-    objects: &Objects,
-    from: usize,
-    end: usize,
+    block: Range<usize>,
     desk: &mut Desk<'_>,
     window: &mut Window,
     nets: &mut Committed,
 ) -> Result<Seen, NoMemory>
-    requires opening { objects.now ≡ state_at (start_of batch.now) (blocks_of batch.now) opened }
-    requires window { IsWindowAt batch.now from objects.now window.old }
-    requires places { (from ≤ end) × (end ≤ end_of window.old) }
-    requires listed { IsListedTo batch.now opened from window.old nets.old }
-    requires ready { IsDeskOn objects.now desk.old }
-    ensures grown { OnOk result (HasGrown from window.old window.new) }
+    requires opening { desk.old.view.snapshot ≡ opening_state crew.now.batch.now opened }
+    requires window { IsWindowAt crew.now.batch.now block.start desk.old.view.snapshot window.old }
+    requires places { (block.start ≤ block.end) × (block.end ≤ end_of window.old) }
+    requires listed { IsListedTo crew.now.batch.now opened block.start window.old nets.old }
+    requires ready { IsDeskOn desk.old.view.snapshot desk.old }
+    ensures grown { OnOk result (HasGrown block.start window.old window.new) }
     ensures reached { OnOk result (length window.new.runs.items ≡ length window.old.runs.items) }
-    ensures ready { OnOk result (IsDeskOn objects.now desk.new) }
-    ensures seen { IfOk result (IsBlockSeen batch.now opened end window.new nets.new) }
+    ensures ready { OnOk result (IsDeskOn desk.old.view.snapshot desk.new) }
+    ensures seen { IfOk result (
+        IsBlockSeen crew.now.batch.now opened block.end window.new nets.new) }
 {
-    if makers(crew, end - from) == 1 {
-        return check_in_turn(crew, batch, opened, from, end, desk, window, nets);
+    if makers(crew, block.end - block.start) == 1 {
+        return check_in_turn(crew, opened, block, desk, window, nets);
     }
-    window.make_missing(crew, batch, objects, from, end)?;
+    let made = window.make_missing(crew, desk.objects(), block.start, block.end, nets)?;
     if crew.plan.cut == 1 {
-        return check_block(crew, batch, opened, from, end, window, nets);
+        return check_block(crew, opened, block, window, nets);
     }
-    check_in_turn(crew, batch, opened, from, end, desk, window, nets)
+    check_made(crew, opened, block, &made.passing, window, nets)
 }
 
 /// Seeks the first conflict of a round in blocks of runs, and lists the nets of the runs before it.
@@ -118,33 +188,30 @@ fn check<R: Threads + Sync, G: Gate>(
 /// Returns `NoMemory` where a request for memory was refused.
 pub(crate) fn seek<R: Threads + Sync, G: Gate>(
     crew: &Crew<R, G>,
-    batch: &Batch,
     objects: &Objects,
     opened: usize,
     expected: usize,
     window: &mut Window,
     reused: &mut Reused,
 ) -> Result<Seen, NoMemory>
-    requires opening { objects.now ≡ state_at (start_of batch.now) (blocks_of batch.now) opened }
-    requires going { opened < length (blocks_of batch.now) }
-    requires window { IsWindowAt batch.now opened objects.now window.old }
+    requires opening { objects.now ≡ opening_state crew.now.batch.now opened }
+    requires going { opened < length (blocks_of crew.now.batch.now) }
+    requires window { IsWindowAt crew.now.batch.now opened objects.now window.old }
     requires some { 1 ≤ expected }
     requires none { reused.old.nets ≡ [] }
     ensures grown { OnOk result (HasGrown opened window.old window.new) }
-    ensures seen { IfOk result (IsRoundSeen batch.now opened window.new reused.new.nets) }
+    ensures seen { IfOk result (IsRoundSeen crew.now.batch.now opened window.new reused.new.nets) }
 {
-    let count = batch.transactions.len();
+    let count = crew.batch.transactions.len();
     let memory = reused.give(crew.alloc);
     let mut desk = Desk::open_in(crew.alloc, objects, crew.operations_each, memory);
     let mut from = opened;
     let mut block = expected;
     'looking: while from < count {
         let end = from.saturating_add(block).min(count);
-        window.reach(crew.alloc, batch, from, objects, end)?;
+        window.reach(crew.alloc, crew.batch, from, objects, end)?;
         let nets = &mut reused.nets;
-        let seen = check(
-            crew, batch, opened, objects, from, end, &mut desk, window, nets,
-        )?;
+        let seen = check(crew, opened, from..end, &mut desk, window, nets)?;
         if seen.first < end {
             reused.take_back(desk);
             return Ok(seen);

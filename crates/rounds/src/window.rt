@@ -1,12 +1,13 @@
 //! The window: runs of the transactions that the rounds have come to.
-ghost use Rattle.std.specs.Prelude.{◌≡◌, ◌+◌, ◌<◌, ◌≤◌, ℕ, [], length, take, IfOk, OnOk, IsTrue};
+ghost use Rattle.std.specs.Prelude.{◌≡◌, ◌+◌, ◌<◌, ◌≤◌, ℕ, [], false, length, take, slice_index_or, IfOk, OnOk, IsTrue};
 ghost use Rattle.std.specs.List.{All};
 ghost use Rattle.objects.specs.Entries.{kinds};
+ghost use Rattle.claims.specs.Views.{bit};
 ghost use Rattle.rounds.specs.Desks.{IsDeskOn};
 ghost use Rattle.rounds.specs.Passes.{CanBeMade};
 ghost use Rattle.rounds.specs.PendingRuns.{IsPendingOf, HoldsPast};
 ghost use Rattle.rounds.specs.Views.{blocks_of, meaning};
-ghost use Rattle.rounds.specs.Windows.{flag_at, end_of, runs_between, IsValid, AllValid, IsWindowAt, IsOpenedBy, HasGrown, IsPut, AreFallen, AreStale, AreKept, IsFreedAt, AreCleared, AreSettled, IsShortened, AreMissing, IsDecided};
+ghost use Rattle.rounds.specs.Windows.{flag_at, end_of, runs_between, IsValid, AllValid, IsWindowAt, IsOpenedBy, HasGrown, IsPut, AreFallen, AreStale, AreKept, IsFreedAt, AreCleared, AreSettled, IsShortened, AreMissing, IsDecided, Told, ArePassing};
 ghost use Rattle.rounds.specs.declared.pending_run.PendingRun.{PendingRun as OnePending};
 ghost use Rattle.meaning.specs.declared.limits.TheConstants.{MAX_TRANSACTIONS};
 ghost use Rattle.plan.specs.declared.plan.TheConstants.{MAX_WORKERS};
@@ -35,6 +36,28 @@ pub(crate) struct Window {
     /// Which of the runs are those of their transactions on the objects of the opening, where these
     /// aren't committed. The others are still to be made.
     pub(crate) valid: Vec<bool>,
+}
+
+/// What was made of a block of runs.
+#[derive(Drop)]
+pub(crate) struct MadeRuns {
+    /// The numbers of the runs that weren't valid.
+    pub(crate) numbers: Vec<usize>,
+    /// Which of the block's runs were seen to pass the nets that are listed. There may be fewer flags
+    /// than runs: the others weren't looked at.
+    pub(crate) passing: Vec<bool>,
+}
+
+// So many flags, none of which is set.
+fn no_flags(alloc: Global, count: usize) -> Result<Vec<bool>, NoMemory>
+    ensures all { IfOk result (λ flags. length flags.items ≡ count) }
+    ensures none { IfOk result (λ flags. (i : ℕ) → slice_index_or flags.items i false ≡ false) }
+{
+    let mut flags = Vec::with_capacity(alloc, count)?;
+    for _ in 0..count {
+        flags.push(false)?;
+    }
+    Ok(flags)
 }
 
 impl Window {
@@ -98,20 +121,20 @@ impl Window {
     pub(crate) fn make_at<R: Threads + Sync, G: Gate>(
         &mut self,
         crew: &Crew<R, G>,
-        batch: &Batch,
         from: usize,
         number: usize,
         width: u32,
         desk: &mut Desk<'_>,
     ) -> Result<(), NoMemory>
-        requires window { IsWindowAt batch.now from desk.old.view.snapshot self.old }
+        requires window { IsWindowAt crew.now.batch.now from desk.old.view.snapshot self.old }
         requires number { (from ≤ number) × (number < end_of self.old) }
         requires few { number ≤ MAX_TRANSACTIONS }
-        requires can { CanBeMade batch.now desk.old.view.snapshot number }
-        requires same_kinds { kinds desk.old.view.snapshot ≡ kinds batch.now.objects }
+        requires can { CanBeMade crew.now.batch.now desk.old.view.snapshot number }
+        requires same_kinds { kinds desk.old.view.snapshot ≡ kinds crew.now.batch.now.objects }
         requires narrow { (1 ≤ width) × (width ≤ MAX_WORKERS) }
         requires ready { IsDeskOn desk.old.view.snapshot desk.old }
-        ensures window { OnOk result (IsWindowAt batch.now from desk.old.view.snapshot self.new) }
+        ensures window { OnOk result (
+            IsWindowAt crew.now.batch.now from desk.old.view.snapshot self.new) }
         ensures grown { OnOk result (HasGrown from self.old self.new) }
         ensures valid { OnOk result (IsValid self.new number) }
         ensures reached { OnOk result (length self.new.runs.items ≡ length self.old.runs.items) }
@@ -120,15 +143,7 @@ impl Window {
         let place = number - self.first;
         if !self.valid[place] {
             let run = &mut self.runs[place];
-            desk.make(
-                crew.threads,
-                crew.alloc,
-                batch,
-                number,
-                width,
-                crew.gate,
-                run,
-            )?;
+            desk.make(crew, number, width, run)?;
             self.valid[place] = true;
         }
         Ok(())
@@ -138,16 +153,15 @@ impl Window {
     fn make_in_turn<R: Threads + Sync, G: Gate>(
         &mut self,
         crew: &Crew<R, G>,
-        batch: &Batch,
         from: usize,
         objects: &Objects,
         numbers: &[usize],
     ) -> Result<(), NoMemory>
-        requires opening { IsOpenedBy batch.now from objects.now }
-        requires window { IsWindowAt batch.now from objects.now self.old }
+        requires opening { IsOpenedBy crew.now.batch.now from objects.now }
+        requires window { IsWindowAt crew.now.batch.now from objects.now self.old }
         requires places { All (λ n. (from ≤ n) × (n < end_of self.old)) numbers.now }
         requires few { length numbers.now ≤ MAX_TRANSACTIONS }
-        ensures window { OnOk result (IsWindowAt batch.now from objects.now self.new) }
+        ensures window { OnOk result (IsWindowAt crew.now.batch.now from objects.now self.new) }
         ensures grown { OnOk result (HasGrown from self.old self.new) }
         ensures reached { OnOk result (length self.new.runs.items ≡ length self.old.runs.items) }
         ensures valid { OnOk result (All (λ n. IsValid self.new n) numbers.now) }
@@ -155,7 +169,7 @@ impl Window {
         let width = crew.plan.width(numbers.len() as u32);
         let mut desk = Desk::open(crew.alloc, objects, crew.operations_each)?;
         for number in numbers {
-            self.make_at(crew, batch, from, *number, width, &mut desk)?;
+            self.make_at(crew, from, *number, width, &mut desk)?;
         }
         Ok(())
     }
@@ -166,59 +180,65 @@ impl Window {
         requires number { (self.old.first ≤ made.number) × (made.number < end_of self.old) }
         ensures { IsPut made self.old self.new }
     {
-        let NumberedRun { number, run } = made;
+        let NumberedRun { number, run, .. } = made;
         let place = number - self.first;
         self.runs[place] = Box::into_inner(run);
         self.valid[place] = true;
     }
 
-    // Makes the runs of these numbers by several workers.
+    // Makes the runs of these numbers by several workers. Returns which of the runs, from that of the
+    // number `from` on, were seen to pass these nets.
     fn make_at_once<R: Threads + Sync, G: Gate>(
         &mut self,
         crew: &Crew<R, G>,
-        batch: &Batch,
         from: usize,
         objects: &Objects,
         numbers: &[usize],
-    ) -> Result<(), NoMemory>
-        requires opening { IsOpenedBy batch.now from objects.now }
-        requires window { IsWindowAt batch.now from objects.now self.old }
+        nets: &Committed,
+    ) -> Result<Vec<bool>, NoMemory>
+        requires opening { IsOpenedBy crew.now.batch.now from objects.now }
+        requires window { IsWindowAt crew.now.batch.now from objects.now self.old }
         requires places { All (λ n. (from ≤ n) × (n < end_of self.old)) numbers.now }
         requires few { length numbers.now ≤ MAX_TRANSACTIONS }
-        ensures window { OnOk result (IsWindowAt batch.now from objects.now self.new) }
+        ensures window { OnOk result (IsWindowAt crew.now.batch.now from objects.now self.new) }
         ensures grown { OnOk result (HasGrown from self.old self.new) }
         ensures reached { OnOk result (length self.new.runs.items ≡ length self.old.runs.items) }
         ensures valid { OnOk result (All (λ n. IsValid self.new n) numbers.now) }
+        ensures passing { IfOk result (λ flags. ArePassing nets.now from self.new flags.items) }
     {
-        let mut made = make_all(crew, batch, objects, numbers)?;
+        let mut made = make_all(crew, objects, numbers, nets)?;
+        let mut passing = no_flags(crew.alloc, self.end().saturating_sub(from))?;
         'putting: while let Some(next) = made.pop() {
+            passing[next.number - from] = next.passes;
             self.put(next);
         }
-        Ok(())
+        Ok(passing)
     }
 
-    // The same, by as many workers as pay.
+    // The same, by as many workers as pay. One alone looks at none of its runs.
     fn make<R: Threads + Sync, G: Gate>(
         &mut self,
         crew: &Crew<R, G>,
-        batch: &Batch,
         from: usize,
         objects: &Objects,
         numbers: &[usize],
-    ) -> Result<(), NoMemory>
-        requires opening { IsOpenedBy batch.now from objects.now }
-        requires window { IsWindowAt batch.now from objects.now self.old }
+        nets: &Committed,
+    ) -> Result<Vec<bool>, NoMemory>
+        requires opening { IsOpenedBy crew.now.batch.now from objects.now }
+        requires window { IsWindowAt crew.now.batch.now from objects.now self.old }
         requires places { All (λ n. (from ≤ n) × (n < end_of self.old)) numbers.now }
         requires few { length numbers.now ≤ MAX_TRANSACTIONS }
-        ensures window { OnOk result (IsWindowAt batch.now from objects.now self.new) }
+        ensures window { OnOk result (IsWindowAt crew.now.batch.now from objects.now self.new) }
         ensures grown { OnOk result (HasGrown from self.old self.new) }
         ensures reached { OnOk result (length self.new.runs.items ≡ length self.old.runs.items) }
         ensures valid { OnOk result (All (λ n. IsValid self.new n) numbers.now) }
+        ensures passing { IfOk result (λ flags. ArePassing nets.now from self.new flags.items) }
     {
         if makers(crew, numbers.len()) == 1 {
-            return self.make_in_turn(crew, batch, from, objects, numbers);
+            self.make_in_turn(crew, from, objects, numbers)?;
+            return Ok(Vec::new(crew.alloc));
         }
-        self.make_at_once(crew, batch, from, objects, numbers)
+        self.make_at_once(crew, from, objects, numbers, nets)
     }
 
     // The numbers from one on and before another whose runs aren't valid.
@@ -237,58 +257,56 @@ impl Window {
         Ok(numbers)
     }
 
-    /// Makes those of the runs from one number on and before another that aren't valid. Returns their
-    /// numbers.
+    /// Makes those of the runs from one number on and before another that aren't valid. Several
+    /// workers look at each of them with the nets that are listed.
     ///
     /// Returns `NoMemory` where a request for memory was refused.
     pub(crate) fn make_missing<R: Threads + Sync, G: Gate>(
         &mut self,
         crew: &Crew<R, G>,
-        batch: &Batch,
         objects: &Objects,
         from: usize,
         end: usize,
-    ) -> Result<Vec<usize>, NoMemory>
-        requires opening { IsOpenedBy batch.now from objects.now }
-        requires window { IsWindowAt batch.now from objects.now self.old }
+        nets: &Committed,
+    ) -> Result<MadeRuns, NoMemory>
+        requires opening { IsOpenedBy crew.now.batch.now from objects.now }
+        requires window { IsWindowAt crew.now.batch.now from objects.now self.old }
         requires places { (from ≤ end) × (end ≤ end_of self.old) }
-        ensures window { OnOk result (IsWindowAt batch.now from objects.now self.new) }
+        ensures window { OnOk result (IsWindowAt crew.now.batch.now from objects.now self.new) }
         ensures grown { OnOk result (HasGrown from self.old self.new) }
         ensures reached { OnOk result (length self.new.runs.items ≡ length self.old.runs.items) }
         ensures valid { OnOk result (AllValid self.new from end) }
-        ensures missing { IfOk result (λ numbers. AreMissing self.old from end numbers.items) }
+        ensures missing { IfOk result (λ made. AreMissing self.old from end made.numbers.items) }
+        ensures passing { IfOk result (λ made.
+            ArePassing nets.now from self.new made.passing.items) }
     {
         let numbers = self.missing(crew.alloc, from, end)?;
-        self.make(crew, batch, from, objects, &numbers)?;
-        Ok(numbers)
+        let passing = self.make(crew, from, objects, &numbers, nets)?;
+        Ok(MadeRuns { numbers, passing })
     }
 
-    // Adds this number, where its run is valid and doesn't stand past what was committed, which is
+    // Whether the run with this number is valid and doesn't stand past what was committed, which is
     // the first `upto` entries of the nets. It is so many places after the first that is left.
-    fn tell<G: Gate>(
+    fn falls<G: Gate>(
         &self,
         gate: &G,
         piece: u32,
         number: usize,
         nets: &Committed,
         upto: usize,
-        told: &mut Vec<usize>,
-    ) -> Result<(), NoMemory>
+    ) -> bool
         requires flags { length self.now.valid.items ≡ length self.now.runs.items }
         requires number { (self.now.first ≤ number) × (number < end_of self.now) }
         requires piece { piece ≤ MAX_TRANSACTIONS }
         requires upto { upto ≤ length nets.now }
-        ensures { OnOk result (IsDecided self.now (take upto nets.now) number told.old.items told.new.items) }
+        ensures { (d : OnePending) → Told self.now (take upto nets.now) number (bit result) d }
     {
         let place = number - self.first;
         if !self.valid[place] {
-            return Ok(());
+            return false;
         }
         gate.pass(0, MAX_TRANSACTIONS as u32 + piece + 1);
-        if !stands_past(&self.runs, place, nets, upto) {
-            told.push(number)?;
-        }
-        Ok(())
+        !stands_past(&self.runs, place, nets, upto)
     }
 
     // The numbers, from one on, of the valid runs that don't stand past what was committed, which
@@ -322,11 +340,17 @@ impl Window {
             count as u32,
             workers,
             &|piece: u32, bench: Bench<(), usize>| -> Result<Bench<(), usize>, NoMemory>
-                requires { (self.now.first ≤ from) × (from + piece < end_of self.now) × (length self.now.valid.items ≡ length self.now.runs.items) × (end_of self.now ≤ MAX_TRANSACTIONS) × (upto ≤ length nets.now) }
-                ensures { IfOk result (λ after. IsDecided self.entry.now (take upto nets.entry.now) (from + piece) bench.items.items after.items.items) }
+                requires { (self.now.first ≤ from) × (from + piece < end_of self.now)
+                    × (length self.now.valid.items ≡ length self.now.runs.items)
+                    × (end_of self.now ≤ MAX_TRANSACTIONS) × (upto ≤ length nets.now) }
+                ensures { IfOk result (λ after. IsDecided self.entry.now (take upto nets.entry.now)
+                    (from + piece) bench.items.items after.items.items) }
             {
                 let Bench { desk, mut items } = bench;
-                self.tell(gate, piece, from + piece as usize, nets, upto, &mut items)?;
+                let number = from + piece as usize;
+                if self.falls(gate, piece, number, nets, upto) {
+                    items.push(number)?;
+                }
                 Ok(Bench { desk, items })
             },
         )

@@ -8,7 +8,7 @@ use Rattle.rounds.specs.Views.{start_of, blocks_of}
 use Rattle.batch.specs.Views.{block_view, record_view}
 use Rattle.rounds.proofs.Ends.{end_shown, end_rounds, end_state, end_few, end_nets, end_counts}
 use Rattle.rounds.specs.Openings.{AreCounts}
-use Rattle.rounds.specs.Windows.{AreCountsAt, AreCountsOn}
+use Rattle.rounds.specs.Windows.{IsOpening, AreCountsAt, AreCountsOn}
 use Rattle.rounds.proofs.Counts.{none_counted, round_counted}
 use Rattle.rounds.proofs.openings.execute.Goals as goal
 
@@ -28,13 +28,17 @@ opening-init g c =
 
 pub opening-preserved : goal.opening-preserved
 opening-preserved g c =
-    let batch = c.args.batch.now in
+    let batch = c.of-crew.result.batch.now in
+    let same = c.of-crew.ensures.batch in
     let middle = c.make_rest.new.at in
+    let new = c.round.new.at in
     let counts = c.make_rest.new.counts.items in
     record {
-      at = c.in_ok-round.ensures.at;
-      counts = round_counted batch middle c.round.new.at counts c.in_ok-round.ensures.round c.in_ok-make_rest.ensures.valid
-          (subst (λ n. AreCountsOn batch middle (n + 1) counts) (sym c.in_ok-make_rest.ensures.rounds) c.in_ok-make_rest.ensures.counts);
+      at = subst (λ b. IsOpening b new) same c.in_ok-round.ensures.at;
+      counts = subst (λ b. AreCountsOn b new new.rounds counts) same
+          (round_counted batch middle new counts c.in_ok-round.ensures.round c.in_ok-make_rest.ensures.valid
+          (subst (λ n. AreCountsOn batch middle (n + 1) counts) (sym c.in_ok-make_rest.ensures.rounds)
+          c.in_ok-make_rest.ensures.counts));
     }
 
 pub opening-smaller : goal.opening-smaller

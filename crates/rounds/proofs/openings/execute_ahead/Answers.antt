@@ -3,6 +3,7 @@ use Rattle.std.proofs.lemmas.List.{length-map}
 use Rattle.meaning.specs.declared.limits.TheConstants.{MAX_OBJECTS}
 use Rattle.meaning.specs.Rounds.{Rounds}
 use Rattle.rounds.specs.Views.{start_of, blocks_of}
+use Rattle.rounds.specs.Windows.{IsOpening}
 use Rattle.batch.specs.Views.{block_view, record_view}
 use Rattle.rounds.proofs.Ends.{end_shown, end_rounds, end_state, end_few, end_nets}
 use Rattle.rounds.proofs.openings.execute_ahead.Goals as goal
@@ -11,7 +12,8 @@ pub opening-init : goal.opening-init
 opening-init g c = c.in_ok-at.ensures.opening
 
 pub opening-preserved : goal.opening-preserved
-opening-preserved g c = c.drop_later.ensures.at c.args.batch.now c.in_ok-round.ensures.at
+opening-preserved g c =
+    c.drop_later.ensures.at c.args.batch.now (subst (λ b. IsOpening b c.round.new.at) c.of-crew.ensures.batch c.in_ok-round.ensures.at)
 
 pub opening-smaller : goal.opening-smaller
 opening-smaller g c =

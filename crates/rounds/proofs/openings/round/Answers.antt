@@ -13,44 +13,44 @@ use Rattle.rounds.proofs.WindowLemmas.{settled_flag, settled_window}
 use Rattle.rounds.proofs.openings.round.Goals as goal
 
 pub seek-requires-clause-going : goal.seek-requires-clause-going
-seek-requires-clause-going g c κs within = omega (arith, length-map c.args.batch.now.transactions.items block_view, c.requires.going)
+seek-requires-clause-going g c κs within = omega (arith, length-map c.args.crew.now.batch.now.transactions.items block_view, c.requires.going)
 
 pub commit-requires-clause-spans : goal.commit-requires-clause-spans
 commit-requires-clause-spans g c κs within =
-    let batch = c.args.batch.now in
+    let batch = c.args.crew.now.batch.now in
     let seen = c.in_ok-seen.seen in
     let saw = c.in_ok-seen.ensures.seen in
     let opened = c.args.at.now.committed in
     let state = c.args.at.now.objects in
-    subst (AreSpanned (blocks_of batch) opened) (sym c.between.ensures)
+    subst (AreSpanned (blocks_of batch) opened) (sym c.between-runs.ensures)
     (commits batch opened seen.first state c.seek.new.window (take seen.upto c.seek.new.reused.nets) c.requires.at.objects
     c.requires.at.within saw.pending saw.reached saw.listed).2
 
 pub commit-requires-clause-legal : goal.commit-requires-clause-legal
 commit-requires-clause-legal g c κs within =
-    let batch = c.args.batch.now in
+    let batch = c.args.crew.now.batch.now in
     let seen = c.in_ok-seen.seen in
     let saw = c.in_ok-seen.ensures.seen in
     let opened = c.args.at.now.committed in
     let state = c.args.at.now.objects in
-    subst (λ rs. AreLegal state (own_nets (blocks_of batch) opened rs)) (sym c.between.ensures)
+    subst (λ rs. AreLegal state (own_nets (blocks_of batch) opened rs)) (sym c.between-runs.ensures)
     (commits batch opened seen.first state c.seek.new.window (take seen.upto c.seek.new.reused.nets) c.requires.at.objects
     c.requires.at.within saw.pending saw.reached saw.listed).0
 
 pub commit-requires-clause-room : goal.commit-requires-clause-room
 commit-requires-clause-room g c κs within =
-    let batch = c.args.batch.now in
+    let batch = c.args.crew.now.batch.now in
     let seen = c.in_ok-seen.seen in
     let saw = c.in_ok-seen.ensures.seen in
     let opened = c.args.at.now.committed in
     let state = c.args.at.now.objects in
-    subst (λ rs. AllHaveRoom state (own_nets (blocks_of batch) opened rs)) (sym c.between.ensures)
+    subst (λ rs. AllHaveRoom state (own_nets (blocks_of batch) opened rs)) (sym c.between-runs.ensures)
     (commits batch opened seen.first state c.seek.new.window (take seen.upto c.seek.new.reused.nets) c.requires.at.objects
     c.requires.at.within saw.pending saw.reached saw.listed).1
 
 pub returns-clause-at : goal.returns-clause-at
 returns-clause-at g c =
-    let batch = c.args.batch.now in
+    let batch = c.args.crew.now.batch.now in
     let start = start_of batch in
     let blocks = blocks_of batch in
     let count = c.len.ensures in
@@ -68,7 +68,7 @@ returns-clause-at g c =
     let on = comes_on start blocks opened seen.first (omega (arith, count, all, c.requires.going)) saw.opening in
     let next = moved_on batch opened seen.first state window listed c.requires.at.objects c.requires.at.within saw.pending
     saw.reached saw.listed c.commit.new.objects
-    (c.in_ok-commit.ensures ∙ ap (λ rs. after state (own_nets blocks opened rs)) c.between.ensures) in
+    (c.in_ok-commit.ensures ∙ ap (λ rs. after state (own_nets blocks opened rs)) c.between-runs.ensures) in
     let still = kept_window batch opened seen.first state window listed c.requires.at.objects c.requires.at.within saw.pending
     saw.reached saw.listed c.commit.new.objects kept next c.in_ok-keep.ensures in
     let done = c.in_ok-settle.ensures in
@@ -96,7 +96,7 @@ returns-clause-at g c =
 
 pub returns-clause-round : goal.returns-clause-round
 returns-clause-round g c =
-    let batch = c.args.batch.now in
+    let batch = c.args.crew.now.batch.now in
     let start = start_of batch in
     let blocks = blocks_of batch in
     let count = c.len.ensures in
@@ -114,7 +114,7 @@ returns-clause-round g c =
     let on = comes_on start blocks opened seen.first (omega (arith, count, all, c.requires.going)) saw.opening in
     let next = moved_on batch opened seen.first state window listed c.requires.at.objects c.requires.at.within saw.pending
     saw.reached saw.listed c.commit.new.objects
-    (c.in_ok-commit.ensures ∙ ap (λ rs. after state (own_nets blocks opened rs)) c.between.ensures) in
+    (c.in_ok-commit.ensures ∙ ap (λ rs. after state (own_nets blocks opened rs)) c.between-runs.ensures) in
     let still = kept_window batch opened seen.first state window listed c.requires.at.objects c.requires.at.within saw.pending
     saw.reached saw.listed c.commit.new.objects kept next c.in_ok-keep.ensures in
     let done = c.in_ok-settle.ensures in

@@ -12,13 +12,13 @@ use Rattle.rounds.proofs.seek.check_block.Goals as goal
 
 pub returns : goal.returns
 returns g c =
-    let batch = c.args.batch.now in
+    let batch = c.args.crew.now.batch.now in
     let opened = c.args.opened in
-    let from = c.args.from in
-    let end = c.args.end in
+    let from = c.args.block.start in
+    let end = c.args.block.end in
     let window = c.args.window.now in
     let state = state_at (start_of batch) (blocks_of batch) opened in
-    let block = c.between.result.now in
+    let block = c.between-runs.result.now in
     let past = c.args.nets.now in
     let nets = c.check_at_once.new.nets in
     let seen = c.in_ok-first.field-0 in
@@ -26,9 +26,9 @@ returns g c =
     let low = c.requires.places.0 in
     let high = c.requires.places.1 in
     let between = between_at window from end c.requires.window.begun low high in
-    let size : length block ≡ end - from = ap length c.between.ensures ∙ between.0 in
+    let size : length block ≡ end - from = ap length c.between-runs.ensures ∙ between.0 in
     let same : (k : ℕ) (d : PendingRun) → k < length block → get_or block k d ≡ run_at window (from + k) d =
-    λ k d lt. ap (λ rs. get_or rs k d) c.between.ensures ∙ between.1 k d (omega arith) in
+    λ k d lt. ap (λ rs. get_or rs k d) c.between-runs.ensures ∙ between.1 k d (omega arith) in
     let within = saw.within in
     let listed = listed_past batch opened from state window refl c.requires.window past block same
     (λ k lt. c.requires.valid (from + k) (omega arith) (omega arith)) c.requires.listed seen.first saw.within saw.clear in

@@ -5,9 +5,9 @@ use Rattle.rounds.proofs.seek.check_in_turn.Given as goal
 
 abbrev pub invariant-loop-number : goal.invariant-loop-number
 invariant-loop-number g l = record {
-  window : IsWindowAt l.batch l.number l.initial.desk.view.snapshot l.window;
-  grown : HasGrown l.from l.initial.window l.window;
+  window : IsWindowAt l.crew.batch.now l.number l.initial.desk.view.snapshot l.window;
+  grown : HasGrown l.block.start l.initial.window l.window;
   all : length l.window.runs.items ≡ length l.initial.window.runs.items;
-  listed : IsListedTo l.batch l.opened l.number l.window l.nets;
+  listed : IsListedTo l.crew.batch.now l.opened l.number l.window l.nets;
   ready : IsDeskOn l.initial.desk.view.snapshot l.desk;
 }

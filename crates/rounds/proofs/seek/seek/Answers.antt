@@ -1,7 +1,9 @@
 use Rattle.std.proofs.Common.{◌≡◌, length, sym, ap, ◌∙◌, subst, arith}
 use Rattle.std.proofs.lemmas.List.{length-map}
 use Rattle.meaning.specs.Batch.{state_at}
+use Rattle.intentions.specs.Levels.{Intentions as View}
 use Rattle.batch.specs.Views.{block_view}
+use Rattle.rounds.specs.Desks.{IsDeskOn}
 use Rattle.rounds.specs.Views.{start_of, blocks_of}
 use Rattle.rounds.specs.Windows.{IsWindowAt, IsListedTo, IsRoundSeen}
 use Rattle.rounds.specs.declared.check.Seen.{Seen}
@@ -13,7 +15,7 @@ pub looking-init : goal.looking-init
 looking-init g c = record {
   window = c.requires.window;
   grown = not_grown c.args.opened c.args.window.now;
-  listed = none_listed c.args.batch.now c.args.opened c.args.window.now c.give-memory.new.self.nets
+  listed = none_listed c.args.crew.now.batch.now c.args.opened c.args.window.now c.give-memory.new.self.nets
       c.requires.window.begun (c.give-memory.ensures ∙ c.requires.none);
   ready = record { opened = c.open_in-desk.ensures.opened; unlabelled = c.open_in-desk.ensures.unlabelled };
   within = let going = c.requires.going in omega arith;
@@ -21,14 +23,22 @@ looking-init g c = record {
   some = c.requires.some;
 }
 
+pub check-requires-clause-opening : goal.check-requires-clause-opening
+check-requires-clause-opening g c κs within = ap (λ (v : View). v.snapshot) c.looking.invariant.ready.opened ∙ c.requires.opening
+
+pub check-requires-clause-window : goal.check-requires-clause-window
+check-requires-clause-window g c κs within =
+    let shown = ap (λ (v : View). v.snapshot) c.looking.invariant.ready.opened in
+    subst (λ s. IsWindowAt c.args.crew.now.batch.now c.looking.from s c.reach.new.self) (sym shown) c.in_ok-reach.ensures.window
+
 pub check-requires-clause-listed : goal.check-requires-clause-listed
 check-requires-clause-listed g c κs within =
-    still_listed c.args.batch.now c.args.opened c.looking.from c.looking.window c.reach.new.self c.looking.reused.nets
+    still_listed c.args.crew.now.batch.now c.args.opened c.looking.from c.looking.window c.reach.new.self c.looking.reused.nets
     c.looking.invariant.reached c.in_ok-reach.ensures.grown c.looking.invariant.listed
 
 pub returns-then-seen-end-clause-seen : goal.returns-then-seen-end-clause-seen
 returns-then-seen-end-clause-seen g c =
-    let batch = c.args.batch.now in
+    let batch = c.args.crew.now.batch.now in
     let opened = c.args.opened in
     let blocks : length (blocks_of batch) ≡ length batch.transactions.items = length-map batch.transactions.items block_view in
     let seen = c.in_ok-seen.seen in
@@ -49,11 +59,12 @@ returns-then-seen-end-clause-seen g c =
 
 pub looking-preserved : goal.looking-preserved
 looking-preserved g c =
-    let batch = c.args.batch.now in
+    let batch = c.args.crew.now.batch.now in
     let opened = c.args.opened in
     let window = c.check.new.window in
     let nets = c.check.new.nets in
     let so_far = c.looking.invariant in
+    let shown = ap (λ (v : View). v.snapshot) so_far.ready.opened in
     let saw = c.in_ok-seen.ensures.seen in
     let over = c.if-seen-end.false in
     let within = saw.within in
@@ -67,7 +78,7 @@ looking-preserved g c =
           c.in_ok-seen.ensures.grown));
       listed = subst (λ n. IsListedTo batch opened n window nets) last (subst (IsListedTo batch opened c.in_ok-seen.seen.first window)
           (all_taken nets c.in_ok-seen.seen.upto (saw.all last)) saw.listed);
-      ready = c.in_ok-seen.ensures.ready;
+      ready = subst (λ s. IsDeskOn s c.check.new.desk) shown c.in_ok-seen.ensures.ready;
       within = let end = c.min-end.ensures in let count = c.len-count.ensures in omega arith;
       reached = λ some.
           let all = c.in_ok-seen.ensures.reached in
@@ -79,7 +90,7 @@ looking-preserved g c =
 
 pub returns-clause-seen : goal.returns-clause-seen
 returns-clause-seen g c =
-    let batch = c.args.batch.now in
+    let batch = c.args.crew.now.batch.now in
     let opened = c.args.opened in
     let blocks : length (blocks_of batch) ≡ length batch.transactions.items = length-map batch.transactions.items block_view in
     let so_far = c.looking.invariant in

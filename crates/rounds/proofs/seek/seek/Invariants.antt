@@ -6,14 +6,14 @@ use Rattle.rounds.proofs.seek.seek.Given as goal
 
 abbrev pub invariant-looking : goal.invariant-looking
 invariant-looking g l = record {
-  window : IsWindowAt l.batch l.from l.objects l.window;
+  window : IsWindowAt l.crew.batch.now l.from l.objects l.window;
   grown : HasGrown l.opened l.initial.window l.window;
-  listed : IsListedTo l.batch l.opened l.from l.window l.reused.nets;
+  listed : IsListedTo l.crew.batch.now l.opened l.from l.window l.reused.nets;
   ready : IsDeskOn l.objects l.desk;
-  within : l.from ≤ length (blocks_of l.batch);
+  within : l.from ≤ length (blocks_of l.crew.batch.now);
   reached : l.opened < l.from → l.from ≤ end_of l.window;
   some : 1 ≤ l.block;
 }
 
 abbrev pub decreases-looking : goal.decreases-looking
-decreases-looking g l = length l.batch.transactions.items - l.from
+decreases-looking g l = length l.crew.batch.now.transactions.items - l.from

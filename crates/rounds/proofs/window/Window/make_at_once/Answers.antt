@@ -15,6 +15,7 @@ use Rattle.rounds.proofs.Times.{times_none, times_read}
 use Rattle.rounds.proofs.Making.{all_front, times_numbers}
 use Rattle.rounds.proofs.Listing.{grown_on, not_grown}
 use Rattle.rounds.proofs.WindowLemmas.{flag_set, one_made, put_grown, all_asked, some_made}
+use Rattle.rounds.proofs.Passing.{flag_passing}
 use Rattle.rounds.proofs.window.Window.make_at_once.Goals as goal
 
 pub make_all-requires-clause-within : goal.make_all-requires-clause-within
@@ -26,12 +27,12 @@ make_all-requires-clause-within g c κs lives k d lt =
     let number = get_or c.args.numbers.now k d in
     let opening = c.requires.opening in
     let early = opening.low in
-    subst (λ s. CanBeMade c.args.batch.now s number) (sym opening.is)
-    (made_at c.args.batch.now opening.opened opening.within number (omega arith) (omega arith))
+    subst (λ s. CanBeMade c.args.crew.now.batch.now s number) (sym opening.is)
+    (made_at c.args.crew.now.batch.now opening.opened opening.within number (omega arith) (omega arith))
 
 pub make_all-requires-clause-same_kinds : goal.make_all-requires-clause-same_kinds
 make_all-requires-clause-same_kinds g c κs within =
-    ap kinds c.requires.opening.is ∙ kinds_at c.args.batch.now c.requires.opening.opened c.requires.opening.within
+    ap kinds c.requires.opening.is ∙ kinds_at c.args.crew.now.batch.now c.requires.opening.opened c.requires.opening.within
 
 pub putting-init : goal.putting-init
 putting-init g c =
@@ -45,6 +46,8 @@ putting-init g c =
       places = all_asked (λ n. (c.args.from ≤ n) × (n < end_of c.args.self.now)) numbers c.in_ok-made.made.items
           c.requires.places made.dealt;
       put = λ i low some. let same = made.dealt i in inr (omega arith);
+      flags = c.in_ok-passing.ensures.all ∙ (c.saturating_sub.ensures ∙ ap (λ n. n - c.args.from) c.end.ensures);
+      passing = λ i d low set. absurd (false≢true (sym (c.in_ok-passing.ensures.none (i - c.args.from)) ∙ set));
     }
 
 pub put-requires-clause-number : goal.put-requires-clause-number
@@ -61,7 +64,7 @@ put-requires-clause-number g c =
 
 pub putting-preserved : goal.putting-preserved
 putting-preserved g c =
-    let batch = c.args.batch.now in
+    let batch = c.args.crew.now.batch.now in
     let state = c.args.objects.now in
     let from = c.args.from in
     let first = c.args.self.now in
@@ -72,7 +75,8 @@ putting-preserved g c =
     let so_far = c.putting.invariant in
     let Inside : NumberedRun → Type 0 = λ m. (from ≤ m.number) × (m.number < end_of first) in
     let popped = all_front Inside rest next (subst (All Inside) c.in-Some.ensures.items so_far.places) in
-    let made = all_front (IsMade batch state) rest next (subst (All (IsMade batch state)) c.in-Some.ensures.items so_far.left) in
+    let Made : NumberedRun → Type 0 = IsMade batch state c.args.nets.now in
+    let made = all_front Made rest next (subst (All Made) c.in-Some.ensures.items so_far.left) in
     let below = popped.1.1 in
     let all = so_far.all in
     let flags = so_far.window.flags in
@@ -86,7 +90,7 @@ putting-preserved g c =
     let put = put_grown from old new next.number run later low flagged inside c.put.ensures.first c.put.ensures.runs
     c.put.ensures.valid in
     record {
-      window = one_made batch from state old new next.number run so_far.window later inside made.1 c.put.ensures.first
+      window = one_made batch from state old new next.number run so_far.window later inside made.1.0 c.put.ensures.first
           c.put.ensures.runs c.put.ensures.valid;
       grown = grown_on from first old new so_far.grown put;
       all = ap length c.put.ensures.runs ∙ (length-set old.runs.items (next.number - old.first) run ∙ so_far.all);
@@ -103,6 +107,10 @@ putting-preserved g c =
             inr (omega arith))
             (so_far.put i from some)
       ];
+      flags = length-set c.putting.passing.items (next.number - from) next.passes ∙ so_far.flags;
+      passing = flag_passing c.args.nets.now from old new next.number run next.passes c.putting.passing.items _ low inside later
+          (let size = so_far.flags in omega arith) so_far.passing made.1.1 c.put.ensures.first c.put.ensures.runs refl
+          so_far.window.begun;
     }
 
 pub returns-clause-valid : goal.returns-clause-valid

@@ -23,7 +23,7 @@ loop-number-init g c = record {
 pub make_at-requires-clause-window : goal.make_at-requires-clause-window
 make_at-requires-clause-window g c κs within =
     let shown = ap (λ (v : View). v.snapshot) c.loop-number.invariant.ready.opened in
-    subst (λ s. IsWindowAt c.args.batch.now c.args.from s c.loop-number.self) (sym shown) c.loop-number.invariant.window
+    subst (λ s. IsWindowAt c.args.crew.now.batch.now c.args.from s c.loop-number.self) (sym shown) c.loop-number.invariant.window
 
 pub make_at-requires-clause-number : goal.make_at-requires-clause-number
 make_at-requires-clause-number g c κs within =
@@ -38,7 +38,7 @@ pub make_at-requires-clause-few : goal.make_at-requires-clause-few
 make_at-requires-clause-few g c κs within =
     let below = (c.requires.places c.loop-number.number-index 0 c.loop-number-test.true).1 in
     let few = c.requires.window.within in
-    omega (arith, below, few, c.args.batch.now.is_batch.few_transactions)
+    omega (arith, below, few, c.args.crew.now.batch.now.is_batch.few_transactions)
 
 pub make_at-requires-clause-can : goal.make_at-requires-clause-can
 make_at-requires-clause-can g c κs within =
@@ -50,13 +50,13 @@ make_at-requires-clause-can g c κs within =
     let few = c.requires.window.within in
     let opening = c.requires.opening in
     let early = opening.low in
-    subst (λ s. CanBeMade c.args.batch.now s number) (sym (shown ∙ opening.is))
-    (made_at c.args.batch.now opening.opened opening.within number (omega arith) (omega arith))
+    subst (λ s. CanBeMade c.args.crew.now.batch.now s number) (sym (shown ∙ opening.is))
+    (made_at c.args.crew.now.batch.now opening.opened opening.within number (omega arith) (omega arith))
 
 pub make_at-requires-clause-same_kinds : goal.make_at-requires-clause-same_kinds
 make_at-requires-clause-same_kinds g c κs within =
     let shown = ap (λ (v : View). v.snapshot) c.loop-number.invariant.ready.opened in
-    ap kinds (shown ∙ c.requires.opening.is) ∙ kinds_at c.args.batch.now c.requires.opening.opened c.requires.opening.within
+    ap kinds (shown ∙ c.requires.opening.is) ∙ kinds_at c.args.crew.now.batch.now c.requires.opening.opened c.requires.opening.within
 
 pub loop-number-preserved : goal.loop-number-preserved
 loop-number-preserved g c =
@@ -74,7 +74,7 @@ loop-number-preserved g c =
     omega arith in
     let last = c.loop-number-test.true in
     record {
-      window = subst (λ s. IsWindowAt c.args.batch.now from s window) shown made.window;
+      window = subst (λ s. IsWindowAt c.args.crew.now.batch.now from s window) shown made.window;
       grown = grown_on from c.args.self.now c.loop-number.self window so_far.grown made.grown;
       all = made.reached ∙ so_far.all;
       valid = λ k d lt. elim (dec_le at k) [

@@ -18,10 +18,10 @@ make-requires-clause-few g c κs lives =
     let missing = c.in_ok-numbers.ensures.missing.few in
     let size = ap length c.deref.ensures.value in
     let end = c.requires.places.1 in
-    omega (arith, missing, size, end, c.requires.window.within, c.args.batch.now.is_batch.few_transactions)
+    omega (arith, missing, size, end, c.requires.window.within, c.args.crew.now.batch.now.is_batch.few_transactions)
 
 pub returns-clause-valid : goal.returns-clause-valid
 returns-clause-valid g c =
     none_left c.args.from c.args.self.now c.make.new.self c.args.from c.args.end c.in_ok-numbers.numbers.items c.requires.window.begun
-    c.in_ok-numbers.ensures.missing c.in_ok-make.ensures.grown
-    (subst (All (IsValid c.make.new.self)) c.deref.ensures.value c.in_ok-make.ensures.valid)
+    c.in_ok-numbers.ensures.missing c.in_ok-passing.ensures.grown
+    (subst (All (IsValid c.make.new.self)) c.deref.ensures.value c.in_ok-passing.ensures.valid)
