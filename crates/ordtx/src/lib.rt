@@ -16,5 +16,6 @@ pub use plan::Plan;
 pub use speculate::{Gate, NoGate, Progress, Run};
 pub use streams::{
     audit_stream, carry_into_stream, carry_stream, check_at_once_stream, check_stream,
-    explain_stream, locate_stream, run_stream, serial_at_once_stream, serial_stream,
+    explain_audit_stream, explain_stream, locate_stream, run_stream, serial_at_once_stream,
+    serial_stream,
 };

@@ -57,7 +57,7 @@ pub fn run_stream<T: Threads + Sync, R: Source, W: Sink, G: Gate>(
 
 /// Does as [`run_stream`], and writes after the report how often each transaction was run.
 ///
-/// The errors are those of [`run_stream`], and leave the same.
+/// The errors are those of [`run_stream`], and leave what is said there.
 pub fn audit_stream<T: Threads + Sync, R: Source, W: Sink, G: Gate>(
     threads: &T,
     alloc: Global,
@@ -78,35 +78,56 @@ pub fn audit_stream<T: Threads + Sync, R: Source, W: Sink, G: Gate>(
     write_texts(sink, &parts)
 }
 
-/// Does as [`run_stream`], or with an audit as [`audit_stream`], and writes after it which operations
-/// ended each round but the last.
+/// Does as [`run_stream`], and writes after the report which operations ended each round but the last.
 ///
-/// The errors are those of [`run_stream`], and leave the same.
+/// The errors are those of [`run_stream`], and leave what is said there.
 pub fn explain_stream<T: Threads + Sync, R: Source, W: Sink, G: Gate>(
     threads: &T,
     alloc: Global,
     source: &mut R,
     sink: &mut W,
     plan: Plan,
-    audit: bool,
     gate: &G,
 ) -> Result<(), Fault>
     requires unended { R.has_ended source.old ≡ false }
     requires unread { R.has_failed source.old ≡ false }
     requires unwritten { W.has_failed sink.old ≡ false }
     // The report of what was read is written, with what ended its rounds.
-    ensures { AnswersStream (IsExplainedOf audit) IsFaultOf (λ fault. fault)
+    ensures { AnswersStream (IsExplainedOf false) IsFaultOf (λ fault. fault)
         R.Source source.old source.new W.Sink sink.old sink.new result }
 {
     let document = read_input(alloc, source, MOST_READ)?;
-    let parts = explanation_of(threads, alloc, document, plan, audit, gate)?;
+    let parts = explanation_of(threads, alloc, document, plan, false, gate)?;
+    write_texts(sink, &parts)
+}
+
+/// Does as [`audit_stream`], and writes after the report which operations ended each round but the last.
+///
+/// The errors are those of [`run_stream`], and leave what is said there.
+pub fn explain_audit_stream<T: Threads + Sync, R: Source, W: Sink, G: Gate>(
+    threads: &T,
+    alloc: Global,
+    source: &mut R,
+    sink: &mut W,
+    plan: Plan,
+    gate: &G,
+) -> Result<(), Fault>
+    requires unended { R.has_ended source.old ≡ false }
+    requires unread { R.has_failed source.old ≡ false }
+    requires unwritten { W.has_failed sink.old ≡ false }
+    // The report with the run counts of what was read is written, with what ended its rounds.
+    ensures { AnswersStream (IsExplainedOf true) IsFaultOf (λ fault. fault)
+        R.Source source.old source.new W.Sink sink.old sink.new result }
+{
+    let document = read_input(alloc, source, MOST_READ)?;
+    let parts = explanation_of(threads, alloc, document, plan, true, gate)?;
     write_texts(sink, &parts)
 }
 
 /// Reads a document from the source, runs its transactions by number on one thread, and writes the
 /// report without the number of rounds to the sink.
 ///
-/// The errors are those of [`run_stream`], and leave the same.
+/// The errors are those of [`run_stream`], and leave what is said there.
 pub fn serial_stream<R: Source, W: Sink>(
     alloc: Global,
     source: &mut R,
@@ -127,7 +148,7 @@ pub fn serial_stream<R: Source, W: Sink>(
 /// Does as [`serial_stream`]. As many threads as the plan has workers read a long document, and render
 /// a long report. The transactions are run on one of them.
 ///
-/// The errors are those of [`run_stream`], and leave the same.
+/// The errors are those of [`run_stream`], and leave what is said there.
 pub fn serial_at_once_stream<T: Threads + Sync, R: Source, W: Sink>(
     threads: &T,
     alloc: Global,
@@ -153,7 +174,7 @@ pub fn serial_at_once_stream<T: Threads + Sync, R: Source, W: Sink>(
 /// The error [`Uncarried::Object`] is of the first object at the end that no document may start with:
 /// `Start` where its number is too large for a start, and `TooMany` where there are more entries with
 /// it than a document may start with. The source was read, and nothing was written. The other errors
-/// are [`Uncarried::First`] of those of [`run_stream`], and leave the same.
+/// are [`Uncarried::First`] of those of [`run_stream`], and leave what is said there.
 pub fn carry_stream<T: Threads + Sync, R: Source, W: Sink>(
     threads: &T,
     alloc: Global,
@@ -229,7 +250,7 @@ pub fn carry_into_stream<T: Threads + Sync, R: Source, S: Source, W: Sink>(
 /// Reads a document from the source, and writes how many objects, transactions and operations it has
 /// to the sink. Nothing is run.
 ///
-/// The errors are those of [`run_stream`], and leave the same.
+/// The errors are those of [`run_stream`], and leave what is said there.
 pub fn check_stream<R: Source, W: Sink>(
     alloc: Global,
     source: &mut R,
@@ -249,7 +270,7 @@ pub fn check_stream<R: Source, W: Sink>(
 
 /// Does as [`check_stream`]. As many threads as the plan has workers read a long document.
 ///
-/// The errors are those of [`run_stream`], and leave the same.
+/// The errors are those of [`run_stream`], and leave what is said there.
 pub fn check_at_once_stream<T: Threads + Sync, R: Source, W: Sink>(
     threads: &T,
     alloc: Global,
@@ -278,7 +299,7 @@ pub fn check_at_once_stream<T: Threads + Sync, R: Source, W: Sink>(
 /// begins. Where the bytes are no JSON it is a line and a column alone. It is left out where the
 /// fault is of the whole document. The second line has the words, as `no label "w" is seen here`.
 ///
-/// The errors are `Memory`, `Input` and `Output` of [`run_stream`], and leave the same. A fault of the
+/// The errors are `Memory`, `Input` and `Output` of [`run_stream`], and leave what is said there. A fault of the
 /// document is no error here.
 pub fn locate_stream<R: Source, W: Sink>(
     alloc: Global,

@@ -25,7 +25,7 @@ pub(crate) fn batch_of(alloc: Global, document: Vec<u8>) -> Result<Batch, Fault>
     read(alloc, document.as_slice())
 }
 
-// The same, where threads read the ranges of a long document.
+// The batch of a document, whose bytes are freed. Threads read the ranges of a long one.
 pub(crate) fn batch_at_once<T: Threads + Sync>(
     threads: &T,
     alloc: Global,
@@ -40,6 +40,30 @@ pub(crate) fn batch_at_once<T: Threads + Sync>(
     read_at_once(threads, alloc, workers, keys, document.as_slice())
 }
 
+// The same, and a text of no use but for its memory: with one worker that of the document, which its
+// report then has. With several, each makes a part of the report, and the document's is freed.
+fn batch_and_spare<T: Threads + Sync>(
+    threads: &T,
+    alloc: Global,
+    plan: Plan,
+    document: Vec<u8>,
+) -> Result<(Batch, String), Fault>
+    ensures batch { IfOk result (λ found. reading document.items ≡ Ok (document_of found.0)) }
+    ensures fault { IfErr result (λ fault. fault ≢ memory_fault → IsFaultOf document.items fault) }
+    ensures code { IfErr result (λ fault. is_of_reading fault.code ≡ true) }
+{
+    if plan.workers > 1 {
+        let batch = batch_at_once(threads, alloc, plan, document)?;
+        return Ok((batch, String::new(alloc)));
+    }
+    let Plan { workers, keys, .. } = plan;
+    let batch = read_at_once(threads, alloc, workers, keys, document.as_slice())?;
+    let mut bytes = document;
+    bytes.clear();
+    let spare = String::from_utf8(bytes).unwrap_or(String::new(alloc));
+    Ok((batch, spare))
+}
+
 // Frees a value, or leaves its memory to the end of the program, which comes after a last call.
 pub(crate) fn free<T: Drop>(value: T, plan: Plan) {
     if plan.last {
@@ -48,10 +72,10 @@ pub(crate) fn free<T: Drop>(value: T, plan: Plan) {
 }
 
 // The report, or the report with the run counts, of a batch that was read. It is in parts, which follow
-// one another.
+// one another. That of one worker has the memory of the spare text.
 fn report_of_batch<T: Threads + Sync, G: Gate>(
     threads: &T,
-    alloc: Global,
+    spare: String,
     batch: &Batch,
     plan: Plan,
     audit: bool,
@@ -60,14 +84,15 @@ fn report_of_batch<T: Threads + Sync, G: Gate>(
     ensures { IfOk result (λ parts. (bytes : List ℕ) → reading bytes ≡ Ok (document_of batch.now)
         → IsShownOf audit bytes (flat_map string_bytes parts.items)) }
 {
+    let alloc = *spare.allocator();
     if audit {
         let outcome = execute(threads, alloc, batch, plan, gate)?;
-        let parts = render_audit_parts(threads, alloc, plan.workers, batch, &outcome)?;
+        let parts = render_audit_parts(threads, spare, plan.workers, batch, &outcome)?;
         free(outcome, plan);
         return Ok(parts);
     }
     let outcome = execute_ahead(threads, alloc, batch, plan, gate)?;
-    let parts = render_parts(threads, alloc, plan.workers, batch, &outcome)?;
+    let parts = render_parts(threads, spare, plan.workers, batch, &outcome)?;
     free(outcome, plan);
     Ok(parts)
 }
@@ -82,8 +107,8 @@ pub(crate) fn report_of<T: Threads + Sync, G: Gate>(
 ) -> Result<Vec<String>, Fault>
     ensures { GivesParts IsReportOf document.items result }
 {
-    let batch = batch_at_once(threads, alloc, plan, document)?;
-    let parts = report_of_batch(threads, alloc, &batch, plan, false, gate)?;
+    let (batch, spare) = batch_and_spare(threads, alloc, plan, document)?;
+    let parts = report_of_batch(threads, spare, &batch, plan, false, gate)?;
     free(batch, plan);
     Ok(parts)
 }
@@ -98,8 +123,8 @@ pub(crate) fn audit_of<T: Threads + Sync, G: Gate>(
 ) -> Result<Vec<String>, Fault>
     ensures { GivesParts IsAuditOf document.items result }
 {
-    let batch = batch_at_once(threads, alloc, plan, document)?;
-    let parts = report_of_batch(threads, alloc, &batch, plan, true, gate)?;
+    let (batch, spare) = batch_and_spare(threads, alloc, plan, document)?;
+    let parts = report_of_batch(threads, spare, &batch, plan, true, gate)?;
     free(batch, plan);
     Ok(parts)
 }
@@ -116,16 +141,16 @@ pub(crate) fn explanation_of<T: Threads + Sync, G: Gate>(
 ) -> Result<Vec<String>, Fault>
     ensures { GivesParts (IsExplainedOf audit) document.items result }
 {
-    let batch = batch_at_once(threads, alloc, plan, document)?;
-    let parts = explanation_of_batch(threads, alloc, &batch, plan, audit, gate)?;
+    let (batch, spare) = batch_and_spare(threads, alloc, plan, document)?;
+    let parts = explanation_of_batch(threads, spare, &batch, plan, audit, gate)?;
     free(batch, plan);
     Ok(parts)
 }
 
-// The same of a batch that was read.
+// The explanation of a batch that was read. That of one worker has the memory of the spare text.
 fn explanation_of_batch<T: Threads + Sync, G: Gate>(
     threads: &T,
-    alloc: Global,
+    spare: String,
     batch: &Batch,
     plan: Plan,
     audit: bool,
@@ -134,7 +159,8 @@ fn explanation_of_batch<T: Threads + Sync, G: Gate>(
     ensures { IfOk result (λ parts. (bytes : List ℕ) → reading bytes ≡ Ok (document_of batch.now)
         → IsExplainedOf audit bytes (flat_map string_bytes parts.items)) }
 {
-    let mut parts = report_of_batch(threads, alloc, batch, plan, audit, gate)?;
+    let alloc = *spare.allocator();
+    let mut parts = report_of_batch(threads, spare, batch, plan, audit, gate)?;
     let why = render_why(threads, alloc, batch)?;
     parts.push(why)?;
     Ok(parts)
@@ -149,7 +175,7 @@ pub(crate) fn plain_report_of(alloc: Global, document: Vec<u8>) -> Result<String
     Ok(text)
 }
 
-// The same of a batch that was read.
+// The report of one thread, of a batch that was read.
 fn plain_report_of_batch(alloc: Global, batch: &Batch) -> Result<String, NoMemory>
     ensures { IfOk result (λ text. (bytes : List ℕ) → reading bytes ≡ Ok (document_of batch.now)
         → IsPlainReportOf bytes (string_bytes text)) }
@@ -167,24 +193,25 @@ pub(crate) fn plain_parts_of<T: Threads + Sync>(
 ) -> Result<Vec<String>, Fault>
     ensures { GivesParts IsPlainReportOf document.items result }
 {
-    let batch = batch_at_once(threads, alloc, plan, document)?;
-    let parts = plain_parts_of_batch(threads, alloc, &batch, plan)?;
+    let (batch, spare) = batch_and_spare(threads, alloc, plan, document)?;
+    let parts = plain_parts_of_batch(threads, spare, &batch, plan)?;
     free(batch, plan);
     Ok(parts)
 }
 
-// The same of a batch that was read.
+// The parts of that report, of a batch that was read. That of one worker has the memory of the spare
+// text.
 fn plain_parts_of_batch<T: Threads + Sync>(
     threads: &T,
-    alloc: Global,
+    spare: String,
     batch: &Batch,
     plan: Plan,
 ) -> Result<Vec<String>, NoMemory>
     ensures { IfOk result (λ parts. (bytes : List ℕ) → reading bytes ≡ Ok (document_of batch.now)
         → IsPlainReportOf bytes (flat_map string_bytes parts.items)) }
 {
-    let answer = plain(alloc, batch)?;
-    let parts = render_plain_parts(threads, alloc, plan.workers, batch, &answer)?;
+    let answer = plain(*spare.allocator(), batch)?;
+    let parts = render_plain_parts(threads, spare, plan.workers, batch, &answer)?;
     free(answer, plan);
     Ok(parts)
 }
@@ -198,7 +225,7 @@ pub(crate) fn check_of(alloc: Global, document: &[u8]) -> Result<String, Fault>
     Ok(text)
 }
 
-// The same, where threads read a long document.
+// How much a document holds, where threads read a long one.
 pub(crate) fn check_at_once_of<T: Threads + Sync>(
     threads: &T,
     alloc: Global,

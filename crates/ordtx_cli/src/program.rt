@@ -7,7 +7,8 @@ use crate::input::{is_standard, open, tell_refused};
 use crate::progress::ProgressLine;
 use ordtx::{
     Code, Command, Fault, Gate, Line, Located, Marked, NoGate, Refused, Sink, Source, audit_stream,
-    check_at_once_stream, explain_stream, line, locate_stream, run_stream, serial_at_once_stream,
+    check_at_once_stream, explain_audit_stream, explain_stream, line, locate_stream, run_stream,
+    serial_at_once_stream,
 };
 use std::alloc::{AllocError, Global};
 use std::hash::RandomState;
@@ -142,13 +143,12 @@ fn run_seen<T: Threads + Sync, R: Source, W: Sink, G: Gate>(
     requires unwritten { W.has_failed sink.old ≡ false }
 {
     let plan = line.plan;
-    if line.why {
-        return explain_stream(threads, alloc, source, sink, plan, line.audit, gate);
+    match (line.why, line.audit) {
+        (false, false) => run_stream(threads, alloc, source, sink, plan, gate),
+        (false, true) => audit_stream(threads, alloc, source, sink, plan, gate),
+        (true, false) => explain_stream(threads, alloc, source, sink, plan, gate),
+        (true, true) => explain_audit_stream(threads, alloc, source, sink, plan, gate),
     }
-    if line.audit {
-        return audit_stream(threads, alloc, source, sink, plan, gate);
-    }
-    run_stream(threads, alloc, source, sink, plan, gate)
 }
 
 fn print_help(rt: &HostRuntime, text: &str) -> Result<ExitCode, Fault> {

@@ -37,7 +37,8 @@ pub fn render(alloc: Global, batch: &Batch, outcome: &Outcome) -> Result<String,
         (map block_view batch.now.transactions.items) (map record_view outcome.now.records.items)
         outcome.now.objects outcome.now.rounds) }
 {
-    let mut out = render_entries(alloc, batch, &outcome.records, &outcome.objects)?;
+    let none = String::new(alloc);
+    let mut out = render_entries(none, batch, &outcome.records, &outcome.objects)?;
     let rounds = outcome.rounds;
     write!(&mut out, "rounds {rounds}\n")?;
     Ok(out)
@@ -52,7 +53,7 @@ pub fn render_plain(alloc: Global, batch: &Batch, plain: &Plain) -> Result<Strin
         (map block_view batch.now.transactions.items) (map record_view plain.now.records.items)
         plain.now.objects) }
 {
-    render_entries(alloc, batch, &plain.records, &plain.objects)
+    render_entries(String::new(alloc), batch, &plain.records, &plain.objects)
 }
 
 /// The report of `render`, and below it a line `runs NUMBER COUNT` for each transaction: how often
@@ -95,15 +96,16 @@ const LINE: usize = 32;
 /// estimate them, and the others may have far fewer.
 const MOST_LINES: usize = 2_097_152;
 
-// An empty text, with room for about the lines between two cuts where that is to be had. A text without
-// room is copied as it grows.
-fn text_between(alloc: Global, records: &[Record], from: Cut, to: Cut) -> String
+// An empty text in the memory of the spare one, with room for about the lines between two cuts where
+// that is to be had. A text without room is copied as it grows.
+fn text_between(spare: String, records: &[Record], from: Cut, to: Cut) -> String
     requires rise { from.entry ≤ to.entry }
     requires within { to.entry ≤ length records.now }
     ensures { string_bytes result ≡ [] }
 {
     let lines = lines_between(records, from, to).min(MOST_LINES);
-    let mut text = String::new(alloc);
+    let mut text = spare;
+    text.clear();
     // Where this is refused, the text grows as it is written.
     let _ = text.reserve(lines.saturating_mul(LINE));
     text
@@ -126,9 +128,9 @@ pub(crate) fn last_cut(batch: &Batch, records: &[Record], objects: &Objects) -> 
     }
 }
 
-// The lines of all entries.
-fn render_entries(
-    alloc: Global,
+// The lines of all entries, in the memory of the spare text.
+pub(crate) fn render_entries(
+    spare: String,
     batch: &Batch,
     records: &[Record],
     objects: &Objects,
@@ -140,12 +142,12 @@ fn render_entries(
 {
     let first = Cut { entry: 0, line: 0 };
     let last = last_cut(batch, records, objects);
-    render_between(alloc, batch, records, objects, first, last)
+    render_between(spare, batch, records, objects, first, last)
 }
 
-// The lines from one cut on, and before another.
+// The lines from one cut on, and before another, in the memory of the spare text.
 pub(crate) fn render_between(
-    alloc: Global,
+    spare: String,
     batch: &Batch,
     records: &[Record],
     objects: &Objects,
@@ -160,8 +162,8 @@ pub(crate) fn render_between(
         objects.now in
         string_bytes t ++ lines to ≡ lines from) }
 {
-    let mut out = text_between(alloc, records, from, to);
-    let mut path = begin_path(alloc, from.entry + 1)?;
+    let mut path = begin_path(*spare.allocator(), from.entry + 1)?;
+    let mut out = text_between(spare, records, from, to);
     let mut line = from.line;
     for entry in from.entry..to.entry {
         let all = (records[entry].taken.len() + 1).max(line);

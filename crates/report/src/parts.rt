@@ -6,7 +6,7 @@ ghost use Rattle.batch.specs.Names.{names_of};
 ghost use Rattle.batch.specs.Views.{block_view, record_view};
 ghost use Rattle.report.specs.Parts.{AreCuts, IsPart, last_cut, lines_from};
 
-use crate::answer::{last_cut, render_between, write_counts};
+use crate::answer::{last_cut, render_between, render_entries, write_counts};
 use crate::cuts::{Cut, cuts_of};
 use batch::{Batch, Outcome, Plain, Record};
 use objects::{NoMemory, Objects};
@@ -14,12 +14,13 @@ use std::alloc::Global;
 use std::thread::{Threads, map_indices};
 
 /// The report of [`render`](crate::render) in parts, which follow one another. As many threads as there
-/// are workers render a part each, and a short report is one part.
+/// are workers render a part each, and a short report is one part. That of one worker has the memory of
+/// the spare text.
 ///
 /// Returns `NoMemory` where a request for memory was refused.
 pub fn render_parts<R: Threads + Sync>(
     threads: &R,
-    alloc: Global,
+    spare: String,
     workers: u32,
     batch: &Batch,
     outcome: &Outcome,
@@ -30,8 +31,8 @@ pub fn render_parts<R: Threads + Sync>(
         record_view outcome.now.records.items) outcome.now.objects outcome.now.rounds) }
 {
     let (records, objects) = (&outcome.records, &outcome.objects);
-    let mut parts = render_entry_parts(threads, alloc, workers, batch, records, objects)?;
-    let mut last = take_last(alloc, &mut parts);
+    let mut parts = render_entry_parts(threads, spare, workers, batch, records, objects)?;
+    let mut last = take_last(&mut parts);
     let rounds = outcome.rounds;
     write!(&mut last, "rounds {rounds}\n")?;
     parts.push(last)?;
@@ -43,7 +44,7 @@ pub fn render_parts<R: Threads + Sync>(
 /// Returns `NoMemory` where a request for memory was refused.
 pub fn render_audit_parts<R: Threads + Sync>(
     threads: &R,
-    alloc: Global,
+    spare: String,
     workers: u32,
     batch: &Batch,
     outcome: &Outcome,
@@ -54,8 +55,8 @@ pub fn render_audit_parts<R: Threads + Sync>(
         record_view outcome.now.records.items) outcome.now.objects outcome.now.rounds
         outcome.now.runs.items) }
 {
-    let mut parts = render_parts(threads, alloc, workers, batch, outcome)?;
-    let mut last = take_last(alloc, &mut parts);
+    let mut parts = render_parts(threads, spare, workers, batch, outcome)?;
+    let mut last = take_last(&mut parts);
     write_counts(&mut last, &outcome.runs)?;
     parts.push(last)?;
     Ok(parts)
@@ -66,7 +67,7 @@ pub fn render_audit_parts<R: Threads + Sync>(
 /// Returns `NoMemory` where a request for memory was refused.
 pub fn render_plain_parts<R: Threads + Sync>(
     threads: &R,
-    alloc: Global,
+    spare: String,
     workers: u32,
     batch: &Batch,
     plain: &Plain,
@@ -78,7 +79,7 @@ pub fn render_plain_parts<R: Threads + Sync>(
 {
     render_entry_parts(
         threads,
-        alloc,
+        spare,
         workers,
         batch,
         &plain.records,
@@ -87,20 +88,20 @@ pub fn render_plain_parts<R: Threads + Sync>(
 }
 
 // Takes the last part away, to be written on.
-fn take_last(alloc: Global, parts: &mut Vec<String>) -> String
+fn take_last(parts: &mut Vec<String>) -> String
     ensures { flat_map string_bytes parts.new.items ++ string_bytes result
         ≡ flat_map string_bytes parts.old.items }
 {
     match parts.pop() {
         Some(text) => text,
-        None => String::new(alloc),
+        None => String::new(*parts.allocator()),
     }
 }
 
-// The lines of all entries, in parts.
+// The lines of all entries, in parts. That of one worker has the memory of the spare text.
 fn render_entry_parts<R: Threads + Sync>(
     threads: &R,
-    alloc: Global,
+    spare: String,
     workers: u32,
     batch: &Batch,
     records: &[Record],
@@ -111,6 +112,13 @@ fn render_entry_parts<R: Threads + Sync>(
         ≡ plain_text (names_of batch.now.names) (map block_view batch.now.transactions.items)
         (map record_view records.now) objects.now) }
 {
+    let alloc = *spare.allocator();
+    if workers == 1 {
+        let mut parts = Vec::with_capacity(alloc, 1)?;
+        parts.push(render_entries(spare, batch, records, objects)?)?;
+        return Ok(parts);
+    }
+    drop(spare);
     let last = last_cut(batch, records, objects);
     let cuts = cuts_of(alloc, records, objects, last, workers)?;
     let made = render_each(threads, alloc, batch, records, objects, &cuts)?;
@@ -141,7 +149,10 @@ fn render_each<R: Threads + Sync>(
         ensures { IfOk result (λ t. IsPart (lines_from (names_of batch.entry.now.names)
             batch.entry.now.transactions.items records.entry.now objects.entry.now)
             cuts.entry.now part (string_bytes t)) }
-    { render_between(alloc, batch, records, objects, cuts[part], cuts[part + 1]) };
+    {
+        let none = String::new(alloc);
+        render_between(none, batch, records, objects, cuts[part], cuts[part + 1])
+    };
     let made = map_indices(threads, alloc, cuts.len() - 1, &render)?;
     Ok(made)
 }
