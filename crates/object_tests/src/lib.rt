@@ -1,5 +1,5 @@
 //! Tests of what runs rest on: types of objects, lists of objects, drafts, views, names, and the
-//! committed list with its watch. They call what other crates promise. A crate that has tests is
+//! committed list. They call what other crates promise. A crate that has tests is
 //! proved twice, so they are in a crate of their own.
 #![tactic(auto)]
 
