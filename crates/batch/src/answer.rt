@@ -3,7 +3,7 @@ use crate::record::Record;
 use objects::Objects;
 
 /// The result of running the transactions by number on one thread.
-#[derive(Drop)]
+#[derive(Debug, Drop)]
 pub struct Plain {
     /// One record for each transaction, by number.
     pub records: Vec<Record>,
@@ -12,7 +12,7 @@ pub struct Plain {
 }
 
 /// The result of running the transactions in rounds of speculative runs.
-#[derive(Drop)]
+#[derive(Debug, Drop)]
 pub struct Outcome {
     /// One record for each transaction, by number.
     pub records: Vec<Record>,

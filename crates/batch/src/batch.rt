@@ -13,7 +13,7 @@ use objects::{EntryHashing, Objects};
 /// Every batch can be run. Its calls fit their objects, its labels are bound, and its tests fit
 /// them. Each object, item and reason has a name. It is within the limits of a document, so that
 /// no number outgrows its type.
-#[derive(Drop)]
+#[derive(Debug, Drop)]
 pub struct Batch {
     /// The version of the document that it was read from.
     pub version: u8,

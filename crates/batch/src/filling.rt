@@ -6,11 +6,11 @@ ghost use Rattle.meaning.specs.Filling.{amount_from, end_after, fill, is_refusal
 ghost use Rattle.meaning.specs.Labels.{reply_item, reply_number};
 
 use crate::labels::reply_item;
-use meaning::{Argument, End, Held, Refusal, Template};
-use objects::{
-    AccountReply, Amount, Call, CounterReply, DirectoryReply, Item, MaxReply, QueueReply, Reply,
-    SetReply,
+use atoms::{
+    AccountReply, Amount, CounterReply, DirectoryReply, Item, MaxReply, QueueReply, SetReply,
 };
+use meaning::{Argument, End, Held, Refusal, Template};
+use objects::{Call, Reply};
 
 /// The call with what these labels hold. None where a reply has no such argument.
 pub fn fill(template: &Template, labels: &[Held]) -> Option<Call>

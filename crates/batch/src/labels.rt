@@ -4,11 +4,11 @@ ghost use Rattle.std.specs.Int.RustNames.{int_le};
 ghost use Rattle.meaning.specs.Labels.{holds_of, if_there, is_word_of, is_outcome, reply_item, reply_number};
 ghost use Rattle.meaning.specs.OneThread.{label_if};
 
-use meaning::{End, Held, Test, Word};
-use objects::{
-    AccountReply, CounterReply, DirectoryReply, Item, MaxReply, NoMemory, QueueReply, Reply,
-    SetReply,
-};
+use atoms::{AccountReply, CounterReply, DirectoryReply, Item, MaxReply, QueueReply, SetReply};
+use meaning::{End, Held, Test};
+use objects::Reply;
+use serial::NoMemory;
+use words::Word;
 
 /// Adds what the label of a step holds, where the step has one. A step without a label takes no
 /// memory. On `NoMemory` the labels are as before.

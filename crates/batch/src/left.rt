@@ -8,7 +8,8 @@ use crate::handlers::taker;
 use crate::record::{Record, Taken};
 use crate::tree::{Block, Step, Subaction};
 use meaning::End;
-use objects::{NoMemory, Value, perform_on};
+use objects::{Value, perform_on};
+use serial::NoMemory;
 
 /// Performs the calls that a run of a transaction left, in order, on these values: those of the
 /// objects from the place `first` on. Calls on other objects are passed over. The calls are read

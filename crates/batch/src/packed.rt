@@ -3,7 +3,7 @@ ghost use Rattle.std.specs.Prelude.{◌∷◌, ◌≡◌, ◌≤◌, ◌^◌, �
 ghost use Rattle.std.specs.List.{sum_by};
 ghost use Rattle.batch.specs.Names.{texts_of};
 
-use objects::NoMemory;
+use serial::NoMemory;
 use std::alloc::Global;
 use std::marker::Model;
 

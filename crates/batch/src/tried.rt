@@ -5,11 +5,11 @@ ghost use Rattle.batch.specs.Views.{taken_view, tried_view};
 
 use crate::record::{Record, Taken};
 use meaning::End;
-use objects::NoMemory;
+use serial::NoMemory;
 use std::alloc::Global;
 
 /// What running a subaction gives.
-#[derive(Drop)]
+#[derive(Debug, Drop)]
 pub struct Tried {
     /// What the body did.
     pub body: Record,

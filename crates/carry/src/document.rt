@@ -8,11 +8,13 @@ ghost use Rattle.batch.specs.Names.{names_of};
 ghost use Rattle.rules.specs.Limits.{limits_of};
 ghost use Rattle.carry.specs.Carried.{carried_text, carried_version, document_head, first_unfit, item_text, object_text, object_texts, pair_text, start_text, unfit_after};
 
+use atoms::{Directory, ItemSet, Queue};
 use batch::Names;
 use meaning::limits::MAX_START;
-use objects::{Directory, ItemSet, NoMemory, Objects, Queue, Value};
+use objects::{Objects, Value};
 use report::{item_name, object_name};
 use rules::Limits;
+use serial::NoMemory;
 use std::alloc::Global;
 use words::kind_text;
 

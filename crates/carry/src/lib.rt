@@ -6,7 +6,9 @@ mod document;
 mod starts;
 mod transactions;
 
-pub use batch::{Names, NoMemory, Objects};
+pub use batch::Names;
 pub use document::{Misfit, Unfit, carried, carried_version, first_unfit};
+pub use objects::Objects;
+pub use serial::NoMemory;
 pub use starts::{NamedObjects, Start, first_clash, first_misfit, join, name_table, start_name};
 pub use transactions::carried_into;

@@ -11,21 +11,22 @@ ghost use Rattle.carry.specs.Joined.{added, are_of_one_kind, ended, first_clash,
 use crate::document::{Misfit, entries_in, unfit_after, write_object};
 use batch::Names;
 use indexmap::IndexSet;
-use objects::{NoMemory, Objects, Value};
+use objects::{Objects, Value};
 use report::object_name;
+use serial::NoMemory;
 use spelling::hashing::{NameHashing, Texts};
 use std::alloc::Global;
 use words::kind_text;
 
 /// Objects, with the names of their batch.
-#[derive(Clone, Copy, Drop)]
+#[derive(Clone, Copy, Debug, Drop)]
 pub struct NamedObjects<'a> {
     pub names: &'a Names,
     pub objects: &'a Objects,
 }
 
 /// An object that a document starts with: its place and its value in the objects that it is taken from, and their names.
-#[derive(Clone, Copy, Drop)]
+#[derive(Clone, Copy, Debug, Drop)]
 pub struct Start<'a> {
     pub(crate) names: &'a Names,
     pub(crate) place: u32,

@@ -10,7 +10,7 @@ ghost use Rattle.carry.specs.Transactions.{item_texts, joined_text, transaction_
 use crate::document::write_head;
 use crate::starts::{Start, write_starts};
 use json::{Error, Scratch, Value, to_vec};
-use objects::NoMemory;
+use serial::NoMemory;
 use std::alloc::Global;
 
 /// The document of this version and of these starts, with the transactions of the document that the

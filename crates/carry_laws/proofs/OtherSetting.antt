@@ -20,8 +20,8 @@ use Rattle.rules.specs.declared.rule.CountRule.TheVariants.{Nodes, Operations}
 use Rattle.rules.specs.declared.rule.ArgumentRule.TheVariants as argument_rule
 use Rattle.rules.specs.declared.rule.NameRule.{NameRule}
 use Rattle.rules.specs.declared.rule.NameRule.TheVariants as names
-use Rattle.rules.specs.declared.rule.Place.{Place}
-use Rattle.rules.specs.declared.rule.Place.TheVariants.{Third, Fourth}
+use Rattle.rules.specs.declared.rule.OperandPlace.{OperandPlace}
+use Rattle.rules.specs.declared.rule.OperandPlace.TheVariants.{Third, Fourth}
 use Rattle.rules.specs.declared.rule.SourceRule.TheVariants as source
 use Rattle.rules.specs.Subjects.{fits_item, fits_number}
 use Rattle.rules.specs.declared.rule.Rule.{Rule}
@@ -301,7 +301,7 @@ module _ (old new : Setting) (declares : Declares old new) where
   label_kept scope earlier (Some name) = kept_after (holds (is_name old.version name) (Name old.version names.Label) ∷ [])
       (holds (is_name new.version name) (Name new.version names.Label) ∷ []) (_ ∷ []) ⊤ refl (name_kept name names.Label)
 
-  item_kept : (place : Place) (op : Data) → Kept (item_asked old.version place op) (item_asked new.version place op) ⊤
+  item_kept : (place : OperandPlace) (op : Data) → Kept (item_asked old.version place op) (item_asked new.version place op) ⊤
   unfolding item_asked
   item_kept place op =
       let name = name_item (index_of place) op in
@@ -376,7 +376,7 @@ module _ (old new : Setting) (declares : Declares old new) where
       (source_asked scope fits_number source.Number Third op) (holds (is_some (amount_item 2 op)) (rule.Argument argument_rule.Amount) ∷ [])
       _ declares.fills refl (kept_same _ ⊤ refl tt) (λ c next met. amount_no_object (at 2 op) (first_is _ _ [] c next met))
 
-  argument_kept : (scope : Scope) (place : Place) (op : Data)
+  argument_kept : (scope : Scope) (place : OperandPlace) (op : Data)
       → Kept (argument_asked old.version scope place op) (argument_asked new.version scope place op)
       (is_source new.version (index_of place) op ≡ is_source old.version (index_of place) op)
   unfolding argument_asked source_asked item_asked

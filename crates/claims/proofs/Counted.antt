@@ -5,7 +5,7 @@ use Rattle.std.specs.List.{All, sum_by, list_any}
 use Rattle.std.proofs.lemmas.List.Sums.{sum_by-cons}
 use mathlib.Core.Option.{some, some-injective, some-ne-none}
 use lib.ListN.{get_elem?}
-use Rattle.claims.specs.declared.view.View.{View}
+use Rattle.claims.specs.declared.view.SeatView.{SeatView}
 use Rattle.claims.specs.declared.view.Size.{Size}
 use Rattle.claims.specs.Views.{most_pieces, most_seats, spent, bit, times, once_below, all_drawn, least}
 use Rattle.claims.specs.Rule.{Kept}
@@ -13,7 +13,7 @@ use Rattle.claims.proofs.Folds.{total, most}
 use Rattle.claims.proofs.Lists.{times-append}
 
 -- what the rule says of one view, at these words
-pub record Fits (pieces next stop first : ℕ) (v : View) : Type 0 where
+pub record Fits (pieces next stop first : ℕ) (v : SeatView) : Type 0 where
   pub idle : v.shares ≡ 0 → v ≡ spent
   pub sized : 0 < v.shares → v.pieces ≡ pieces
   pub few_done : v.done ≤ v.shares
@@ -22,7 +22,7 @@ pub record Fits (pieces next stop first : ℕ) (v : View) : Type 0 where
   pub told : first ≤ v.told
 
 -- the rule, counted one view at a time
-pub record Counted (size : Size) (words : List ℕ) (views : List View) : Type 0 where
+pub record Counted (size : Size) (words : List ℕ) (views : List SeatView) : Type 0 where
   pub next : ℕ
   pub stop : ℕ
   pub first : ℕ
@@ -34,19 +34,19 @@ pub record Counted (size : Size) (words : List ℕ) (views : List View) : Type 0
   pub draws : next ≡ total (λ v. length v.drawn) views + total (λ v. v.done) views
   pub raised : stop ≡ most (λ v. bit v.raised) views
   pub lowest : first ≡ least (λ v. v.low) size.pieces views
-  pub each : (seat : ℕ) (v : View) → get_elem? views seat ≡ some v → Fits size.pieces next stop first v
+  pub each : (seat : ℕ) (v : SeatView) → get_elem? views seat ≡ some v → Fits size.pieces next stop first v
 
 -- a total is std's sum
-total_is : (f : View → ℕ) (views : List View) → total f views ≡ sum_by f views
+total_is : (f : SeatView → ℕ) (views : List SeatView) → total f views ≡ sum_by f views
 total_is f [] = refl
 total_is f (v ∷ views) = ap (λ n. f v + n) (total_is f views) ∙ sym (sum_by-cons f v views)
 
 -- a total over the lists is one over all of them together
-total_times : (x : ℕ) (views : List View) → total (λ v. times x v.drawn) views ≡ times x (all_drawn views)
+total_times : (x : ℕ) (views : List SeatView) → total (λ v. times x v.drawn) views ≡ times x (all_drawn views)
 total_times x [] = refl
 total_times x (v ∷ views) = ap (λ n. times x v.drawn + n) (total_times x views) ∙ sym (times-append x v.drawn (all_drawn views))
 
-total_length : (views : List View) → total (λ v. length v.drawn) views ≡ length (all_drawn views)
+total_length : (views : List SeatView) → total (λ v. length v.drawn) views ≡ length (all_drawn views)
 total_length [] = refl
 total_length (v ∷ views) = ap (λ n. length v.drawn + n) (total_length views) ∙ sym (length-append v.drawn (all_drawn views))
 
@@ -61,23 +61,23 @@ bit_or_max true b = sym (omega (arith, bit_small b))
 bit_or_max false b = omega arith
 
 -- the greatest mark is whether any is set
-most_is : (views : List View) → most (λ v. bit v.raised) views ≡ bit (list_any (λ v. v.raised) views)
+most_is : (views : List SeatView) → most (λ v. bit v.raised) views ≡ bit (list_any (λ v. v.raised) views)
 most_is [] = refl
 most_is (v ∷ views) = ap (λ n. max (bit v.raised) n) (most_is views) ∙ sym (bit_or_max v.raised (list_any (λ u. u.raised) views))
 
 -- a fact of each view, by its place, and the other way round
-at_each : (P : View → Type 0) (views : List View) → All P views → (i : ℕ) (v : View) → get_elem? views i ≡ some v → P v
+at_each : (P : SeatView → Type 0) (views : List SeatView) → All P views → (i : ℕ) (v : SeatView) → get_elem? views i ≡ some v → P v
 at_each P [] all i v at = absurd (some-ne-none v (sym at))
 at_each P (u ∷ views) all zero v at = subst P (some-injective u v at) (all 0 u (omega arith))
 at_each P (u ∷ views) all (suc i) v at = at_each P views (λ k d lt. all (suc k) d (omega arith)) i v at
 
-of_each : (P : View → Type 0) (views : List View) → ((i : ℕ) (v : View) → get_elem? views i ≡ some v → P v) → All P views
+of_each : (P : SeatView → Type 0) (views : List SeatView) → ((i : ℕ) (v : SeatView) → get_elem? views i ≡ some v → P v) → All P views
 of_each P [] each k d lt = absurd (omega arith)
 of_each P (v ∷ views) each zero d lt = each 0 v refl
 of_each P (v ∷ views) each (suc k) d lt = of_each P views (λ i u at. each (suc i) u at) k d (omega arith)
 
 -- the two forms of the rule say the same
-pub counted : (size : Size) (words : List ℕ) (views : List View) → Kept size words views → Counted size words views
+pub counted : (size : Size) (words : List ℕ) (views : List SeatView) → Kept size words views → Counted size words views
 counted size words views k = record {
   next = k.next;
   stop = k.stop;
@@ -100,7 +100,7 @@ counted size words views k = record {
   };
 }
 
-pub kept : (size : Size) (words : List ℕ) (views : List View) → Counted size words views → Kept size words views
+pub kept : (size : Size) (words : List ℕ) (views : List SeatView) → Counted size words views → Kept size words views
 kept size words views c = record {
   next = c.next;
   stop = c.stop;

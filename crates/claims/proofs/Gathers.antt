@@ -10,7 +10,7 @@ use mathlib.Core.Option.{some}
 use lib.ListN.{get_elem?}
 use Rattle.atomic_table.specs.Seated.{TableId}
 use Rattle.atomic_table.proofs.Lists.{at_set}
-use Rattle.claims.specs.declared.view.View.{View}
+use Rattle.claims.specs.declared.view.SeatView.{SeatView}
 use Rattle.claims.specs.declared.view.Size.{Size}
 use Rattle.claims.specs.Views.{joined, spent, bit, HoldsEachBelow, once_below, times, all_drawn, least}
 use Rattle.claims.specs.Rule.{Kept}
@@ -20,15 +20,15 @@ use Rattle.claims.proofs.Counted.{Counted, counted}
 use Rattle.claims.proofs.Folds.{total, most, total_set, total_ge, total_idle, most_at, most_idle, least_at, least_idle}
 
 -- what a view that has taken in u says of it
-abbrev Covers : View → View → Type 0
+abbrev Covers : SeatView → SeatView → Type 0
 Covers v u = (u.done ≤ v.done) × (u.stopped ≡ true → v.stopped ≡ true) × (v.told ≤ u.told)
 
 -- a fact of each view, made weaker
-all_map : (P Q : View → Type 0) (views : List View) → ((u : View) → P u → Q u) → All P views → All Q views
+all_map : (P Q : SeatView → Type 0) (views : List SeatView) → ((u : SeatView) → P u → Q u) → All P views → All Q views
 all_map P Q views weaker h k d lt = weaker (get_or views k d) (h k d lt)
 
 -- one seat alone
-pub alone : (pieces : ℕ) (v : View) → v.shares ≡ 1 → Together pieces (v ∷ []) v
+pub alone : (pieces : ℕ) (v : SeatView) → v.shares ≡ 1 → Together pieces (v ∷ []) v
 alone pieces v share = record {
   shares = share;
   drawn = sym (append-nil v.drawn);
@@ -38,7 +38,7 @@ alone pieces v share = record {
 }
 
 -- one seat more
-pub with_one : (pieces : ℕ) (views : List View) (v w : View) → v.shares ≡ 1 → Together pieces views w
+pub with_one : (pieces : ℕ) (views : List SeatView) (v w : SeatView) → v.shares ≡ 1 → Together pieces views w
     → Together pieces (v ∷ views) (joined v w)
 with_one pieces views v w share t = record {
   shares = omega (arith, t.shares, share);
@@ -51,7 +51,7 @@ with_one pieces views v w share t = record {
 }
 
 -- seats that are taken off the end of a list, one after the other
-pub popped_views : (seats : List Seated) (seat : Seated) (tail : List View) → views_of (seats ++ seat ∷ []) ++ tail ≡ views_of seats
+pub popped_views : (seats : List Seated) (seat : Seated) (tail : List SeatView) → views_of (seats ++ seat ∷ []) ++ tail ≡ views_of seats
     ++ seat.view ∷ tail
 popped_views [] seat tail = refl
 popped_views (s ∷ seats) seat tail = ap (λ l. s.view ∷ l) (popped_views seats seat tail)
@@ -62,7 +62,7 @@ popped_all P (s ∷ seats) seat h = let r = popped_all P seats seat (λ k d lt. 
     (All-cons P s seats (h 0 s (omega arith)) r.0, r.1)
 
 -- a fact of each view is one of each seat
-pub all_views : (P : View → Type 0) (seats : List Seated) → All P (views_of seats) → All (λ s. P s.view) seats
+pub all_views : (P : SeatView → Type 0) (seats : List Seated) → All P (views_of seats) → All (λ s. P s.view) seats
 all_views P [] h k d lt = absurd (omega arith)
 all_views P (s ∷ seats) h zero d lt = h 0 s.view (omega arith)
 all_views P (s ∷ seats) h (suc k) d lt = all_views P seats (λ j e below. h (suc j) e (omega arith)) k d (omega arith)
@@ -73,14 +73,14 @@ length_views [] = refl
 length_views (s ∷ seats) = ap suc (length_views seats)
 
 -- a view that has taken in those of all seats is the only one that is not spent
-module _ (size : Size) (words : List ℕ) (views : List View) (rule : Kept size words views) (id : ℕ) (v : View)
-    (at : get_elem? views id ≡ some v) (joined : List View) (t : Together size.pieces joined v)
+module _ (size : Size) (words : List ℕ) (views : List SeatView) (rule : Kept size words views) (id : ℕ) (v : SeatView)
+    (at : get_elem? views id ≡ some v) (joined : List SeatView) (t : Together size.pieces joined v)
     (all : length joined ≡ size.seats) where
   k : Counted size words views
   k = counted size words views rule
 
   -- each other view is spent
-  idle : (i : ℕ) (u : View) → get_elem? (set views id spent) i ≡ some u → u ≡ spent
+  idle : (i : ℕ) (u : SeatView) → get_elem? (set views id spent) i ≡ some u → u ≡ spent
   idle i u there =
       let none : total (λ w. w.shares) (set views id spent) ≡ 0 = omega (
         arith,
@@ -95,7 +95,7 @@ module _ (size : Size) (words : List ℕ) (views : List View) (rule : Kept size 
       (at_set views id i spent u there)
 
   -- so a total, the greatest and the least are those of this view alone
-  total_alone : (f : View → ℕ) → f spent ≡ 0 → total f views ≡ f v
+  total_alone : (f : SeatView → ℕ) → f spent ≡ 0 → total f views ≡ f v
   total_alone f e = omega (
     arith,
     total_set f views id v spent at,
@@ -103,10 +103,10 @@ module _ (size : Size) (words : List ℕ) (views : List View) (rule : Kept size 
         ∙ e),
   )
 
-  most_alone : (f : View → ℕ) → f spent ≡ 0 → most f views ≡ f v
+  most_alone : (f : SeatView → ℕ) → f spent ≡ 0 → most f views ≡ f v
   most_alone f e = omega (arith, most_at f views id v spent at e, most_idle f (set views id spent) (λ i u there. ap f (idle i u there) ∙ e))
 
-  least_alone : (f : View → ℕ) (n : ℕ) → n ≤ f spent → least f n views ≡ min (f v) n
+  least_alone : (f : SeatView → ℕ) (n : ℕ) → n ≤ f spent → least f n views ≡ min (f v) n
   least_alone f n e = omega (
     arith,
     least_at f n views id v spent at e,
@@ -149,7 +149,7 @@ module _ (size : Size) (words : List ℕ) (views : List View) (rule : Kept size 
 
 module _ (seats rest : List Seated) (seat : Seated) (popped : seats ≡ rest ++ seat ∷ []) where
   -- what a pop leaves
-  pub after_pop : (tail : List View) → views_of seats ++ tail ≡ views_of rest ++ seat.view ∷ tail
+  pub after_pop : (tail : List SeatView) → views_of seats ++ tail ≡ views_of rest ++ seat.view ∷ tail
   after_pop tail = ap (λ l. views_of l ++ tail) popped ∙ popped_views rest seat tail
 
   pub others_own : (id : TableId) → All (λ s. s.board ≡ id) seats → All (λ s. s.board ≡ id) rest × (seat.board ≡ id)

@@ -5,7 +5,7 @@ use Rattle.std.specs.List.{All}
 use mathlib.Core.Option.{some}
 use lib.ListN.{get_elem?}
 use Rattle.atomic_table.proofs.Lists.{at_set, at_snoc}
-use Rattle.claims.specs.declared.view.View.{View}
+use Rattle.claims.specs.declared.view.SeatView.{SeatView}
 use Rattle.claims.specs.declared.view.Size.{Size}
 use Rattle.claims.specs.Views.{fresh, spent, one_share_less, joined, bit, times, once_below, least}
 use Rattle.claims.specs.Steps.{with_piece, told_done, told_stopped, having_raised, lowered, told_bound}
@@ -15,14 +15,15 @@ use Rattle.claims.proofs.Folds.{most_join, least_start, least_set, least_push, l
 use Rattle.claims.proofs.Lists.{times-append, all_of_times, below_of_once, once_below_next}
 
 -- a fact of each view, after one view has changed
-pub each_set : (F G : View → Type 0) (views : List View) (id : ℕ) (w : View) → ((i : ℕ) (u : View) → get_elem? views i ≡ some u → F u)
-    → G w → ((u : View) → F u → G u)
-    → (i : ℕ) (u : View) → get_elem? (set views id w) i ≡ some u → G u
+pub each_set : (F G : SeatView → Type 0) (views : List SeatView) (id : ℕ) (w : SeatView) → ((i : ℕ) (u : SeatView)
+    → get_elem? views i ≡ some u → F u)
+    → G w → ((u : SeatView) → F u → G u)
+    → (i : ℕ) (u : SeatView) → get_elem? (set views id w) i ≡ some u → G u
 each_set F G views id w old mine later i u at = ⊎_elim (λ (t : (i ≡ id) × (w ≡ u)). subst G t.1 mine)
     (λ (t : (i ≢ id) × (get_elem? views i ≡ some u)). later u (old i u t.1)) (at_set views id i w u at)
 
 -- NEXT and STOP only rise, and FIRST only falls
-pub fits_later : (pieces next stop first next' stop' first' : ℕ) (v : View) → next ≤ next' → (stop ≡ 1 → stop' ≡ 1) → first' ≤ first
+pub fits_later : (pieces next stop first next' stop' first' : ℕ) (v : SeatView) → next ≤ next' → (stop ≡ 1 → stop' ≡ 1) → first' ≤ first
     → Fits pieces next stop first v → Fits pieces next' stop' first' v
 fits_later pieces next stop first next' stop' first' v more still less h = record {
   idle = h.idle;
@@ -34,7 +35,7 @@ fits_later pieces next stop first next' stop' first' v more still less h = recor
 }
 
 -- the same of a view that has a share
-active : (pieces next stop first : ℕ) (v : View) → 0 < v.shares → v.pieces ≡ pieces → v.done ≤ v.shares → (0 < v.done → pieces < next)
+active : (pieces next stop first : ℕ) (v : SeatView) → 0 < v.shares → v.pieces ≡ pieces → v.done ≤ v.shares → (0 < v.done → pieces < next)
     → (v.stopped ≡ true → stop ≡ 1) → first ≤ v.told
     → Fits pieces next stop first v
 active pieces next stop first v share sized few passed stopped told = record {
@@ -56,10 +57,10 @@ stopped_either : (a b : Bool) (stop : ℕ) → (a ≡ true → stop ≡ 1) → (
 stopped_either true b stop left right p = left refl
 stopped_either false b stop left right p = right p
 
-module _ (size : Size) (words : List ℕ) (views : List View) (k : Counted size words views) (id : ℕ) (v : View)
+module _ (size : Size) (words : List ℕ) (views : List SeatView) (k : Counted size words views) (id : ℕ) (v : SeatView)
     (at : get_elem? views id ≡ some v) (share : 0 < v.shares) where
   -- what the rule says of a view at the words as they are
-  abbrev Now : View → Type 0
+  abbrev Now : SeatView → Type 0
   Now = Fits size.pieces k.next k.stop k.first
 
   -- and of the view that takes the step
@@ -88,19 +89,19 @@ module _ (size : Size) (words : List ℕ) (views : List View) (k : Counted size 
       (omega (arith, k.once x, total_ge (λ u. times x u.drawn) views id v at)) in omega arith)
 
   -- a total, the greatest and the least where the view's own number stays
-  total_same : (f : View → ℕ) (w : View) → f w ≡ f v → total f (set views id w) ≡ total f views
+  total_same : (f : SeatView → ℕ) (w : SeatView) → f w ≡ f v → total f (set views id w) ≡ total f views
   total_same f w same = omega (arith, total_set f views id v w at)
 
-  most_same : (f : View → ℕ) (w : View) → f w ≡ f v → most f (set views id w) ≡ most f views
+  most_same : (f : SeatView → ℕ) (w : SeatView) → f w ≡ f v → most f (set views id w) ≡ most f views
   most_same f w same = omega (arith, most_set f views id v w at (omega arith), most_ge f views id v at)
 
-  least_same : (f : View → ℕ) (n : ℕ) (w : View) → f w ≡ f v → least f n (set views id w) ≡ least f n views
+  least_same : (f : SeatView → ℕ) (n : ℕ) (w : SeatView) → f w ≡ f v → least f n (set views id w) ≡ least f n views
   least_same f n w same = omega (arith, least_set f n views id v w at (omega arith), least_le f n views id v at)
 
   -- a draw that finds a piece
   pub draws_piece : k.next < size.pieces → Counted size ((k.next + 1) ∷ k.stop ∷ k.first ∷ []) (set views id (with_piece v k.next))
   draws_piece left =
-      let w : View = with_piece v k.next in
+      let w : SeatView = with_piece v k.next in
       let here : min k.next size.pieces ≡ k.next = omega arith in
       let there : min (k.next + 1) size.pieces ≡ k.next + 1 = omega arith in
       let longer = length-append v.drawn (k.next ∷ []) in record {
@@ -132,7 +133,7 @@ module _ (size : Size) (words : List ℕ) (views : List View) (k : Counted size 
   -- a draw that finds none
   pub draws_none : size.pieces ≤ k.next → v.done ≡ 0 → Counted size ((k.next + 1) ∷ k.stop ∷ k.first ∷ []) (set views id (told_done v))
   draws_none over new =
-      let w : View = told_done v in
+      let w : SeatView = told_done v in
       let same : min (k.next + 1) size.pieces ≡ min k.next size.pieces = omega arith in record {
         next = k.next + 1;
         stop = k.stop;
@@ -152,7 +153,7 @@ module _ (size : Size) (words : List ℕ) (views : List View) (k : Counted size 
       }
 
   -- a step that leaves NEXT and the seat's pieces alone
-  module _ (w : View) (shares : w.shares ≡ v.shares) (drawn : w.drawn ≡ v.drawn) (done : w.done ≡ v.done) (stop first : ℕ) where
+  module _ (w : SeatView) (shares : w.shares ≡ v.shares) (drawn : w.drawn ≡ v.drawn) (done : w.done ≡ v.done) (stop first : ℕ) where
     quiet : stop ≡ most (λ u. bit u.raised) (set views id w) → first ≡ least (λ u. u.low) size.pieces (set views id w)
         → w.pieces ≡ v.pieces → (k.stop ≡ 1 → stop ≡ 1) → first ≤ k.first → (w.stopped ≡ true → stop ≡ 1) → first ≤ w.told
         → Counted size (k.next ∷ stop ∷ first ∷ []) (set views id w)
@@ -224,9 +225,9 @@ module _ (size : Size) (words : List ℕ) (views : List View) (k : Counted size 
   -- a split
   pub splits_share : 1 < v.shares → v.done ≡ 0 → Counted size words (set views id (one_share_less v) ++ fresh 1 v.pieces ∷ [])
   splits_share many new =
-      let w : View = one_share_less v in
-      let made : View = fresh 1 v.pieces in
-      let rest : List View = set views id w in
+      let w : SeatView = one_share_less v in
+      let made : SeatView = fresh 1 v.pieces in
+      let rest : List SeatView = set views id w in
       let sized : v.pieces ≡ size.pieces = mine.sized share in record {
         next = k.next;
         stop = k.stop;
@@ -262,10 +263,10 @@ module _ (size : Size) (words : List ℕ) (views : List View) (k : Counted size 
       }
 
   -- a join
-  pub joins_seat : (other : ℕ) (w : View) → other ≢ id → get_elem? (set views id (joined v w)) other ≡ some w
+  pub joins_seat : (other : ℕ) (w : SeatView) → other ≢ id → get_elem? (set views id (joined v w)) other ≡ some w
       → Counted size words (set (set views id (joined v w)) other spent)
   joins_seat other w apart there =
-      let both : View = joined v w in
+      let both : SeatView = joined v w in
       let was : get_elem? views other ≡ some w = ⊎_elim (λ (t : (other ≡ id) × (both ≡ w)). absurd (apart t.0))
       (λ (t : (other ≢ id) × (get_elem? views other ≡ some w)). t.1) (at_set views id other both w there) in
       let theirs : Now w = k.each other w was in

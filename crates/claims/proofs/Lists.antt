@@ -2,7 +2,7 @@
 use Rattle.std.proofs.Common.{◌≡◌, ℕ, zero, suc, ◌+◌, ◌<◌, eqb, false, List, [], ◌∷◌, ◌++◌, arith}
 use Rattle.std.proofs.lemmas.Bool.Decides.{nat_tests}
 use Rattle.std.specs.List.{All}
-use Rattle.claims.specs.declared.view.View.{View}
+use Rattle.claims.specs.declared.view.SeatView.{SeatView}
 use Rattle.claims.specs.Views.{bit, times, once_below, is_over}
 
 -- the lists of two seats
@@ -29,5 +29,5 @@ pub once_below_next : (x n : ℕ) → once_below x (n + 1) ≡ once_below x n + 
 once_below_next x n = grind (arith, nat_tests)
 
 -- a seat that is not over didn't get Done
-pub none_done : (v : View) → is_over v ≡ false → v.done ≡ 0
+pub none_done : (v : SeatView) → is_over v ≡ false → v.done ≡ 0
 none_done v going = grind (arith, nat_tests)

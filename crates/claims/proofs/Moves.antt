@@ -5,7 +5,7 @@ use mathlib.Core.Option.{none, some}
 use lib.ListN.{get_elem?}
 use native.Mathlib.Decide.{dec_lt, ℕ_discrete}
 use Rattle.atomic_table.specs.Table.{keeps, Allows, Splits, Joins, step}
-use Rattle.claims.specs.declared.view.View.{View}
+use Rattle.claims.specs.declared.view.SeatView.{SeatView}
 use Rattle.claims.specs.declared.view.Size.{Size}
 use Rattle.claims.specs.Views.{fresh, spent, one_share_less, joined}
 use Rattle.claims.specs.Rule.{Holds}
@@ -19,13 +19,13 @@ abbrev Slots : Type 0
 Slots = List (ℕ × Unit {0})
 
 -- the seat id with the view v, at these words and views, can take the step and keep the rule
-abbrev Goes : Size → ℕ → Slots → ℕ → (ℕ → ℕ) → (ℕ → View × Slots → Type 0) → List View → List ℕ → Type 0
-Goes size id held word f then views words = (w : View) × Counted size (set words word (f (get_or words word 0))) (set views id w)
+abbrev Goes : Size → ℕ → Slots → ℕ → (ℕ → ℕ) → (ℕ → SeatView × Slots → Type 0) → List SeatView → List ℕ → Type 0
+Goes size id held word f then views words = (w : SeatView) × Counted size (set words word (f (get_or words word 0))) (set views id w)
     × then (get_or words word 0) (w, held)
 
 -- a step that keeps the rule in its counted form is one that the table allows
-allowed : (size : Size) (slots id word : ℕ) (v : View) (held : Slots) (f : ℕ → ℕ) (then : ℕ → View × Slots → Type 0)
-    → ((words : List ℕ) (views : List View) (k : Counted size words views) → get_elem? views id ≡ some v
+allowed : (size : Size) (slots id word : ℕ) (v : SeatView) (held : Slots) (f : ℕ → ℕ) (then : ℕ → SeatView × Slots → Type 0)
+    → ((words : List ℕ) (views : List SeatView) (k : Counted size words views) → get_elem? views id ≡ some v
     → Goes size id held word f then views (k.next ∷ k.stop ∷ k.first ∷ []))
     → Allows (Holds size) slots id (v, held) word f then
 allowed size slots id word v held f then goes s k homes at fits =
@@ -45,7 +45,8 @@ or_one (suc zero) h = refl
 or_one (suc (suc n)) h = absurd (omega arith)
 
 -- a draw is allowed
-pub draws : (size : Size) (slots id : ℕ) (v : View) (held : Slots) → 0 < v.shares → v.done ≡ 0 → Allows (Holds size) slots id (v, held) 0
+pub draws : (size : Size) (slots id : ℕ) (v : SeatView) (held : Slots) → 0 < v.shares → v.done ≡ 0
+    → Allows (Holds size) slots id (v, held) 0
     (λ n. (n + 1) % 2 ^ 64) (Draws (step slots 0 1 0 none) (v, held))
 draws size slots id v held share new = allowed size slots id 0 v held (λ n. (n + 1) % 2 ^ 64) (Draws (step slots 0 1 0 none) (v, held))
     (λ words views k at.
@@ -67,7 +68,7 @@ draws size slots id v held share new = allowed size slots id 0 v held (λ n. (n 
     ])
 
 -- a look is allowed
-pub looks : (size : Size) (slots id : ℕ) (v : View) (held : Slots) → 0 < v.shares → Allows (Holds size) slots id (v, held) 1 (λ n. n)
+pub looks : (size : Size) (slots id : ℕ) (v : SeatView) (held : Slots) → 0 < v.shares → Allows (Holds size) slots id (v, held) 1 (λ n. n)
     (Looks (step slots 1 0 0 none) (v, held))
 looks size slots id v held share = allowed size slots id 1 v held (λ n. n) (Looks (step slots 1 0 0 none) (v, held)) (λ words views k at.
     elim (ℕ_discrete k.stop 1) [
@@ -84,7 +85,7 @@ looks size slots id v held share = allowed size slots id 1 v held (λ n. n) (Loo
     ])
 
 -- a raise is allowed
-pub raises : (size : Size) (slots id : ℕ) (v : View) (held : Slots) → 0 < v.shares → Allows (Holds size) slots id (v, held) 1
+pub raises : (size : Size) (slots id : ℕ) (v : SeatView) (held : Slots) → 0 < v.shares → Allows (Holds size) slots id (v, held) 1
     (λ n. bit_or n 1) (Raises (step slots 1 1 0 none) (v, held))
 raises size slots id v held share = allowed size slots id 1 v held (λ n. bit_or n 1) (Raises (step slots 1 1 0 none) (v, held))
     (λ words views k at.
@@ -96,14 +97,14 @@ raises size slots id v held share = allowed size slots id 1 v held (λ n. bit_or
     ))
 
 -- a lower is allowed
-pub lowers : (size : Size) (slots id : ℕ) (v : View) (held : Slots) (n : ℕ) → 0 < v.shares → Allows (Holds size) slots id (v, held) 2
+pub lowers : (size : Size) (slots id : ℕ) (v : SeatView) (held : Slots) (n : ℕ) → 0 < v.shares → Allows (Holds size) slots id (v, held) 2
     (λ m. min m n) (Lowers (step slots 2 n 0 none) (v, held))
 lowers size slots id v held n share = allowed size slots id 2 v held (λ m. min m n) (Lowers (step slots 2 n 0 none) (v, held))
     (λ words views k at.
     (lowered v n, lowers_first size words views k id v at share n, refl))
 
 -- a bound is allowed
-pub bounds : (size : Size) (slots id : ℕ) (v : View) (held : Slots) → 0 < v.shares → Allows (Holds size) slots id (v, held) 2 (λ n. n)
+pub bounds : (size : Size) (slots id : ℕ) (v : SeatView) (held : Slots) → 0 < v.shares → Allows (Holds size) slots id (v, held) 2 (λ n. n)
     (Bounds (step slots 2 0 0 none) (v, held))
 bounds size slots id v held share = allowed size slots id 2 v held (λ n. n) (Bounds (step slots 2 0 0 none) (v, held))
     (λ words views k at. (
@@ -119,11 +120,12 @@ bounds size slots id v held share = allowed size slots id 2 v held (λ n. n) (Bo
     ))
 
 -- a split is allowed
-pub splits : (size : Size) (id : ℕ) (v : View) → 1 < v.shares → v.done ≡ 0 → Splits (Holds size) id v (one_share_less v) (fresh 1 v.pieces)
+pub splits : (size : Size) (id : ℕ) (v : SeatView) → 1 < v.shares → v.done ≡ 0
+    → Splits (Holds size) id v (one_share_less v) (fresh 1 v.pieces)
 splits size id v many new s k at = kept size _ _ (splits_share size s.words s.views (counted size s.words s.views k) id v at
     (omega arith) many new)
 
 -- a join is allowed
-pub joins : (size : Size) (id other : ℕ) (v w : View) → 0 < v.shares → Joins (Holds size) id v other w (joined v w) spent
+pub joins : (size : Size) (id other : ℕ) (v w : SeatView) → 0 < v.shares → Joins (Holds size) id v other w (joined v w) spent
 joins size id other v w share s k at apart there =
     kept size _ _ (joins_seat size s.words s.views (counted size s.words s.views k) id v at share other w apart there)

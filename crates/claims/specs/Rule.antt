@@ -3,11 +3,11 @@
 use Rattle.std.specs.Prelude.{◌≡◌, ℕ, ◌+◌, ◌<◌, ◌≤◌, min, true, List, [], ◌∷◌, length, sum_by}
 use Rattle.std.specs.List.{All, list_any}
 use Rattle.atomic_table.specs.Table.{State}
-use Rattle.claims.specs.declared.view.View.{View}
+use Rattle.claims.specs.declared.view.SeatView.{SeatView}
 use Rattle.claims.specs.declared.view.Size.{Size}
 use Rattle.claims.specs.Views.{most_pieces, most_seats, spent, bit, HoldsEachBelow, all_drawn, least}
 
-pub record Kept (size : Size) (words : List ℕ) (views : List View) : Type 0 where
+pub record Kept (size : Size) (words : List ℕ) (views : List SeatView) : Type 0 where
   -- the words are NEXT, STOP and FIRST, in this order
   pub next : ℕ
   pub stop : ℕ
@@ -41,5 +41,5 @@ pub record Kept (size : Size) (words : List ℕ) (views : List View) : Type 0 wh
   pub told : All (λ v. first ≤ v.told) views
 
 -- the rule as the table takes it, which has no slots
-abbrev pub Holds : Size → State (Unit {0}) View → Type 0
+abbrev pub Holds : Size → State (Unit {0}) SeatView → Type 0
 Holds size s = Kept size s.words s.views

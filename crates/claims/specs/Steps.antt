@@ -7,32 +7,32 @@
 use Rattle.std.specs.Prelude.{◌≡◌, ◌≢◌, ℕ, ◌+◌, ◌<◌, ◌≤◌, min, true, [], ◌∷◌, ◌++◌}
 use Rattle.std.specs.List.{All}
 use Rattle.atomic_table.specs.Table.{Me, Step}
-use Rattle.claims.specs.declared.view.View.{View}
+use Rattle.claims.specs.declared.view.SeatView.{SeatView}
 
 -- the seat has drawn this piece besides
-abbrev pub with_piece : View → ℕ → View
+abbrev pub with_piece : SeatView → ℕ → SeatView
 with_piece v piece = record v { drawn = v.drawn ++ piece ∷ [] }
 
 -- it got Done once more
-abbrev pub told_done : View → View
+abbrev pub told_done : SeatView → SeatView
 told_done v = record v { done = v.done + 1 }
 
-abbrev pub told_stopped : View → View
+abbrev pub told_stopped : SeatView → SeatView
 told_stopped v = record v { stopped = true }
 
-abbrev pub having_raised : View → View
+abbrev pub having_raised : SeatView → SeatView
 having_raised v = record v { raised = true }
 
 -- its low is the smaller of low and k
-abbrev pub lowered : View → ℕ → View
+abbrev pub lowered : SeatView → ℕ → SeatView
 lowered v k = record v { low = min v.low k }
 
-abbrev pub told_bound : View → ℕ → View
+abbrev pub told_bound : SeatView → ℕ → SeatView
 told_bound v bound = record v { told = bound }
 
 -- a seat as the table sees it: its view, and the slots that it holds, of which there are none
 abbrev pub Holder : Type 0
-Holder = Me (Unit {0}) View
+Holder = Me (Unit {0}) SeatView
 
 -- of the step, the seat before it, the number that the word held, and the seat after it
 abbrev pub Tells : Type 1

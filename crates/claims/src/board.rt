@@ -9,12 +9,12 @@ ghost use Rattle.claims.specs.Rule.{Kept};
 ghost use Rattle.claims.specs.Steps.{having_raised, lowered, told_bound};
 ghost use Rattle.claims.specs.Seated.{IsSeatOf, views_of};
 ghost use Rattle.claims.specs.Board.{Answers, is_last, Together};
-ghost use Rattle.claims.specs.declared.view.View.{View};
+ghost use Rattle.claims.specs.declared.view.SeatView.{SeatView};
 
 use crate::claim::{Claim, Tally};
-use crate::rule::{Bound, Draw, Look, Lower, Raise, Rule};
+use crate::rule::{BoardRule, Bound, Draw, Look, Lower, Raise};
 use crate::seat::{Seat, Token};
-use crate::view::{Both, OneShare, Size, View};
+use crate::view::{Both, OneShare, SeatView, Size};
 use atomic_table::{Shared, Table};
 use serial::NoMemory;
 use std::alloc::Global;
@@ -29,7 +29,7 @@ const STOP: usize = 1;
 // The least number that a seat lowered to, or the number of pieces.
 const FIRST: usize = 2;
 
-type Words = Shared<(), View, Size, Rule>;
+type Words = Shared<(), SeatView, Size, BoardRule>;
 
 /// A board of the pieces from 0 up to a number. Threads share it by `&`, each with a seat.
 ///
@@ -37,7 +37,7 @@ type Words = Shared<(), View, Size, Rule>;
 /// few atomic exchanges that it names.
 #[derive(Drop)]
 pub struct Board {
-    table: Table<(), View, Size, Rule, Global>,
+    table: Table<(), SeatView, Size, BoardRule, Global>,
     pieces: u32,
 }
 
@@ -103,10 +103,10 @@ fn join_all(words: &Words, mut seats: Vec<Seat>) -> Token
 }
 
 // The words of a table that no thread shares any more.
-fn close(table: Table<(), View, Size, Rule, Global>, whole: Token) -> [u64; 3]
+fn close(table: Table<(), SeatView, Size, BoardRule, Global>, whole: Token) -> [u64; 3]
     requires own { whole.table_id ≡ table.shared.table_id }
     requires counts { (table.shared.table_id.words ≡ 3) × (table.shared.table_id.slots ≡ 0) }
-    ensures { (views : List View) × Kept table.shared.key result views
+    ensures { (views : List SeatView) × Kept table.shared.key result views
         × (get_elem? views whole.id ≡ some whole.me.0) }
 {
     let closed = table.close_with(whole);

@@ -2,10 +2,10 @@
 ghost use Rattle.std.specs.Prelude.{◌≡◌, []};
 ghost use Rattle.claims.specs.Views.{is_over};
 
-use crate::view::View;
+use crate::view::SeatView;
 use std::marker::Model;
 
-pub(crate) type Token = atomic_table::Seat<(), View>;
+pub(crate) type Token = atomic_table::Seat<(), SeatView>;
 
 /// A seat at a board, with which one thread at a time claims. A seat can't be copied, so the seats
 /// that [`Board::open`](crate::Board::open) returned are all the seats of a board.

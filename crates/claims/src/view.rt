@@ -4,7 +4,7 @@ use atomic_table::{Join, Split};
 use std::collections::LinkedList;
 
 /// What a seat knows of its board, as contracts see it. No value of it is made.
-pub(crate) struct View {
+pub(crate) struct SeatView {
     /// 1 from the board's opening to the gathering.
     pub shares: u32,
     /// How many pieces its board has.
@@ -33,7 +33,7 @@ pub(crate) struct Size {
 // Cuts one share off, for a seat of its own.
 pub(crate) struct OneShare;
 
-impl Split<View> for OneShare {
+impl Split<SeatView> for OneShare {
     ghost use Rattle.claims.specs.Views.{fresh, one_share_less};
 
     ghost left = { one_share_less };
@@ -44,7 +44,7 @@ impl Split<View> for OneShare {
 // Takes in another seat's view.
 pub(crate) struct Both;
 
-impl Join<View> for Both {
+impl Join<SeatView> for Both {
     ghost use Rattle.claims.specs.Views.{spent, joined};
 
     ghost both = { joined };

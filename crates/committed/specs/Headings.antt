@@ -10,7 +10,7 @@ use Rattle.committed.specs.Items.{operation_item}
 abbrev pub heading_of : Entry → Heading
 heading_of e = record { object = e.object; item = operation_item e.call e.reply; class = class_of e.call e.reply }
 
--- the same without an item
+-- a heading without its item
 abbrev pub of_object : Heading → Heading
 of_object heading = record { object = heading.object; item = None; class = heading.class }
 

@@ -40,7 +40,7 @@ AreAsStrict first second third = (e : Entry) → CommuteForward e first → Comm
 abbrev pub IsCovered : List Entry → Entry → Type 0
 IsCovered entries e = (other : Entry) → CommutesWith other entries → CommuteForward other e
 
--- the same of effects, by their table
+-- of effects, by their table: what commutes with the first and the second commutes with the third
 abbrev pub EffectsAreAsStrict : {Effect : Type 0} → (Effect → Effect → Bool) → Effect → Effect → Effect → Type 0
 EffectsAreAsStrict {Effect} commute first second third = (e : Effect) → IsTrue (commute e first) → IsTrue (commute e second)
     → IsTrue (commute e third)

@@ -4,14 +4,15 @@ ghost use Rattle.std.specs.Int.{bit_at};
 ghost use Rattle.committed.specs.declared.classes.Class.{Class as OneClass};
 ghost use Rattle.committed.specs.Classes.{account_class, counter_class, set_class, queue_class, key_class, max_class, class_of, class_number, conflicts_of, is_by_item};
 
-use objects::{
-    Account, AccountEffect, Call, Counter, CounterEffect, Directory, Entry, ItemSet, KeyEffect,
-    MaxEffect, MaxRegister, Queue, QueueEffect, Reply, SetEffect,
+use atoms::{
+    Account, AccountEffect, Counter, CounterEffect, Directory, ItemSet, KeyEffect, MaxEffect,
+    MaxRegister, Queue, QueueEffect, SetEffect,
 };
+use objects::{Call, Entry, Reply};
 
 /// What an operation did, as far as it decides with which others it always commutes forward. It
 /// depends on the operation's effect.
-#[derive(Clone, Copy, PartialEq, Eq, Hash)]
+#[derive(Clone, Copy, Debug, PartialEq, Eq, Hash)]
 pub enum Class {
     Deposit,
     Withdrawal,

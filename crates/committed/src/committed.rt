@@ -13,7 +13,8 @@ use crate::heading::Heading;
 use crate::index::Index;
 use crate::marks::{Mark, MarkedEntry};
 use crate::summary::mark_all;
-use objects::{Entry, EntryHashing, NoMemory, commute};
+use objects::{Entry, EntryHashing, commute};
+use serial::NoMemory;
 use std::alloc::Global;
 use std::marker::Model;
 
@@ -206,9 +207,9 @@ impl Committed {
         met == 0 || self.commutes_with_met(entry, mark, met, upto)
     }
 
-    /// The same, where the entries with which it may not commute are of the classes `met`. It looks
-    /// at the entries of its own object, class by class, and at those of its own item where the
-    /// class asks for one.
+    /// Whether an entry commutes forward with the first `upto` entries, where those with which it
+    /// may not are of the classes `met`. It looks at the entries of its own object, class by class,
+    /// and at those of its own item where the class asks for one.
     fn commutes_with_met(&self, entry: &Entry, mark: &Mark, met: u16, upto: usize) -> bool
         requires mark { mark.now ≡ mark_of entry.now }
         requires within { upto ≤ length self.now }

@@ -8,7 +8,8 @@ ghost use Rattle.committed.specs.Filter.{slot_of, set_at, HasAll, IsMarked, IsFi
 
 use crate::classes::Class;
 use crate::marks::Mark;
-use objects::{Entry, NoMemory};
+use objects::Entry;
+use serial::NoMemory;
 use std::alloc::Global;
 
 /// How many sets a filter has at first.

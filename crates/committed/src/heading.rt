@@ -4,10 +4,11 @@ ghost use Rattle.committed.specs.Headings.{heading_of, of_object, heading_agains
 
 use crate::classes::Class;
 use crate::items::operation_item;
-use objects::{Entry, Item};
+use atoms::Item;
+use objects::Entry;
 
 /// An object, an item or none, and a class.
-#[derive(Clone, Copy, PartialEq, Eq, Hash)]
+#[derive(Clone, Copy, Debug, PartialEq, Eq, Hash)]
 pub struct Heading {
     object: u32,
     item: Option<Item>,
@@ -26,7 +27,7 @@ impl Heading {
         }
     }
 
-    /// The same without an item.
+    /// This heading without its item.
     pub fn of_object(self) -> Heading
         ensures { result ≡ of_object self }
     {

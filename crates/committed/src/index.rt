@@ -14,7 +14,8 @@ ghost use Rattle.committed.specs.Index.{number_of, link_at, IsBehind, IsLastOf, 
 use crate::heading::Heading;
 use crate::strictness::is_as_strict;
 use indexmap::IndexMap;
-use objects::{Entry, EntryHashing, NoMemory, commute};
+use objects::{Entry, EntryHashing, commute};
+use serial::NoMemory;
 use std::alloc::Global;
 
 /// How many entries are listed at most. Each has at most two links, which are counted in 32 bits.

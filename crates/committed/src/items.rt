@@ -2,7 +2,8 @@
 ghost use Rattle.std.specs.Prelude.{◌≡◌};
 ghost use Rattle.committed.specs.Items.{operation_item, set_item, taken_item};
 
-use objects::{Call, Directory, Item, ItemSet, Queue, QueueEffect, Reply, SetEffect};
+use atoms::{Directory, Item, ItemSet, Queue, QueueEffect, SetEffect};
+use objects::{Call, Reply};
 
 /// The item that an operation is about, where it is about no other part of its object. A dequeue is
 /// about the item that it took.

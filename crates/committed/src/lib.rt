@@ -18,6 +18,7 @@ mod summary;
 
 pub use committed::Committed;
 pub use marks::{Mark, MarkedEntry};
-pub use objects::{Call, Entry, NoMemory, Reply};
+pub use objects::{Call, Entry, Reply};
+pub use serial::NoMemory;
 pub use span::Span;
 pub use summary::{FEW_ENTRIES, mark_all, summarize};

@@ -4,7 +4,8 @@ ghost use Rattle.committed.specs.Marks.{hash_of, mark_of};
 
 use crate::classes::Class;
 use crate::items::operation_item;
-use objects::{Entry, Item};
+use atoms::Item;
+use objects::Entry;
 
 /// A digest of an entry. It is made once, however often the entry is compared.
 #[derive(Clone, Copy, Debug, PartialEq, Eq)]

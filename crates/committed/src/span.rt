@@ -3,7 +3,7 @@ ghost use Rattle.std.specs.Prelude.{◌+◌, ◌≤◌, ◌<◌, ◌⊎◌, ℕ,
 ghost use Rattle.committed.specs.Spans.{IsIn};
 
 /// The first and the last of some objects. Of none, the first is after the last.
-#[derive(Clone, Copy)]
+#[derive(Clone, Copy, Debug)]
 pub struct Span {
     first: u32,
     last: u32,

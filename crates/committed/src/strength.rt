@@ -7,10 +7,11 @@
 ghost use Rattle.std.specs.Prelude.{◌≡◌, ◌+◌};
 ghost use Rattle.committed.specs.Strictness.{strength_of, account_strength, counter_strength, set_strength, queue_strength, directory_strength, key_strength, max_strength, digest, covers, topic_of};
 
-use objects::{
-    Account, AccountEffect, Call, Counter, CounterEffect, Directory, DirectoryEffect, Entry, Item,
-    ItemSet, KeyEffect, MaxEffect, MaxRegister, Queue, QueueEffect, Reply, SetEffect,
+use atoms::{
+    Account, AccountEffect, Counter, CounterEffect, Directory, DirectoryEffect, Item, ItemSet,
+    KeyEffect, MaxEffect, MaxRegister, Queue, QueueEffect, SetEffect,
 };
+use objects::{Call, Entry, Reply};
 
 const ACCOUNT: u8 = 0;
 
@@ -28,7 +29,7 @@ const REGISTER: u8 = 5;
 const NONE: u8 = 6;
 
 /// A digest of an entry, by which it is compared with others for strictness.
-#[derive(Clone, Copy)]
+#[derive(Clone, Copy, Debug)]
 pub struct Strength {
     object: u32,
     /// The kind of the object.
@@ -104,7 +105,7 @@ impl Strength {
 }
 
 /// What an entry is about.
-#[derive(Clone, Copy, PartialEq, Eq, Hash)]
+#[derive(Clone, Copy, Debug, PartialEq, Eq, Hash)]
 pub struct Topic {
     object: u32,
     /// A number of the item, or 0.

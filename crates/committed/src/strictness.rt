@@ -7,10 +7,8 @@ ghost use Rattle.committed.specs.Strictness.{IsAsStrict, AreAsStrict, EffectsAre
 
 use crate::items::set_item;
 use crate::strength::Strength;
-use objects::{
-    Call, Directory, DirectoryEffect, Entry, ItemSet, KeyEffect, Queue, QueueEffect, Reply,
-    SetEffect,
-};
+use atoms::{Directory, DirectoryEffect, ItemSet, KeyEffect, Queue, QueueEffect, SetEffect};
+use objects::{Call, Entry, Reply};
 
 /// Whether the first entry is known to commute forward with no more than the second does. It is
 /// where the two are equal, and by their numbers. Of two withdrawals the smaller commutes with

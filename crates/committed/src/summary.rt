@@ -10,7 +10,8 @@ use crate::span::Span;
 use crate::strength::{Strength, Topic};
 use crate::strictness::{Measured, are_as_strict};
 use indexmap::IndexMap;
-use objects::{Entry, EntryHashing, NoMemory};
+use objects::{Entry, EntryHashing};
+use serial::NoMemory;
 use std::alloc::Global;
 use std::mem::replace;
 

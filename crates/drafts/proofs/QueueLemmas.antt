@@ -7,8 +7,8 @@ use Rattle.std.proofs.lemmas.List.{drop-append-le}
 use Rattle.atoms.proofs.QueueLemmas.{queue_takes_back}
 use Rattle.atoms.specs.declared.item.Item.{Item}
 use Rattle.atoms.specs.declared.queue.QueueCall.TheVariants.{Enq}
-use Rattle.drafts.specs.declared.queue_draft.QueueChange.{QueueChange}
-use Rattle.drafts.specs.declared.queue_draft.QueueChange.TheVariants.{Enqueued, Dequeued}
+use Rattle.drafts.specs.declared.queue_draft.QueueDraftChange.{QueueDraftChange}
+use Rattle.drafts.specs.declared.queue_draft.QueueDraftChange.TheVariants.{Enqueued, Dequeued}
 use Rattle.drafts.specs.History.{changed, journaled, seen_as}
 use Rattle.drafts.specs.Queues.{Ends, between, queue_back, AreWithin}
 use Rattle.drafts.proofs.HistoryLemmas.{journaled_more}
@@ -17,13 +17,13 @@ use Rattle.drafts.proofs.HistoryLemmas.{journaled_more}
 abbrev pub ends_at : ℕ → List Item → Ends
 ends_at taken added = record { taken = taken; added = added }
 
-pub within_now : (lent : List Item) (ends : Ends) (journal : List QueueChange) → AreWithin lent ends journal
+pub within_now : (lent : List Item) (ends : Ends) (journal : List QueueDraftChange) → AreWithin lent ends journal
     → ends.taken ≤ length lent + length ends.added
 within_now lent ends [] h = h
 within_now lent ends (change ∷ journal) h = h.0
 
 -- an item more at the end
-pub within_enqueued : (lent added pushed : List Item) (taken : ℕ) (x : Item) (journal grown : List QueueChange)
+pub within_enqueued : (lent added pushed : List Item) (taken : ℕ) (x : Item) (journal grown : List QueueDraftChange)
     → AreWithin lent (ends_at taken added) journal
     → pushed ≡ added ++ x ∷ [] → grown ≡ Enqueued ∷ journal → AreWithin lent (ends_at taken pushed) grown
 within_enqueued lent added pushed taken x journal grown h is more =
@@ -33,7 +33,7 @@ within_enqueued lent added pushed taken x journal grown h is more =
     (omega arith, subst (λ xs. AreWithin lent (ends_at taken xs) journal) (sym (queue_takes_back added (Enq x))) h) in
     subst (λ xs. AreWithin lent (ends_at taken xs) grown) (sym is) (subst (AreWithin lent (ends_at taken (added ++ x ∷ []))) (sym more) all)
 
-pub history_enqueued : (lent added pushed : List Item) (taken : ℕ) (x : Item) (journal grown : List QueueChange)
+pub history_enqueued : (lent added pushed : List Item) (taken : ℕ) (x : Item) (journal grown : List QueueDraftChange)
     → AreWithin lent (ends_at taken added) journal
     → pushed ≡ added ++ x ∷ [] → grown ≡ Enqueued ∷ journal
     → seen_as (between lent) (journaled queue_back (ends_at taken pushed) grown)
@@ -65,7 +65,8 @@ drop_one_more n xs = rw add-one (step n xs)
     step (suc m) [] = refl
     step (suc m) (y ∷ ys) = step m ys
 
-pub within_dequeued : (lent added : List Item) (taken : ℕ) (journal grown : List QueueChange) → AreWithin lent (ends_at taken added) journal
+pub within_dequeued : (lent added : List Item) (taken : ℕ) (journal grown : List QueueDraftChange)
+    → AreWithin lent (ends_at taken added) journal
     → IsSome (slice_get (between lent (ends_at taken added)) 0) → grown ≡ Dequeued taken ∷ journal
     → AreWithin lent (ends_at (taken + 1) added) grown
 within_dequeued lent added taken journal grown h some more =
@@ -73,7 +74,7 @@ within_dequeued lent added taken journal grown h some more =
     let all : AreWithin lent (ends_at (taken + 1) added) (Dequeued taken ∷ journal) = (omega (arith, length-append lent added), h) in
     subst (AreWithin lent (ends_at (taken + 1) added)) (sym more) all
 
-pub history_dequeued : (lent added : List Item) (taken : ℕ) (journal grown : List QueueChange) → grown ≡ Dequeued taken ∷ journal
+pub history_dequeued : (lent added : List Item) (taken : ℕ) (journal grown : List QueueDraftChange) → grown ≡ Dequeued taken ∷ journal
     → seen_as (between lent) (journaled queue_back (ends_at (taken + 1) added) grown)
     ≡ changed (seen_as (between lent) (journaled queue_back (ends_at taken added) journal)) (drop 1 (between lent (ends_at taken added)))
 history_dequeued lent added taken journal grown more =

@@ -22,7 +22,7 @@ back_to h (v ∷ before) = record { value = v; before = before }
 abbrev pub undone : {V : Type 0} → History V → History V
 undone h = back_to h h.before
 
--- the same history of values that are seen in another way
+-- a history whose values are seen in another way
 abbrev pub seen_as : {V W : Type 0} → (V → W) → History V → History W
 seen_as f h = record { value = f h.value; before = map f h.before }
 

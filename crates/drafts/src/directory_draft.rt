@@ -5,8 +5,8 @@ ghost use Rattle.atoms.specs.Directory.{directory, directory_undoing, put_at};
 ghost use Rattle.drafts.specs.History.{unchanged, changed, undone};
 
 use crate::slots::write_slot;
-use objects::{Directory, DirectoryCall, DirectoryChange, DirectoryReply, Item, NoMemory};
-use serial::Atom;
+use atoms::{Directory, DirectoryCall, DirectoryChange, DirectoryReply, Item};
+use serial::{Atom, NoMemory};
 use std::alloc::Global;
 use std::collections::BTreeMap;
 use std::marker::Model;

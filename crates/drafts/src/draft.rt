@@ -8,8 +8,9 @@ use crate::directory_draft::DirectoryDraft;
 use crate::number_draft::NumberDraft;
 use crate::queue_draft::QueueDraft;
 use crate::set_draft::SetDraft;
-use objects::{Account, Call, Counter, Kind, MaxRegister, NoMemory, Reply, Value};
-use serial::Atom;
+use atoms::{Account, Counter, MaxRegister};
+use objects::{Call, Kind, Reply, Value};
+use serial::{Atom, NoMemory};
 use std::alloc::Global;
 use std::marker::Model;
 

@@ -3,8 +3,7 @@ ghost use Rattle.std.specs.Prelude.{◌≡◌, None, IfOk, OnOk, OnErr};
 ghost use Rattle.drafts.specs.History.{unchanged, changed, undone};
 ghost use Rattle.drafts.specs.Numbers.{number_history};
 
-use objects::NoMemory;
-use serial::Atom;
+use serial::{Atom, NoMemory};
 use std::alloc::Global;
 
 /// The number of an account, a counter or a register, with what it was before each change. A first

@@ -3,14 +3,15 @@ ghost use Rattle.std.specs.Prelude.{◌≡◌, ◌∷◌, ◌++◌, [], length, 
 ghost use Rattle.atoms.specs.Queue.{queue, queue_undoing};
 ghost use Rattle.drafts.specs.History.{unchanged, changed, undone};
 
-use objects::{Item, NoMemory, Queue, QueueCall, QueueReply};
+use atoms::{Item, Queue, QueueCall, QueueReply};
+use serial::NoMemory;
 use std::alloc::Global;
 use std::marker::Model;
 
 /// A change: an item was added at the end, or one was taken from the front after so many were
 /// taken.
 #[derive(Clone, Copy)]
-enum QueueChange {
+enum QueueDraftChange {
     Enqueued,
     Dequeued(usize),
 }
@@ -22,7 +23,7 @@ pub struct QueueDraft<'s> {
     lent: &'s Queue,
     taken: usize,
     added: Vec<Item>,
-    journal: Vec<QueueChange>,
+    journal: Vec<QueueDraftChange>,
 }
 
 impl<'s> Model for QueueDraft<'s> {
@@ -121,7 +122,7 @@ impl<'s> QueueDraft<'s> {
     {
         self.journal.reserve(1)?;
         self.added.push(item)?;
-        self.journal.push_reserved(QueueChange::Enqueued);
+        self.journal.push_reserved(QueueDraftChange::Enqueued);
         Ok(())
     }
 
@@ -131,7 +132,7 @@ impl<'s> QueueDraft<'s> {
         ensures ok { OnOk result (self.new ≡ changed self.old (drop 1 self.old.value)) }
         ensures err { OnErr result (self.new ≡ self.old) }
     {
-        self.journal.push(QueueChange::Dequeued(self.taken))?;
+        self.journal.push(QueueDraftChange::Dequeued(self.taken))?;
         // The count fits: the borrowed items and the added ones are fewer than 2^63 each.
         let _lent = self.lent.items().len();
         let _added = self.added.len();
@@ -151,10 +152,10 @@ impl<'s> QueueDraft<'s> {
         ensures { self.new ≡ undone self.old }
     {
         match self.journal.pop() {
-            Some(QueueChange::Enqueued) => {
+            Some(QueueDraftChange::Enqueued) => {
                 self.added.pop();
             }
-            Some(QueueChange::Dequeued(taken)) => self.taken = taken,
+            Some(QueueDraftChange::Dequeued(taken)) => self.taken = taken,
             None => {}
         }
     }

@@ -5,8 +5,8 @@ ghost use Rattle.atoms.specs.ItemSet.{item_set, set_undoing};
 ghost use Rattle.drafts.specs.History.{unchanged, changed, undone};
 
 use crate::slots::write_slot;
-use objects::{Item, ItemSet, NoMemory, SetCall, SetChange, SetReply};
-use serial::Atom;
+use atoms::{Item, ItemSet, SetCall, SetChange, SetReply};
+use serial::{Atom, NoMemory};
 use std::alloc::Global;
 use std::collections::BTreeMap;
 use std::marker::Model;

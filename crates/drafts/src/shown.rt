@@ -5,7 +5,8 @@ ghost use Rattle.objects.specs.Changes.{value_change};
 ghost use Rattle.drafts.specs.Shown.{shown_value};
 
 use crate::Draft;
-use objects::{Call, NoMemory, Reply, Value};
+use objects::{Call, Reply, Value};
+use serial::NoMemory;
 use std::alloc::Global;
 
 /// A borrowed value with no change, or a draft of one.

@@ -5,7 +5,7 @@ ghost use Rattle.atoms.specs.Item.{item_cmp};
 ghost use Rattle.atoms.specs.declared.item.Item.{Item};
 ghost use Rattle.drafts.specs.Overlays.{slot_at};
 
-use objects::Item;
+use atoms::Item;
 use std::collections::BTreeMap;
 
 /// Writes a slot that is there. It takes no memory.

@@ -12,6 +12,6 @@ place_among pages object = option_and_then (λ (page : Vec ℕ Global). slice_ge
 abbrev pub place_in : PagedPlaces → ℕ → Option ℕ
 place_in places object = place_among places.pages.items object
 
--- a place is the same, or this one where there was none
+-- a place is as before, or this one where there was none
 abbrev pub IsReached : ℕ → Option ℕ → Option ℕ → Type 0
 IsReached place old new = (new ≡ old) ⊎ ((old ≡ None) × (new ≡ Some place))

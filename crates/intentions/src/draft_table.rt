@@ -10,7 +10,8 @@ ghost use Rattle.intentions.specs.Layers.{histories, undo_at};
 
 use crate::places::PagedPlaces;
 use drafts::{Draft, Shown};
-use objects::{Call, NoMemory, Reply, Value};
+use objects::{Call, Reply, Value};
+use serial::NoMemory;
 use std::alloc::Global;
 
 /// A draft, with the object that it is of.

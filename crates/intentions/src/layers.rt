@@ -11,7 +11,8 @@ ghost use Rattle.intentions.specs.Layers.{States, histories, drafts_rewound};
 use crate::draft_table::DraftTable;
 use crate::places::PagedPlaces;
 use drafts::Shown;
-use objects::{Call, Entry, NoMemory, Objects, Reply};
+use objects::{Call, Entry, Objects, Reply};
+use serial::NoMemory;
 use std::alloc::Global;
 use std::marker::Model;
 

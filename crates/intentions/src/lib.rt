@@ -11,7 +11,8 @@ mod layers;
 mod places;
 mod view;
 
-pub use committed::{Committed, FEW_ENTRIES, Mark, MarkedEntry, Span, mark_all, summarize};
-pub use objects::{Call, Entry, EntryHashing, NoMemory, Objects, Reply, Value};
+pub use committed::Committed;
+pub use objects::{Call, Entry, Objects, Reply, Value};
 pub use places::PagedPlaces;
+pub use serial::NoMemory;
 pub use view::{Lists, NetList, View, perform_each};

@@ -2,7 +2,7 @@
 ghost use Rattle.std.specs.Prelude.{◌≡◌, ◌<◌, ◌≤◌, ℕ, length, nat_eq, slice_get, Some, None, IsSome, OnOk, if◌then◌else◌};
 ghost use Rattle.intentions.specs.Places.{place_in, IsReached};
 
-use objects::NoMemory;
+use serial::NoMemory;
 use std::alloc::Global;
 
 /// How many objects have their places in a page.

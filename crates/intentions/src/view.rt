@@ -8,14 +8,15 @@ ghost use Rattle.objects.specs.Entries.{after, AreLegal};
 
 use crate::layers::Layers;
 use crate::places::PagedPlaces;
-use objects::{Call, Entry, NoMemory, Objects, Reply};
+use objects::{Call, Entry, Objects, Reply};
+use serial::NoMemory;
 use std::alloc::Global;
 use std::marker::Model;
 use std::mem::{replace, swap};
 
 /// What a view recorded: the entries of all calls in their order, and the net, which is those that
 /// no aborted level took back.
-#[derive(Drop)]
+#[derive(Debug, Drop)]
 pub struct Lists {
     /// The entries of all calls, in order.
     pub entries: Vec<Entry>,

@@ -28,8 +28,8 @@ use Rattle.atoms.specs.declared.amount.Amount.{Amount}
 use Rattle.atoms.specs.declared.item.Item.{Item}
 use Rattle.objects.specs.declared.call.Call.{Call}
 use Rattle.batch.specs.Limits.{depth_of_step, nodes_of_step}
-use Rattle.rules.specs.declared.rule.Place.{Place}
-use Rattle.rules.specs.declared.rule.Place.TheVariants.{Third, Fourth}
+use Rattle.rules.specs.declared.rule.OperandPlace.{OperandPlace}
+use Rattle.rules.specs.declared.rule.OperandPlace.TheVariants.{Third, Fourth}
 use Rattle.rules.specs.declared.rule.SourceRule.{SourceRule}
 use Rattle.rules.specs.declared.rule.SourceRule.TheVariants.{Number, Item as HasItem}
 use Rattle.words.specs.declared.verb.AmountVerb.{AmountVerb}
@@ -234,7 +234,7 @@ bound name scope labels test subject seen few is fitting =
 
 -- the labels that a scope names, and that they are few
 module _ (scope : Scope) (labels : List Label) (seen : AreSeen scope labels) (few : length scope < 4294967295) where
-  source_fits : (has : Verb → Bool) (of : Subject → Bool) (rule : Subject → SourceRule) (place : Place) (op : Data)
+  source_fits : (has : Verb → Bool) (of : Subject → Bool) (rule : Subject → SourceRule) (place : OperandPlace) (op : Data)
       → ((label : Label) → label_has has label ≡ of (subject_of_label label)) → AllMet (source_asked scope of rule place op)
       → IsSeenWith has labels (source_of scope (index_of place) op)
   unfolding source_asked
@@ -260,7 +260,7 @@ module _ (scope : Scope) (labels : List Label) (seen : AreSeen scope labels) (fe
   amount_fits v op true ds call met = source_fits has_number fits_number Number Third op has_number_of met
   amount_fits v op false ds call met = tt
 
-  argument_fits : (place : Place) (op : Data) (source : Bool) (ds : List Demand) (x : Item) (before after : Numbers)
+  argument_fits : (place : OperandPlace) (op : Data) (source : Bool) (ds : List Demand) (x : Item) (before after : Numbers)
       → AllMet (cond source (source_asked scope fits_item HasItem place op) ds)
       → ArgumentFits labels
       (cond {A = Argument × Numbers} source (argument.From (source_of scope (index_of place) op), before) (argument.Is x, after)).0

@@ -17,8 +17,8 @@ use Rattle.rules.specs.Subjects.{fits_item, fits_number}
 use Rattle.rules.specs.declared.rule.ArgumentRule.TheVariants.{Amount}
 use Rattle.rules.specs.declared.rule.NameRule.{NameRule}
 use Rattle.rules.specs.declared.rule.NameRule.TheVariants as names
-use Rattle.rules.specs.declared.rule.Place.{Place}
-use Rattle.rules.specs.declared.rule.Place.TheVariants.{Third, Fourth}
+use Rattle.rules.specs.declared.rule.OperandPlace.{OperandPlace}
+use Rattle.rules.specs.declared.rule.OperandPlace.TheVariants.{Third, Fourth}
 use Rattle.rules.specs.declared.rule.Rule.TheVariants.{Argument}
 use Rattle.rules.specs.declared.rule.SourceRule.TheVariants.{Number, Item as HasItem}
 use Rattle.meaning.specs.WellFormed.{Label, OfVerb, OfSubaction, VerbFits, IsWellFormed, IsWellFormedStep, AreWellFormed, AreWellFormedHandlers}
@@ -157,7 +157,8 @@ one_of_two : (x : What) (b : Bool) (A B : List Demand) → count x A ≡ 0 → c
 one_of_two x true A B p q = p
 one_of_two x false A B p q = q
 
-argument_counts : (x : What) (version : ℕ) (scope : Scope) (place : Place) (op : Data) → count x (argument_asked version scope place op) ≡ 0
+argument_counts : (x : What) (version : ℕ) (scope : Scope) (place : OperandPlace) (op : Data)
+    → count x (argument_asked version scope place op) ≡ 0
 unfolding argument_asked source_asked item_asked
 argument_counts x version scope place op =
     one_of_two x (is_source version (index_of place) op) (source_asked scope fits_item HasItem place op) (item_asked version place op)

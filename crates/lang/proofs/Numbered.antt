@@ -30,8 +30,8 @@ use Rattle.rules.specs.declared.subject.Subject.{Subject}
 use Rattle.rules.specs.declared.subject.Subject.TheVariants.{Outcome}
 use Rattle.words.specs.declared.verb.Verb.{Verb}
 use Rattle.words.specs.declared.verb.Verb.TheVariants.{OfAmount, OfItem, OfPair, Alone}
-use Rattle.rules.specs.declared.rule.Place.{Place}
-use Rattle.rules.specs.declared.rule.Place.TheVariants.{Third, Fourth}
+use Rattle.rules.specs.declared.rule.OperandPlace.{OperandPlace}
+use Rattle.rules.specs.declared.rule.OperandPlace.TheVariants.{Third, Fourth}
 use Rattle.rules.specs.declared.rule.SourceRule.TheVariants.{Item as HasItem}
 use Rattle.rules.specs.Subjects.{fits_item}
 use Rattle.rules.specs.declared.rule.ArgumentRule.TheVariants.{Count}
@@ -81,7 +81,7 @@ lone_call_named texts v = subst (ItemsAre (HasText texts)) (sym (lone_phrase v))
 
 -- ---- arguments
 
-argument_numbered : (version : ℕ) (scope : Scope) (place : Place) (numbers : Numbers) (op : Data)
+argument_numbered : (version : ℕ) (scope : Scope) (place : OperandPlace) (numbers : Numbers) (op : Data)
     → Numbered version IsNamedArgument numbers (argument_of version scope (index_of place) numbers op)
     (argument_asked version scope place op)
 unfolding argument_asked item_asked

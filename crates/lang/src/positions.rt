@@ -82,8 +82,8 @@ fn is_of(alloc: Global, token: &str, name: &str) -> Result<bool, AllocError> {
     Ok(own.as_str() == token)
 }
 
-// The same in the last member to which this token leads, of an object whose beginning has been
-// read.
+// Where the part begins that is in the last member to which this token leads, of an object whose
+// beginning has been read.
 #[cycle(path)]
 fn member_in(
     alloc: Global,
@@ -106,7 +106,8 @@ fn member_in(
     Ok(part)
 }
 
-// The same in the item of this index, from 0, of an array whose beginning has been read.
+// Where the part begins that is in the item of this index, from 0, of an array whose beginning has
+// been read.
 #[cycle(path)]
 fn item_in(
     alloc: Global,

@@ -24,8 +24,8 @@ use Rattle.rules.specs.declared.subject.Subject.TheVariants.{Reply}
 use Rattle.rules.specs.declared.rule.ArgumentRule.TheVariants as argument_rule
 use Rattle.rules.specs.declared.rule.NameRule.{NameRule}
 use Rattle.rules.specs.declared.rule.NameRule.TheVariants.{Else}
-use Rattle.rules.specs.declared.rule.Place.{Place}
-use Rattle.rules.specs.declared.rule.Place.TheVariants.{Third, Fourth}
+use Rattle.rules.specs.declared.rule.OperandPlace.{OperandPlace}
+use Rattle.rules.specs.declared.rule.OperandPlace.TheVariants.{Third, Fourth}
 use Rattle.rules.specs.declared.rule.Rule.TheVariants as rule
 use Rattle.rules.specs.declared.rule.SourceRule.{SourceRule}
 use Rattle.rules.specs.declared.rule.SourceRule.TheVariants as source
@@ -50,7 +50,7 @@ use Rattle.language.proofs.Joined.{answer, asks_is, by_test, check_is, counted_i
 
 -- The label that gives an argument leaves the rest its number, an item the item and an argument either of them. Else there is a fault.
 module _ {A : Type 0} {right : Result (A × Seen) Found} (seen : Seen) where
-  source_is : (scope : Scope) (fits : Subject → Bool) (fit : Subject → SourceRule) (place : Place) (op : Data) (rest : ℕ → Reading A)
+  source_is : (scope : Scope) (fits : Subject → Bool) (fit : Subject → SourceRule) (place : OperandPlace) (op : Data) (rest : ℕ → Reading A)
       → ((e : Failure) → check seen.counts (source_asked scope fits fit place op) ≡ Err e → Err (found_here e) ≡ right)
       → (check seen.counts (source_asked scope fits fit place op) ≡ Ok seen.counts
       → rest (source_of scope (index_of place) op) seen ≡ right)
@@ -61,7 +61,7 @@ module _ {A : Type 0} {right : Result (A × Seen) Found} (seen : Seen) where
       needs_is (named name scope) _ (λ no. unmet _ (rw (there, no))) (λ subject known.
       asks_is (fits subject) _ (λ no. unmet _ (rw (there, known, no))) (λ is. rw there at (met (rw (there, known, is))))))
 
-  item_is : (version : ℕ) (place : Place) (op : Data) (rest : Item → Reading A)
+  item_is : (version : ℕ) (place : OperandPlace) (op : Data) (rest : Item → Reading A)
       → ((e : Failure) → check seen.counts (item_asked version place op) ≡ Err e → Err (found_here e) ≡ right)
       → (check seen.counts (item_asked version place op) ≡ Ok seen.counts
       → rest (item_of (name_item (index_of place) op) seen.numbers)
@@ -72,7 +72,7 @@ module _ {A : Type 0} {right : Result (A × Seen) Found} (seen : Seen) where
       needs_is (text_item (index_of place) op) _ (λ no. unmet _ (rw no)) (λ name there.
       asks_is (is_name version name) _ (λ no. unmet _ (rw (there, no))) (λ is. rw there at (met (rw (there, is)))))
 
-  argument_is : (version : ℕ) (scope : Scope) (place : Place) (op : Data) (rest : Argument → Reading A)
+  argument_is : (version : ℕ) (scope : Scope) (place : OperandPlace) (op : Data) (rest : Argument → Reading A)
       → ((e : Failure) → check seen.counts (argument_asked version scope place op) ≡ Err e → Err (found_here e) ≡ right)
       → (check seen.counts (argument_asked version scope place op) ≡ Ok seen.counts
       → rest (argument_of version scope (index_of place) seen.numbers op).0

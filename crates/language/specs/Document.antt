@@ -30,8 +30,8 @@ use Rattle.batch.specs.Names.{Texts, is_name}
 use Rattle.batch.specs.Views.{Tried, children_of, steps_of}
 use Rattle.rules.specs.Forms.{member_names}
 use Rattle.rules.specs.declared.form.Form.TheVariants as form
-use Rattle.rules.specs.declared.rule.Place.{Place}
-use Rattle.rules.specs.declared.rule.Place.TheVariants.{Third, Fourth}
+use Rattle.rules.specs.declared.rule.OperandPlace.{OperandPlace}
+use Rattle.rules.specs.declared.rule.OperandPlace.TheVariants.{Third, Fourth}
 use Rattle.rules.specs.declared.rule.Rule.TheVariants as rule
 use Rattle.rules.specs.declared.rule.ArgumentRule.TheVariants as argument_rule
 use Rattle.rules.specs.declared.rule.SourceRule.{SourceRule}
@@ -64,12 +64,12 @@ use Rattle.language.specs.Reading.{needs, needs_item, nothing_seen, reason_in, s
 -- ---- operations
 
 -- the item at a place of an operation's array
-abbrev pub item_argument : {A : Type 0} → ℕ → Place → Data → (Item → Reading A) → Reading A
+abbrev pub item_argument : {A : Type 0} → ℕ → OperandPlace → Data → (Item → Reading A) → Reading A
 item_argument version place op =
     needs_item version (text_item (index_of place) op) (rule.Argument (argument_rule.Item place)) (named.Argument place)
 
 -- the label that gives an argument: it is seen, and what it is of fits, by this rule
-abbrev pub source_argument : {A : Type 0} → Scope → (Subject → Bool) → (Subject → SourceRule) → Place → Data
+abbrev pub source_argument : {A : Type 0} → Scope → (Subject → Bool) → (Subject → SourceRule) → OperandPlace → Data
     → (ℕ → Reading A) → Reading A
 source_argument scope fits fit place op rest =
     needs (source_label (index_of place) op) (rule.Source place source.Label) (λ name.
@@ -78,7 +78,7 @@ source_argument scope fits fit place op rest =
     rest (label_number name scope))))
 
 -- an item, or the label that gives one
-abbrev pub argument_in : {A : Type 0} → ℕ → Scope → Place → Data → (Argument → Reading A) → Reading A
+abbrev pub argument_in : {A : Type 0} → ℕ → Scope → OperandPlace → Data → (Argument → Reading A) → Reading A
 argument_in version scope place op rest =
     if is_source version (index_of place) op then source_argument scope fits_item source.Item place op (λ label. rest (argument.From label))
     else item_argument version place op (λ x. rest (argument.Is x))

@@ -10,7 +10,7 @@ use Rattle.meaning.specs.OneThread.{Run, Ran, record_of, outcome_of, labels_of, 
 use Rattle.meaning.specs.Batch.{state_at, alone, answer, nets, run_nets}
 use Rattle.meaning.specs.Rounds.{Keeps, AllKeep, IsNextOpening, Rounds, Count}
 
--- the same run, made on the state after these entries
+-- a run as it is made on the state after these entries
 abbrev pub carried : {A : Type 0} → List Entry → Run A → Run A
 carried committed run = Ran (record_of run) (outcome_of run) (labels_of run) (after (state_of run) committed)
 
@@ -28,7 +28,7 @@ abbrev pub followed : Run TakenChildren → Run TakenChildren → Run TakenChild
 followed older younger = Ran (both_taken (record_of older) (record_of younger)) (outcome_of younger) (labels_of older ++ labels_of younger)
     (state_of younger)
 
--- the same, the later one made on the state before the earlier one
+-- the runs of two lists of children as one, both made on the state before the first
 abbrev pub one_after_other : Run TakenChildren → Run TakenChildren → Run TakenChildren
 one_after_other older younger = followed older (carried (kept_of_children (record_of older)) younger)
 
@@ -46,7 +46,7 @@ ShiftLaw =
     × (outcome_of (one block labels (after state committed)) ≡ outcome_of (one block labels state))
     × (state_of (one block labels (after state committed)) ≡ after (state_of (one block labels state)) committed)
 
--- The same of a list of children, with the labels that they add.
+-- The shift law of a list of children, with the labels that they add.
 abbrev pub ChildrenShiftLaw : Type 0
 ChildrenShiftLaw =
     (children : Children) (labels : List Held) (state : State) (committed : List Entry)
@@ -62,7 +62,7 @@ NetLaw =
     → AreLegal state (kept (record_of (one block labels state)))
     × (state_of (one block labels state) ≡ after state (kept (record_of (one block labels state))))
 
--- The same of a list of children.
+-- What the runs of a list of children keep is legal where they began and leads to where they came.
 abbrev pub ChildrenNetLaw : Type 0
 ChildrenNetLaw =
     (children : Children) (labels : List Held) (state : State)
@@ -87,7 +87,7 @@ StandingRunLaw =
     × (outcome_of (alone start batch i (b + count)) ≡ outcome_of (alone start batch i b))
     × (state_of (alone start batch i (b + count)) ≡ after (state_of (alone start batch i b)) (nets start batch b count))
 
--- So it is the one-thread run where it keeps.
+-- A run that keeps is the run of one thread.
 abbrev pub KeptRunLaw : Type 0
 KeptRunLaw =
     (start : State) (batch : List Block) (i b : ℕ)

@@ -1,5 +1,6 @@
 //! Calls whose arguments come from labels, and what a refused call does.
-use objects::{Call, Item};
+use atoms::Item;
+use objects::Call;
 use words::{AmountVerb, ItemVerb, PairVerb};
 
 /// An item that a call takes: this one, or the one that the reply of a label has.

@@ -8,8 +8,8 @@ use Rattle.rules.specs.Subjects.{fits_item, fits_number}
 use Rattle.rules.specs.declared.rule.ArgumentRule.TheVariants as argument
 use Rattle.rules.specs.declared.rule.NameRule.{NameRule}
 use Rattle.rules.specs.declared.rule.NameRule.TheVariants.{Else, Handlers, Reason}
-use Rattle.rules.specs.declared.rule.Place.{Place}
-use Rattle.rules.specs.declared.rule.Place.TheVariants.{Third, Fourth}
+use Rattle.rules.specs.declared.rule.OperandPlace.{OperandPlace}
+use Rattle.rules.specs.declared.rule.OperandPlace.TheVariants.{Third, Fourth}
 use Rattle.rules.specs.declared.rule.Rule.TheVariants.{Argument, Depth, Name}
 use Rattle.rules.specs.declared.rule.SourceRule.{SourceRule}
 use Rattle.rules.specs.declared.rule.SourceRule.TheVariants as source
@@ -92,12 +92,12 @@ module _ (version : ℕ) where
   one_of_two true A B first second = first
   one_of_two false A B first second = second
 
-  source_in : (scope : Scope) (fits : Subject → Bool) (fit : Subject → SourceRule) (place : Place) (op : Data)
+  source_in : (scope : Scope) (fits : Subject → Bool) (fit : Subject → SourceRule) (place : OperandPlace) (op : Data)
       → InBlock version (source_asked scope fits fit place op)
   unfolding source_asked
   source_in scope fits fit place op = tt
 
-  item_in : (known : ℕ) (place : Place) (op : Data) → InBlock version (item_asked known place op)
+  item_in : (known : ℕ) (place : OperandPlace) (op : Data) → InBlock version (item_asked known place op)
   unfolding item_asked
   item_in known place op = tt
 
@@ -106,7 +106,7 @@ module _ (version : ℕ) where
   amount_in known scope op = one_of_two (is_source known 2 op) (source_asked scope fits_number source.Number Third op)
       (holds (is_some (amount_item 2 op)) (Argument argument.Amount) ∷ []) (source_in scope fits_number source.Number Third op) tt
 
-  argument_in : (known : ℕ) (scope : Scope) (place : Place) (op : Data) → InBlock version (argument_asked known scope place op)
+  argument_in : (known : ℕ) (scope : Scope) (place : OperandPlace) (op : Data) → InBlock version (argument_asked known scope place op)
   unfolding argument_asked
   argument_in known scope place op = one_of_two (is_source known (index_of place) op) (source_asked scope fits_item source.Item place op)
       (item_asked known place op) (source_in scope fits_item source.Item place op) (item_in known place op)

@@ -3,8 +3,10 @@ ghost use Rattle.std.specs.Prelude.{◌≡◌, [], map, option_map, true};
 ghost use Rattle.batch.specs.Views.{block_view, filling_view, handler_view, otherwise_view, step_view, subaction_view};
 ghost use Rattle.merging.specs.Renumbered.{new_number, numbered_item, renumbered, renumbered_argument, renumbered_call, renumbered_handlers, renumbered_member, renumbered_refusal, renumbered_step, renumbered_template, renumbered_test, renumbered_tried};
 
-use batch::{Block, Call, Filling, Handler, Item, Otherwise, Step, Subaction, Test};
-use meaning::{Argument, Refusal, Template};
+use atoms::Item;
+use batch::{Block, Filling, Handler, Otherwise, Step, Subaction};
+use meaning::{Argument, Refusal, Template, Test};
+use objects::Call;
 use std::mem::replace;
 use words::{Phrase, phrase_of};
 

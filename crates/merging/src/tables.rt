@@ -4,7 +4,7 @@ ghost use Rattle.batch.specs.Names.{texts_of};
 ghost use Rattle.merging.specs.Renumbered.{merged, new_number, numbers_in};
 ghost use Rattle.merging.specs.declared.tables.TheConstants.{MOST_TEXTS};
 
-use batch::NoMemory;
+use serial::NoMemory;
 use spelling::hashing::Texts;
 use spelling::state::fit;
 use std::alloc::Global;

@@ -6,8 +6,8 @@ use Rattle.serde_json.specs.Data.{Data, Members, no_members, member}
 use Rattle.serde_json.specs.Find.{at, as_array, as_object, as_str, get}
 use Rattle.batch.specs.Names.{is_name}
 use Rattle.rules.specs.declared.form.Form.{Form}
-use Rattle.rules.specs.declared.rule.Place.{Place}
-use Rattle.rules.specs.declared.rule.Place.TheVariants.{Third, Fourth}
+use Rattle.rules.specs.declared.rule.OperandPlace.{OperandPlace}
+use Rattle.rules.specs.declared.rule.OperandPlace.TheVariants.{Third, Fourth}
 use Rattle.rules.specs.Forms.{member_names}
 
 abbrev pub has : List ℕ → Data → Bool
@@ -18,12 +18,12 @@ abbrev pub operand : ℕ → Data → Option Data
 operand i d = option_and_then (at i) (get (codes "op") d)
 
 -- where the list of an operation has an item
-abbrev pub index_of : Place → ℕ
+abbrev pub index_of : OperandPlace → ℕ
 index_of Third = 2
 index_of Fourth = 3
 
 -- the member `from` of an item of the list
-abbrev pub source : Place → Data → Option Data
+abbrev pub source : OperandPlace → Data → Option Data
 source place d = option_and_then (get (codes "from")) (operand (index_of place) d)
 
 abbrev pub is_among : List ℕ → List (List ℕ) → Bool

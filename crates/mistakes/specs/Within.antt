@@ -3,7 +3,7 @@ use Rattle.std.specs.Prelude.{ℕ, List, [], ◌++◌, codes, Option, Some, None
 use Rattle.json.specs.Print.{escape}
 use Rattle.serde_json.specs.Data.{Data}
 use Rattle.rules.specs.Pointers.{pointer_token}
-use Rattle.rules.specs.declared.rule.Place.{Place}
+use Rattle.rules.specs.declared.rule.OperandPlace.{OperandPlace}
 use Rattle.rules.specs.declared.rule.Rule.{Rule}
 use Rattle.rules.specs.declared.rule.CountRule.TheVariants as counted
 use Rattle.rules.specs.declared.rule.NameRule.TheVariants as named
@@ -24,7 +24,7 @@ abbrev pub pointer_if : List ℕ → Data → List ℕ
 pointer_if name d = if has name d then codes "/" ++ name else []
 
 -- the item of the list of an operation, where it is there
-abbrev pub pointer_operand : Place → Data → List ℕ
+abbrev pub pointer_operand : OperandPlace → Data → List ℕ
 pointer_operand place d = if is_some (operand (index_of place) d) then codes "/op/" ++ decimal (index_of place) else []
 
 abbrev pub place_within : Rule → Data → List ℕ

@@ -18,7 +18,7 @@ use Rattle.rules.specs.declared.rule.CountRule.{CountRule}
 use Rattle.rules.specs.declared.rule.CountRule.TheVariants as counted
 use Rattle.rules.specs.declared.rule.NameRule.{NameRule}
 use Rattle.rules.specs.declared.rule.NameRule.TheVariants as named
-use Rattle.rules.specs.declared.rule.Place.{Place}
+use Rattle.rules.specs.declared.rule.OperandPlace.{OperandPlace}
 use Rattle.rules.specs.declared.rule.ShapeRule.{ShapeRule}
 use Rattle.rules.specs.declared.rule.ShapeRule.TheVariants as shape
 use Rattle.rules.specs.declared.rule.SourceRule.{SourceRule}
@@ -187,7 +187,7 @@ argument_words (argument.Count v) d = codes "\"" ++ verb_text v ++ codes "\" tak
 argument_words argument.Amount d = amount_said (operand 2 d)
 argument_words (argument.Item place) d = shown_in (operand (index_of place) d) ++ codes " is no text: items are written in quotes"
 
-abbrev pub source_words : Place → SourceRule → Data → List ℕ
+abbrev pub source_words : OperandPlace → SourceRule → Data → List ℕ
 source_words place source.Label d = codes "an argument that a label gives is written {\"from\": \"LABEL\"}"
 source_words place source.Seen d = no_label (shown_in (source_in place d))
 source_words place (source.Number subject) d = no_number subject

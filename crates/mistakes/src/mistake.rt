@@ -17,8 +17,8 @@ use crate::phrases::{
 use crate::steps::{write_abort, write_else, write_handlers, write_sort};
 use meaning::limits::MAX_DEPTH;
 use rules::{
-    ArgumentRule, ConditionRule, CountRule, Limits, NameRule, Place, Rule, ShapeRule, SourceRule,
-    StartRule,
+    ArgumentRule, ConditionRule, CountRule, Limits, NameRule, OperandPlace, Rule, ShapeRule,
+    SourceRule, StartRule,
 };
 use serde_json::Value;
 use std::alloc::{AllocError, Global};
@@ -125,7 +125,7 @@ fn write_argument_rule(
 fn write_source_rule(
     alloc: Global,
     out: &mut String,
-    place: Place,
+    place: OperandPlace,
     rule: SourceRule,
     part: &Value,
 ) -> Result<(), AllocError>

@@ -9,7 +9,8 @@ ghost use Rattle.mistakes.specs.Words.{amount_said, is_last_operation, named_sai
 use crate::parts::{is_list, is_text, operand};
 use crate::phrases::{a_kind, write_around, write_too_new, write_wanting};
 use crate::shown::{shown, write_grouped};
-use objects::{Amount, Kind};
+use atoms::Amount;
+use objects::Kind;
 use rules::LAST_VERSION;
 use serde_json::Value;
 use std::alloc::{AllocError, Global};

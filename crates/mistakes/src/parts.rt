@@ -4,7 +4,7 @@ ghost use Rattle.serde_json.specs.View.{view};
 ghost use Rattle.mistakes.specs.Parts.{has_sort, index_of, is_among, is_list, is_text, operand, source, unknown_member, unnamed_reason};
 
 use batch::is_name;
-use rules::{Form, Place};
+use rules::{Form, OperandPlace};
 use serde_json::Value;
 
 /// An item of the list of an operation, where there is one.
@@ -15,17 +15,17 @@ pub(crate) fn operand(part: &Value, index: usize) -> Option<&Value>
 }
 
 /// Where the list of an operation has an item.
-pub(crate) fn index_of(place: Place) -> usize
+pub(crate) fn index_of(place: OperandPlace) -> usize
     ensures { result ≡ index_of place }
 {
     match place {
-        Place::Third => 2,
-        Place::Fourth => 3,
+        OperandPlace::Third => 2,
+        OperandPlace::Fourth => 3,
     }
 }
 
 /// The member `from` of an item of the list.
-pub(crate) fn source(part: &Value, place: Place) -> Option<&Value>
+pub(crate) fn source(part: &Value, place: OperandPlace) -> Option<&Value>
     ensures { option_map (λ value. view value.now) result ≡ source place (view part.now) }
 {
     operand(part, index_of(place))?.get("from")

@@ -43,7 +43,7 @@ pub(crate) fn write_wanting_at(
     Ok(())
 }
 
-/// The same of the member of a part.
+/// What the member of a part with this name is, and what it has to be.
 pub(crate) fn write_wanting(
     alloc: Global,
     out: &mut String,

@@ -6,7 +6,7 @@ ghost use Rattle.mistakes.specs.Within.{place_within, pointer_if, pointer_operan
 
 use crate::parts::{index_of, operand, unknown_member, unnamed_reason};
 use crate::shown::quoted;
-use rules::{CountRule, NameRule, Place, Rule, ShapeRule, pointer_token};
+use rules::{CountRule, NameRule, OperandPlace, Rule, ShapeRule, pointer_token};
 use serde_json::Value;
 use std::alloc::{AllocError, Global};
 
@@ -51,7 +51,7 @@ fn pointer_if(alloc: Global, name: &str, part: &Value) -> Result<String, AllocEr
 }
 
 // The pointer to the item of the list of an operation, where it is there.
-fn pointer_operand(alloc: Global, place: Place, part: &Value) -> Result<String, AllocError>
+fn pointer_operand(alloc: Global, place: OperandPlace, part: &Value) -> Result<String, AllocError>
     ensures { IfOk result (λ text. string_bytes text ≡ pointer_operand place (view part.now)) }
 {
     let mut out = String::new(alloc);

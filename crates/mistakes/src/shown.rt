@@ -25,7 +25,7 @@ pub(crate) fn shown(alloc: Global, value: &Value) -> Result<String, AllocError>
     }
 }
 
-/// The same of a value that may be absent: that is shown as null.
+/// A value as words show it. An absent value is shown as null.
 pub(crate) fn shown_in(alloc: Global, found: Option<&Value>) -> Result<String, AllocError>
     ensures { IfOk result (λ text. string_bytes text
         ≡ shown_in (option_map (λ value. view value.now) found.entry)) }

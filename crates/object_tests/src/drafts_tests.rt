@@ -12,7 +12,7 @@ use std::process::Abort;
 enum Step {
     /// A call that may change the value is performed, and has the reply.
     Performs(Call, Reply),
-    /// The same for good.
+    /// Takes back for good.
     Settles(Call, Reply),
     /// A look at the draft has the reply.
     Shows(Call, Reply),
@@ -30,7 +30,7 @@ fn reply_of(rt: &impl Abort, draft: &mut Draft<'_>, call: &Call) -> Reply {
     draft.perform(call).ok().expect(rt, "memory")
 }
 
-/// The same for good.
+/// Performs a call for good, where the test ends if the draft doesn't let it, and returns its reply.
 fn reply_for_good(rt: &impl Abort, draft: &mut Draft<'_>, call: &Call) -> Reply {
     assert!(rt; draft.fits(call) && draft.has_room(call) && draft.look(call).is_none());
     draft.settle(call).ok().expect(rt, "memory")

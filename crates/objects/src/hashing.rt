@@ -9,7 +9,7 @@ use std::hash::{BuildHasher, FoldHasher, Hasher};
 /// The key is made of a whole document, as it is for the document's names. With a hash that is known
 /// beforehand, the author of a document could pick objects and items that all fall on one place of
 /// a table. Here a change of the document moves them all.
-#[derive(Clone, Copy, Drop)]
+#[derive(Clone, Copy, Debug, Drop)]
 pub struct EntryHashing {
     begun: FoldHasher,
 }

@@ -6,12 +6,13 @@ ghost use Rattle.batch.specs.Running.{CanRunHere, CanStepHere, CanTryHere, CanRu
 ghost use Rattle.batch.specs.Shows.{ShowsRun, ShowsStep, ShowsTried, ShowsHandler, ShowsChildren};
 ghost use Rattle.one_thread.specs.Running.{in_place};
 
-use crate::workspace::Workspace;
+use crate::workspace::JournaledObjects;
 use batch::{
-    Block, Filling, Made, NoMemory, Record, Step, Subaction, Taken, Tried, add_label, end_after,
-    fill, handled, reason_for, taker, test_holds, untaken,
+    Block, Filling, Made, Record, Step, Subaction, Taken, Tried, add_label, end_after, fill,
+    handled, reason_for, taker, test_holds, untaken,
 };
 use meaning::{End, Held};
+use serial::NoMemory;
 use std::alloc::Global;
 
 /// Runs a block. Its labels are forgotten at its end.
@@ -20,7 +21,7 @@ pub(crate) fn run_block(
     alloc: Global,
     block: &Block,
     labels: &mut Vec<Held>,
-    workspace: &mut Workspace,
+    workspace: &mut JournaledObjects,
 ) -> Result<Record, NoMemory>
     requires { CanRunHere (block_view block.now) labels.old.items workspace.old.state }
     ensures shows { IfOk result
@@ -38,7 +39,7 @@ fn run_steps(
     alloc: Global,
     steps: &[Step],
     labels: &mut Vec<Held>,
-    workspace: &mut Workspace,
+    workspace: &mut JournaledObjects,
 ) -> Result<Record, NoMemory>
     requires { CanRunHere (steps_view steps.now) labels.old.items workspace.old.state }
     ensures shows { IfOk result
@@ -70,7 +71,7 @@ fn run_step(
     alloc: Global,
     step: &Step,
     labels: &mut Vec<Held>,
-    workspace: &mut Workspace,
+    workspace: &mut JournaledObjects,
 ) -> Result<(Taken, End), NoMemory>
     requires { CanStepHere (step_view step.now) labels.old.items workspace.old.state }
     ensures shows { IfOk result
@@ -121,7 +122,7 @@ fn run_filled(
     alloc: Global,
     filling: &Filling,
     labels: &mut Vec<Held>,
-    workspace: &mut Workspace,
+    workspace: &mut JournaledObjects,
 ) -> Result<(Taken, End), NoMemory>
     requires { CanStepHere (filling_view filling.now) labels.old.items workspace.old.state }
     ensures shows { IfOk result
@@ -145,7 +146,7 @@ fn run_subaction(
     alloc: Global,
     child: &Subaction,
     labels: &mut Vec<Held>,
-    workspace: &mut Workspace,
+    workspace: &mut JournaledObjects,
 ) -> Result<Tried, NoMemory>
     requires { CanTryHere (subaction_view child.now) labels.old.items workspace.old.state }
     ensures shows { IfOk result
@@ -177,7 +178,7 @@ fn run_handler(
     child: &Subaction,
     reason: Option<u32>,
     labels: &mut Vec<Held>,
-    workspace: &mut Workspace,
+    workspace: &mut JournaledObjects,
 ) -> Result<(Option<Record>, End), NoMemory>
     requires { CanHandleHere (subaction_view child.now).handlers labels.old.items workspace.old.state }
     ensures shows { IfOk result
@@ -197,7 +198,7 @@ fn run_children(
     children: &[Subaction],
     labels: &mut Vec<Held>,
     outcomes: &mut Vec<Held>,
-    workspace: &mut Workspace,
+    workspace: &mut JournaledObjects,
 ) -> Result<(Vec<(Record, Option<Record>)>, End), NoMemory>
     requires can { CanRunAllHere (children_view children.now) labels.old.items workspace.old.state }
     requires none_yet { outcomes.old.items ≡ [] }

@@ -6,7 +6,6 @@ mod executor;
 mod transactions;
 mod workspace;
 
-pub use batch::{
-    Batch, Block, End, Names, NoMemory, Objects, Plain, Record, Step, Subaction, Taken,
-};
+pub use batch::{Batch, Plain};
+pub use serial::NoMemory;
 pub use transactions::plain;

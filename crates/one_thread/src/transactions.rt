@@ -8,8 +8,10 @@ ghost use Rattle.batch.specs.Running.{CanRunHere};
 ghost use Rattle.meaning.specs.declared.limits.TheConstants.{MAX_OBJECTS};
 
 use crate::executor::run_block;
-use crate::workspace::Workspace;
-use batch::{Batch, Block, End, NoMemory, Plain, Record};
+use crate::workspace::JournaledObjects;
+use batch::{Batch, Block, Plain, Record};
+use meaning::End;
+use serial::NoMemory;
 use std::alloc::Global;
 
 /// Runs the transactions of a batch by number on one thread, depth first (Moss 1981). Returns their
@@ -24,7 +26,7 @@ pub fn plain(alloc: Global, batch: &Batch) -> Result<Plain, NoMemory>
     // They are no more than a document may have.
     ensures few_objects { IfOk result (λ p. length p.objects ≤ MAX_OBJECTS) }
 {
-    let mut workspace = Workspace::new(alloc, batch.objects.copy()?);
+    let mut workspace = JournaledObjects::new(alloc, batch.objects.copy()?);
     let mut records = Vec::with_capacity(alloc, batch.transactions.len())?;
     for block in &batch.transactions {
         records.push(run_transaction(alloc, block, &mut workspace)?)?;
@@ -39,7 +41,7 @@ pub fn plain(alloc: Global, batch: &Batch) -> Result<Plain, NoMemory>
 fn run_transaction(
     alloc: Global,
     block: &Block,
-    workspace: &mut Workspace,
+    workspace: &mut JournaledObjects,
 ) -> Result<Record, NoMemory>
     requires can { CanRunHere (block_view block.now) [] workspace.old.state }
     requires settled { workspace.old.journal ≡ [] }

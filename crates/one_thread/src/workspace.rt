@@ -6,19 +6,20 @@ ghost use Rattle.meaning.specs.Running.{CanPerform};
 ghost use Rattle.objects.specs.Changes.{objects_undoing};
 ghost use Rattle.one_thread.specs.Journaled.{performed, rewound};
 
-use objects::{Call, Change, NoMemory, Objects, Reply};
+use objects::{Call, Change, Objects, Reply};
+use serial::NoMemory;
 use std::alloc::Global;
 use std::marker::Model;
 
 /// Objects, and the journal of what takes back each change that was made to them since the journal
 /// was empty, the earliest first.
 #[derive(Drop)]
-pub(crate) struct Workspace {
+pub(crate) struct JournaledObjects {
     objects: Objects,
     journal: Vec<(u32, Change)>,
 }
 
-impl Model for Workspace {
+impl Model for JournaledObjects {
     ghost use Rattle.one_thread.specs.Journaled.{Journaled};
     ghost use Rattle.std.specs.Coded.{codes};
     ghost use Rattle.objects.specs.contracts.value.Value as one_value_type;
@@ -33,12 +34,12 @@ impl Model for Workspace {
     } };
 }
 
-impl Workspace {
+impl JournaledObjects {
     /// A workspace of these objects, with an empty journal. It takes no memory.
-    pub(crate) fn new(alloc: Global, objects: Objects) -> Workspace
+    pub(crate) fn new(alloc: Global, objects: Objects) -> JournaledObjects
         ensures { result ≡ record { state = objects; journal = [] } }
     {
-        Workspace {
+        JournaledObjects {
             objects,
             journal: Vec::new(alloc),
         }

@@ -13,12 +13,14 @@ use carry::{
     NamedObjects, Start, Unfit, carried, carried_into, carried_version, first_clash, first_misfit,
     first_unfit, join, name_table, start_name,
 };
-use lang::{Code, Fault, Wrong, read_at_once};
-use objects::{NoMemory, Objects};
+use faults::{Code, Fault, Wrong};
+use lang::read_at_once;
+use objects::Objects;
+use one_thread::plain;
+use plan::Plan;
 use report::object_name;
-use rounds::Plan;
 use rules::Limits;
-use speculate::plain;
+use serial::NoMemory;
 use spelling::hashing::{NameHashing, Texts};
 use std::alloc::Global;
 use std::thread::Threads;
@@ -82,7 +84,7 @@ pub(crate) fn carried_of<T: Threads + Sync>(
     Ok(text)
 }
 
-// The same of a batch that was read.
+// The document of the final objects of a batch that was read.
 fn carried_of_batch(alloc: Global, batch: &Batch) -> Result<String, Uncarried>
     ensures text { IfOk result (λ text. (bytes : List ℕ)
         → reading bytes ≡ Ok (document_of batch.now)
@@ -160,7 +162,8 @@ pub(crate) fn carried_into_of<T: Threads + Sync>(
     )
 }
 
-// The same of batches that were read, with the tables of their objects' names.
+// The document of the final objects of a batch and the next one's transactions. Both batches were
+// read, and the tables are of the names of their objects.
 fn carried_into_batch(
     alloc: Global,
     first: &Batch,

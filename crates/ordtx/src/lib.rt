@@ -10,7 +10,7 @@ mod texts;
 pub use carrying::Uncarried;
 pub use command_line::{Command, Line, Refused, line};
 pub use devices::{Failed, Marked, Sink, Source};
-pub use lang::{Code, Fault, Wrong};
+pub use faults::{Code, Fault, Wrong};
 pub use location::Located;
 pub use plan::Plan;
 pub use speculate::{Gate, NoGate, Progress, Run};

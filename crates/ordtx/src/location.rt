@@ -4,7 +4,8 @@ ghost use Rattle.lang.specs.Reading.{reading};
 ghost use Rattle.faults.specs.Faults.{memory_fault};
 ghost use Rattle.ordtx.specs.Answers.{IsFaultOf, IsLocationOf, IsPlacedFaultOf, located_by, place_line, place_text, position_text};
 
-use lang::{Code, Fault, Place, Position, locate, read};
+use faults::{Code, Fault};
+use lang::{Place, Position, locate, read};
 use report::render_check;
 use std::alloc::{AllocError, Global};
 

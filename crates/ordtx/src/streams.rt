@@ -13,8 +13,8 @@ use crate::texts::{
     report_of,
 };
 use devices::{Sink, Source, read_input, write_text, write_texts};
-use lang::Fault;
-use rounds::Plan;
+use faults::Fault;
+use plan::Plan;
 use rules::MAX_BYTES;
 use speculate::Gate;
 use std::alloc::Global;

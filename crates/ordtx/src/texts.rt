@@ -7,10 +7,14 @@ ghost use Rattle.ordtx.specs.Texts.{GivesParts, GivesText};
 ghost use Rattle.ordtx.specs.Answers.{IsAuditOf, IsCheckOf, IsExplainedOf, IsFaultOf, IsPlainReportOf, IsReportOf, IsShownOf};
 
 use batch::Batch;
-use lang::{Fault, read, read_at_once};
+use faults::Fault;
+use lang::{read, read_at_once};
+use one_thread::plain;
+use plan::Plan;
 use report::{render_audit_parts, render_check, render_parts, render_plain, render_plain_parts};
-use rounds::{Plan, execute, execute_ahead};
-use speculate::{Gate, NoMemory, plain};
+use rounds::{execute, execute_ahead};
+use serial::NoMemory;
+use speculate::Gate;
 use std::alloc::Global;
 use std::mem::forget;
 use std::thread::Threads;
@@ -40,8 +44,9 @@ pub(crate) fn batch_at_once<T: Threads + Sync>(
     read_at_once(threads, alloc, workers, keys, document.as_slice())
 }
 
-// The same, and a text of no use but for its memory: with one worker that of the document, which its
-// report then has. With several, each makes a part of the report, and the document's is freed.
+// The batch of a document, and a text of no use but for its memory: with one worker that of the
+// document, which its report then has. With several, each makes a part of the report, and the
+// document's memory is freed.
 fn batch_and_spare<T: Threads + Sync>(
     threads: &T,
     alloc: Global,

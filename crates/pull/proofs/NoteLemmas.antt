@@ -20,7 +20,7 @@ use Rattle.serde_json.specs.Find.{as_array, as_i64, as_object, get_member}
 use Rattle.serde_json.specs.Read.{converted, number_of, of_json}
 use Rattle.serde_json.proofs.Views.{get_member-put, get_member-put_other}
 use Rattle.pull.specs.declared.notes.Notes.{Notes}
-use Rattle.pull.specs.declared.pass.Seen.{Seen}
+use Rattle.pull.specs.declared.pass.PassedValue.{PassedValue}
 use Rattle.spelling.specs.Asked.{document_shape_asked, or_no_items, version_in}
 use Rattle.rules.specs.Limits.{limits_of}
 use Rattle.rules.proofs.LimitLemmas.{limits_within}
@@ -66,12 +66,12 @@ members_among-put names k d (member l e ms) =
 -- ---- one more member
 
 -- the member of a name, once one is put
-noted_at : (q k : List ℕ) (d : Data) (ms : Members) (seen : Seen) → q ≡ k → seen ≡ seen_as d
+noted_at : (q k : List ℕ) (d : Data) (ms : Members) (seen : PassedValue) → q ≡ k → seen ≡ seen_as d
     → Some seen ≡ option_map seen_as (get_member q (put k d ms))
 noted_at q k d ms seen same is = ap Some is ∙ sym (ap (λ n. option_map seen_as (get_member n (put k d ms))) same
     ∙ ap (option_map seen_as) (get_member-put k d ms))
 
-kept_at : (q k : List ℕ) (d : Data) (ms : Members) (o : Option Seen) → (q ≡ k → ⊥) → o ≡ option_map seen_as (get_member q ms)
+kept_at : (q k : List ℕ) (d : Data) (ms : Members) (o : Option PassedValue) → (q ≡ k → ⊥) → o ≡ option_map seen_as (get_member q ms)
     → o ≡ option_map seen_as (get_member q (put k d ms))
 kept_at q k d ms o other is = is ∙ ap (option_map seen_as) (sym (get_member-put_other q k d ms other))
 
@@ -84,7 +84,8 @@ among_still k d ms only listed is =
 apart : (q p k : List ℕ) → bytes_eq q p ≡ false → k ≡ p → q ≡ k → ⊥
 apart q p k differ is same = true≢false (sym ((bytes_eq-Decides q p).1 (same ∙ is)) ∙ differ)
 
-module _ (notes : Notes) (k : List ℕ) (d : Data) (ms : Members) (seen : Seen) (is : seen ≡ seen_as d) (noted : IsNoted notes ms) where
+module _ (notes : Notes) (k : List ℕ) (d : Data) (ms : Members) (seen : PassedValue) (is : seen ≡ seen_as d)
+    (noted : IsNoted notes ms) where
   pub version_noted : k ≡ codes "ordtx" → IsNoted (record notes { version = Some seen }) (put k d ms)
   version_noted named = record {
     only = among_still k d ms notes.only (ap (λ n. is_among n (member_names form.Document)) named) noted.only;

@@ -22,8 +22,8 @@ use Rattle.meaning.specs.declared.template.Argument.TheVariants as argument
 use Rattle.meaning.specs.declared.template.Template.TheVariants as template
 use Rattle.meaning.specs.declared.template.Template.TheVariants.{Given}
 use Rattle.rules.specs.Subjects.{fits_item, fits_number}
-use Rattle.rules.specs.declared.rule.Place.{Place}
-use Rattle.rules.specs.declared.rule.Place.TheVariants.{Third, Fourth}
+use Rattle.rules.specs.declared.rule.OperandPlace.{OperandPlace}
+use Rattle.rules.specs.declared.rule.OperandPlace.TheVariants.{Third, Fourth}
 use Rattle.spelling.specs.declared.counts.Counts.{Counts}
 use Rattle.spelling.specs.Answer.{IsMet}
 use Rattle.spelling.specs.Asked.{amount_asked, argument_asked, arguments_asked, has_fills, index_of, item_asked, source_asked, subject_of}
@@ -105,26 +105,26 @@ module _ (version : ℕ) (scope : Scope) (op : Data) where
   -- ---- an item
 
   -- a name is as asked
-  pub name_met : (s : List ℕ) (place : Place) (counts : Counts) → at (index_of place) op ≡ Some (string s) → is_name version s ≡ true
+  pub name_met : (s : List ℕ) (place : OperandPlace) (counts : Counts) → at (index_of place) op ≡ Some (string s) → is_name version s ≡ true
       → IsMet counts (argument_asked version scope place op) counts
   unfolding argument_asked item_asked
   name_met s place counts e named = rw (e, named) refl
 
   -- and is of the item
-  pub name_spelled : (s : List ℕ) (x : Item) (place : Place) (numbers after : Numbers) → at (index_of place) op ≡ Some (string s)
+  pub name_spelled : (s : List ℕ) (x : Item) (place : OperandPlace) (numbers after : Numbers) → at (index_of place) op ≡ Some (string s)
       → x ≡ item_of s numbers → after ≡ with_item s numbers
       → (argument.Is x, after) ≡ argument_of version scope (index_of place) numbers op
   name_spelled s x place numbers after e same numbered = rw (e, same, numbered) refl
 
   -- a label that is seen, and is of an item, is as asked
-  pub item_source_met : (name : List ℕ) (place : Place) (counts : Counts) → at (index_of place) op ≡ Some (source_object name)
+  pub item_source_met : (name : List ℕ) (place : OperandPlace) (counts : Counts) → at (index_of place) op ≡ Some (source_object name)
       → has_fills version ≡ true → is_named name scope ≡ true → fits_item (subject_of name scope) ≡ true
       → IsMet counts (argument_asked version scope place op) counts
   unfolding argument_asked source_asked
   item_source_met name place counts e fills seen fits = rw (e, fills, seen, fits) refl
 
   -- and gives the item
-  pub item_source_spelled : (name : List ℕ) (label : ℕ) (place : Place) (numbers : Numbers)
+  pub item_source_spelled : (name : List ℕ) (label : ℕ) (place : OperandPlace) (numbers : Numbers)
       → at (index_of place) op ≡ Some (source_object name) → has_fills version ≡ true → label ≡ label_number name scope
       → (argument.From label, numbers) ≡ argument_of version scope (index_of place) numbers op
   item_source_spelled name label place numbers e fills same = rw (e, fills, same) refl

@@ -4,8 +4,8 @@ use Rattle.serde_json.specs.Data.{Data, Members, null, boolean, number, string, 
 use Rattle.serde_json.specs.Events.{items_len}
 use Rattle.serde_json.specs.Find.{as_i64, as_object, get_member}
 use Rattle.spelling.specs.Scope.{fit}
-use Rattle.pull.specs.declared.pass.Seen.{Seen}
-use Rattle.pull.specs.declared.pass.Seen.TheVariants as seen
+use Rattle.pull.specs.declared.pass.PassedValue.{PassedValue}
+use Rattle.pull.specs.declared.pass.PassedValue.TheVariants as seen
 use Rattle.pull.specs.declared.notes.Notes.{Notes}
 use Rattle.rules.specs.Forms.{member_names}
 use Rattle.rules.specs.declared.form.Form.TheVariants as form
@@ -18,12 +18,12 @@ use Rattle.rules.specs.Limits.{limits_of}
 use Rattle.rules.specs.declared.limits.Limits.{Limits}
 use Rattle.rules.specs.declared.limits.TheConstants.{LAST_VERSION}
 
-abbrev pub whole_or_other : Option ℤ → Seen
+abbrev pub whole_or_other : Option ℤ → PassedValue
 whole_or_other None = seen.Other
 whole_or_other (Some n) = seen.Whole n
 
 -- what is seen of a value that is passed
-abbrev pub seen_as : Data → Seen
+abbrev pub seen_as : Data → PassedValue
 seen_as null = seen.Other
 seen_as (boolean b) = seen.Other
 seen_as (number x) = whole_or_other (as_i64 x)
@@ -45,13 +45,13 @@ abbrev pub AreNoted : Option Notes → Data → Type 0
 AreNoted None d = as_object d ≡ None
 AreNoted (Some notes) d = (ms : Members) × (d ≡ object ms) × IsNoted notes ms
 
-abbrev pub noted_version : Option Seen → Option ℕ
+abbrev pub noted_version : Option PassedValue → Option ℕ
 noted_version None = None
 noted_version (Some (seen.Whole n)) = within 1 LAST_VERSION n
 noted_version (Some (seen.List n)) = None
 noted_version (Some seen.Other) = None
 
-abbrev pub noted_count : Option Seen → Option ℕ
+abbrev pub noted_count : Option PassedValue → Option ℕ
 noted_count None = None
 noted_count (Some (seen.Whole n)) = None
 noted_count (Some (seen.List n)) = Some n

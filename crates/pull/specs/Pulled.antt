@@ -21,12 +21,13 @@ use Rattle.meaning.specs.declared.template.Refusal.TheVariants.{GoesOn, Aborts}
 abbrev pub ReadsValue : ℕ → List Token → Data → List Token → Type 0
 ReadsValue k old d new = (depth : ℕ) → k ≤ depth → converted of_json (json.value depth old) ≡ Some (d, new)
 
--- the same of the items of an array up to its end
+-- of the tokens `old`, the first make the items of an array up to its end, and `new` are left
 abbrev pub ReadsItems : ℕ → List Token → Items → List Token → Type 0
 ReadsItems k old ds new = (depth n : ℕ) → k ≤ depth → length old ≤ n
     → converted of_items (json.items (json.value depth) n old) ≡ Some (ds, new)
 
--- the same of the members of an object up to its end, with those that were found before
+-- of the tokens `old`, the first make the members of an object up to its end, and `new` are left;
+-- the members are put on those that were found before
 abbrev pub ReadsMembers : ℕ → Members → List Token → Members → List Token → Type 0
 ReadsMembers k found old ms new = (depth n : ℕ) → k ≤ depth → length old ≤ n
     → converted (λ js. of_members js found) (json.members (json.value depth) n old) ≡ Some (ms, new)

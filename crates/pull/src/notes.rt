@@ -9,7 +9,7 @@ ghost use Rattle.faults.specs.Faults.{is_of_reading};
 ghost use Rattle.pull.specs.Passed.{AreNoted, IsNoted, noted_asked, noted_count, noted_version, seen_as, version_in_notes};
 ghost use Rattle.pull.specs.Pulled.{ReadsMembers, ReadsValue};
 
-use crate::pass::{Seen, pass_from, pass_value};
+use crate::pass::{PassedValue, pass_from, pass_value};
 use faults::{Fault, Wrong};
 use json::{Invalid, Reader, Token};
 use rules::{LAST_VERSION, Limits};
@@ -18,13 +18,13 @@ use rules::{LAST_VERSION, Limits};
 pub const MAX_NESTING: usize = 127;
 
 /// What is seen of the members that a document may have, the last of each name.
-#[derive(Clone, Copy, Drop)]
+#[derive(Clone, Copy, Debug, Drop)]
 pub struct Notes {
     /// Whether there is no other member.
     only: bool,
-    version: Option<Seen>,
-    objects: Option<Seen>,
-    transactions: Option<Seen>,
+    version: Option<PassedValue>,
+    objects: Option<PassedValue>,
+    transactions: Option<PassedValue>,
 }
 
 impl Notes {
@@ -40,7 +40,7 @@ impl Notes {
     }
 
     /// What is noted once a member has been passed.
-    fn with(self, name: &str, seen: Seen) -> Notes
+    fn with(self, name: &str, seen: PassedValue) -> Notes
         ensures { (d : Data) (ms : Members) → seen ≡ seen_as d → IsNoted self ms
             → IsNoted result (put name.now d ms) }
     {
@@ -100,11 +100,11 @@ pub fn note_value(reader: &mut Reader<'_>) -> Result<Option<Notes>, Invalid>
 }
 
 /// The version that is noted, if it is one that there is.
-fn version_of(seen: Option<Seen>) -> Option<u8>
+fn version_of(seen: Option<PassedValue>) -> Option<u8>
     ensures { result ≡ noted_version seen }
 {
     match seen {
-        Some(Seen::Whole(version)) if 1 <= version && version <= LAST_VERSION as i64 => {
+        Some(PassedValue::Whole(version)) if 1 <= version && version <= LAST_VERSION as i64 => {
             Some(version as u8)
         }
         _ => None,
@@ -119,11 +119,11 @@ pub fn version_or_first(notes: &Notes) -> u8
 }
 
 /// How many items are noted, if it is an array.
-fn count_of(seen: Option<Seen>) -> Option<u32>
+fn count_of(seen: Option<PassedValue>) -> Option<u32>
     ensures { result ≡ noted_count seen }
 {
     match seen {
-        Some(Seen::List(count)) => Some(count),
+        Some(PassedValue::List(count)) => Some(count),
         _ => None,
     }
 }

@@ -16,8 +16,8 @@ use json::{Invalid, Reader, Token};
 use spelling::numbers::number_of;
 
 /// What is seen of a value that is passed.
-#[derive(Clone, Copy, Drop)]
-pub enum Seen {
+#[derive(Clone, Copy, Debug, Drop)]
+pub enum PassedValue {
     /// A whole number that fits 64 bits with a sign.
     Whole(i64),
     /// An array of so many items; the greatest number stands for more, too.
@@ -37,7 +37,7 @@ fn one_more(count: u32) -> u32
 }
 
 #[cycle(pass)]
-pub(crate) fn pass_value(reader: &mut Reader<'_>, depth: usize) -> Result<Seen, Invalid>
+pub(crate) fn pass_value(reader: &mut Reader<'_>, depth: usize) -> Result<PassedValue, Invalid>
     ensures ok { IfOk result (λ seen. (d : Data)
         × ReadsValue depth reader.old d reader.new × (seen ≡ seen_as d)) }
     ensures err { IfErr result (λ _. converted of_json (value depth reader.old) ≡ None) }
@@ -48,7 +48,11 @@ pub(crate) fn pass_value(reader: &mut Reader<'_>, depth: usize) -> Result<Seen, 
 
 /// A value whose first token has been read.
 #[cycle(pass)]
-pub fn pass_from(token: Token<'_>, reader: &mut Reader<'_>, depth: usize) -> Result<Seen, Invalid>
+pub fn pass_from(
+    token: Token<'_>,
+    reader: &mut Reader<'_>,
+    depth: usize,
+) -> Result<PassedValue, Invalid>
     ensures ok { IfOk result (λ seen. (d : Data)
         × ReadsValue depth (token_of token.entry ∷ reader.old) d reader.new × (seen ≡ seen_as d)) }
     ensures err { IfErr result
@@ -57,25 +61,25 @@ pub fn pass_from(token: Token<'_>, reader: &mut Reader<'_>, depth: usize) -> Res
     match token {
         Token::Number(text) => match number_of(text) {
             Some(number) => match number.as_i64() {
-                Some(whole) => Ok(Seen::Whole(whole)),
-                None => Ok(Seen::Other),
+                Some(whole) => Ok(PassedValue::Whole(whole)),
+                None => Ok(PassedValue::Other),
             },
             None => Err(Invalid),
         },
-        Token::String(_) | Token::Bool(_) | Token::Null => Ok(Seen::Other),
+        Token::String(_) | Token::Bool(_) | Token::Null => Ok(PassedValue::Other),
         Token::EndObject | Token::EndArray | Token::Key(_) | Token::Bad => Err(Invalid),
         Token::BeginArray => {
             if depth == 0 {
                 return Err(Invalid);
             }
-            Ok(Seen::List(pass_items(reader, depth - 1)?))
+            Ok(PassedValue::List(pass_items(reader, depth - 1)?))
         }
         Token::BeginObject => {
             if depth == 0 {
                 return Err(Invalid);
             }
             pass_members(reader, depth - 1)?;
-            Ok(Seen::Other)
+            Ok(PassedValue::Other)
         }
     }
 }

@@ -22,7 +22,7 @@ ghost use Rattle.spelling.specs.Answer.{AreMet, IsMet};
 ghost use Rattle.pull.specs.Pulled.{Begins, ReadsItems, ReadsMembers, ReadsValue, in_order, labelled, may_abort, op_array, reason_in, refusal_told, with_abort};
 ghost use Rattle.spelling.specs.Scope.{Numbers, is_named, label_number, numbers_of, scope_of, setting_of};
 ghost use Rattle.spelling.specs.Spelled.{Spelling, argument_of, step_of, template_of};
-ghost use Rattle.rules.specs.declared.rule.Place.{Place};
+ghost use Rattle.rules.specs.declared.rule.OperandPlace.{OperandPlace};
 ghost use Rattle.batch.specs.Names.{is_name};
 ghost use Rattle.rules.specs.Limits.{limits_of};
 ghost use Rattle.rules.specs.declared.limits.TheConstants.{LAST_VERSION};
@@ -30,11 +30,11 @@ ghost use Rattle.cuts.specs.Whole.{is_left};
 
 use crate::digits::{FEW_DIGITS, few_digits};
 use crate::stop::Stop;
+use atoms::Amount;
 use batch::{Step, is_name};
 use fast_float::Numeral;
 use json::{Reader, Token};
 use meaning::{Argument, Refusal, Template};
-use objects::Amount;
 use rules::{LAST_VERSION, Limits, NameRule, Subject, fits_item, fits_number};
 use serde_json::{Map, Value};
 use spelling::arguments::{has_fills, item_of, item_template, pair_template};
@@ -275,9 +275,9 @@ fn pull_argument(
     numbering: &mut Numbering,
 ) -> Result<Argument, Stop>
     ensures { IfOk result (λ argument. (d : Data) × ReadsValue 1 reader.old d reader.new
-        × ((place : Place) (op : Data) (counts : Counts) → at (index_of place) op ≡ Some d
+        × ((place : OperandPlace) (op : Data) (counts : Counts) → at (index_of place) op ≡ Some d
         → IsMet counts (argument_asked version (scope_of labels.now.entries) place op) counts)
-        × ((place : Place) (op : Data) → at (index_of place) op ≡ Some d
+        × ((place : OperandPlace) (op : Data) → at (index_of place) op ≡ Some d
         → (argument, numbers_of numbering.new)
         ≡ argument_of version (scope_of labels.now.entries) (index_of place)
         (numbers_of numbering.old) op)) }

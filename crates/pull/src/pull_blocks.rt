@@ -28,10 +28,12 @@ use crate::pull::{
 };
 use crate::pull_heads::{begin_parallel, end_parallel, new_sub_step, pull_if_head};
 use crate::stop::Stop;
-use batch::{Block, Handler, NoMemory, Step, Subaction, Test};
+use batch::{Block, Handler, Step, Subaction};
 use json::{Reader, Token};
+use meaning::Test;
 use rules::{NameRule, Subject, fits_item, fits_number, fits_word};
 use serde_json::Map;
+use serial::NoMemory;
 use spelling::arguments::item_of;
 use spelling::declared::Declared;
 use spelling::hashing::Labels;

@@ -29,10 +29,10 @@ use crate::pull::{
     pull_more_members, pull_name, pull_some_key, pull_text,
 };
 use crate::stop::Stop;
-use batch::{Item, Kind, Objects, Value as ObjectValue};
+use atoms::{Directory, Item, ItemSet, Queue};
 use indexmap::IndexSet;
 use json::{Reader, Token};
-use objects::{Directory, ItemSet, Queue};
+use objects::{Kind, Objects, Value as ObjectValue};
 use rules::Limits;
 use serde_json::{Map, Value};
 use spelling::arguments::item_of;

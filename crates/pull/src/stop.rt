@@ -1,8 +1,8 @@
 //! Why a document isn't read from its tokens.
 
 use json::Invalid;
-use objects::NoMemory;
 use rules::Failure;
+use serial::NoMemory;
 use spelling::unmet::Unmet;
 use std::alloc::{AllocError, AllocFailed};
 

@@ -6,11 +6,12 @@ ghost use Rattle.words.specs.Verbs.{verb_text};
 ghost use Rattle.batch.specs.Names.{names_of};
 
 use crate::names::item_name;
-use batch::Names;
-use objects::{
-    AccountReply, Amount, Call, CounterReply, DirectoryReply, Item, MaxReply, NoMemory, QueueReply,
-    Reply, SetReply,
+use atoms::{
+    AccountReply, Amount, CounterReply, DirectoryReply, Item, MaxReply, QueueReply, SetReply,
 };
+use batch::Names;
+use objects::{Call, Reply};
+use serial::NoMemory;
 use words::{Phrase, Verb, Word, phrase_of};
 
 /// Writes the words of a call.

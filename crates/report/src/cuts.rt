@@ -3,7 +3,8 @@ ghost use Rattle.std.specs.Prelude.{◌<◌, ◌≤◌, ◌^◌, IfOk, length};
 ghost use Rattle.report.specs.Parts.{AreCuts, IsBefore};
 
 use batch::{Record, Taken};
-use objects::{NoMemory, Objects, Value};
+use objects::{Objects, Value};
+use serial::NoMemory;
 use std::alloc::Global;
 
 /// How many lines are enough for a thread. Fewer are rendered sooner than it starts.
@@ -105,9 +106,9 @@ fn pass_lines(
     (Cut { entry, line }, passed)
 }
 
-// The same among the lines of a transaction. Its own line is passed with its first step. A step is
-// looked at and stands for all up to the next one that is: they are passed where at least half of
-// their lines are wanted.
+// Goes on among the lines of a transaction as `pass_lines` does. The transaction's own line is passed
+// with its first step. A step is looked at and stands for all up to the next one that is: they are
+// passed where at least half of their lines are wanted.
 fn pass_steps(
     record: &Record,
     stride: usize,
@@ -136,7 +137,7 @@ fn pass_steps(
     (line, passed)
 }
 
-// The same from a cut among the objects. A line with many entries counts as several.
+// Goes on among the lines of objects as `pass_lines` does. A line with many entries counts as several.
 fn pass_objects(
     objects: &Objects,
     end: Cut,

@@ -9,11 +9,11 @@ ghost use Rattle.batch.specs.Views.{block_view, record_view, step_view, taken_vi
 use crate::calls::{write_call, write_natural, write_reply};
 use crate::names::{object_name, reason_name};
 use crate::paths::{branch_end, count_up, push_handler, push_part, reason_of};
+use atoms::{AccountReply, CounterReply, DirectoryReply, MaxReply, QueueReply};
 use batch::{Block, Names, Record, Step, Subaction, Taken, end_after, reason_for};
 use meaning::End;
-use objects::{
-    AccountReply, Call, CounterReply, DirectoryReply, MaxReply, NoMemory, QueueReply, Reply,
-};
+use objects::{Call, Reply};
+use serial::NoMemory;
 
 // Writes the lines of the steps of a block, whose path is `path` and then `end`. The paths of its
 // steps are made in the text of `path`, which is as before after `Ok`.

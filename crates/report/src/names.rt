@@ -2,8 +2,8 @@
 ghost use Rattle.std.specs.Prelude.{◌≡◌};
 ghost use Rattle.batch.specs.Names.{names_of};
 
+use atoms::Item;
 use batch::Names;
-use objects::Item;
 
 /// The name of an object.
 #[tactic(auto, using(crate::proofs::NameLemmas::no_name))]

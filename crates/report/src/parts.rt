@@ -9,7 +9,8 @@ ghost use Rattle.report.specs.Parts.{AreCuts, IsPart, last_cut, lines_from};
 use crate::answer::{last_cut, render_between, render_entries, write_counts};
 use crate::cuts::{Cut, cuts_of};
 use batch::{Batch, Outcome, Plain, Record};
-use objects::{NoMemory, Objects};
+use objects::Objects;
+use serial::NoMemory;
 use std::alloc::Global;
 use std::thread::{Threads, map_indices};
 

@@ -15,7 +15,7 @@ use crate::calls::write_natural;
 use crate::names::reason_name;
 use batch::{Block, Names, Otherwise, Subaction, handler_for};
 use meaning::End;
-use objects::NoMemory;
+use serial::NoMemory;
 use std::alloc::Global;
 
 /// Room for the path of a step, which mostly has no more bytes.

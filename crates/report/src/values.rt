@@ -5,8 +5,10 @@ ghost use Rattle.meaning.specs.Words.{spaced, binding_text, has_colon, members, 
 ghost use Rattle.batch.specs.Names.{names_of};
 
 use crate::names::item_name;
+use atoms::{Directory, Item, ItemSet, Queue};
 use batch::Names;
-use objects::{Directory, Item, ItemSet, NoMemory, Queue, Value};
+use objects::Value;
+use serial::NoMemory;
 
 /// Writes the value of an object: members and keys in order.
 pub(crate) fn write_value(out: &mut String, names: &Names, value: &Value) -> Result<(), NoMemory>

@@ -6,8 +6,8 @@ use Rattle.std.proofs.lemmas.List.Elements.{All-nil, All-push, All-same}
 use Rattle.std.specs.List.{All, sum_by, range_with_len}
 use Rattle.objects.specs.Entries.{State}
 use Rattle.objects.specs.declared.entry.Entry.{Entry}
-use Rattle.rounds.specs.Desks.{IsDeskOn}
-use Rattle.rounds.specs.declared.desk.Desk.{Desk}
+use Rattle.rounds.specs.Workspaces.{IsReadyOn}
+use Rattle.rounds.specs.declared.workspace.Workspace.{Workspace}
 use Rattle.meaning.specs.Records.{Taken, entries as entries_in}
 use Rattle.meaning.specs.OneThread.{Run as OneRun, record_of}
 use Rattle.intentions.specs.declared.view.NetList.{NetList}
@@ -50,18 +50,18 @@ made_more batch state listed numbers i m made more lt is pushed so_far here = re
       ∙ sym right));
 }
 
--- runs that were made and added to a list, and a desk that is ready for the next
-pub record IsGroupSoFar (batch : Batch) (state : State) (listed : List Entry) (numbers : List ℕ) (desk : Desk)
+-- runs that were made and added to a list, and a workspace that is ready for the next
+pub record IsGroupSoFar (batch : Batch) (state : State) (listed : List Entry) (numbers : List ℕ) (workspace : Workspace)
     (before all : List NumberedRun) : Type 0 where
-  pub ready : IsDeskOn state desk
+  pub ready : IsReadyOn state workspace
   pub own : List NumberedRun
   pub is : all ≡ before ++ own
   pub all_made : AreMade batch state listed numbers own
 
 -- none is made yet
-pub none_made : (batch : Batch) (state : State) (listed : List Entry) (numbers : List ℕ) (desk : Desk) (before : List NumberedRun)
-    → IsDeskOn state desk → IsGroupSoFar batch state listed (take 0 numbers) desk before before
-none_made batch state listed numbers desk before ready = record {
+pub none_made : (batch : Batch) (state : State) (listed : List Entry) (numbers : List ℕ) (workspace : Workspace) (before : List NumberedRun)
+    → IsReadyOn state workspace → IsGroupSoFar batch state listed (take 0 numbers) workspace before before
+none_made batch state listed numbers workspace before ready = record {
   ready = ready;
   own = [];
   is = sym (append-nil before);

@@ -17,7 +17,7 @@ use Rattle.rounds.specs.declared.pending_run.PendingRun.{PendingRun}
 use Rattle.rounds.specs.Passes.{nets_of, StandsPast, IsFirstConflict}
 use Rattle.rounds.specs.PendingRuns.{left_by, AreSumsOf, AreSummed, all_left, HoldsPast}
 use Rattle.rounds.specs.Checks.{IsSeenPast}
-use Rattle.rounds.specs.declared.check.Seen.{Seen}
+use Rattle.rounds.specs.declared.check.FirstConflict.{FirstConflict}
 use Rattle.rounds.proofs.Conflicts.{some_run}
 
 -- entries that `==` finds equal are the same
@@ -84,7 +84,7 @@ module _ (runs : List Run) (pending : List PendingRun) (are : AreSummed runs pen
       (λ holds. by_summary.0 (by_since.0 holds), λ stands. by_since.1 (by_summary.1 stands))
 
   -- so the first conflict is the same
-  pub first_summed : (seen : Seen) → IsSeenPast [] pending seen → IsFirstConflict runs seen.first
+  pub first_summed : (seen : FirstConflict) → IsSeenPast [] pending seen → IsFirstConflict runs seen.first
   first_summed seen found =
       let size = are.all in
       let within = found.within in

@@ -3,7 +3,7 @@ use Rattle.std.specs.Prelude.{◌≡◌, ℕ, ◌<◌, ◌≤◌, ◌++◌, List
 use Rattle.objects.specs.declared.entry.Entry.{Entry}
 use Rattle.rounds.specs.PendingRuns.{all_left, HoldsPast}
 use Rattle.rounds.specs.declared.pending_run.PendingRun.{PendingRun}
-use Rattle.rounds.specs.declared.check.Seen.{Seen}
+use Rattle.rounds.specs.declared.check.FirstConflict.{FirstConflict}
 
 -- for each run, how many entries there are before its net, where the list began with these
 pub record AreStarts (past : List Entry) (runs : List PendingRun) (starts : List ℕ) : Type 0 where
@@ -25,7 +25,7 @@ abbrev pub HoldsAfter : List Entry → List PendingRun → ℕ → Type 0
 HoldsAfter past runs i = (d : PendingRun) → HoldsPast (past ++ all_left (take i runs)) (slice_index_or runs i d)
 
 -- the first run that doesn't, or their number, and how many entries these are
-pub record IsSeenPast (past : List Entry) (runs : List PendingRun) (seen : Seen) : Type 0 where
+pub record IsSeenPast (past : List Entry) (runs : List PendingRun) (seen : FirstConflict) : Type 0 where
   pub within : seen.first ≤ length runs
   pub clear : (i : ℕ) → i < seen.first → HoldsAfter past runs i
   pub conflict : seen.first < length runs → ¬ HoldsAfter past runs seen.first

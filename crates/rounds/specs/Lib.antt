@@ -1,7 +1,7 @@
 pub mod Views
 pub mod Passes
 pub mod PendingRuns
-pub mod Desks
+pub mod Workspaces
 pub mod Openings
 pub mod Checks
 pub mod Windows

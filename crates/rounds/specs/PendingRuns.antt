@@ -70,7 +70,7 @@ pub record IsCommittable (meant : OneRun Taken) (run : PendingRun) : Type 0 wher
   pub net : IsListed run.net → listed_net run ≡ net_of meant
   pub span : AreIn run.span (net_of meant)
 
--- a pending run of a meaning: the same, with summaries of its entries and its net
+-- a pending run of a meaning: it can be committed, and has summaries of its entries and its net
 pub record IsPendingOf (meant : OneRun Taken) (run : PendingRun) : Type 0 where
   pub committable : IsCommittable meant run
   pub sums : AreSumsOf run.sums (entries (record_of meant)) (net_of meant)

@@ -17,7 +17,7 @@ use Rattle.batch.specs.declared.batch.Batch.{Batch}
 use Rattle.batch.specs.declared.record.Record.{Record}
 use Rattle.rounds.specs.Views.{start_of, blocks_of, meaning}
 use Rattle.rounds.specs.PendingRuns.{IsCommittable, IsPendingOf, HoldsPast, Passes, left_by}
-use Rattle.rounds.specs.declared.check.Seen.{Seen}
+use Rattle.rounds.specs.declared.check.FirstConflict.{FirstConflict}
 use Rattle.rounds.specs.declared.make.NumberedRun.{NumberedRun}
 use Rattle.rounds.specs.declared.pending_run.PendingRun.{PendingRun}
 use Rattle.rounds.specs.declared.window.Window.{Window}
@@ -180,7 +180,7 @@ pub record IsListedTo (batch : Batch) (b end : ℕ) (window : Window) (listed : 
   pub nets : IsSummary listed (nets (start_of batch) (blocks_of batch) b (end - b))
 
 -- a block was checked up to its end or to the first conflict, from where on the runs are still pending
-pub record IsBlockSeen (batch : Batch) (b end : ℕ) (window : Window) (nets : List Entry) (seen : Seen) : Type 0 where
+pub record IsBlockSeen (batch : Batch) (b end : ℕ) (window : Window) (nets : List Entry) (seen : FirstConflict) : Type 0 where
   pub within : seen.first ≤ end
   pub pending : IsWindowAt batch seen.first (state_at (start_of batch) (blocks_of batch) b) window
   pub upto : seen.upto ≤ length nets
@@ -189,7 +189,7 @@ pub record IsBlockSeen (batch : Batch) (b end : ℕ) (window : Window) (nets : L
   pub all : seen.first ≡ end → seen.upto ≡ length nets
 
 -- the round ends at the next opening, from where on the runs are still pending; the list begins with what its transactions leave
-pub record IsRoundSeen (batch : Batch) (b : ℕ) (window : Window) (nets : List Entry) (seen : Seen) : Type 0 where
+pub record IsRoundSeen (batch : Batch) (b : ℕ) (window : Window) (nets : List Entry) (seen : FirstConflict) : Type 0 where
   pub opening : IsNextOpening (start_of batch) (blocks_of batch) b seen.first
   pub pending : IsWindowAt batch seen.first (state_at (start_of batch) (blocks_of batch) b) window
   pub upto : seen.upto ≤ length nets

@@ -7,10 +7,12 @@ ghost use Rattle.rounds.specs.declared.pending_run.PendingRun.{PendingRun as One
 ghost use Rattle.meaning.specs.declared.limits.TheConstants.{MAX_TRANSACTIONS};
 ghost use Rattle.plan.specs.declared.plan.TheConstants.{MAX_WORKERS};
 
-use crate::crew::Workers;
+use crate::job::Workers;
 use crate::pending_run::PendingRun;
-use intentions::{Committed, EntryHashing};
-use speculate::{Gate, NoMemory, Run};
+use committed::Committed;
+use objects::EntryHashing;
+use serial::NoMemory;
+use speculate::{Gate, Run};
 use std::alloc::Global;
 use std::thread::Threads;
 use workers::first_failing;
@@ -18,7 +20,7 @@ use workers::first_failing;
 /// What a check found: the first conflict, or the end, and how many entries of the list are from
 /// before it.
 #[derive(Drop)]
-pub(crate) struct Seen {
+pub(crate) struct FirstConflict {
     pub(crate) first: usize,
     pub(crate) upto: usize,
 }
@@ -105,7 +107,7 @@ pub(crate) fn check_at_once<R: Threads + Sync, G: Gate>(
     before: usize,
     runs: &[PendingRun],
     nets: &mut Committed,
-) -> Result<Seen, NoMemory>
+) -> Result<FirstConflict, NoMemory>
     requires workers { (1 ≤ workers.now.count) × (workers.now.count ≤ MAX_WORKERS) }
     requires few { before + length runs.now ≤ MAX_TRANSACTIONS }
     ensures nets { OnOk result (nets.new ≡ nets.old ++ all_left runs.now) }
@@ -116,10 +118,10 @@ pub(crate) fn check_at_once<R: Threads + Sync, G: Gate>(
     let first = first_from(workers, before, runs, nets, &starts)?;
     if first < runs.len() {
         let upto = starts[first];
-        return Ok(Seen { first, upto });
+        return Ok(FirstConflict { first, upto });
     }
     let upto = nets.len();
-    Ok(Seen { first, upto })
+    Ok(FirstConflict { first, upto })
 }
 
 // Pending runs that have only the summaries of these runs.

@@ -8,12 +8,12 @@ ghost use Rattle.objects.specs.Parts.{CanPerformOn, ArePerformedOn};
 ghost use Rattle.committed.specs.Summaries.{entries_of};
 ghost use Rattle.rounds.specs.PendingRuns.{own_net, own_nets, AreSpanned};
 
-use crate::crew::{Crew, committers};
+use crate::job::{Job, committers};
 use crate::pending_run::{Net, PendingRun};
 use batch::{Batch, Block, perform_left};
-use intentions::{Entry, MarkedEntry};
-use objects::{Value, perform_on};
-use speculate::{NoMemory, Objects};
+use committed::MarkedEntry;
+use objects::{Entry, Objects, Value, perform_on};
+use serial::NoMemory;
 use std::thread::{Threads, join_mut};
 
 // Performs those calls of entries that are on these values, one after the other.
@@ -27,7 +27,7 @@ fn perform_each(values: &mut [Value], first: usize, entries: &[Entry]) -> Result
     Ok(())
 }
 
-// The same, of entries that have their marks.
+// Performs those calls of marked entries that are on these values, one after the other.
 fn perform_marked(
     values: &mut [Value],
     first: usize,
@@ -82,8 +82,8 @@ fn commit_on(
     Ok(())
 }
 
-// The same by so many workers, each on a part of the values. The first part is done in a new thread,
-// where one can be made.
+// Commits runs by so many workers, each on a part of the values. The first part is done in a new
+// thread, where one can be made.
 #[cycle(parts)]
 fn commit_by<R: Threads + Sync>(
     threads: &R,
@@ -138,20 +138,20 @@ fn blocks_from(batch: &Batch, from: usize) -> &[Block]
 /// many operations, several workers do it, each on a part of the objects. On `NoMemory` some of their
 /// calls may have been performed.
 pub(crate) fn commit<R: Threads + Sync, G>(
-    crew: &Crew<R, G>,
+    job: &Job<R, G>,
     from: usize,
     runs: &[PendingRun],
     objects: &mut Objects,
 ) -> Result<(), NoMemory>
-    requires within { from + length runs.now ≤ length crew.now.batch.now.transactions.items }
-    requires spans { AreSpanned (blocks_of crew.now.batch.now) from runs.now }
-    requires legal { AreLegal objects.old (own_nets (blocks_of crew.now.batch.now) from runs.now) }
+    requires within { from + length runs.now ≤ length job.now.batch.now.transactions.items }
+    requires spans { AreSpanned (blocks_of job.now.batch.now) from runs.now }
+    requires legal { AreLegal objects.old (own_nets (blocks_of job.now.batch.now) from runs.now) }
     requires room { AllHaveRoom objects.old
-        (own_nets (blocks_of crew.now.batch.now) from runs.now) }
+        (own_nets (blocks_of job.now.batch.now) from runs.now) }
     ensures { OnOk result (objects.new
-        ≡ after objects.old (own_nets (blocks_of crew.now.batch.now) from runs.now)) }
+        ≡ after objects.old (own_nets (blocks_of job.now.batch.now) from runs.now)) }
 {
-    let workers = committers(crew, runs.len());
-    let blocks = blocks_from(crew.batch, from);
-    commit_by(crew.threads, workers, blocks, runs, 0, objects.values_mut())
+    let workers = committers(job, runs.len());
+    let blocks = blocks_from(job.batch, from);
+    commit_by(job.threads, workers, blocks, runs, 0, objects.values_mut())
 }

@@ -4,8 +4,7 @@
 
 mod check;
 mod committing;
-mod crew;
-mod desk;
+mod job;
 pub mod laws;
 mod make;
 mod openings;
@@ -13,9 +12,12 @@ mod pending_run;
 mod reused;
 mod seek;
 mod window;
+mod workspace;
 
 pub use batch::{Batch, Outcome, Record};
 pub use check::first_conflict;
+pub use objects::{Entry, Objects};
 pub use openings::{execute, execute_ahead};
 pub use plan::Plan;
-pub use speculate::{Entry, Gate, NoGate, NoMemory, Objects, Progress, Run};
+pub use serial::NoMemory;
+pub use speculate::{Gate, NoGate, Progress, Run};

@@ -4,21 +4,23 @@ ghost use Rattle.std.specs.Fork.{slice_chunk};
 ghost use Rattle.std.specs.List.{All};
 ghost use Rattle.objects.specs.Entries.{kinds};
 ghost use Rattle.rounds.specs.Passes.{CanBeMade};
-ghost use Rattle.rounds.specs.Desks.{IsDeskOn};
+ghost use Rattle.rounds.specs.Workspaces.{IsReadyOn};
 ghost use Rattle.rounds.specs.PendingRuns.{AreMade, AreAdded};
 ghost use Rattle.meaning.specs.declared.limits.TheConstants.{MAX_TRANSACTIONS};
 ghost use Rattle.plan.specs.declared.plan.TheConstants.{MAX_CUT, MAX_WORKERS};
 
 use crate::check::passes_list;
-use crate::crew::{Crew, makers};
-use crate::desk::Desk;
+use crate::job::{Job, makers};
 use crate::pending_run::PendingRun;
-use intentions::Committed;
+use crate::workspace::Workspace;
+use committed::Committed;
+use objects::Objects;
 use plan::Plan;
-use speculate::{Gate, NoMemory, Objects};
+use serial::NoMemory;
+use speculate::Gate;
 use std::alloc::Global;
 use std::thread::Threads;
-use workers::{Bench, give_all};
+use workers::{WorkerState, give_all};
 
 /// A run of the transaction with this number, counted from 0. It is in a box, since a worker hands it
 /// on twice.
@@ -30,32 +32,33 @@ pub(crate) struct NumberedRun {
     pub(crate) passes: bool,
 }
 
-// Adds a run for each number of a group, one after the other, made at one desk. It looks whether each
-// passes these nets.
+// Adds a run for each number of a group, one after the other, made in one workspace. It looks whether
+// each passes these nets.
 fn make_group<R: Threads + Sync, G: Gate>(
-    crew: &Crew<R, G>,
+    job: &Job<R, G>,
     group: &[usize],
     nets: &Committed,
     width: u32,
-    desk: &mut Desk<'_>,
+    workspace: &mut Workspace<'_>,
     all: &mut Vec<NumberedRun>,
 ) -> Result<(), NoMemory>
-    requires few { length crew.now.batch.now.transactions.items ≤ MAX_TRANSACTIONS }
-    requires within { All (λ n. CanBeMade crew.now.batch.now desk.old.view.snapshot n) group.now }
-    requires same_kinds { kinds desk.old.view.snapshot ≡ kinds crew.now.batch.now.objects }
+    requires few { length job.now.batch.now.transactions.items ≤ MAX_TRANSACTIONS }
+    requires within { All (λ n. CanBeMade job.now.batch.now
+        workspace.old.view.snapshot n) group.now }
+    requires same_kinds { kinds workspace.old.view.snapshot ≡ kinds job.now.batch.now.objects }
     requires narrow { (1 ≤ width) × (width ≤ MAX_WORKERS) }
-    requires ready { IsDeskOn desk.old.view.snapshot desk.old }
-    ensures ready { OnOk result (IsDeskOn desk.old.view.snapshot desk.new) }
+    requires ready { IsReadyOn workspace.old.view.snapshot workspace.old }
+    ensures ready { OnOk result (IsReadyOn workspace.old.view.snapshot workspace.new) }
     ensures added { OnOk result (
-        AreAdded crew.now.batch.now desk.old.view.snapshot nets.now group.now all.old.items
+        AreAdded job.now.batch.now workspace.old.view.snapshot nets.now group.now all.old.items
         all.new.items) }
 {
     for number in group {
         let number = *number;
-        let mut run = PendingRun::empty(crew.alloc);
-        desk.make(crew, number, width, &mut run)?;
+        let mut run = PendingRun::empty(job.alloc);
+        workspace.make(job, number, width, &mut run)?;
         let passes = passes_list(&run, nets);
-        let run = Box::new(crew.alloc, run)?;
+        let run = Box::new(job.alloc, run)?;
         all.push(NumberedRun {
             number,
             run,
@@ -65,48 +68,52 @@ fn make_group<R: Threads + Sync, G: Gate>(
     Ok(())
 }
 
-// The desk of a worker, which is opened where there is none, with room for so many operations.
-fn desk_or_new<'s>(
+// The workspace of a worker, which is opened where there is none, with room for so many operations.
+fn workspace_or_new<'s>(
     alloc: Global,
     objects: &'s Objects,
     room: usize,
-    desk: Option<Box<Desk<'s>>>,
-) -> Result<Box<Desk<'s>>, NoMemory>
-    requires { IfSome desk (λ desk. IsDeskOn objects.now desk.value) }
-    ensures { IfOk result (λ desk. IsDeskOn objects.now desk.value) }
+    workspace: Option<Box<Workspace<'s>>>,
+) -> Result<Box<Workspace<'s>>, NoMemory>
+    requires { IfSome workspace (λ workspace. IsReadyOn objects.now workspace.value) }
+    ensures { IfOk result (λ workspace. IsReadyOn objects.now workspace.value) }
 {
-    match desk {
-        Some(desk) => Ok(desk),
-        None => Ok(Box::new(alloc, Desk::open(alloc, objects, room)?)?),
+    match workspace {
+        Some(workspace) => Ok(workspace),
+        None => Ok(Box::new(alloc, Workspace::open(alloc, objects, room)?)?),
     }
 }
 
-/// A worker's bench: a desk, and the runs that were made there.
-type RunBench<'s> = Bench<Box<Desk<'s>>, NumberedRun>;
+/// A worker's state: its workspace, and the runs that were made there.
+type RunState<'s> = WorkerState<Box<Workspace<'s>>, NumberedRun>;
 
-// Adds the runs of a group to those at a worker's bench. Its desk is opened where there is none.
+// Adds the runs of a group to those of a worker. Its workspace is opened where there is none.
 fn make_piece<'s, R: Threads + Sync, G: Gate>(
-    crew: &Crew<R, G>,
+    job: &Job<R, G>,
     objects: &'s Objects,
     group: &[usize],
     nets: &Committed,
     width: u32,
-    bench: RunBench<'s>,
-) -> Result<RunBench<'s>, NoMemory>
-    requires few { length crew.now.batch.now.transactions.items ≤ MAX_TRANSACTIONS }
-    requires within { All (λ n. CanBeMade crew.now.batch.now objects.now n) group.now }
-    requires same_kinds { kinds objects.now ≡ kinds crew.now.batch.now.objects }
+    state: RunState<'s>,
+) -> Result<RunState<'s>, NoMemory>
+    requires few { length job.now.batch.now.transactions.items ≤ MAX_TRANSACTIONS }
+    requires within { All (λ n. CanBeMade job.now.batch.now objects.now n) group.now }
+    requires same_kinds { kinds objects.now ≡ kinds job.now.batch.now.objects }
     requires narrow { (1 ≤ width) × (width ≤ MAX_WORKERS) }
-    requires ready { IfSome bench.desk (λ desk. IsDeskOn objects.now desk.value) }
-    ensures { IfOk result (λ after. IfSome after.desk (λ desk. IsDeskOn objects.now desk.value)
-        × AreAdded crew.now.batch.now objects.now nets.now group.now bench.entry.items.items
+    requires ready { IfSome state.workspace (λ workspace. IsReadyOn objects.now workspace.value) }
+    ensures { IfOk result (λ after.
+        IfSome after.workspace (λ workspace. IsReadyOn objects.now workspace.value)
+        × AreAdded job.now.batch.now objects.now nets.now group.now state.entry.items.items
         after.items.items) }
 {
-    let Bench { desk, mut items } = bench;
-    let mut desk = desk_or_new(crew.alloc, objects, crew.operations_each, desk)?;
-    make_group(crew, group, nets, width, desk.as_mut(), &mut items)?;
-    Ok(Bench {
-        desk: Some(desk),
+    let WorkerState {
+        workspace,
+        mut items,
+    } = state;
+    let mut workspace = workspace_or_new(job.alloc, objects, job.operations_each, workspace)?;
+    make_group(job, group, nets, width, workspace.as_mut(), &mut items)?;
+    Ok(WorkerState {
+        workspace: Some(workspace),
         items,
     })
 }
@@ -138,27 +145,27 @@ fn group_size(plan: Plan, numbers: usize, workers: u32) -> usize
 ///
 /// Returns `NoMemory` where a request for memory was refused.
 pub(crate) fn make_all<R: Threads + Sync, G: Gate>(
-    crew: &Crew<R, G>,
+    job: &Job<R, G>,
     objects: &Objects,
     numbers: &[usize],
     nets: &Committed,
 ) -> Result<Vec<NumberedRun>, NoMemory>
     requires few { length numbers.now ≤ MAX_TRANSACTIONS }
-    requires few_blocks { length crew.now.batch.now.transactions.items ≤ MAX_TRANSACTIONS }
-    requires within { All (λ n. CanBeMade crew.now.batch.now objects.now n) numbers.now }
-    requires same_kinds { kinds objects.now ≡ kinds crew.now.batch.now.objects }
+    requires few_blocks { length job.now.batch.now.transactions.items ≤ MAX_TRANSACTIONS }
+    requires within { All (λ n. CanBeMade job.now.batch.now objects.now n) numbers.now }
+    requires same_kinds { kinds objects.now ≡ kinds job.now.batch.now.objects }
     ensures { IfOk result (λ made.
-        AreMade crew.now.batch.now objects.now nets.now numbers.now made.items) }
+        AreMade job.now.batch.now objects.now nets.now numbers.now made.items) }
 {
-    let Crew {
+    let Job {
         threads,
         alloc,
         batch,
         plan,
         gate,
         operations_each,
-    } = *crew;
-    let workers = makers(crew, numbers.len());
+    } = *job;
+    let workers = makers(job, numbers.len());
     let cut = group_size(plan, numbers.len(), workers);
     let width = plan.width(numbers.len() as u32);
     give_all(
@@ -166,19 +173,19 @@ pub(crate) fn make_all<R: Threads + Sync, G: Gate>(
         alloc,
         numbers.len().div_ceil(cut) as u32,
         workers,
-        &|piece: u32, bench: RunBench<'_>| -> Result<RunBench<'_>, NoMemory>
+        &|piece: u32, state: RunState<'_>| -> Result<RunState<'_>, NoMemory>
             requires { (cut ≤ MAX_CUT) × (piece * cut < length numbers.now) × (1 ≤ width)
                 × (width ≤ MAX_WORKERS) × (kinds objects.now ≡ kinds batch.now.objects)
                 × (length batch.now.transactions.items ≤ MAX_TRANSACTIONS)
                 × All (λ n. CanBeMade batch.now objects.now n) numbers.now
-                × IfSome bench.desk (λ desk. IsDeskOn objects.now desk.value) }
+                × IfSome state.workspace (λ workspace. IsReadyOn objects.now workspace.value) }
             ensures { IfOk result (λ after.
-                IfSome after.desk (λ desk. IsDeskOn objects.entry.now desk.value)
+                IfSome after.workspace (λ workspace. IsReadyOn objects.entry.now workspace.value)
                 × AreAdded batch.entry.now objects.entry.now nets.entry.now
-                (slice_chunk numbers.entry.now cut piece) bench.entry.items.items
+                (slice_chunk numbers.entry.now cut piece) state.entry.items.items
                 after.items.items) }
         {
-            let crew = Crew {
+            let job = Job {
                 threads,
                 alloc,
                 batch,
@@ -187,7 +194,7 @@ pub(crate) fn make_all<R: Threads + Sync, G: Gate>(
                 operations_each,
             };
             let group = group_at(numbers, cut, piece);
-            make_piece(&crew, objects, group, nets, width, bench)
+            make_piece(&job, objects, group, nets, width, state)
         },
     )
 }

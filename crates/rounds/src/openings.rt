@@ -13,13 +13,15 @@ ghost use Rattle.rounds.specs.Windows.{IsOpening, IsRound, AreCountsOn, AllPendi
 ghost use Rattle.meaning.specs.declared.limits.TheConstants.{MAX_OBJECTS, MAX_TRANSACTIONS};
 
 use crate::committing::commit;
-use crate::crew::Crew;
+use crate::job::Job;
 use crate::reused::Reused;
 use crate::seek::seek;
 use crate::window::Window;
 use batch::{Batch, Outcome, Record};
+use objects::Objects;
 use plan::Plan;
-use speculate::{Gate, NoMemory, Objects, Progress};
+use serial::NoMemory;
+use speculate::{Gate, Progress};
 use std::alloc::Global;
 use std::thread::Threads;
 
@@ -69,17 +71,17 @@ fn begin(alloc: Global, batch: &Batch, plan: Plan) -> Result<Opening, NoMemory>
 }
 
 // A round leads from one opening to the next.
-fn round<R: Threads + Sync, G: Gate>(crew: &Crew<R, G>, at: &mut Opening) -> Result<(), NoMemory>
-    requires at { IsOpening crew.now.batch.now at.old }
-    requires going { at.old.committed < length crew.now.batch.now.transactions.items }
-    ensures at { OnOk result (IsOpening crew.now.batch.now at.new) }
-    ensures round { OnOk result (IsRound crew.now.batch.now at.old at.new) }
+fn round<R: Threads + Sync, G: Gate>(job: &Job<R, G>, at: &mut Opening) -> Result<(), NoMemory>
+    requires at { IsOpening job.now.batch.now at.old }
+    requires going { at.old.committed < length job.now.batch.now.transactions.items }
+    ensures at { OnOk result (IsOpening job.now.batch.now at.new) }
+    ensures round { OnOk result (IsRound job.now.batch.now at.old at.new) }
 {
     let opened = at.committed;
     let ahead = at.ahead.max(1);
     at.reused.nets.expect(at.listed)?;
     let seen = seek(
-        crew,
+        job,
         &at.objects,
         opened,
         ahead,
@@ -88,21 +90,20 @@ fn round<R: Threads + Sync, G: Gate>(crew: &Crew<R, G>, at: &mut Opening) -> Res
     )?;
     let first = seen.first;
     let runs = at.window.between(opened, first);
-    commit(crew, opened, runs, &mut at.objects)?;
-    at.window.keep(crew, first, &at.reused.nets, seen.upto)?;
-    at.window
-        .settle(crew.alloc, opened, first, &mut at.records)?;
+    commit(job, opened, runs, &mut at.objects)?;
+    at.window.keep(job, first, &at.reused.nets, seen.upto)?;
+    at.window.settle(job.alloc, opened, first, &mut at.records)?;
     at.committed = first;
-    at.window.shorten(crew.batch.transactions.len());
+    at.window.shorten(job.batch.transactions.len());
     at.reused.nets.clear();
     at.ahead = (first - opened).saturating_mul(2);
     at.listed = seen.upto;
     at.rounds += 1;
-    crew.gate.ended(&Progress {
+    job.gate.ended(&Progress {
         round: at.rounds,
         before: opened,
         committed: first,
-        transactions: crew.batch.transactions.len(),
+        transactions: job.batch.transactions.len(),
     });
     Ok(())
 }
@@ -130,26 +131,26 @@ fn count(numbers: &[usize], counts: &mut Vec<u32>)
 
 // Makes the runs of all transactions that aren't committed and have no valid run, and counts them.
 fn make_rest<R: Threads + Sync, G: Gate>(
-    crew: &Crew<R, G>,
+    job: &Job<R, G>,
     at: &mut Opening,
     counts: &mut Vec<u32>,
 ) -> Result<(), NoMemory>
-    requires at { IsOpening crew.now.batch.now at.old }
-    requires counts { AreCountsOn crew.now.batch.now at.old at.old.rounds counts.old.items }
-    ensures at { OnOk result (IsOpening crew.now.batch.now at.new) }
+    requires at { IsOpening job.now.batch.now at.old }
+    requires counts { AreCountsOn job.now.batch.now at.old at.old.rounds counts.old.items }
+    ensures at { OnOk result (IsOpening job.now.batch.now at.new) }
     ensures same { OnOk result (at.new.committed ≡ at.old.committed) }
     ensures rounds { OnOk result (at.new.rounds ≡ at.old.rounds) }
-    ensures valid { OnOk result (AllPending crew.now.batch.now at.new) }
+    ensures valid { OnOk result (AllPending job.now.batch.now at.new) }
     ensures counts { OnOk result (
-        AreCountsOn crew.now.batch.now at.new (at.old.rounds + 1) counts.new.items) }
+        AreCountsOn job.now.batch.now at.new (at.old.rounds + 1) counts.new.items) }
 {
-    let all = crew.batch.transactions.len();
+    let all = job.batch.transactions.len();
     let opened = at.committed;
     at.window
-        .reach(crew.alloc, crew.batch, opened, &at.objects, all)?;
+        .reach(job.alloc, job.batch, opened, &at.objects, all)?;
     let made = at
         .window
-        .make_missing(crew, &at.objects, opened, all, &at.reused.nets)?;
+        .make_missing(job, &at.objects, opened, all, &at.reused.nets)?;
     count(&made.numbers, counts);
     Ok(())
 }
@@ -201,12 +202,12 @@ pub fn execute<R: Threads + Sync, G: Gate>(
     // So is how often each transaction was run.
     ensures runs { IfOk result (λ o. AreCounts batch.now o.runs.items) }
 {
-    let crew = Crew::of(threads, alloc, batch, plan, gate);
+    let job = Job::of(threads, alloc, batch, plan, gate);
     let mut at = begin(alloc, batch, plan)?;
     let mut counts = no_counts(alloc, batch.transactions.len())?;
     'opening: while at.committed < batch.transactions.len() {
-        make_rest(&crew, &mut at, &mut counts)?;
-        round(&crew, &mut at)?;
+        make_rest(&job, &mut at, &mut counts)?;
+        round(&job, &mut at)?;
     }
     Ok(outcome_of(at, counts))
 }
@@ -229,10 +230,10 @@ pub fn execute_ahead<R: Threads + Sync, G: Gate>(
     ensures rounds { IfOk result (λ o. Rounds (start_of batch.now) (blocks_of batch.now) o.rounds) }
     ensures few { IfOk result (λ o. o.rounds ≤ length (blocks_of batch.now)) }
 {
-    let crew = Crew::of(threads, alloc, batch, plan, gate);
+    let job = Job::of(threads, alloc, batch, plan, gate);
     let mut at = begin(alloc, batch, plan)?;
     'opening: while at.committed < batch.transactions.len() {
-        round(&crew, &mut at)?;
+        round(&job, &mut at)?;
         drop_later(&mut at);
     }
     Ok(outcome_of(at, Vec::new(alloc)))

@@ -8,9 +8,12 @@ ghost use Rattle.meaning.specs.OneThread.{Run as OneRun};
 ghost use Rattle.rounds.specs.PendingRuns.{left_by, listed_net, net_of_run, IsListed, AreSumsOf, IsCommittable};
 
 use batch::Record;
-use intentions::{Entry, EntryHashing, FEW_ENTRIES, MarkedEntry, NetList, Span, summarize};
+use committed::{FEW_ENTRIES, MarkedEntry, Span, summarize};
+use intentions::NetList;
 use meaning::End;
-use speculate::{NoMemory, Run};
+use objects::{Entry, EntryHashing};
+use serial::NoMemory;
+use speculate::Run;
 use std::alloc::Global;
 use std::mem::{replace, swap};
 

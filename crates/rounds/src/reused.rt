@@ -1,9 +1,9 @@
 //! What the rounds use again, one after the other.
 ghost use Rattle.std.specs.Prelude.{◌≡◌, []};
 
-use crate::desk::{Desk, DeskMemory};
+use crate::workspace::{Workspace, WorkspaceMemory};
 use batch::Batch;
-use intentions::Committed;
+use committed::Committed;
 use std::alloc::Global;
 use std::mem::replace;
 
@@ -16,8 +16,8 @@ const MOST_KEPT: usize = 1024;
 pub(crate) struct Reused {
     /// The nets of the runs before the round's first conflict.
     pub(crate) nets: Committed,
-    /// In it the calling thread's desk makes its runs.
-    desk: DeskMemory,
+    /// In it the calling thread's workspace makes its runs.
+    workspace: WorkspaceMemory,
 }
 
 impl Reused {
@@ -27,27 +27,27 @@ impl Reused {
     {
         Reused {
             nets: Committed::hashed_by(alloc, batch.hashing),
-            desk: DeskMemory::none(alloc),
+            workspace: WorkspaceMemory::none(alloc),
         }
     }
 
-    /// The memory for a desk.
-    pub(crate) fn give(&mut self, alloc: Global) -> DeskMemory
+    /// The memory for a workspace.
+    pub(crate) fn give(&mut self, alloc: Global) -> WorkspaceMemory
         ensures { self.new.nets ≡ self.old.nets }
     {
-        replace(&mut self.desk, DeskMemory::none(alloc))
+        replace(&mut self.workspace, WorkspaceMemory::none(alloc))
     }
 
-    /// Takes the memory of a desk back, but for the lists of its run where they are long.
-    pub(crate) fn take_back(&mut self, desk: Desk<'_>)
+    /// Takes the memory of a workspace back, but for the lists of its run where they are long.
+    pub(crate) fn take_back(&mut self, workspace: Workspace<'_>)
         ensures { self.new.nets ≡ self.old.nets }
     {
-        let memory = desk.into_memory();
+        let memory = workspace.into_memory();
         let run = &memory.run;
         if run.entries.capacity().max(run.net.capacity()) <= MOST_KEPT {
-            self.desk = memory;
+            self.workspace = memory;
         } else {
-            self.desk.places = memory.places;
+            self.workspace.places = memory.places;
         }
     }
 }

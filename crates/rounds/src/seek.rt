@@ -1,18 +1,20 @@
 //! The check of a round. It makes the runs that it comes to, in blocks, up to the first conflict.
 ghost use Rattle.std.specs.Prelude.{◌≡◌, ◌<◌, ◌≤◌, [], false, length, slice_index_or, IfOk, OnOk, IsTrue};
-ghost use Rattle.rounds.specs.Desks.{IsDeskOn};
+ghost use Rattle.rounds.specs.Workspaces.{IsReadyOn};
 ghost use Rattle.rounds.specs.Views.{blocks_of, opening_state};
 ghost use Rattle.rounds.specs.Windows.{run_at, end_of, AllValid, IsWindowAt, IsListedTo, IsBlockSeen, IsRoundSeen, HasGrown, ArePassing, IsChecked};
 ghost use Rattle.rounds.specs.PendingRuns.{Passes};
 ghost use Rattle.rounds.specs.declared.pending_run.PendingRun.{PendingRun as OnePending};
 
-use crate::check::{Seen, check_at_once, stands_past};
-use crate::crew::{Crew, makers};
-use crate::desk::Desk;
+use crate::check::{FirstConflict, check_at_once, stands_past};
+use crate::job::{Job, makers};
 use crate::reused::Reused;
 use crate::window::Window;
-use intentions::Committed;
-use speculate::{Gate, NoMemory, Objects};
+use crate::workspace::Workspace;
+use committed::Committed;
+use objects::Objects;
+use serial::NoMemory;
+use speculate::Gate;
 use std::alloc::Global;
 use std::ops::Range;
 use std::thread::Threads;
@@ -45,40 +47,42 @@ fn check_next(
 }
 
 // Checks the runs of a block in order, and lists their nets, up to the first that conflicts. Those
-// that aren't valid are made at the desk first. Returns the first conflict, or the end of the block.
+// that aren't valid are made in the workspace first. Returns the first conflict, or the end of the
+// block.
 fn check_in_turn<R: Threads + Sync, G: Gate>(
-    crew: &Crew<R, G>,
+    job: &Job<R, G>,
     opened: usize,
     block: Range<usize>,
-    desk: &mut Desk<'_>,
+    workspace: &mut Workspace<'_>,
     window: &mut Window,
     nets: &mut Committed,
-) -> Result<Seen, NoMemory>
-    requires opening { desk.old.view.snapshot ≡ opening_state crew.now.batch.now opened }
-    requires window { IsWindowAt crew.now.batch.now block.start desk.old.view.snapshot window.old }
+) -> Result<FirstConflict, NoMemory>
+    requires opening { workspace.old.view.snapshot ≡ opening_state job.now.batch.now opened }
+    requires window { IsWindowAt job.now.batch.now block.start
+        workspace.old.view.snapshot window.old }
     requires places { (block.start ≤ block.end) × (block.end ≤ end_of window.old) }
-    requires listed { IsListedTo crew.now.batch.now opened block.start window.old nets.old }
-    requires ready { IsDeskOn desk.old.view.snapshot desk.old }
+    requires listed { IsListedTo job.now.batch.now opened block.start window.old nets.old }
+    requires ready { IsReadyOn workspace.old.view.snapshot workspace.old }
     ensures grown { OnOk result (HasGrown block.start window.old window.new) }
     ensures reached { OnOk result (length window.new.runs.items ≡ length window.old.runs.items) }
-    ensures ready { OnOk result (IsDeskOn desk.old.view.snapshot desk.new) }
+    ensures ready { OnOk result (IsReadyOn workspace.old.view.snapshot workspace.new) }
     ensures seen { IfOk result (
-        IsBlockSeen crew.now.batch.now opened block.end window.new nets.new) }
+        IsBlockSeen job.now.batch.now opened block.end window.new nets.new) }
 {
-    let width = crew.plan.width((block.end - block.start) as u32);
+    let width = job.plan.width((block.end - block.start) as u32);
     for number in block.start..block.end {
-        window.make_at(crew, number, number, width, desk)?;
-        crew.gate.pass(0, (number - opened) as u32 + 1);
+        window.make_at(job, number, number, width, workspace)?;
+        job.gate.pass(0, (number - opened) as u32 + 1);
         let upto = nets.len();
-        let stands = check_next(crew.alloc, number, false, window, nets)?;
+        let stands = check_next(job.alloc, number, false, window, nets)?;
         if !stands {
             let first = number;
-            return Ok(Seen { first, upto });
+            return Ok(FirstConflict { first, upto });
         }
     }
     let upto = nets.len();
     let first = block.end;
-    Ok(Seen { first, upto })
+    Ok(FirstConflict { first, upto })
 }
 
 // Whether the flag at this place is set.
@@ -88,97 +92,100 @@ fn is_set(flags: &[bool], place: usize) -> bool
     place < flags.len() && flags[place]
 }
 
-// The same of runs that are all made. Some of them were seen to pass the list as it is before the
-// block. These are passed over as long as it gets no longer.
+// Checks the runs of a block in order, and lists their nets, up to the first that conflicts. All of
+// them are made. Some were seen to pass the list as it is before the block. These are passed over
+// as long as it gets no longer.
 fn check_made<R, G: Gate>(
-    crew: &Crew<R, G>,
+    job: &Job<R, G>,
     opened: usize,
     block: Range<usize>,
     passing: &[bool],
     window: &mut Window,
     nets: &mut Committed,
-) -> Result<Seen, NoMemory>
-    requires window { IsWindowAt crew.now.batch.now block.start
-        (opening_state crew.now.batch.now opened) window.old }
+) -> Result<FirstConflict, NoMemory>
+    requires window { IsWindowAt job.now.batch.now block.start
+        (opening_state job.now.batch.now opened) window.old }
     requires places { (block.start ≤ block.end) × (block.end ≤ end_of window.old) }
-    requires listed { IsListedTo crew.now.batch.now opened block.start window.old nets.old }
+    requires listed { IsListedTo job.now.batch.now opened block.start window.old nets.old }
     requires valid { AllValid window.old block.start block.end }
     requires passing { ArePassing nets.old block.start window.old passing.now }
     ensures grown { OnOk result (HasGrown block.start window.old window.new) }
     ensures reached { OnOk result (length window.new.runs.items ≡ length window.old.runs.items) }
     ensures seen { IfOk result (
-        IsBlockSeen crew.now.batch.now opened block.end window.new nets.new) }
+        IsBlockSeen job.now.batch.now opened block.end window.new nets.new) }
 {
     let before = nets.len();
     for number in block.start..block.end {
-        crew.gate.pass(0, (number - opened) as u32 + 1);
+        job.gate.pass(0, (number - opened) as u32 + 1);
         let upto = nets.len();
         let passes = upto == before && is_set(passing, number - block.start);
-        let stands = check_next(crew.alloc, number, passes, window, nets)?;
+        let stands = check_next(job.alloc, number, passes, window, nets)?;
         if !stands {
             let first = number;
-            return Ok(Seen { first, upto });
+            return Ok(FirstConflict { first, upto });
         }
     }
     let upto = nets.len();
     let first = block.end;
-    Ok(Seen { first, upto })
+    Ok(FirstConflict { first, upto })
 }
 
-// The same of runs that are all made, by all workers.
+// Checks the runs of a block by all workers, and lists their nets. All of them are made.
 fn check_block<R: Threads + Sync, G: Gate>(
-    crew: &Crew<R, G>,
+    job: &Job<R, G>,
     opened: usize,
     block: Range<usize>,
     window: &Window,
     nets: &mut Committed,
-) -> Result<Seen, NoMemory>
-    requires window { IsWindowAt crew.now.batch.now block.start
-        (opening_state crew.now.batch.now opened) window.now }
+) -> Result<FirstConflict, NoMemory>
+    requires window { IsWindowAt job.now.batch.now block.start
+        (opening_state job.now.batch.now opened) window.now }
     requires places { (block.start ≤ block.end) × (block.end ≤ end_of window.now) }
-    requires listed { IsListedTo crew.now.batch.now opened block.start window.now nets.old }
+    requires listed { IsListedTo job.now.batch.now opened block.start window.now nets.old }
     requires valid { AllValid window.now block.start block.end }
     ensures seen { IfOk result (
-        IsBlockSeen crew.now.batch.now opened block.end window.now nets.new) }
+        IsBlockSeen job.now.batch.now opened block.end window.now nets.new) }
 {
     let runs = window.between(block.start, block.end);
     let before = block.start - opened;
-    let Seen { first, upto } = check_at_once(&crew.workers(), before, runs, nets)?;
-    Ok(Seen {
+    let FirstConflict { first, upto } = check_at_once(&job.workers(), before, runs, nets)?;
+    Ok(FirstConflict {
         first: block.start + first,
         upto,
     })
 }
 
-// The same of any runs. Where several workers pay for a block, they make its runs at once, and with a
-// cut of 1 they check them at once, too.
+// Makes and checks the runs of a block, up to the first that conflicts, and lists their nets. Where
+// several workers pay for a block, they make its runs at once. With a cut of 1 they check them at
+// once, too.
 fn check<R: Threads + Sync, G: Gate>(
-    crew: &Crew<R, G>,
+    job: &Job<R, G>,
     opened: usize,
     block: Range<usize>,
-    desk: &mut Desk<'_>,
+    workspace: &mut Workspace<'_>,
     window: &mut Window,
     nets: &mut Committed,
-) -> Result<Seen, NoMemory>
-    requires opening { desk.old.view.snapshot ≡ opening_state crew.now.batch.now opened }
-    requires window { IsWindowAt crew.now.batch.now block.start desk.old.view.snapshot window.old }
+) -> Result<FirstConflict, NoMemory>
+    requires opening { workspace.old.view.snapshot ≡ opening_state job.now.batch.now opened }
+    requires window { IsWindowAt job.now.batch.now block.start
+        workspace.old.view.snapshot window.old }
     requires places { (block.start ≤ block.end) × (block.end ≤ end_of window.old) }
-    requires listed { IsListedTo crew.now.batch.now opened block.start window.old nets.old }
-    requires ready { IsDeskOn desk.old.view.snapshot desk.old }
+    requires listed { IsListedTo job.now.batch.now opened block.start window.old nets.old }
+    requires ready { IsReadyOn workspace.old.view.snapshot workspace.old }
     ensures grown { OnOk result (HasGrown block.start window.old window.new) }
     ensures reached { OnOk result (length window.new.runs.items ≡ length window.old.runs.items) }
-    ensures ready { OnOk result (IsDeskOn desk.old.view.snapshot desk.new) }
+    ensures ready { OnOk result (IsReadyOn workspace.old.view.snapshot workspace.new) }
     ensures seen { IfOk result (
-        IsBlockSeen crew.now.batch.now opened block.end window.new nets.new) }
+        IsBlockSeen job.now.batch.now opened block.end window.new nets.new) }
 {
-    if makers(crew, block.end - block.start) == 1 {
-        return check_in_turn(crew, opened, block, desk, window, nets);
+    if makers(job, block.end - block.start) == 1 {
+        return check_in_turn(job, opened, block, workspace, window, nets);
     }
-    let made = window.make_missing(crew, desk.objects(), block.start, block.end, nets)?;
-    if crew.plan.cut == 1 {
-        return check_block(crew, opened, block, window, nets);
+    let made = window.make_missing(job, workspace.objects(), block.start, block.end, nets)?;
+    if job.plan.cut == 1 {
+        return check_block(job, opened, block, window, nets);
     }
-    check_made(crew, opened, block, &made.passing, window, nets)
+    check_made(job, opened, block, &made.passing, window, nets)
 }
 
 /// Seeks the first conflict of a round in blocks of runs, and lists the nets of the runs before it.
@@ -187,39 +194,39 @@ fn check<R: Threads + Sync, G: Gate>(
 ///
 /// Returns `NoMemory` where a request for memory was refused.
 pub(crate) fn seek<R: Threads + Sync, G: Gate>(
-    crew: &Crew<R, G>,
+    job: &Job<R, G>,
     objects: &Objects,
     opened: usize,
     expected: usize,
     window: &mut Window,
     reused: &mut Reused,
-) -> Result<Seen, NoMemory>
-    requires opening { objects.now ≡ opening_state crew.now.batch.now opened }
-    requires going { opened < length (blocks_of crew.now.batch.now) }
-    requires window { IsWindowAt crew.now.batch.now opened objects.now window.old }
+) -> Result<FirstConflict, NoMemory>
+    requires opening { objects.now ≡ opening_state job.now.batch.now opened }
+    requires going { opened < length (blocks_of job.now.batch.now) }
+    requires window { IsWindowAt job.now.batch.now opened objects.now window.old }
     requires some { 1 ≤ expected }
     requires none { reused.old.nets ≡ [] }
     ensures grown { OnOk result (HasGrown opened window.old window.new) }
-    ensures seen { IfOk result (IsRoundSeen crew.now.batch.now opened window.new reused.new.nets) }
+    ensures seen { IfOk result (IsRoundSeen job.now.batch.now opened window.new reused.new.nets) }
 {
-    let count = crew.batch.transactions.len();
-    let memory = reused.give(crew.alloc);
-    let mut desk = Desk::open_in(crew.alloc, objects, crew.operations_each, memory);
+    let count = job.batch.transactions.len();
+    let memory = reused.give(job.alloc);
+    let mut workspace = Workspace::open_in(job.alloc, objects, job.operations_each, memory);
     let mut from = opened;
     let mut block = expected;
     'looking: while from < count {
         let end = from.saturating_add(block).min(count);
-        window.reach(crew.alloc, crew.batch, from, objects, end)?;
+        window.reach(job.alloc, job.batch, from, objects, end)?;
         let nets = &mut reused.nets;
-        let seen = check(crew, opened, from..end, &mut desk, window, nets)?;
+        let seen = check(job, opened, from..end, &mut workspace, window, nets)?;
         if seen.first < end {
-            reused.take_back(desk);
+            reused.take_back(workspace);
             return Ok(seen);
         }
         from = end;
         block = block.saturating_mul(2);
     }
-    reused.take_back(desk);
+    reused.take_back(workspace);
     let upto = reused.nets.len();
-    Ok(Seen { first: from, upto })
+    Ok(FirstConflict { first: from, upto })
 }

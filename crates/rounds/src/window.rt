@@ -3,7 +3,7 @@ ghost use Rattle.std.specs.Prelude.{◌≡◌, ◌+◌, ◌<◌, ◌≤◌, ℕ,
 ghost use Rattle.std.specs.List.{All};
 ghost use Rattle.objects.specs.Entries.{kinds};
 ghost use Rattle.claims.specs.Views.{bit};
-ghost use Rattle.rounds.specs.Desks.{IsDeskOn};
+ghost use Rattle.rounds.specs.Workspaces.{IsReadyOn};
 ghost use Rattle.rounds.specs.Passes.{CanBeMade};
 ghost use Rattle.rounds.specs.PendingRuns.{IsPendingOf, HoldsPast};
 ghost use Rattle.rounds.specs.Views.{blocks_of, meaning};
@@ -13,17 +13,19 @@ ghost use Rattle.meaning.specs.declared.limits.TheConstants.{MAX_TRANSACTIONS};
 ghost use Rattle.plan.specs.declared.plan.TheConstants.{MAX_WORKERS};
 
 use crate::check::stands_past;
-use crate::crew::{Crew, checkers, makers};
-use crate::desk::Desk;
+use crate::job::{Job, checkers, makers};
 use crate::make::{NumberedRun, make_all};
 use crate::pending_run::PendingRun;
+use crate::workspace::Workspace;
 use batch::{Batch, Record};
-use intentions::Committed;
+use committed::Committed;
 use meaning::limits::MAX_TRANSACTIONS;
-use speculate::{Gate, NoMemory, Objects};
+use objects::Objects;
+use serial::NoMemory;
+use speculate::Gate;
 use std::alloc::Global;
 use std::thread::Threads;
-use workers::{Bench, give_all};
+use workers::{WorkerState, give_all};
 
 /// The runs of the transactions that are pending and that a round came to.
 #[derive(Drop)]
@@ -115,61 +117,62 @@ impl Window {
         Ok(())
     }
 
-    /// Makes the run with this number at the desk, unless it is valid.
+    /// Makes the run with this number in the workspace, unless it is valid.
     ///
-    /// Returns `NoMemory` where a request for memory was refused. The desk is of no further use then.
+    /// Returns `NoMemory` where a request for memory was refused. The workspace is of no further use
+    /// then.
     pub(crate) fn make_at<R: Threads + Sync, G: Gate>(
         &mut self,
-        crew: &Crew<R, G>,
+        job: &Job<R, G>,
         from: usize,
         number: usize,
         width: u32,
-        desk: &mut Desk<'_>,
+        workspace: &mut Workspace<'_>,
     ) -> Result<(), NoMemory>
-        requires window { IsWindowAt crew.now.batch.now from desk.old.view.snapshot self.old }
+        requires window { IsWindowAt job.now.batch.now from workspace.old.view.snapshot self.old }
         requires number { (from ≤ number) × (number < end_of self.old) }
         requires few { number ≤ MAX_TRANSACTIONS }
-        requires can { CanBeMade crew.now.batch.now desk.old.view.snapshot number }
-        requires same_kinds { kinds desk.old.view.snapshot ≡ kinds crew.now.batch.now.objects }
+        requires can { CanBeMade job.now.batch.now workspace.old.view.snapshot number }
+        requires same_kinds { kinds workspace.old.view.snapshot ≡ kinds job.now.batch.now.objects }
         requires narrow { (1 ≤ width) × (width ≤ MAX_WORKERS) }
-        requires ready { IsDeskOn desk.old.view.snapshot desk.old }
+        requires ready { IsReadyOn workspace.old.view.snapshot workspace.old }
         ensures window { OnOk result (
-            IsWindowAt crew.now.batch.now from desk.old.view.snapshot self.new) }
+            IsWindowAt job.now.batch.now from workspace.old.view.snapshot self.new) }
         ensures grown { OnOk result (HasGrown from self.old self.new) }
         ensures valid { OnOk result (IsValid self.new number) }
         ensures reached { OnOk result (length self.new.runs.items ≡ length self.old.runs.items) }
-        ensures ready { OnOk result (IsDeskOn desk.old.view.snapshot desk.new) }
+        ensures ready { OnOk result (IsReadyOn workspace.old.view.snapshot workspace.new) }
     {
         let place = number - self.first;
         if !self.valid[place] {
             let run = &mut self.runs[place];
-            desk.make(crew, number, width, run)?;
+            workspace.make(job, number, width, run)?;
             self.valid[place] = true;
         }
         Ok(())
     }
 
-    // Makes the runs of these numbers at one desk, those that aren't valid.
+    // Makes the runs of these numbers in one workspace, those that aren't valid.
     fn make_in_turn<R: Threads + Sync, G: Gate>(
         &mut self,
-        crew: &Crew<R, G>,
+        job: &Job<R, G>,
         from: usize,
         objects: &Objects,
         numbers: &[usize],
     ) -> Result<(), NoMemory>
-        requires opening { IsOpenedBy crew.now.batch.now from objects.now }
-        requires window { IsWindowAt crew.now.batch.now from objects.now self.old }
+        requires opening { IsOpenedBy job.now.batch.now from objects.now }
+        requires window { IsWindowAt job.now.batch.now from objects.now self.old }
         requires places { All (λ n. (from ≤ n) × (n < end_of self.old)) numbers.now }
         requires few { length numbers.now ≤ MAX_TRANSACTIONS }
-        ensures window { OnOk result (IsWindowAt crew.now.batch.now from objects.now self.new) }
+        ensures window { OnOk result (IsWindowAt job.now.batch.now from objects.now self.new) }
         ensures grown { OnOk result (HasGrown from self.old self.new) }
         ensures reached { OnOk result (length self.new.runs.items ≡ length self.old.runs.items) }
         ensures valid { OnOk result (All (λ n. IsValid self.new n) numbers.now) }
     {
-        let width = crew.plan.width(numbers.len() as u32);
-        let mut desk = Desk::open(crew.alloc, objects, crew.operations_each)?;
+        let width = job.plan.width(numbers.len() as u32);
+        let mut workspace = Workspace::open(job.alloc, objects, job.operations_each)?;
         for number in numbers {
-            self.make_at(crew, from, *number, width, &mut desk)?;
+            self.make_at(job, from, *number, width, &mut workspace)?;
         }
         Ok(())
     }
@@ -190,24 +193,24 @@ impl Window {
     // number `from` on, were seen to pass these nets.
     fn make_at_once<R: Threads + Sync, G: Gate>(
         &mut self,
-        crew: &Crew<R, G>,
+        job: &Job<R, G>,
         from: usize,
         objects: &Objects,
         numbers: &[usize],
         nets: &Committed,
     ) -> Result<Vec<bool>, NoMemory>
-        requires opening { IsOpenedBy crew.now.batch.now from objects.now }
-        requires window { IsWindowAt crew.now.batch.now from objects.now self.old }
+        requires opening { IsOpenedBy job.now.batch.now from objects.now }
+        requires window { IsWindowAt job.now.batch.now from objects.now self.old }
         requires places { All (λ n. (from ≤ n) × (n < end_of self.old)) numbers.now }
         requires few { length numbers.now ≤ MAX_TRANSACTIONS }
-        ensures window { OnOk result (IsWindowAt crew.now.batch.now from objects.now self.new) }
+        ensures window { OnOk result (IsWindowAt job.now.batch.now from objects.now self.new) }
         ensures grown { OnOk result (HasGrown from self.old self.new) }
         ensures reached { OnOk result (length self.new.runs.items ≡ length self.old.runs.items) }
         ensures valid { OnOk result (All (λ n. IsValid self.new n) numbers.now) }
         ensures passing { IfOk result (λ flags. ArePassing nets.now from self.new flags.items) }
     {
-        let mut made = make_all(crew, objects, numbers, nets)?;
-        let mut passing = no_flags(crew.alloc, self.end().saturating_sub(from))?;
+        let mut made = make_all(job, objects, numbers, nets)?;
+        let mut passing = no_flags(job.alloc, self.end().saturating_sub(from))?;
         'putting: while let Some(next) = made.pop() {
             passing[next.number - from] = next.passes;
             self.put(next);
@@ -215,30 +218,31 @@ impl Window {
         Ok(passing)
     }
 
-    // The same, by as many workers as pay. One alone looks at none of its runs.
+    // Makes the runs of these numbers by as many workers as pay. Returns which of them were seen to
+    // pass these nets. One worker alone looks at none of its runs.
     fn make<R: Threads + Sync, G: Gate>(
         &mut self,
-        crew: &Crew<R, G>,
+        job: &Job<R, G>,
         from: usize,
         objects: &Objects,
         numbers: &[usize],
         nets: &Committed,
     ) -> Result<Vec<bool>, NoMemory>
-        requires opening { IsOpenedBy crew.now.batch.now from objects.now }
-        requires window { IsWindowAt crew.now.batch.now from objects.now self.old }
+        requires opening { IsOpenedBy job.now.batch.now from objects.now }
+        requires window { IsWindowAt job.now.batch.now from objects.now self.old }
         requires places { All (λ n. (from ≤ n) × (n < end_of self.old)) numbers.now }
         requires few { length numbers.now ≤ MAX_TRANSACTIONS }
-        ensures window { OnOk result (IsWindowAt crew.now.batch.now from objects.now self.new) }
+        ensures window { OnOk result (IsWindowAt job.now.batch.now from objects.now self.new) }
         ensures grown { OnOk result (HasGrown from self.old self.new) }
         ensures reached { OnOk result (length self.new.runs.items ≡ length self.old.runs.items) }
         ensures valid { OnOk result (All (λ n. IsValid self.new n) numbers.now) }
         ensures passing { IfOk result (λ flags. ArePassing nets.now from self.new flags.items) }
     {
-        if makers(crew, numbers.len()) == 1 {
-            self.make_in_turn(crew, from, objects, numbers)?;
-            return Ok(Vec::new(crew.alloc));
+        if makers(job, numbers.len()) == 1 {
+            self.make_in_turn(job, from, objects, numbers)?;
+            return Ok(Vec::new(job.alloc));
         }
-        self.make_at_once(crew, from, objects, numbers, nets)
+        self.make_at_once(job, from, objects, numbers, nets)
     }
 
     // The numbers from one on and before another whose runs aren't valid.
@@ -263,16 +267,16 @@ impl Window {
     /// Returns `NoMemory` where a request for memory was refused.
     pub(crate) fn make_missing<R: Threads + Sync, G: Gate>(
         &mut self,
-        crew: &Crew<R, G>,
+        job: &Job<R, G>,
         objects: &Objects,
         from: usize,
         end: usize,
         nets: &Committed,
     ) -> Result<MadeRuns, NoMemory>
-        requires opening { IsOpenedBy crew.now.batch.now from objects.now }
-        requires window { IsWindowAt crew.now.batch.now from objects.now self.old }
+        requires opening { IsOpenedBy job.now.batch.now from objects.now }
+        requires window { IsWindowAt job.now.batch.now from objects.now self.old }
         requires places { (from ≤ end) × (end ≤ end_of self.old) }
-        ensures window { OnOk result (IsWindowAt crew.now.batch.now from objects.now self.new) }
+        ensures window { OnOk result (IsWindowAt job.now.batch.now from objects.now self.new) }
         ensures grown { OnOk result (HasGrown from self.old self.new) }
         ensures reached { OnOk result (length self.new.runs.items ≡ length self.old.runs.items) }
         ensures valid { OnOk result (AllValid self.new from end) }
@@ -280,8 +284,8 @@ impl Window {
         ensures passing { IfOk result (λ made.
             ArePassing nets.now from self.new made.passing.items) }
     {
-        let numbers = self.missing(crew.alloc, from, end)?;
-        let passing = self.make(crew, from, objects, &numbers, nets)?;
+        let numbers = self.missing(job.alloc, from, end)?;
+        let passing = self.make(job, from, objects, &numbers, nets)?;
         Ok(MadeRuns { numbers, passing })
     }
 
@@ -314,7 +318,7 @@ impl Window {
     // as a piece.
     fn fallen<R: Threads + Sync, G: Gate>(
         &self,
-        crew: &Crew<R, G>,
+        job: &Job<R, G>,
         workers: u32,
         from: usize,
         nets: &Committed,
@@ -327,31 +331,34 @@ impl Window {
         requires from { (self.now.first ≤ from) × (from ≤ end_of self.now) }
         ensures { IfOk result (λ numbers. AreFallen self.now (take upto nets.now) from (end_of self.now) numbers.items) }
     {
-        let Crew {
+        let Job {
             threads,
             alloc,
             gate,
             ..
-        } = *crew;
+        } = *job;
         let count = self.end() - from;
         give_all(
             threads,
             alloc,
             count as u32,
             workers,
-            &|piece: u32, bench: Bench<(), usize>| -> Result<Bench<(), usize>, NoMemory>
+            &|piece: u32, state: WorkerState<(), usize>| -> Result<WorkerState<(), usize>, NoMemory>
                 requires { (self.now.first ≤ from) × (from + piece < end_of self.now)
                     × (length self.now.valid.items ≡ length self.now.runs.items)
                     × (end_of self.now ≤ MAX_TRANSACTIONS) × (upto ≤ length nets.now) }
                 ensures { IfOk result (λ after. IsDecided self.entry.now (take upto nets.entry.now)
-                    (from + piece) bench.items.items after.items.items) }
+                    (from + piece) state.items.items after.items.items) }
             {
-                let Bench { desk, mut items } = bench;
+                let WorkerState {
+                    workspace,
+                    mut items,
+                } = state;
                 let number = from + piece as usize;
                 if self.falls(gate, piece, number, nets, upto) {
                     items.push(number)?;
                 }
-                Ok(Bench { desk, items })
+                Ok(WorkerState { workspace, items })
             },
         )
     }
@@ -392,7 +399,7 @@ impl Window {
     /// Returns `NoMemory` where a request for memory was refused.
     pub(crate) fn keep<R: Threads + Sync, G: Gate>(
         &mut self,
-        crew: &Crew<R, G>,
+        job: &Job<R, G>,
         from: usize,
         nets: &Committed,
         upto: usize,
@@ -403,12 +410,12 @@ impl Window {
         requires from { (self.old.first ≤ from) × (from ≤ end_of self.old) }
         ensures { OnOk result (AreKept from (take upto nets.now) self.old self.new) }
     {
-        let workers = checkers(crew, self.end() - from);
+        let workers = checkers(job, self.end() - from);
         if workers == 1 {
-            self.keep_in_turn(crew.gate, from, nets, upto);
+            self.keep_in_turn(job.gate, from, nets, upto);
             return Ok(());
         }
-        let fallen = self.fallen(crew, workers, from, nets, upto)?;
+        let fallen = self.fallen(job, workers, from, nets, upto)?;
         self.forget(&fallen);
         Ok(())
     }

@@ -8,7 +8,7 @@ use serial::NoMemory;
 use std::alloc::{AllocError, AllocFailed};
 
 /// Why a part of a document wasn't read.
-#[derive(Clone, Copy, Drop)]
+#[derive(Clone, Copy, Debug, Drop)]
 pub enum Failure {
     /// A rule isn't kept, in the transaction of this number, or outside of them (0).
     Broken(Rule, u32),

@@ -16,6 +16,7 @@ pub use form::Form;
 pub use limits::{LAST_VERSION, Limits, MAX_BYTES};
 pub use pointer::pointer_token;
 pub use rule::{
-    ArgumentRule, ConditionRule, CountRule, NameRule, Place, Rule, ShapeRule, SourceRule, StartRule,
+    ArgumentRule, ConditionRule, CountRule, NameRule, OperandPlace, Rule, ShapeRule, SourceRule,
+    StartRule,
 };
 pub use subject::{Subject, fits_item, fits_number, fits_word};

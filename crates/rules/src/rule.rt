@@ -10,14 +10,14 @@ use words::Verb;
 
 /// A place of an operation's array that has an item.
 #[derive(Clone, Copy, Debug, Drop, PartialEq)]
-pub enum Place {
+pub enum OperandPlace {
     /// After the operation's word.
     Third,
     Fourth,
 }
 
 /// What is asked of the shape of a part. A version is that of the document.
-#[derive(Clone, Copy, Drop)]
+#[derive(Clone, Copy, Debug, Drop)]
 pub enum ShapeRule {
     /// It is an object of JSON whose members are all of a form.
     Members(Form),
@@ -62,7 +62,7 @@ pub enum ShapeRule {
 }
 
 /// What has to be a name.
-#[derive(Clone, Copy, Drop)]
+#[derive(Clone, Copy, Debug, Drop)]
 pub enum NameRule {
     /// The `name` of an object.
     Object,
@@ -75,7 +75,7 @@ pub enum NameRule {
     /// The label that `as` sets.
     Label,
     /// An argument of an operation.
-    Argument(Place),
+    Argument(OperandPlace),
     /// The `item` of a test.
     TestedItem,
     /// The reasons of `handlers`.
@@ -87,18 +87,18 @@ pub enum NameRule {
 }
 
 /// What is asked of the arguments of an operation.
-#[derive(Clone, Copy, Drop)]
+#[derive(Clone, Copy, Debug, Drop)]
 pub enum ArgumentRule {
     /// There are as many as the verb takes.
     Count(Verb),
     /// It is an amount.
     Amount,
     /// It is a text.
-    Item(Place),
+    Item(OperandPlace),
 }
 
 /// What is asked of an argument that a label gives.
-#[derive(Clone, Copy, Drop)]
+#[derive(Clone, Copy, Debug, Drop)]
 pub enum SourceRule {
     /// It has the member `from` alone, which is a text.
     Label,
@@ -111,7 +111,7 @@ pub enum SourceRule {
 }
 
 /// What is asked of the test of an `if`.
-#[derive(Clone, Copy, Drop)]
+#[derive(Clone, Copy, Debug, Drop)]
 pub enum ConditionRule {
     /// `is` is a word that what the label is of can have.
     Word(Subject),
@@ -126,7 +126,7 @@ pub enum ConditionRule {
 }
 
 /// What there may not be too many of in a document, by its version.
-#[derive(Clone, Copy, Drop)]
+#[derive(Clone, Copy, Debug, Drop)]
 pub enum CountRule {
     /// The bytes of the whole document.
     Bytes(u8),
@@ -140,7 +140,7 @@ pub enum CountRule {
 }
 
 /// What is asked of the start of an object.
-#[derive(Clone, Copy, Drop)]
+#[derive(Clone, Copy, Debug, Drop)]
 pub enum StartRule {
     /// An object of this kind can start with it.
     Of(Kind),
@@ -159,7 +159,7 @@ pub enum StartRule {
 }
 
 /// What is asked of a document or a part of it, by what is wrong where it isn't kept.
-#[derive(Clone, Copy, Drop)]
+#[derive(Clone, Copy, Debug, Drop)]
 pub enum Rule {
     /// The bytes are JSON.
     Json,
@@ -176,7 +176,7 @@ pub enum Rule {
     /// An argument is what the operation takes.
     Argument(ArgumentRule),
     /// The argument at a place, which a label gives, is as it has to be.
-    Source(Place, SourceRule),
+    Source(OperandPlace, SourceRule),
     /// The label is seen.
     SeenLabel,
     /// The label is neither seen nor an earlier sibling's.

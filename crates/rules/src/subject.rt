@@ -5,7 +5,7 @@ ghost use Rattle.rules.specs.Subjects.{fits_item, fits_number, fits_word};
 use words::{Verb, Word};
 
 /// What a label is of: the reply to a call, or the outcome of a subaction.
-#[derive(Clone, Copy, Drop)]
+#[derive(Clone, Copy, Debug, Drop)]
 pub enum Subject {
     Reply(Verb),
     Outcome,

@@ -25,6 +25,6 @@ pub record IsListedRunOf (listed : NetList) (meant : Run Taken) (run : speculate
   pub entries : run.entries.items ≡ entries (record_of meant)
   pub net : listed_by listed run.entries.items run.net.items ≡ net_of meant
 
--- the same, with the net in a list of its own
+-- the record, all entries and the net of a run whose net has a list of its own
 abbrev pub IsRunOf : Run Taken → speculated.Run → Type 0
 IsRunOf = IsListedRunOf Own

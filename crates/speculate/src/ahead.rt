@@ -8,10 +8,11 @@ ghost use Rattle.speculate.specs.Ahead.{IsKept};
 
 use crate::worth::is_worth;
 use batch::{Subaction, Tried};
-use intentions::{
-    Committed, Entry, EntryHashing, Lists, MarkedEntry, NoMemory, Objects, View, summarize,
-};
+use committed::{Committed, MarkedEntry, summarize};
+use intentions::{Lists, View};
 use meaning::Held;
+use objects::{Entry, EntryHashing, Objects};
+use serial::NoMemory;
 use std::alloc::Global;
 
 /// What all parts of a transaction's run share: its number, the allocator, and how tables of its

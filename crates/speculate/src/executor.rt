@@ -18,8 +18,10 @@ use crate::reached::Reached;
 use crate::spare::{Spare, boxed, list_of, make_room, put_at, record_of, spare_at};
 use crate::step::{branch_of, forget, perform_filled, undo};
 use batch::{Block, Record, Step, Subaction, Taken, Tried, add_label, handled, test_holds};
-use intentions::{Committed, NoMemory, View};
+use committed::Committed;
+use intentions::View;
 use meaning::{End, Held};
+use serial::NoMemory;
 use std::thread::{Threads, join};
 
 /// What the runs of the parts of a transaction share. At most `width` children of a parallel step are
@@ -381,7 +383,7 @@ fn run_ahead<T: Threads + Sync, G: Gate>(
     Ok(both_halves(front, back)?)
 }
 
-// Such runs, made one after the other.
+// Runs of such children, made one after the other.
 #[cycle(run)]
 fn run_part<T: Threads + Sync, G: Gate>(
     threads: &T,

@@ -13,11 +13,12 @@ mod step;
 mod transaction;
 mod worth;
 
-pub use batch::{Batch, Block, Names, Outcome, Plain, Record, Step, Subaction, Taken};
+pub use batch::{Batch, Block, Outcome, Plain, Record, Step, Subaction, Taken};
 pub use gate::{Gate, NoGate, Progress};
-pub use intentions::{Entry, NoMemory, Objects, View};
+pub use intentions::View;
 pub use meaning::{End, Held};
+pub use objects::{Entry, Objects};
 pub use one_thread::plain;
-pub use plan::MAX_WORKERS;
+pub use serial::NoMemory;
 pub use speculated::Run;
 pub use transaction::{Maker, run, run_in};

@@ -5,8 +5,8 @@ ghost use Rattle.meaning.specs.declared.held.Held.TheVariants.{Outcome};
 ghost use Rattle.batch.specs.declared.record.Taken.{Parallel};
 
 use batch::{Record, Taken, Tried, add_label};
-use intentions::NoMemory;
 use meaning::{End, Held};
+use serial::NoMemory;
 use std::alloc::Global;
 
 /// What the children of a parallel step did that were reached.

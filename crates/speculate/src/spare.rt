@@ -6,8 +6,8 @@ ghost use Rattle.meaning.specs.declared.held.Held.TheVariants.{Outcome};
 ghost use Rattle.batch.specs.Views.{taken_view, tried_view};
 
 use batch::{Record, Taken, Tried, add_label};
-use intentions::NoMemory;
 use meaning::{End, Held};
+use serial::NoMemory;
 use std::alloc::Global;
 use std::mem::replace;
 

@@ -4,12 +4,14 @@ ghost use Rattle.intentions.specs.Levels.{listed_by};
 ghost use Rattle.intentions.specs.declared.view.NetList.TheVariants.{Own};
 
 use batch::Record;
-use intentions::{Entry, Lists, NetList, NoMemory};
+use intentions::{Lists, NetList};
 use meaning::End;
+use objects::Entry;
+use serial::NoMemory;
 use std::alloc::Global;
 
 /// What a transaction did on the objects that it was run on (Weihl 1988: an intentions list).
-#[derive(Drop)]
+#[derive(Debug, Drop)]
 pub struct Run {
     /// The steps that were taken, and how the transaction ended.
     pub tree: Record,

@@ -14,11 +14,12 @@ ghost use Rattle.batch.specs.declared.tree.Block.{size-Block};
 ghost use Rattle.batch.specs.declared.tree.Subaction.{size-Subaction};
 
 use batch::{
-    Block, Call, Filling, Made, Reply, Subaction, Taken, add_label, end_after, fill, reason_for,
-    taker, untaken,
+    Block, Filling, Made, Subaction, Taken, add_label, end_after, fill, reason_for, taker, untaken,
 };
-use intentions::{NoMemory, View};
+use intentions::View;
 use meaning::{End, Held};
+use objects::{Call, Reply};
+use serial::NoMemory;
 use std::alloc::Global;
 
 /// Performs a call. Its label holds the reply.

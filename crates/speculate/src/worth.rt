@@ -3,8 +3,8 @@
 //! Children that are run ahead work on a copy of the whole state, and each on a copy of all labels.
 //! Where they do little compared with that, running them one after the other is faster. Either
 //! choice is right: the children's runs mean the same.
-use batch::{Block, Otherwise, Step, Subaction, Value};
-use intentions::Objects;
+use batch::{Block, Otherwise, Step, Subaction};
+use objects::{Objects, Value};
 
 /// How many copied items or labels one operation outweighs.
 const COPIES: u64 = 16;

@@ -20,8 +20,8 @@ use Rattle.rules.specs.declared.rule.SourceRule.{SourceRule}
 use Rattle.rules.specs.declared.rule.SourceRule.TheVariants as source
 use Rattle.rules.specs.declared.rule.ShapeRule.TheVariants as shape
 use Rattle.rules.specs.declared.rule.StartRule.TheVariants as start
-use Rattle.rules.specs.declared.rule.Place.{Place}
-use Rattle.rules.specs.declared.rule.Place.TheVariants.{Third, Fourth}
+use Rattle.rules.specs.declared.rule.OperandPlace.{OperandPlace}
+use Rattle.rules.specs.declared.rule.OperandPlace.TheVariants.{Third, Fourth}
 use Rattle.words.specs.declared.verb.LoneVerb.TheVariants.{Balance}
 use Rattle.words.specs.declared.verb.Verb.{Verb}
 use Rattle.words.specs.declared.verb.Verb.TheVariants.{OfAmount, OfItem, OfPair, Alone}
@@ -98,7 +98,7 @@ abbrev pub has_count : ℕ → Data → Bool
 has_count n op = option_map_or (λ m. m == n) (count op) false
 
 -- the index of a place in an operation's array
-abbrev pub index_of : Place → ℕ
+abbrev pub index_of : OperandPlace → ℕ
 index_of Third = 2
 index_of Fourth = 3
 
@@ -107,7 +107,7 @@ abbrev pub name_item : ℕ → Data → List ℕ
 name_item i op = or_empty (text_item i op)
 
 -- a label gives the argument at a place, and what it is of fits, by this rule
-unfoldable pub source_asked : Scope → (Subject → Bool) → (Subject → SourceRule) → Place → Data → List Demand
+unfoldable pub source_asked : Scope → (Subject → Bool) → (Subject → SourceRule) → OperandPlace → Data → List Demand
 source_asked scope fits fit place op =
     let name = or_empty (source_label (index_of place) op) in
     holds (is_some (source_label (index_of place) op)) (rule.Source place source.Label)
@@ -115,7 +115,7 @@ source_asked scope fits fit place op =
     ∷ holds (fits (subject_of name scope)) (rule.Source place (fit (subject_of name scope)))
     ∷ []
 
-unfoldable pub item_asked : ℕ → Place → Data → List Demand
+unfoldable pub item_asked : ℕ → OperandPlace → Data → List Demand
 item_asked version place op = holds (is_some (text_item (index_of place) op)) (rule.Argument (argument.Item place))
     ∷ holds (is_name version (name_item (index_of place) op)) (rule.Name version (named.Argument place))
     ∷ []
@@ -126,7 +126,7 @@ amount_asked version scope op =
     else holds (is_some (amount_item 2 op)) (rule.Argument argument.Amount) ∷ []
 
 -- an item, or a label that gives one
-unfoldable pub argument_asked : ℕ → Scope → Place → Data → List Demand
+unfoldable pub argument_asked : ℕ → Scope → OperandPlace → Data → List Demand
 argument_asked version scope place op =
     if is_source version (index_of place) op then source_asked scope fits_item source.Item place op else item_asked version place op
 

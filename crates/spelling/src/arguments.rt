@@ -15,19 +15,21 @@ use crate::labels::found_label;
 use crate::look::{count, has, has_only, text_item, text_member, whole_item};
 use crate::state::{Numbering, State, number_of_item};
 use crate::steps::read_reason;
-use batch::{Item, NoMemory, is_name};
+use atoms::{Amount, Item};
+use batch::is_name;
 use meaning::{Argument, Refusal, Template};
-use objects::Amount;
 use rules::{
-    ArgumentRule, Failure, Form, NameRule, Place, Rule, SourceRule, Subject, fits_item, fits_number,
+    ArgumentRule, Failure, Form, NameRule, OperandPlace, Rule, SourceRule, Subject, fits_item,
+    fits_number,
 };
 use serde_json::Value;
+use serial::NoMemory;
 use std::alloc::Global;
 use words::{AmountVerb, ItemVerb, PairVerb, Verb};
 
 /// What is seen where the arguments of an operation are read.
 #[derive(Clone, Copy, Drop)]
-pub(crate) struct Seen<'s> {
+pub(crate) struct ArgumentScope<'s> {
     pub(crate) version: u8,
     pub(crate) labels: &'s Labels,
     pub(crate) counts: &'s Counts,
@@ -51,12 +53,12 @@ fn amount_item(op: &Value, index: usize) -> Option<Amount>
 }
 
 /// The index of a place in an operation's array.
-fn index_of(place: Place) -> usize
+fn index_of(place: OperandPlace) -> usize
     ensures { result ≡ index_of place }
 {
     match place {
-        Place::Third => 2,
-        Place::Fourth => 3,
+        OperandPlace::Third => 2,
+        OperandPlace::Fourth => 3,
     }
 }
 
@@ -65,7 +67,7 @@ fn index_of(place: Place) -> usize
 fn name_at<'v>(
     version: u8,
     op: &'v Value,
-    place: Place,
+    place: OperandPlace,
     counts: &Counts,
 ) -> Result<&'v str, Failure>
     ensures met { OnOk result (IsMet counts.now (item_asked version place (view op.now))
@@ -133,17 +135,17 @@ fn source_label(op: &Value, index: usize) -> Option<&str>
 
 /// The number of the label that gives a number.
 #[tactic(auto, unfolding(crate::specs::Asked::source_asked))]
-fn number_source(op: &Value, seen: &Seen<'_>) -> Result<u32, Failure>
+fn number_source(op: &Value, seen: &ArgumentScope<'_>) -> Result<u32, Failure>
     ensures met { OnOk result (IsMet seen.now.counts.now
         (source_asked (scope_of seen.now.labels.now.entries) fits_number SourceRule.Number
-        Place.Third (view op.now)) seen.now.counts.now) }
+        OperandPlace.Third (view op.now)) seen.now.counts.now) }
     ensures first { IfErr result (IsFirst seen.now.counts.now
         (source_asked (scope_of seen.now.labels.now.entries) fits_number SourceRule.Number
-        Place.Third (view op.now))) }
+        OperandPlace.Third (view op.now))) }
     ensures number { IfOk result (λ number. number
         ≡ source_of (scope_of seen.now.labels.now.entries) 2 (view op.now)) }
 {
-    let place = Place::Third;
+    let place = OperandPlace::Third;
     let (number, subject) = source_at(op, place, seen)?;
     let rule = Rule::Source(place, SourceRule::Number(subject));
     seen.counts.demand(fits_number(subject), rule)?;
@@ -152,7 +154,7 @@ fn number_source(op: &Value, seen: &Seen<'_>) -> Result<u32, Failure>
 
 /// The number of the label that gives an item.
 #[tactic(auto, unfolding(crate::specs::Asked::source_asked))]
-fn item_source(op: &Value, place: Place, seen: &Seen<'_>) -> Result<u32, Failure>
+fn item_source(op: &Value, place: OperandPlace, seen: &ArgumentScope<'_>) -> Result<u32, Failure>
     ensures met { OnOk result (IsMet seen.now.counts.now
         (source_asked (scope_of seen.now.labels.now.entries) fits_item SourceRule.Item place
         (view op.now)) seen.now.counts.now) }
@@ -170,7 +172,11 @@ fn item_source(op: &Value, place: Place, seen: &Seen<'_>) -> Result<u32, Failure
 
 /// The label that gives the argument at a place: its number, and what it is of.
 #[tactic(auto, unfolding(crate::specs::Asked::source_asked))]
-fn source_at(op: &Value, place: Place, seen: &Seen<'_>) -> Result<(u32, Subject), Failure>
+fn source_at(
+    op: &Value,
+    place: OperandPlace,
+    seen: &ArgumentScope<'_>,
+) -> Result<(u32, Subject), Failure>
     ensures met { IfOk result (λ label.
         let name = or_empty (source_label (index_of place) (view op.now)) in
         let scope = scope_of seen.now.labels.now.entries in
@@ -196,7 +202,11 @@ fn source_at(op: &Value, place: Place, seen: &Seen<'_>) -> Result<(u32, Subject)
 
 /// A call with an amount, or with a label that gives one.
 #[tactic(auto, unfolding(crate::specs::Asked::arguments_asked, crate::specs::Asked::amount_asked, crate::specs::Spelled::template_of))]
-fn read_amount_call(verb: AmountVerb, op: &Value, seen: &Seen<'_>) -> Result<Template, Failure>
+fn read_amount_call(
+    verb: AmountVerb,
+    op: &Value,
+    seen: &ArgumentScope<'_>,
+) -> Result<Template, Failure>
     ensures met { OnOk result (IsMet seen.now.counts.now
         (arguments_asked seen.now.version (scope_of seen.now.labels.now.entries)
         (Verb.OfAmount verb) (view op.now)) seen.now.counts.now) }
@@ -223,8 +233,8 @@ fn read_amount_call(verb: AmountVerb, op: &Value, seen: &Seen<'_>) -> Result<Tem
 fn read_argument(
     alloc: Global,
     op: &Value,
-    place: Place,
-    seen: &Seen<'_>,
+    place: OperandPlace,
+    seen: &ArgumentScope<'_>,
     numbering: &mut Numbering,
 ) -> Result<Argument, Failure>
     ensures met { OnOk result (IsMet seen.now.counts.now
@@ -270,7 +280,7 @@ pub(crate) fn read_arguments(
     alloc: Global,
     verb: Verb,
     op: &Value,
-    seen: &Seen<'_>,
+    seen: &ArgumentScope<'_>,
     numbering: &mut Numbering,
 ) -> Result<Template, Failure>
     ensures met { OnOk result (IsMet seen.now.counts.now
@@ -288,14 +298,14 @@ pub(crate) fn read_arguments(
         Verb::OfItem(one) => {
             let arguments = Rule::Argument(ArgumentRule::Count(verb));
             seen.counts.demand(count(op) == Some(3), arguments)?;
-            let item = read_argument(alloc, op, Place::Third, seen, numbering)?;
+            let item = read_argument(alloc, op, OperandPlace::Third, seen, numbering)?;
             Ok(item_template(one, item))
         }
         Verb::OfPair(pair) => {
             let arguments = Rule::Argument(ArgumentRule::Count(verb));
             seen.counts.demand(count(op) == Some(4), arguments)?;
-            let key = read_argument(alloc, op, Place::Third, seen, numbering)?;
-            let item = read_argument(alloc, op, Place::Fourth, seen, numbering)?;
+            let key = read_argument(alloc, op, OperandPlace::Third, seen, numbering)?;
+            let item = read_argument(alloc, op, OperandPlace::Fourth, seen, numbering)?;
             Ok(pair_template(pair, key, item))
         }
         Verb::Alone(one) => {

@@ -11,13 +11,15 @@ use crate::arguments::item_of;
 use crate::counts::Counts;
 use crate::look::{has, has_only, text_member, whole_member};
 use crate::state::Numbering;
-use batch::{Test, Word, is_name};
+use batch::is_name;
+use meaning::Test;
 use rules::{
     ConditionRule, Failure, Form, NameRule, Rule, ShapeRule, Subject, fits_item, fits_number,
     fits_word,
 };
 use serde_json::Value;
 use std::alloc::Global;
+use words::Word;
 
 /// The parts of an `if`.
 #[derive(Clone, Copy, Drop)]

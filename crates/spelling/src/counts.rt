@@ -6,7 +6,7 @@ ghost use Rattle.spelling.specs.Demand.{broken_at, one_more_node, one_more_opera
 use rules::{CountRule, Failure, Limits, Rule};
 
 /// Where the reader is, and how much of what is limited it has met.
-#[derive(Clone, Copy, Drop)]
+#[derive(Clone, Copy, Debug, Drop)]
 pub struct Counts {
     /// The number of the transaction that is being read, or 0.
     pub transaction: u32,

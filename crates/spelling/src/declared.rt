@@ -11,7 +11,9 @@ use crate::digests::Digest;
 use crate::hashing::Texts;
 use crate::hints::is_at;
 use crate::outlines::Outlines;
-use batch::{Block, Kind, NoMemory, Objects};
+use batch::Block;
+use objects::{Kind, Objects};
+use serial::NoMemory;
 use std::alloc::Global;
 
 /// The objects by place, with their names, and the version that says what words there are.

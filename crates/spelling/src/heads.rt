@@ -16,10 +16,12 @@ use crate::hashing::Labels;
 use crate::labels::{add_label, add_labels, check_label, seen_label};
 use crate::state::State;
 use crate::steps::{SubShape, children_of, sub_shape_of, taking};
-use batch::{Block, Handler, NoMemory, Step, Subaction, Test};
+use batch::{Block, Handler, Step, Subaction};
 use indexmap::IndexMap;
+use meaning::Test;
 use rules::{Failure, Subject};
 use serde_json::Value;
+use serial::NoMemory;
 use std::alloc::Global;
 
 // ---- an `if`

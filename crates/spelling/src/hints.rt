@@ -6,7 +6,7 @@ ghost use Rattle.spelling.specs.Scope.{is_listed, place_of};
 use crate::digests::Digest;
 use crate::hashing::Texts;
 use crate::state::fit;
-use batch::NoMemory;
+use serial::NoMemory;
 use std::alloc::Global;
 
 /// By slot, one more than the place of the last name that fell on it, or 0. There are at least four

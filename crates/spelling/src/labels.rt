@@ -9,10 +9,11 @@ ghost use Rattle.spelling.specs.Scope.{AreUnseen, Extends, Scope, is_named, labe
 use crate::counts::Counts;
 use crate::hashing::Labels;
 use crate::state::fit;
-use batch::{NoMemory, is_name};
+use batch::is_name;
 use indexmap::map::Entry;
 use rules::{Failure, NameRule, Rule, ShapeRule, Subject};
 use serde_json::Value;
+use serial::NoMemory;
 use std::alloc::Global;
 
 /// A step's label, where it has one.

@@ -10,23 +10,25 @@ ghost use Rattle.spelling.specs.Look.{text_item};
 ghost use Rattle.spelling.specs.Scope.{is_listed, kind_named, numbers_of, place_of, scope_of, setting_of, with_label};
 ghost use Rattle.spelling.specs.Spelled.{operation_of, operation_step, target_of};
 
-use crate::arguments::{Seen, is_else, read_arguments, read_refusal};
+use crate::arguments::{ArgumentScope, is_else, read_arguments, read_refusal};
 use crate::counts::Counts;
 use crate::declared::Declared;
 use crate::hints::place_of;
 use crate::labels::{add_new_label, label_of};
 use crate::look::{has_only, text_item};
 use crate::state::State;
-use batch::{Filling, Kind, NoMemory, Step};
+use batch::{Filling, Step};
 use meaning::{Refusal, Template};
+use objects::Kind;
 use rules::{Failure, Form, Rule, ShapeRule, Subject};
 use serde_json::Value;
+use serial::NoMemory;
 use std::alloc::Global;
 use words::Verb;
 
 /// The parts of an operation.
 #[derive(Clone, Copy, Drop)]
-pub struct Shape<'v> {
+pub struct OperationParts<'v> {
     op: &'v Value,
     object: &'v str,
     call: &'v str,
@@ -34,7 +36,11 @@ pub struct Shape<'v> {
 }
 
 #[tactic(auto, unfolding(crate::specs::Asked::operation_shape_asked))]
-fn shape_of<'v>(step: &'v Value, version: u8, counts: &Counts) -> Result<Shape<'v>, Failure>
+fn shape_of<'v>(
+    step: &'v Value,
+    version: u8,
+    counts: &Counts,
+) -> Result<OperationParts<'v>, Failure>
     ensures met { OnOk result (IsMet counts.now (operation_shape_asked version (view step.now))
         counts.now) }
     ensures first { IfErr result (IsFirst counts.now (operation_shape_asked version
@@ -66,7 +72,7 @@ fn shape_of<'v>(step: &'v Value, version: u8, counts: &Counts) -> Result<Shape<'
         is_else(version, step),
         Rule::Shape(ShapeRule::Else(version)),
     )?;
-    Ok(Shape {
+    Ok(OperationParts {
         op,
         object,
         call,
@@ -182,7 +188,7 @@ pub fn read_operation(
         (part (codes "op") (view step.now)))) (scope_of state.old.labels.entries)) }
 {
     let head = head_of(step, declared, &mut state.counts)?;
-    let seen = Seen {
+    let seen = ArgumentScope {
         version: declared.version,
         labels: &state.labels,
         counts: &state.counts,

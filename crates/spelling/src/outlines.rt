@@ -7,7 +7,8 @@ ghost use Rattle.spelling.specs.Digests.{digest_in, digest_of, AreRight, IsObjec
 
 use crate::digests::Digest;
 use crate::hashing::Texts;
-use batch::{Kind, NoMemory, Objects};
+use objects::{Kind, Objects};
+use serial::NoMemory;
 use std::alloc::Global;
 
 /// What is known of an object with no look at its name or its value, or none. It takes 16 bytes.

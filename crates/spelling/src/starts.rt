@@ -19,10 +19,11 @@ use crate::hashing::Texts;
 use crate::look::{count, has_only, text_item, text_member};
 use crate::state::{Numbering, add_text};
 use crate::unmet::Unmet;
-use batch::{Item, Kind, Objects, Value as ObjectValue, is_name};
+use atoms::{Directory, Item, ItemSet, Queue};
+use batch::is_name;
 use indexmap::IndexSet;
 use meaning::limits::MAX_START;
-use objects::{Directory, ItemSet, Queue};
+use objects::{Kind, Objects, Value as ObjectValue};
 use rules::{Failure, Form, NameRule, Rule, ShapeRule, StartRule};
 use serde_json::Value;
 use std::alloc::Global;
@@ -456,7 +457,7 @@ fn read_start(
 
 /// The parts of an object.
 #[derive(Clone, Copy, Drop)]
-struct Shape<'v> {
+struct ObjectParts<'v> {
     name: &'v str,
     kind: Kind,
     start: &'v Value,
@@ -465,7 +466,7 @@ struct Shape<'v> {
 /// The parts of an object. Returns the first rule that isn't kept where it isn't an object of just
 /// these parts.
 #[tactic(auto, unfolding(crate::specs::Asked::object_shape_asked))]
-fn shape_of<'v>(value: &'v Value, version: u8, counts: &Counts) -> Result<Shape<'v>, Failure>
+fn shape_of<'v>(value: &'v Value, version: u8, counts: &Counts) -> Result<ObjectParts<'v>, Failure>
     ensures met { OnOk result (IsMet counts.now (object_shape_asked version (view value.now))
         counts.now) }
     ensures first { IfErr result (IsFirst counts.now (object_shape_asked version
@@ -489,7 +490,7 @@ fn shape_of<'v>(value: &'v Value, version: u8, counts: &Counts) -> Result<Shape<
     let Some(start) = value.get("start") else {
         return Err(counts.broken(Rule::Shape(ShapeRule::ObjectStart)));
     };
-    Ok(Shape { name, kind, start })
+    Ok(ObjectParts { name, kind, start })
 }
 
 fn kind_member(value: &Value, version: u8) -> Option<Kind>

@@ -8,8 +8,9 @@ use crate::counts::Counts;
 use crate::digests::Digest;
 use crate::hashing::{Labels, NameHashing, Texts};
 use crate::hints::{Hints, place_in};
-use batch::{NoMemory, Step};
+use batch::Step;
 use indexmap::{IndexMap, IndexSet};
+use serial::NoMemory;
 use std::alloc::Global;
 
 /// The texts that are numbered so far, with hints at the places of the items.
@@ -21,7 +22,7 @@ pub struct Numbering {
 }
 
 /// In which order the reasons of a step's handlers may come, where no tree is made of the document.
-#[derive(Clone, Copy, Drop)]
+#[derive(Clone, Copy, Debug, Drop)]
 pub enum ReasonOrder {
     /// In that of their bytes.
     Ascending,

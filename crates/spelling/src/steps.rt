@@ -32,7 +32,7 @@ use serde_json::{Map, Value};
 use std::alloc::Global;
 
 /// What a step is, by the one member that says so.
-#[derive(Clone, Copy, Drop)]
+#[derive(Clone, Copy, Debug, Drop)]
 pub enum Sort {
     Operation,
     If,

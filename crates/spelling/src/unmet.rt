@@ -3,8 +3,8 @@ ghost use Rattle.std.specs.Prelude.{◌≡◌, ◌≢◌, ◌++◌, codes, strin
 ghost use Rattle.spelling.specs.Answer.{found_of, pointer_text};
 ghost use Rattle.spelling.specs.Places.{found_inside, item_at, member_named};
 
-use batch::NoMemory;
 use rules::{Failure, pointer_token};
+use serial::NoMemory;
 use std::alloc::{AllocError, AllocFailed, Global};
 
 /// A demand that is not met: the rule that isn't kept, and the pointer from a value to the part

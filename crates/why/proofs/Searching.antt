@@ -6,22 +6,22 @@ use Rattle.std.proofs.lemmas.List.{take_more, take_all, map-append}
 use Rattle.std.proofs.lemmas.List.Elements.{All-nil, All-append, All-cons, All-same, filter-append}
 use Rattle.why.specs.Why.{Placed, IsFirstWithout}
 use Rattle.why.specs.Places.{place_view, places_view}
-use Rattle.why.specs.declared.places.Place.{Place}
+use Rattle.why.specs.declared.places.PlacedOperation.{PlacedOperation}
 use Rattle.why.proofs.Linked.{left_in}
 
 -- the list at one of its places
-split_at : (places : List Place) (i : ℕ) (x : Place) → i < length places → x ≡ get_or places i x
+split_at : (places : List PlacedOperation) (i : ℕ) (x : PlacedOperation) → i < length places → x ≡ get_or places i x
     → places ≡ take i places ++ x ∷ drop (suc i) places
 split_at places i x lt is =
     sym (take-append-drop i places) ∙ ap (λ rest. take i places ++ rest) (drop-cons places i x lt)
     ∙ ap (λ y. take i places ++ y ∷ drop (suc i) places) (sym is)
 
-split_view : (places : List Place) (i : ℕ) (x : Place) → i < length places → x ≡ get_or places i x
+split_view : (places : List PlacedOperation) (i : ℕ) (x : PlacedOperation) → i < length places → x ≡ get_or places i x
     → places_view places ≡ places_view (take i places) ++ place_view x ∷ places_view (drop (suc i) places)
 split_view places i x lt is = ap places_view (split_at places i x lt is)
     ∙ map-append place_view (take i places) (x ∷ drop (suc i) places)
 
-more_view : (places : List Place) (i : ℕ) (x : Place) → i < length places → x ≡ get_or places i x
+more_view : (places : List PlacedOperation) (i : ℕ) (x : PlacedOperation) → i < length places → x ≡ get_or places i x
     → places_view (take (i + 1) places) ≡ places_view (take i places) ++ place_view x ∷ []
 more_view places i x lt is =
     ap places_view (take_more places i x lt ∙ ap (λ y. take i places ++ y ∷ []) (sym is))
@@ -38,7 +38,8 @@ first_if false p ps = refl
 left_first : (p : Placed) (ps : List Placed) → left_in (p ∷ ps) ≡ if_left p.left p ++ left_in ps
 left_first p ps = first_if p.left p (left_in ps)
 
-module _ (P : Placed → Type 0) (places : List Place) (i : ℕ) (x : Place) (lt : i < length places) (is : x ≡ get_or places i x) where
+module _ (P : Placed → Type 0) (places : List PlacedOperation) (i : ℕ) (x : PlacedOperation) (lt : i < length places)
+    (is : x ≡ get_or places i x) where
   pub first_here : All P (places_view (take i places)) → ¬ P (place_view x) → IsFirstWithout P (places_view places) (place_view x)
   first_here clear fails = record {
     before = places_view (take i places);
@@ -88,10 +89,10 @@ module _ (P : Placed → Type 0) (places : List Place) (i : ℕ) (x : Place) (lt
       → All P (left_in (places_view (take (i + 1) places)))
   later_not_left clear same = All-same P _ _ (left_more false same ∙ append-nil _) clear
 
-pub none_at_end : (P : Placed → Type 0) (places : List Place) (i : ℕ) → length places ≤ i → All P (places_view (take i places))
+pub none_at_end : (P : Placed → Type 0) (places : List PlacedOperation) (i : ℕ) → length places ≤ i → All P (places_view (take i places))
     → All P (places_view places)
 none_at_end P places i le clear = subst (λ ps. All P (places_view ps)) (take_all i places le) clear
 
-pub none_left_at_end : (P : Placed → Type 0) (places : List Place) (i : ℕ) → length places ≤ i
+pub none_left_at_end : (P : Placed → Type 0) (places : List PlacedOperation) (i : ℕ) → length places ≤ i
     → All P (left_in (places_view (take i places))) → All P (left_in (places_view places))
 none_left_at_end P places i le clear = subst (λ ps. All P (left_in (places_view ps))) (take_all i places le) clear

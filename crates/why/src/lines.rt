@@ -9,13 +9,14 @@ ghost use Rattle.why.specs.Why.{IsWhyText, place_text};
 ghost use Rattle.why.specs.Places.{place_view};
 ghost use Rattle.why.specs.Rounds.{AreRuns, HasReached, HasPassed, IsRound, IsStopped, HasEarly, IsEarliest, IsWritten};
 
-use crate::places::{Place, places_of};
+use crate::places::{PlacedOperation, places_of};
 use crate::round::{Round, round_from};
 use crate::search::{first_early, first_late};
-use batch::{Batch, Names, NoMemory};
+use batch::{Batch, Names};
 use intentions::perform_each;
 use objects::{Entry, Objects};
 use report::{object_name, write_call, write_reply};
+use serial::NoMemory;
 use speculate::Run;
 use std::alloc::Global;
 use std::thread::Threads;
@@ -182,7 +183,7 @@ fn write_early(
     Ok(true)
 }
 
-fn write_place(out: &mut String, names: &Names, place: &Place) -> Result<(), NoMemory>
+fn write_place(out: &mut String, names: &Names, place: &PlacedOperation) -> Result<(), NoMemory>
     ensures { OnOk result (string_bytes out.new ≡ string_bytes out.old
         ++ place_text (names_of names.now) (place_view place.now)) }
 {

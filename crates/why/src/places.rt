@@ -6,15 +6,16 @@ ghost use Rattle.batch.specs.Views.{block_view, record_view, step_view, taken_vi
 ghost use Rattle.why.specs.Why.{has_ended, placed, placed_step, placed_child, placed_children};
 ghost use Rattle.why.specs.Places.{places_view, AreAdded};
 
-use batch::{Block, Names, NoMemory, Record, Step, Subaction, Taken};
+use batch::{Block, Names, Record, Step, Subaction, Taken};
 use meaning::End;
 use objects::{Call, Entry, Reply};
 use report::{branch_path, handler_place, part_path, reason_of};
+use serial::NoMemory;
 use std::alloc::Global;
 
 /// An operation of a run with the path of its step, and whether the run leaves it.
 #[derive(Debug, Drop)]
-pub(crate) struct Place {
+pub(crate) struct PlacedOperation {
     pub(crate) path: String,
     pub(crate) entry: Entry,
     pub(crate) left: bool,
@@ -36,7 +37,7 @@ pub(crate) fn places_of(
     number: usize,
     block: &Block,
     done: &Record,
-) -> Result<Vec<Place>, NoMemory>
+) -> Result<Vec<PlacedOperation>, NoMemory>
     ensures { IfOk result (λ places. places_view places.items
         ≡ placed (names_of names.now) (decimal number) 1 (has_ended done.now.outcome)
         (block_view block.now) (record_view done.now)) }
@@ -55,7 +56,7 @@ pub(crate) fn places_of(
 #[cycle(places)]
 fn place_block(
     alloc: Global,
-    places: &mut Vec<Place>,
+    places: &mut Vec<PlacedOperation>,
     spot: Spot<'_>,
     block: &Block,
     done: &Record,
@@ -82,7 +83,7 @@ fn place_block(
 #[cycle(places)]
 fn place_step(
     alloc: Global,
-    places: &mut Vec<Place>,
+    places: &mut Vec<PlacedOperation>,
     spot: Spot<'_>,
     step: &Step,
     taken: &Taken,
@@ -128,7 +129,7 @@ fn place_step(
 #[cycle(places)]
 fn place_child(
     alloc: Global,
-    places: &mut Vec<Place>,
+    places: &mut Vec<PlacedOperation>,
     spot: Spot<'_>,
     child: &Subaction,
     body: &Record,
@@ -164,7 +165,7 @@ fn place_child(
 #[cycle(places)]
 fn place_children(
     alloc: Global,
-    places: &mut Vec<Place>,
+    places: &mut Vec<PlacedOperation>,
     spot: Spot<'_>,
     children: &[Subaction],
     all_tried: &[(Record, Option<Record>)],
@@ -191,7 +192,7 @@ fn place_children(
 
 fn place_operation(
     alloc: Global,
-    places: &mut Vec<Place>,
+    places: &mut Vec<PlacedOperation>,
     spot: Spot<'_>,
     object: u32,
     call: &Call,
@@ -210,7 +211,7 @@ fn place_operation(
         reply: *reply,
     };
     let left = spot.left;
-    places.push(Place { path, entry, left })?;
+    places.push(PlacedOperation { path, entry, left })?;
     Ok(())
 }
 

@@ -5,8 +5,10 @@ ghost use Rattle.batch.specs.Parts.{start_of, blocks_of};
 ghost use Rattle.why.specs.Rounds.{IsRound};
 
 use batch::Batch;
-use intentions::{Committed, mark_all};
-use speculate::{NoGate, NoMemory, Objects, Run, run};
+use committed::{Committed, mark_all};
+use objects::Objects;
+use serial::NoMemory;
+use speculate::{NoGate, Run, run};
 use std::alloc::Global;
 use std::thread::Threads;
 

@@ -6,12 +6,15 @@ ghost use Rattle.objects.specs.Entries.{CommuteForward, CommutesWith};
 ghost use Rattle.why.specs.Why.{IsFirstWithout};
 ghost use Rattle.why.specs.Places.{place_view, places_view};
 
-use crate::places::Place;
-use intentions::{Committed, MarkedEntry};
+use crate::places::PlacedOperation;
+use committed::{Committed, MarkedEntry};
 use objects::{Entry, commute};
 
 /// The first operation that doesn't commute forward with all of these entries, if there is one.
-pub(crate) fn first_late<'p>(places: &'p [Place], nets: &Committed) -> Option<&'p Place>
+pub(crate) fn first_late<'p>(
+    places: &'p [PlacedOperation],
+    nets: &Committed,
+) -> Option<&'p PlacedOperation>
     ensures found { IfSome result (λ place. IsFirstWithout (λ p.
         CommutesWith p.entry nets.now) (places_view places.now) (place_view place.now)) }
     ensures none { IsNone result → All (λ p. CommutesWith p.entry nets.now)
@@ -35,7 +38,10 @@ fn commutes_with(entry: &Entry, nets: &Committed) -> bool
 
 /// The first operation of those that are left with which the entry doesn't commute forward, if
 /// there is one.
-pub(crate) fn first_early<'p>(places: &'p [Place], late: &Entry) -> Option<&'p Place>
+pub(crate) fn first_early<'p>(
+    places: &'p [PlacedOperation],
+    late: &Entry,
+) -> Option<&'p PlacedOperation>
     ensures found { IfSome result (λ place. IsFirstWithout (λ p.
         CommuteForward late.now p.entry) (filter (λ p.
         p.left) (places_view places.now)) (place_view place.now)) }

@@ -1,5 +1,5 @@
 -- Verbs, and calls as they are said: a verb and its arguments.
-use Rattle.std.specs.Prelude.{ℕ, Bool, true, false, List, codes, Option, nat_le, ◌&&◌, ⊤}
+use Rattle.std.specs.Prelude.{ℕ, Bool, true, false, List, [], ◌∷◌, codes, Option, nat_le, ◌&&◌, ⊤}
 use Rattle.std.specs.List.{find}
 use Rattle.std.specs.Str.{bytes_eq}
 use Rattle.atoms.specs.declared.item.Item.{Item}
@@ -28,7 +28,6 @@ use Rattle.words.specs.declared.verb.Verb.{Verb}
 use Rattle.words.specs.declared.verb.Verb.TheVariants.{OfAmount, OfItem, OfPair, Alone}
 use Rattle.words.specs.declared.verb.Phrase.{Phrase}
 use Rattle.words.specs.declared.verb.Phrase.TheVariants as phrase
-use Rattle.words.specs.declared.verb.TheConstants.{ACCOUNT_VERBS, COUNTER_VERBS, SET_VERBS, QUEUE_VERBS, DIRECTORY_VERBS, MAX_VERBS}
 
 abbrev pub verb_text : Verb → List ℕ
 verb_text (OfAmount Deposit) = codes "deposit"
@@ -58,12 +57,12 @@ verb_since v = 1
 
 -- the verbs of a kind's calls
 abbrev pub verbs_of : Kind → List Verb
-verbs_of kind.Account = ACCOUNT_VERBS
-verbs_of kind.Counter = COUNTER_VERBS
-verbs_of kind.Set = SET_VERBS
-verbs_of kind.Queue = QUEUE_VERBS
-verbs_of kind.Directory = DIRECTORY_VERBS
-verbs_of kind.Max = MAX_VERBS
+verbs_of kind.Account = OfAmount Deposit ∷ OfAmount Withdraw ∷ Alone Balance ∷ []
+verbs_of kind.Counter = OfAmount Add ∷ OfAmount Sub ∷ Alone Read ∷ []
+verbs_of kind.Set = OfItem Insert ∷ OfItem Remove ∷ OfItem Has ∷ Alone Size ∷ []
+verbs_of kind.Queue = OfItem Enq ∷ Alone Deq ∷ Alone Length ∷ []
+verbs_of kind.Directory = OfPair Bind ∷ OfPair Put ∷ OfItem Unbind ∷ OfItem Lookup ∷ []
+verbs_of kind.Max = OfAmount Raise ∷ Alone Top ∷ []
 
 -- whether the text is the word for the verb in a document of a version
 abbrev pub is_verb_text : ℕ → List ℕ → Verb → Bool

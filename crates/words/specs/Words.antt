@@ -1,14 +1,12 @@
 -- The words of kinds, replies and outcomes.
-use Rattle.std.specs.Prelude.{ℕ, Bool, List, codes, Option, nat_le, ◌&&◌}
+use Rattle.std.specs.Prelude.{ℕ, Bool, List, [], ◌∷◌, codes, Option, nat_le, ◌&&◌}
 use Rattle.std.specs.List.{find}
 use Rattle.std.specs.Str.{bytes_eq}
 use Rattle.objects.specs.declared.kind.Kind.{Kind}
 use Rattle.objects.specs.declared.kind.Kind.TheVariants as kind
-use Rattle.words.specs.declared.kind.TheConstants.{KINDS}
 use Rattle.words.specs.declared.word.Word.{Word}
 use Rattle.words.specs.declared.word.Word.TheVariants.{Ok, No, Added, Present, Removed, Absent, Yes, Got, Empty, Bound, Taken, Gone}
 use Rattle.words.specs.declared.word.Word.TheVariants.{Missing, Found, Committed, Aborted}
-use Rattle.words.specs.declared.word.TheConstants.{WORDS}
 
 abbrev pub kind_text : Kind → List ℕ
 kind_text kind.Account = codes "account"
@@ -17,6 +15,9 @@ kind_text kind.Set = codes "set"
 kind_text kind.Queue = codes "queue"
 kind_text kind.Directory = codes "directory"
 kind_text kind.Max = codes "max"
+
+abbrev pub all_kinds : List Kind
+all_kinds = kind.Account ∷ kind.Counter ∷ kind.Set ∷ kind.Queue ∷ kind.Directory ∷ kind.Max ∷ []
 
 -- the first version of documents that has the kind
 abbrev pub kind_since : Kind → ℕ
@@ -29,7 +30,7 @@ is_kind_text version s k = bytes_eq (kind_text k) s && nat_le (kind_since k) ver
 
 -- the kind that a word names in a document of a version
 unfoldable pub kind_of_text : ℕ → List ℕ → Option Kind
-kind_of_text version s = find (is_kind_text version s) KINDS
+kind_of_text version s = find (is_kind_text version s) all_kinds
 
 abbrev pub word_text : Word → List ℕ
 word_text Ok = codes "ok"
@@ -49,6 +50,10 @@ word_text Found = codes "found"
 word_text Committed = codes "committed"
 word_text Aborted = codes "aborted"
 
+abbrev pub all_words : List Word
+all_words = Ok ∷ No ∷ Added ∷ Present ∷ Removed ∷ Absent ∷ Yes ∷ Got ∷ Empty ∷ Bound ∷ Taken ∷ Gone ∷ Missing ∷ Found ∷ Committed
+    ∷ Aborted ∷ []
+
 -- the word that a text is
 unfoldable pub word_of_text : List ℕ → Option Word
-word_of_text s = find (λ w. bytes_eq (word_text w) s) WORDS
+word_of_text s = find (λ w. bytes_eq (word_text w) s) all_words

@@ -3,9 +3,8 @@ ghost use Rattle.std.specs.Prelude.{◌≡◌};
 ghost use Rattle.words.specs.Verbs.{amount_call, has_item, has_number, has_word, is_verb_text, item_call, lone_call, pair_call, phrase_of, verb_of_text, verb_since, verb_text, verbs_of};
 
 use crate::word::Word;
-use objects::{
-    AccountCall, Amount, Call, CounterCall, DirectoryCall, Item, Kind, MaxCall, QueueCall, SetCall,
-};
+use atoms::{AccountCall, Amount, CounterCall, DirectoryCall, Item, MaxCall, QueueCall, SetCall};
+use objects::{Call, Kind};
 
 /// The verbs that take an amount.
 #[derive(Clone, Copy, Debug, Drop, PartialEq, Eq)]

@@ -8,7 +8,7 @@ use Rattle.std.proofs.lemmas.List.Elements.{All-push, All-pop}
 use Rattle.std.specs.List.{All}
 use Rattle.claims.specs.declared.claim.Claim.{Claim}
 use Rattle.claims.specs.declared.claim.Claim.TheVariants.{Piece}
-use Rattle.claims.specs.declared.view.View.{View}
+use Rattle.claims.specs.declared.view.SeatView.{SeatView}
 use Rattle.claims.specs.Steps.{with_piece}
 use Rattle.claims.specs.Views.{is_over}
 use Rattle.claims.specs.Seated.{Seated, Opened, IsSeatOf}
@@ -39,7 +39,7 @@ first_claim board before after claim (_, unused) own answer over = record {
 }
 
 -- a seat that got a piece drew it
-pub drew : (pieces : ℕ) (v w : View) (claim : Claim) (k : ℕ) → claim ≡ Piece k → Answers pieces v claim w → w ≡ with_piece v k
+pub drew : (pieces : ℕ) (v w : SeatView) (claim : Claim) (k : ℕ) → claim ≡ Piece k → Answers pieces v claim w → w ≡ with_piece v k
 drew pieces v w claim k is answer = (subst (λ a. Answers pieces v a w) is answer).2
 
 -- one seat more

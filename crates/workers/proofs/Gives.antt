@@ -12,10 +12,10 @@ use Rattle.std.specs.Prelude.{Option, None, Some, IfSome, IsSome, Result, Ok, If
 use Rattle.std.proofs.lemmas.Option.{IfSome_then}
 use Rattle.std.proofs.lemmas.Result.{IfOk-weaker}
 use Rattle.claims.specs.Views.{is_over, HoldsEachBelow, all_drawn}
-use Rattle.claims.specs.declared.view.View.{View}
+use Rattle.claims.specs.declared.view.SeatView.{SeatView}
 use Rattle.claims.specs.Steps.{with_piece}
 use Rattle.claims.specs.Seated.{Seated, Opened, IsSeatOf, views_of}
-use Rattle.workers.specs.declared.work.Bench.{Bench}
+use Rattle.workers.specs.declared.work.WorkerState.{WorkerState}
 use Rattle.workers.specs.declared.work.Worked.{Worked}
 use Rattle.workers.specs.Seating.{IsNewSeat}
 use Rattle.workers.specs.Working.{IsLeft, CanGiveAll, given_at, Gives, IsAdded, AreGiven, AreGivenOnce, HasWorked}
@@ -112,11 +112,11 @@ module _ {X : Type 0} (giving : ℕ → List X → Type 0) where
       }
 
 -- the items of a seat, unless it raised
-abbrev pub SeatGave : {X : Type 0} → (ℕ → List X → Type 0) → View → List X → Type 0
+abbrev pub SeatGave : {X : Type 0} → (ℕ → List X → Type 0) → SeatView → List X → Type 0
 SeatGave giving v items = v.raised ≡ false → AreGiven giving v.drawn items
 
 -- the piece that the seat drew was done, unless the seat raised
-pub given_next : {X : Type 0} (giving : ℕ → List X → Type 0) (v mid w : View) (k : ℕ) (xs ys : List X)
+pub given_next : {X : Type 0} (giving : ℕ → List X → Type 0) (v mid w : SeatView) (k : ℕ) (xs ys : List X)
     → mid ≡ with_piece v k → SeatGave giving v xs → RaisedOnly mid w
     → (w.raised ≡ false → (mid.raised ≡ false) × IsAdded giving k xs ys) → SeatGave giving w ys
 given_next giving v mid w k xs ys drew given same done calm =
@@ -134,39 +134,40 @@ given_weaker giving more each [] items none = none
 given_weaker giving more each (k ∷ ks) items (own, rest, is, here, others) =
     (own, rest, is, each k own here, given_weaker giving more each ks rest others)
 
--- doing a piece at a bench adds what the piece gives
-left_adds : {D X : Type 0} (pieces : ℕ) (can : ℕ → Bench D X → Type 0)
-    (done : ℕ → Bench D X → Result (Bench D X) NoMemory → Type 0) → CanGiveAll pieces can done → (k : ℕ) → k < pieces
-    → (bench : Option (Bench D X)) (after : Bench D X) → IsLeft (done k) bench after
-    → IsAdded (Gives done) k (given_at bench) after.items.items
-left_adds pieces can done rule k lt bench after left =
+-- doing a piece at a state adds what the piece gives
+left_adds : {D X : Type 0} (pieces : ℕ) (can : ℕ → WorkerState D X → Type 0)
+    (done : ℕ → WorkerState D X → Result (WorkerState D X) NoMemory → Type 0) → CanGiveAll pieces can done → (k : ℕ) → k < pieces
+    → (state : Option (WorkerState D X)) (after : WorkerState D X) → IsLeft (done k) state after
+    → IsAdded (Gives done) k (given_at state) after.items.items
+left_adds pieces can done rule k lt state after left =
     let (own, is) = rule.adds k left.before after lt left.made in
     subst (λ b. IsAdded (Gives done) k (given_at b) after.items.items) (sym left.was)
     (own, is, record { before = left.before; after = after; made = left.made; is = is })
 
--- where the seat didn't raise, a bench was left, and what the piece gave is added there
-pub added_at : {D X : Type 0} (pieces : ℕ) (can : ℕ → Bench D X → Type 0)
-    (done : ℕ → Bench D X → Result (Bench D X) NoMemory → Type 0) → CanGiveAll pieces can done → (k : ℕ) → k < pieces
-    → (bench next : Option (Bench D X)) → IfSome next (λ after. IsLeft (done k) bench after) → IsSome next
-    → IsAdded (Gives done) k (given_at bench) (given_at next)
-added_at pieces can done rule k lt bench None left some = absurd (true≢false (sym some))
-added_at pieces can done rule k lt bench (Some after) left some = left_adds pieces can done rule k lt bench after left
+-- where the seat didn't raise, a state was left, and what the piece gave is added there
+pub added_at : {D X : Type 0} (pieces : ℕ) (can : ℕ → WorkerState D X → Type 0)
+    (done : ℕ → WorkerState D X → Result (WorkerState D X) NoMemory → Type 0) → CanGiveAll pieces can done → (k : ℕ) → k < pieces
+    → (state next : Option (WorkerState D X)) → IfSome next (λ after. IsLeft (done k) state after) → IsSome next
+    → IsAdded (Gives done) k (given_at state) (given_at next)
+added_at pieces can done rule k lt state None left some = absurd (true≢false (sym some))
+added_at pieces can done rule k lt state (Some after) left some = left_adds pieces can done rule k lt state after left
 
--- each piece can be done at this bench, if there is one
-abbrev pub IsReady : {D X : Type 0} → ℕ → (ℕ → Bench D X → Type 0) → Option (Bench D X) → Type 0
-IsReady {D} {X} pieces can bench = IfSome bench (λ (b : Bench D X). (k : ℕ) → k < pieces → can k b)
+-- each piece can be done at this state, if there is one
+abbrev pub IsReady : {D X : Type 0} → ℕ → (ℕ → WorkerState D X → Type 0) → Option (WorkerState D X) → Type 0
+IsReady {D} {X} pieces can state = IfSome state (λ (b : WorkerState D X). (k : ℕ) → k < pieces → can k b)
 
 -- so it is at one that a piece left
-pub ready_next : {D X : Type 0} (pieces : ℕ) (can : ℕ → Bench D X → Type 0)
-    (done : ℕ → Bench D X → Result (Bench D X) NoMemory → Type 0) → CanGiveAll pieces can done → (j : ℕ) → j < pieces
-    → (bench next : Option (Bench D X)) → IfSome next (λ after. IsLeft (done j) bench after) → IsReady pieces can next
-ready_next pieces can done rule j below bench next left =
+pub ready_next : {D X : Type 0} (pieces : ℕ) (can : ℕ → WorkerState D X → Type 0)
+    (done : ℕ → WorkerState D X → Result (WorkerState D X) NoMemory → Type 0) → CanGiveAll pieces can done → (j : ℕ) → j < pieces
+    → (state next : Option (WorkerState D X)) → IfSome next (λ after. IsLeft (done j) state after) → IsReady pieces can next
+ready_next pieces can done rule j below state next left =
     IfSome_then next left (λ after is k lt. rule.next j k is.before after below lt is.made)
 
 -- what is known of what each piece adds is known of what all pieces give
-pub given_by : {D X E : Type 0} (done : ℕ → Bench D X → Result (Bench D X) NoMemory → Type 0) (n : ℕ) (more : ℕ → List X → Type 0)
+pub given_by : {D X E : Type 0} (done : ℕ → WorkerState D X → Result (WorkerState D X) NoMemory → Type 0) (n : ℕ)
+    (more : ℕ → List X → Type 0)
     (r : Result (Vec X Global) E) → IfOk r (λ items. AreGivenOnce (Gives done) n items.items)
-    → ((k : ℕ) (before after : Bench D X) → done k before (Ok after) → IsAdded more k before.items.items after.items.items)
+    → ((k : ℕ) (before after : WorkerState D X) → done k before (Ok after) → IsAdded more k before.items.items after.items.items)
     → IfOk r (λ items. AreGivenOnce more n items.items)
 given_by done n more r all each = IfOk-weaker r _ _
     (λ items given. record {

@@ -1,41 +1,42 @@
 -- What pieces give, and what a worker brings back.
 use Rattle.std.specs.Prelude.{◌≡◌, ℕ, ◌<◌, true, false, List, [], ◌∷◌, ◌++◌, Option, None, Some, Result, Ok}
 use Rattle.serial.specs.declared.NoMemory.{NoMemory}
-use Rattle.claims.specs.declared.view.View.{View}
+use Rattle.claims.specs.declared.view.SeatView.{SeatView}
 use Rattle.claims.specs.Views.{is_over, HoldsEachBelow}
 use Rattle.claims.specs.Seated.{Opened, IsSeatOf}
-use Rattle.workers.specs.declared.work.Bench.{Bench}
+use Rattle.workers.specs.declared.work.WorkerState.{WorkerState}
 use Rattle.workers.specs.declared.work.Worked.{Worked}
 
--- a bench with no desk and no items
-pub record IsNewBench {D X : Type 0} (bench : Bench D X) : Type 0 where
-  pub undesked : bench.desk ≡ None
-  pub empty : bench.items.items ≡ []
+-- a state with no workspace and no items
+pub record IsNewState {D X : Type 0} (state : WorkerState D X) : Type 0 where
+  pub unspaced : state.workspace ≡ None
+  pub empty : state.items.items ≡ []
 
--- doing a piece at this bench, if there is one, may leave the other
-pub record IsLeft {D X : Type 0} (done : Bench D X → Result (Bench D X) NoMemory → Type 0) (bench : Option (Bench D X))
-    (after : Bench D X) : Type 0 where
-  pub before : Bench D X
-  pub was : bench ≡ Some before
+-- doing a piece at this state, if there is one, may leave the other
+pub record IsLeft {D X : Type 0} (done : WorkerState D X → Result (WorkerState D X) NoMemory → Type 0) (state : Option (WorkerState D X))
+    (after : WorkerState D X) : Type 0 where
+  pub before : WorkerState D X
+  pub was : state ≡ Some before
   pub made : done before (Ok after)
 
--- each piece can be done at a new bench, and at one that a piece left. What a piece gives is added there
-pub record CanGiveAll {D X : Type 0} (pieces : ℕ) (can : ℕ → Bench D X → Type 0)
-    (done : ℕ → Bench D X → Result (Bench D X) NoMemory → Type 0) : Type 0 where
-  pub first : (k : ℕ) (bench : Bench D X) → k < pieces → IsNewBench bench → can k bench
-  pub next : (j k : ℕ) (bench after : Bench D X) → j < pieces → k < pieces → done j bench (Ok after) → can k after
-  pub adds : (k : ℕ) (bench after : Bench D X) → k < pieces → done k bench (Ok after)
-      → (own : List X) × (after.items.items ≡ bench.items.items ++ own)
+-- each piece can be done at a new state, and at one that a piece left. What a piece gives is added there
+pub record CanGiveAll {D X : Type 0} (pieces : ℕ) (can : ℕ → WorkerState D X → Type 0)
+    (done : ℕ → WorkerState D X → Result (WorkerState D X) NoMemory → Type 0) : Type 0 where
+  pub first : (k : ℕ) (state : WorkerState D X) → k < pieces → IsNewState state → can k state
+  pub next : (j k : ℕ) (state after : WorkerState D X) → j < pieces → k < pieces → done j state (Ok after) → can k after
+  pub adds : (k : ℕ) (state after : WorkerState D X) → k < pieces → done k state (Ok after)
+      → (own : List X) × (after.items.items ≡ state.items.items ++ own)
 
--- the items at a bench, if there is one
-abbrev pub given_at : {D X : Type 0} → Option (Bench D X) → List X
+-- the items at a state, if there is one
+abbrev pub given_at : {D X : Type 0} → Option (WorkerState D X) → List X
 given_at None = []
-given_at (Some bench) = bench.items.items
+given_at (Some state) = state.items.items
 
--- the items of a piece are those that doing it adds at some bench
-pub record Gives {D X : Type 0} (done : ℕ → Bench D X → Result (Bench D X) NoMemory → Type 0) (piece : ℕ) (items : List X) : Type 0 where
-  pub before : Bench D X
-  pub after : Bench D X
+-- the items of a piece are those that doing it adds at some state
+pub record Gives {D X : Type 0} (done : ℕ → WorkerState D X → Result (WorkerState D X) NoMemory → Type 0) (piece : ℕ)
+    (items : List X) : Type 0 where
+  pub before : WorkerState D X
+  pub after : WorkerState D X
   pub made : done piece before (Ok after)
   pub is : after.items.items ≡ before.items.items ++ items
 
@@ -61,5 +62,5 @@ pub record HasWorked {X : Type 0} (giving : ℕ → List X → Type 0) (board : 
   pub given : worked.seat.view.raised ≡ false → AreGiven giving worked.seat.view.drawn worked.items.items
 
 -- only raised changed
-abbrev pub RaisedOnly : View → View → Type 0
+abbrev pub RaisedOnly : SeatView → SeatView → Type 0
 RaisedOnly v w = w ≡ record v { raised = w.raised }

@@ -8,7 +8,8 @@ ghost use Rattle.workers.specs.Testing.{Passing, Failing, Judged, LowFails, Soug
 
 use crate::cascade::at_each_seat;
 use crate::seats::seats_for;
-use claims::{Board, Claim, NoMemory, Seat};
+use claims::{Board, Claim, Seat};
+use serial::NoMemory;
 use std::alloc::{AllocError, Global};
 use std::thread::Threads;
 

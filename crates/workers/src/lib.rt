@@ -14,4 +14,4 @@ mod work;
 
 pub use least::first_failing;
 pub use serial::NoMemory;
-pub use work::{Bench, give_all};
+pub use work::{WorkerState, give_all};

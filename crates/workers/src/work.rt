@@ -8,7 +8,8 @@ ghost use Rattle.workers.specs.Working.{IsLeft, CanGiveAll, given_at, Gives, Rai
 
 use crate::cascade::at_each_seat;
 use crate::seats::seats_for;
-use claims::{Board, Claim, NoMemory, Seat};
+use claims::{Board, Claim, Seat};
+use serial::NoMemory;
 use std::alloc::{AllocError, Global};
 use std::thread::Threads;
 
@@ -19,26 +20,26 @@ pub(crate) struct Worked<X> {
     pub(crate) items: Vec<X>,
 }
 
-/// What a worker has from piece to piece: its desk, which is what it works with, and the items that
-/// its pieces gave.
+/// What a worker has from piece to piece: what it works with, and the items that its pieces gave.
 #[derive(Drop)]
-pub struct Bench<D, X> {
-    /// What the worker works with. There is none before its first piece.
-    pub desk: Option<D>,
+pub struct WorkerState<D, X> {
+    /// What it works with. There is none before its first piece.
+    pub workspace: Option<D>,
     /// What its pieces gave.
     pub items: Vec<X>,
 }
 
-// Does a piece at a bench. There is no bench after it where there was none, or no memory.
-fn give_at<D: Drop, X: Drop, F: Fn(u32, Bench<D, X>) -> Result<Bench<D, X>, NoMemory>>(
+// A worker with this state does a piece. There is no state after it where there was none, or no
+// memory.
+fn give_at<D: Drop, X: Drop, F: Fn(u32, WorkerState<D, X>) -> Result<WorkerState<D, X>, NoMemory>>(
     give: &F,
     piece: u32,
-    bench: Option<Bench<D, X>>,
-) -> Option<Bench<D, X>>
-    requires { IfSome bench (F.pre give.now piece) }
-    ensures { IfSome result (λ after. IsLeft (F.post give.now piece) bench after) }
+    state: Option<WorkerState<D, X>>,
+) -> Option<WorkerState<D, X>>
+    requires { IfSome state (F.pre give.now piece) }
+    ensures { IfSome result (λ after. IsLeft (F.post give.now piece) state after) }
 {
-    match give(piece, bench?) {
+    match give(piece, state?) {
         Ok(after) => Some(after),
         Err(_) => None,
     }
@@ -46,39 +47,44 @@ fn give_at<D: Drop, X: Drop, F: Fn(u32, Bench<D, X>) -> Result<Bench<D, X>, NoMe
 
 // Does a piece that the seat drew. A worker that finds no memory raises, and so its next claim
 // returns `Stopped`.
-fn do_piece<D: Drop, X: Drop, F: Fn(u32, Bench<D, X>) -> Result<Bench<D, X>, NoMemory>>(
+fn do_piece<D: Drop, X: Drop, F: Fn(u32, WorkerState<D, X>) -> Result<WorkerState<D, X>, NoMemory>>(
     board: &Board,
     give: &F,
     seat: &mut Seat,
     piece: u32,
-    bench: Option<Bench<D, X>>,
-) -> Option<Bench<D, X>>
+    state: Option<WorkerState<D, X>>,
+) -> Option<WorkerState<D, X>>
     requires own { IsSeatOf board.now seat.old }
-    requires can { IfSome bench (F.pre give.now piece) }
+    requires can { IfSome state (F.pre give.now piece) }
     ensures own { IsSeatOf board.now seat.new }
     ensures same { RaisedOnly seat.old.view seat.new.view }
-    ensures left { IfSome result (λ after. IsLeft (F.post give.now piece) bench after) }
+    ensures left { IfSome result (λ after. IsLeft (F.post give.now piece) state after) }
     ensures calm { seat.new.view.raised ≡ false → (seat.old.view.raised ≡ false) × IsSome result }
 {
-    let after = give_at(give, piece, bench);
+    let after = give_at(give, piece, state);
     if after.is_none() {
         board.raise(seat);
     }
     after
 }
 
-// The items at a bench, and none where there is no bench.
-fn items_at<D: Drop, X: Drop>(alloc: Global, bench: Option<Bench<D, X>>) -> Vec<X>
-    ensures { result.items ≡ given_at bench }
+// The items of a state, and none where there is no state.
+fn items_at<D: Drop, X: Drop>(alloc: Global, state: Option<WorkerState<D, X>>) -> Vec<X>
+    ensures { result.items ≡ given_at state }
 {
-    match bench {
-        Some(Bench { desk: _, items }) => items,
+    match state {
+        Some(
+            WorkerState {
+                workspace: _,
+                items,
+            },
+        ) => items,
         None => Vec::new(alloc),
     }
 }
 
-// Does pieces from the seat's first claim on, until the seat is over. All are done at one bench.
-fn work_one<D: Drop, X: Drop, F: Fn(u32, Bench<D, X>) -> Result<Bench<D, X>, NoMemory>>(
+// Does pieces from the seat's first claim on, until the seat is over. One state leads through all.
+fn work_one<D: Drop, X: Drop, F: Fn(u32, WorkerState<D, X>) -> Result<WorkerState<D, X>, NoMemory>>(
     alloc: Global,
     board: &Board,
     give: &F,
@@ -89,16 +95,16 @@ fn work_one<D: Drop, X: Drop, F: Fn(u32, Bench<D, X>) -> Result<Bench<D, X>, NoM
     requires can { CanGiveAll board.now.pieces (F.pre give.now) (F.post give.now) }
     ensures { HasWorked (Gives (F.post give.now)) board.now result }
 {
-    let mut bench = Some(Bench {
-        desk: None,
+    let mut state = Some(WorkerState {
+        workspace: None,
         items: Vec::new(alloc),
     });
     let mut claim = first;
     'claiming: while let Claim::Piece(piece) = claim {
-        bench = do_piece(board, give, &mut seat, piece, bench);
+        state = do_piece(board, give, &mut seat, piece, state);
         claim = board.claim(&mut seat);
     }
-    let items = items_at(alloc, bench);
+    let items = items_at(alloc, state);
     Worked { seat, items }
 }
 
@@ -108,7 +114,7 @@ fn work_all<
     R: Threads + Sync,
     D: Send + Drop,
     X: Send + Drop,
-    F: Fn(u32, Bench<D, X>) -> Result<Bench<D, X>, NoMemory> + Sync,
+    F: Fn(u32, WorkerState<D, X>) -> Result<WorkerState<D, X>, NoMemory> + Sync,
 >(
     threads: &R,
     alloc: Global,
@@ -160,8 +166,8 @@ fn part<X: Drop>(
 
 /// What all pieces give: the items of each piece side by side, the pieces in any order, each once.
 ///
-/// `give` does a piece at the worker's bench, and adds the items of the piece to those there. A
-/// worker does all its pieces at one bench, one after the other. It begins without a desk.
+/// `give` does a piece with the worker's state, and adds the items of the piece to those there. A
+/// worker does all its pieces with one state, one after the other. It begins without a workspace.
 ///
 /// Returns `NoMemory` where there is no memory for the board, its seats or a list, and where `give`
 /// returned it for a piece. The worker that met it raises, and each other one stops at a claim that
@@ -170,7 +176,7 @@ pub fn give_all<
     R: Threads + Sync,
     D: Send + Drop,
     X: Send + Drop,
-    F: Fn(u32, Bench<D, X>) -> Result<Bench<D, X>, NoMemory> + Sync,
+    F: Fn(u32, WorkerState<D, X>) -> Result<WorkerState<D, X>, NoMemory> + Sync,
 >(threads: &R, alloc: Global, pieces: u32, workers: u32, give: &F) -> Result<Vec<X>, NoMemory>
     requires pieces { pieces ≤ most_pieces }
     requires workers { (1 ≤ workers) × (workers ≤ most_seats) }

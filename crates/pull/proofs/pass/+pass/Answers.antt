@@ -12,8 +12,8 @@ use Rattle.serde_json.specs.Events.{items_len}
 use Rattle.serde_json.specs.Read.{converted, number_of, of_json}
 use Rattle.serde_json.specs.View.{number_view}
 use Rattle.serde_json.specs.Find.{as_i64}
-use Rattle.pull.specs.declared.pass.Seen.TheVariants.{Other}
-use Rattle.pull.specs.declared.pass.Seen.TheVariants as seen
+use Rattle.pull.specs.declared.pass.PassedValue.TheVariants.{Other}
+use Rattle.pull.specs.declared.pass.PassedValue.TheVariants as seen
 use Rattle.pull.specs.Passed.{seen_as, whole_or_other}
 use Rattle.spelling.specs.Scope.{fit}
 use Rattle.pull.specs.Pulled.{ReadsValue}

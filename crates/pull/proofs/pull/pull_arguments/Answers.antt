@@ -1,7 +1,7 @@
 use Rattle.std.proofs.Common.{◌≡◌, ◌∷◌, refl, arith, rules, sym, subst}
 use Rattle.json.specs.Token.{Token}
 use Rattle.serde_json.specs.Data.{no_items, item}
-use Rattle.rules.specs.declared.rule.Place.TheVariants.{Third, Fourth}
+use Rattle.rules.specs.declared.rule.OperandPlace.TheVariants.{Third, Fourth}
 use Rattle.spelling.specs.Scope.{numbers_of, scope_of}
 use Rattle.pull.specs.Pulled.{ReadsItems, op_array}
 use Rattle.pull.proofs.PulledLemmas.{reads_item, reads_no_items}

@@ -10,14 +10,14 @@ use Rattle.rounds.proofs.committing.commit.Goals as goal
 
 pub commit_by-requires-clause-spans : goal.commit_by-requires-clause-spans
 commit_by-requires-clause-spans g c κs within =
-    let all = c.args.crew.now.batch.now.transactions.items in
+    let all = c.args.job.now.batch.now.transactions.items in
     subst (λ bs. AreSpanned (views_of bs) 0 c.args.runs.now) (sym c.blocks_from-blocks.ensures)
     (later_spans all c.args.from c.args.runs.now c.requires.spans)
 
 pub commit_by-requires-clause-can : goal.commit_by-requires-clause-can
 commit_by-requires-clause-can g c κs within =
     let runs = c.args.runs.now in
-    let all = c.args.crew.now.batch.now.transactions.items in
+    let all = c.args.job.now.batch.now.transactions.items in
     subst (λ bs. CanPerformOn 0 c.values_mut.result.now (own_nets (views_of bs) 0 runs)) (sym c.blocks_from-blocks.ensures)
     (subst (CanPerformOn 0 c.values_mut.result.now) (sym (later_nets all c.args.from runs))
     (subst (λ vs. CanPerformOn 0 vs (own_nets (views_of all) c.args.from runs)) (sym c.values_mut.ensures.values)
@@ -28,7 +28,7 @@ returns g c =
     let old = c.args.objects.now in
     let new = c.commit_by.new.values in
     let runs = c.args.runs.now in
-    let batch = c.args.crew.now.batch.now in
+    let batch = c.args.job.now.batch.now in
     let nets = own_nets (blocks_of batch) c.args.from runs in
     let same : own_nets (views_of c.blocks_from-blocks.result.now) 0 runs ≡ nets =
     ap (λ bs. own_nets (views_of bs) 0 runs) c.blocks_from-blocks.ensures

@@ -13,7 +13,7 @@ give_all-requires-send-X g c κs within = search (sendable, numbered_crosses) de
 
 pub returns : goal.returns
 returns g c =
-    let batch = c.args.crew.now.batch.now in
+    let batch = c.args.job.now.batch.now in
     let objects = c.args.objects.now in
     let listed = c.args.nets.now in
     let numbers = c.args.numbers.now in

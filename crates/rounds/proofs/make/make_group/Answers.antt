@@ -7,16 +7,16 @@ use Rattle.rounds.proofs.Making.{none_made, made_more}
 use Rattle.rounds.proofs.make.make_group.Goals as goal
 
 pub loop-number-init : goal.loop-number-init
-loop-number-init g c = none_made c.args.crew.now.batch.now c.args.desk.now.view.snapshot c.args.nets.now c.args.group.now
-    c.args.desk.now c.args.all.now.items c.requires.ready
+loop-number-init g c = none_made c.args.job.now.batch.now c.args.workspace.now.view.snapshot c.args.nets.now c.args.group.now
+    c.args.workspace.now c.args.all.now.items c.requires.ready
 
 pub loop-number-preserved : goal.loop-number-preserved
 loop-number-preserved g c =
     let so_far = c.loop-number.invariant in
-    let batch = c.args.crew.now.batch.now in
-    let state = c.args.desk.now.view.snapshot in
+    let batch = c.args.job.now.batch.now in
+    let state = c.args.workspace.now.view.snapshot in
     let number = get_or c.args.group.now c.loop-number.number-index 0 in
-    let shown : c.loop-number.desk.view.snapshot ≡ state = ap (λ (v : View). v.snapshot) so_far.ready.opened in
+    let shown : c.loop-number.workspace.view.snapshot ≡ state = ap (λ (v : View). v.snapshot) so_far.ready.opened in
     let listed = c.args.nets.now in
     let passes = c.passes_list-passes.result in
     let made : NumberedRun = record { number = number; run = c.in_ok-run.run'; passes = passes } in

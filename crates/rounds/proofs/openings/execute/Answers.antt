@@ -28,8 +28,8 @@ opening-init g c =
 
 pub opening-preserved : goal.opening-preserved
 opening-preserved g c =
-    let batch = c.of-crew.result.batch.now in
-    let same = c.of-crew.ensures.batch in
+    let batch = c.of-job.result.batch.now in
+    let same = c.of-job.ensures.batch in
     let middle = c.make_rest.new.at in
     let new = c.round.new.at in
     let counts = c.make_rest.new.counts.items in

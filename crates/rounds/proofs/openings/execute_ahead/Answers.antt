@@ -13,7 +13,7 @@ opening-init g c = c.in_ok-at.ensures.opening
 
 pub opening-preserved : goal.opening-preserved
 opening-preserved g c =
-    c.drop_later.ensures.at c.args.batch.now (subst (λ b. IsOpening b c.round.new.at) c.of-crew.ensures.batch c.in_ok-round.ensures.at)
+    c.drop_later.ensures.at c.args.batch.now (subst (λ b. IsOpening b c.round.new.at) c.of-job.ensures.batch c.in_ok-round.ensures.at)
 
 pub opening-smaller : goal.opening-smaller
 opening-smaller g c =

@@ -13,11 +13,12 @@ use Rattle.rounds.proofs.WindowLemmas.{settled_flag, settled_window}
 use Rattle.rounds.proofs.openings.round.Goals as goal
 
 pub seek-requires-clause-going : goal.seek-requires-clause-going
-seek-requires-clause-going g c κs within = omega (arith, length-map c.args.crew.now.batch.now.transactions.items block_view, c.requires.going)
+seek-requires-clause-going g c κs within =
+    omega (arith, length-map c.args.job.now.batch.now.transactions.items block_view, c.requires.going)
 
 pub commit-requires-clause-spans : goal.commit-requires-clause-spans
 commit-requires-clause-spans g c κs within =
-    let batch = c.args.crew.now.batch.now in
+    let batch = c.args.job.now.batch.now in
     let seen = c.in_ok-seen.seen in
     let saw = c.in_ok-seen.ensures.seen in
     let opened = c.args.at.now.committed in
@@ -28,7 +29,7 @@ commit-requires-clause-spans g c κs within =
 
 pub commit-requires-clause-legal : goal.commit-requires-clause-legal
 commit-requires-clause-legal g c κs within =
-    let batch = c.args.crew.now.batch.now in
+    let batch = c.args.job.now.batch.now in
     let seen = c.in_ok-seen.seen in
     let saw = c.in_ok-seen.ensures.seen in
     let opened = c.args.at.now.committed in
@@ -39,7 +40,7 @@ commit-requires-clause-legal g c κs within =
 
 pub commit-requires-clause-room : goal.commit-requires-clause-room
 commit-requires-clause-room g c κs within =
-    let batch = c.args.crew.now.batch.now in
+    let batch = c.args.job.now.batch.now in
     let seen = c.in_ok-seen.seen in
     let saw = c.in_ok-seen.ensures.seen in
     let opened = c.args.at.now.committed in
@@ -50,7 +51,7 @@ commit-requires-clause-room g c κs within =
 
 pub returns-clause-at : goal.returns-clause-at
 returns-clause-at g c =
-    let batch = c.args.crew.now.batch.now in
+    let batch = c.args.job.now.batch.now in
     let start = start_of batch in
     let blocks = blocks_of batch in
     let count = c.len.ensures in
@@ -96,7 +97,7 @@ returns-clause-at g c =
 
 pub returns-clause-round : goal.returns-clause-round
 returns-clause-round g c =
-    let batch = c.args.crew.now.batch.now in
+    let batch = c.args.job.now.batch.now in
     let start = start_of batch in
     let blocks = blocks_of batch in
     let count = c.len.ensures in

@@ -12,7 +12,7 @@ use Rattle.rounds.proofs.seek.check_block.Goals as goal
 
 pub returns : goal.returns
 returns g c =
-    let batch = c.args.crew.now.batch.now in
+    let batch = c.args.job.now.batch.now in
     let opened = c.args.opened in
     let from = c.args.block.start in
     let end = c.args.block.end in

@@ -50,7 +50,7 @@ returns-then-not-stands-clause-reached g c =
 
 pub returns-then-not-stands-clause-seen : goal.returns-then-not-stands-clause-seen
 returns-then-not-stands-clause-seen g c =
-    let batch = c.args.crew.now.batch.now in
+    let batch = c.args.job.now.batch.now in
     let number = c.loop-number.number in
     let window = c.loop-number.window in
     let nets = c.loop-number.nets in
@@ -66,7 +66,7 @@ returns-then-not-stands-clause-seen g c =
 
 pub loop-number-preserved : goal.loop-number-preserved
 loop-number-preserved g c =
-    let batch = c.args.crew.now.batch.now in
+    let batch = c.args.job.now.batch.now in
     let from = c.args.block.start in
     let number = c.loop-number.number in
     let window = c.loop-number.window in
@@ -98,7 +98,7 @@ loop-number-preserved g c =
 pub returns-clause-seen : goal.returns-clause-seen
 returns-clause-seen g c =
     let over = c.loop-number-test.false in
-    let batch = c.args.crew.now.batch.now in
+    let batch = c.args.job.now.batch.now in
     let window = c.loop-number.window in
     let is : c.loop-number.number ≡ c.args.block.end = omega arith in
     all_seen batch c.args.opened c.args.block.end c.len-upto-2.result window c.loop-number.nets

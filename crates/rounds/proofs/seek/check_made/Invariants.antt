@@ -7,10 +7,10 @@ use Rattle.rounds.proofs.seek.check_made.Given as goal
 
 abbrev pub invariant-loop-number : goal.invariant-loop-number
 invariant-loop-number g l = record {
-  window : IsWindowAt l.crew.batch.now l.number (opening_state l.crew.batch.now l.opened) l.window;
+  window : IsWindowAt l.job.batch.now l.number (opening_state l.job.batch.now l.opened) l.window;
   grown : HasGrown l.block.start l.initial.window l.window;
   all : length l.window.runs.items ≡ length l.initial.window.runs.items;
-  listed : IsListedTo l.crew.batch.now l.opened l.number l.window l.nets;
+  listed : IsListedTo l.job.batch.now l.opened l.number l.window l.nets;
   valid : AllValid l.window l.number l.block.end;
   kept : take (length l.initial.nets) l.nets ≡ l.initial.nets;
   passing : (i : ℕ) (d : PendingRun) → l.number ≤ i → get_or l.passing (i - l.block.start) false ≡ true

@@ -3,10 +3,10 @@ use Rattle.std.proofs.lemmas.List.{length-map}
 use Rattle.meaning.specs.Batch.{state_at}
 use Rattle.intentions.specs.Levels.{Intentions as View}
 use Rattle.batch.specs.Views.{block_view}
-use Rattle.rounds.specs.Desks.{IsDeskOn}
+use Rattle.rounds.specs.Workspaces.{IsReadyOn}
 use Rattle.rounds.specs.Views.{start_of, blocks_of}
 use Rattle.rounds.specs.Windows.{IsWindowAt, IsListedTo, IsRoundSeen}
-use Rattle.rounds.specs.declared.check.Seen.{Seen}
+use Rattle.rounds.specs.declared.check.FirstConflict.{FirstConflict}
 use Rattle.rounds.proofs.Firsts.{all_taken}
 use Rattle.rounds.proofs.Listing.{grown_on, grown_before, not_grown, none_listed, still_listed, opens_at_conflict, opens_at_end}
 use Rattle.rounds.proofs.seek.seek.Goals as goal
@@ -15,9 +15,9 @@ pub looking-init : goal.looking-init
 looking-init g c = record {
   window = c.requires.window;
   grown = not_grown c.args.opened c.args.window.now;
-  listed = none_listed c.args.crew.now.batch.now c.args.opened c.args.window.now c.give-memory.new.self.nets
+  listed = none_listed c.args.job.now.batch.now c.args.opened c.args.window.now c.give-memory.new.self.nets
       c.requires.window.begun (c.give-memory.ensures ∙ c.requires.none);
-  ready = record { opened = c.open_in-desk.ensures.opened; unlabelled = c.open_in-desk.ensures.unlabelled };
+  ready = record { opened = c.open_in-workspace.ensures.opened; unlabelled = c.open_in-workspace.ensures.unlabelled };
   within = let going = c.requires.going in omega arith;
   reached = λ some. absurd (omega arith);
   some = c.requires.some;
@@ -29,16 +29,16 @@ check-requires-clause-opening g c κs within = ap (λ (v : View). v.snapshot) c.
 pub check-requires-clause-window : goal.check-requires-clause-window
 check-requires-clause-window g c κs within =
     let shown = ap (λ (v : View). v.snapshot) c.looking.invariant.ready.opened in
-    subst (λ s. IsWindowAt c.args.crew.now.batch.now c.looking.from s c.reach.new.self) (sym shown) c.in_ok-reach.ensures.window
+    subst (λ s. IsWindowAt c.args.job.now.batch.now c.looking.from s c.reach.new.self) (sym shown) c.in_ok-reach.ensures.window
 
 pub check-requires-clause-listed : goal.check-requires-clause-listed
 check-requires-clause-listed g c κs within =
-    still_listed c.args.crew.now.batch.now c.args.opened c.looking.from c.looking.window c.reach.new.self c.looking.reused.nets
+    still_listed c.args.job.now.batch.now c.args.opened c.looking.from c.looking.window c.reach.new.self c.looking.reused.nets
     c.looking.invariant.reached c.in_ok-reach.ensures.grown c.looking.invariant.listed
 
 pub returns-then-seen-end-clause-seen : goal.returns-then-seen-end-clause-seen
 returns-then-seen-end-clause-seen g c =
-    let batch = c.args.crew.now.batch.now in
+    let batch = c.args.job.now.batch.now in
     let opened = c.args.opened in
     let blocks : length (blocks_of batch) ≡ length batch.transactions.items = length-map batch.transactions.items block_view in
     let seen = c.in_ok-seen.seen in
@@ -59,7 +59,7 @@ returns-then-seen-end-clause-seen g c =
 
 pub looking-preserved : goal.looking-preserved
 looking-preserved g c =
-    let batch = c.args.crew.now.batch.now in
+    let batch = c.args.job.now.batch.now in
     let opened = c.args.opened in
     let window = c.check.new.window in
     let nets = c.check.new.nets in
@@ -78,7 +78,7 @@ looking-preserved g c =
           c.in_ok-seen.ensures.grown));
       listed = subst (λ n. IsListedTo batch opened n window nets) last (subst (IsListedTo batch opened c.in_ok-seen.seen.first window)
           (all_taken nets c.in_ok-seen.seen.upto (saw.all last)) saw.listed);
-      ready = subst (λ s. IsDeskOn s c.check.new.desk) shown c.in_ok-seen.ensures.ready;
+      ready = subst (λ s. IsReadyOn s c.check.new.workspace) shown c.in_ok-seen.ensures.ready;
       within = let end = c.min-end.ensures in let count = c.len-count.ensures in omega arith;
       reached = λ some.
           let all = c.in_ok-seen.ensures.reached in
@@ -90,7 +90,7 @@ looking-preserved g c =
 
 pub returns-clause-seen : goal.returns-clause-seen
 returns-clause-seen g c =
-    let batch = c.args.crew.now.batch.now in
+    let batch = c.args.job.now.batch.now in
     let opened = c.args.opened in
     let blocks : length (blocks_of batch) ≡ length batch.transactions.items = length-map batch.transactions.items block_view in
     let so_far = c.looking.invariant in
@@ -99,7 +99,7 @@ returns-clause-seen g c =
     let within = so_far.within in
     let nets = c.looking.reused.nets in
     let size : c.len-upto.result ≡ length nets = c.len-upto.ensures ∙ ap length c.take_back-2.ensures in
-    let seen : Seen = record { first = c.looking.from; upto = c.len-upto.result } in
+    let seen : FirstConflict = record { first = c.looking.from; upto = c.len-upto.result } in
     subst (λ listed. IsRoundSeen batch opened c.looking.window listed seen) (sym c.take_back-2.ensures) (record {
       opening = opens_at_end (start_of batch) (blocks_of batch) opened c.looking.from (omega arith) so_far.listed.keep;
       pending = subst (λ s. IsWindowAt batch c.looking.from s c.looking.window) c.requires.opening so_far.window;

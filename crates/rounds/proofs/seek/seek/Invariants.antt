@@ -1,19 +1,19 @@
 use Rattle.std.proofs.Common.{◌<◌, ◌≤◌, ◌-◌, length}
-use Rattle.rounds.specs.Desks.{IsDeskOn}
+use Rattle.rounds.specs.Workspaces.{IsReadyOn}
 use Rattle.rounds.specs.Views.{blocks_of}
 use Rattle.rounds.specs.Windows.{end_of, IsWindowAt, HasGrown, IsListedTo}
 use Rattle.rounds.proofs.seek.seek.Given as goal
 
 abbrev pub invariant-looking : goal.invariant-looking
 invariant-looking g l = record {
-  window : IsWindowAt l.crew.batch.now l.from l.objects l.window;
+  window : IsWindowAt l.job.batch.now l.from l.objects l.window;
   grown : HasGrown l.opened l.initial.window l.window;
-  listed : IsListedTo l.crew.batch.now l.opened l.from l.window l.reused.nets;
-  ready : IsDeskOn l.objects l.desk;
-  within : l.from ≤ length (blocks_of l.crew.batch.now);
+  listed : IsListedTo l.job.batch.now l.opened l.from l.window l.reused.nets;
+  ready : IsReadyOn l.objects l.workspace;
+  within : l.from ≤ length (blocks_of l.job.batch.now);
   reached : l.opened < l.from → l.from ≤ end_of l.window;
   some : 1 ≤ l.block;
 }
 
 abbrev pub decreases-looking : goal.decreases-looking
-decreases-looking g l = length l.crew.batch.now.transactions.items - l.from
+decreases-looking g l = length l.job.batch.now.transactions.items - l.from

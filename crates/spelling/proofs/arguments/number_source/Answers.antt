@@ -1,6 +1,6 @@
 use Rattle.serde_json.specs.View.{view}
 use Rattle.rules.specs.Subjects.{fits_number}
-use Rattle.rules.specs.declared.rule.Place.TheVariants.{Third}
+use Rattle.rules.specs.declared.rule.OperandPlace.TheVariants.{Third}
 use Rattle.rules.specs.declared.rule.SourceRule.TheVariants.{Number}
 use Rattle.spelling.specs.Answer.{IsFirst}
 use Rattle.spelling.specs.Asked.{source_asked}

@@ -1,7 +1,7 @@
 use Rattle.std.proofs.Common.{◌≡◌, ◌<◌, ◌++◌, length, drop, reverse, arith, sym, ap, ◌∙◌, subst, length-append}
 use Rattle.std.specs.Prelude.{List, IsSome, slice_get}
 use Rattle.atoms.specs.declared.item.Item.{Item}
-use Rattle.drafts.specs.declared.queue_draft.QueueChange.TheVariants.{Dequeued}
+use Rattle.drafts.specs.declared.queue_draft.QueueDraftChange.TheVariants.{Dequeued}
 use Rattle.drafts.specs.History.{History, changed}
 use Rattle.drafts.specs.Queues.{between}
 use Rattle.drafts.proofs.HistoryLemmas.{reverse_push}

@@ -1,7 +1,7 @@
 use Rattle.std.proofs.Common.{◌∷◌, ◌++◌, [], reverse, ap, ◌∙◌}
 use Rattle.std.specs.Prelude.{List}
 use Rattle.atoms.specs.declared.item.Item.{Item}
-use Rattle.drafts.specs.declared.queue_draft.QueueChange.TheVariants.{Enqueued}
+use Rattle.drafts.specs.declared.queue_draft.QueueDraftChange.TheVariants.{Enqueued}
 use Rattle.drafts.specs.History.{History, changed}
 use Rattle.drafts.proofs.HistoryLemmas.{journal_push}
 use Rattle.drafts.proofs.QueueLemmas.{within_enqueued, history_enqueued}

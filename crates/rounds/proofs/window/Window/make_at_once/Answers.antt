@@ -27,12 +27,12 @@ make_all-requires-clause-within g c κs lives k d lt =
     let number = get_or c.args.numbers.now k d in
     let opening = c.requires.opening in
     let early = opening.low in
-    subst (λ s. CanBeMade c.args.crew.now.batch.now s number) (sym opening.is)
-    (made_at c.args.crew.now.batch.now opening.opened opening.within number (omega arith) (omega arith))
+    subst (λ s. CanBeMade c.args.job.now.batch.now s number) (sym opening.is)
+    (made_at c.args.job.now.batch.now opening.opened opening.within number (omega arith) (omega arith))
 
 pub make_all-requires-clause-same_kinds : goal.make_all-requires-clause-same_kinds
 make_all-requires-clause-same_kinds g c κs within =
-    ap kinds c.requires.opening.is ∙ kinds_at c.args.crew.now.batch.now c.requires.opening.opened c.requires.opening.within
+    ap kinds c.requires.opening.is ∙ kinds_at c.args.job.now.batch.now c.requires.opening.opened c.requires.opening.within
 
 pub putting-init : goal.putting-init
 putting-init g c =
@@ -64,7 +64,7 @@ put-requires-clause-number g c =
 
 pub putting-preserved : goal.putting-preserved
 putting-preserved g c =
-    let batch = c.args.crew.now.batch.now in
+    let batch = c.args.job.now.batch.now in
     let state = c.args.objects.now in
     let from = c.args.from in
     let first = c.args.self.now in

@@ -18,7 +18,7 @@ make-requires-clause-few g c κs lives =
     let missing = c.in_ok-numbers.ensures.missing.few in
     let size = ap length c.deref.ensures.value in
     let end = c.requires.places.1 in
-    omega (arith, missing, size, end, c.requires.window.within, c.args.crew.now.batch.now.is_batch.few_transactions)
+    omega (arith, missing, size, end, c.requires.window.within, c.args.job.now.batch.now.is_batch.few_transactions)
 
 pub returns-clause-valid : goal.returns-clause-valid
 returns-clause-valid g c =

@@ -20,7 +20,7 @@ returns g c =
       )
       | else-falls w ↦ (
         [],
-        ap (λ v. v.items) w.items-is ∙ sym (append-nil c.args.bench.items.items),
+        ap (λ v. v.items) w.items-is ∙ sym (append-nil c.args.state.items.items),
         not_listed window since number
             (subst (λ b. (d : PendingRun) → Told window since number (bit b) d) w.if-falls.false c.falls.ensures),
       )

@@ -1,5 +1,5 @@
 use Rattle.std.proofs.Common.{rules}
-use Rattle.one_thread.proofs.workspace.Workspace.rewind.Goals as goal
+use Rattle.one_thread.proofs.workspace.JournaledObjects.rewind.Goals as goal
 
 pub returns : goal.returns
 returns c = search rules

@@ -1,4 +1,4 @@
-//! The crew: what the passes of a round are run with, and how many workers a pass gets.
+//! What the passes of a round are run with, and how many workers a pass gets.
 ghost use Rattle.std.specs.Prelude.{◌≡◌, ◌≤◌};
 ghost use Rattle.plan.specs.declared.plan.TheConstants.{MAX_WORKERS};
 
@@ -9,7 +9,7 @@ use std::alloc::Global;
 /// The right to start threads, the allocator, the batch, how many workers there are, the gate that
 /// sees them, and how many operations a run is taken to have.
 #[derive(Drop)]
-pub(crate) struct Crew<'a, R, G> {
+pub(crate) struct Job<'a, R, G> {
     pub(crate) threads: &'a R,
     pub(crate) alloc: Global,
     pub(crate) batch: &'a Batch,
@@ -18,19 +18,19 @@ pub(crate) struct Crew<'a, R, G> {
     pub(crate) operations_each: usize,
 }
 
-impl<'a, R, G> Crew<'a, R, G> {
-    /// A crew for the runs of a batch.
+impl<'a, R, G> Job<'a, R, G> {
+    /// A job for the runs of a batch.
     pub(crate) fn of(
         threads: &'a R,
         alloc: Global,
         batch: &'a Batch,
         plan: Plan,
         gate: &'a G,
-    ) -> Crew<'a, R, G>
+    ) -> Job<'a, R, G>
         ensures plan { result.plan ≡ plan }
         ensures batch { result.batch.now ≡ batch.now }
     {
-        Crew {
+        Job {
             threads,
             alloc,
             batch,
@@ -68,12 +68,12 @@ const CHECKS: usize = 8;
 
 /// How many workers to make so many runs with: all of the plan with a cut of 1, and else as many as
 /// pay for the operations that the runs are taken to have.
-pub(crate) fn makers<R, G>(crew: &Crew<R, G>, runs: usize) -> u32
-    ensures within { (1 ≤ result) × (result ≤ crew.now.plan.workers) }
-    ensures all { crew.now.plan.cut ≡ 1 → result ≡ crew.now.plan.workers }
+pub(crate) fn makers<R, G>(job: &Job<R, G>, runs: usize) -> u32
+    ensures within { (1 ≤ result) × (result ≤ job.now.plan.workers) }
+    ensures all { job.now.plan.cut ≡ 1 → result ≡ job.now.plan.workers }
 {
-    crew.plan
-        .workers_for(runs.saturating_mul(crew.operations_each))
+    job.plan
+        .workers_for(runs.saturating_mul(job.operations_each))
 }
 
 /// How many operations of committed runs are enough for a worker.
@@ -81,22 +81,22 @@ const COMMITTED: usize = 4096;
 
 /// How many workers to commit so many runs with: one for each 4,096 of the operations that they are
 /// taken to have, at least 1 and at most all of the plan.
-pub(crate) fn committers<R, G>(crew: &Crew<R, G>, runs: usize) -> u32
-    ensures within { (1 ≤ result) × (result ≤ crew.now.plan.workers) }
+pub(crate) fn committers<R, G>(job: &Job<R, G>, runs: usize) -> u32
+    ensures within { (1 ≤ result) × (result ≤ job.now.plan.workers) }
 {
-    let operations = runs.saturating_mul(crew.operations_each);
-    let workers = (operations / COMMITTED).min(crew.plan.workers as usize);
+    let operations = runs.saturating_mul(job.operations_each);
+    let workers = (operations / COMMITTED).min(job.plan.workers as usize);
     workers.max(1) as u32
 }
 
 /// How many workers to check so many runs with: all of the plan with a cut of 1, and else as many as
 /// pay for an eighth of the operations that the runs are taken to have.
-pub(crate) fn checkers<R, G>(crew: &Crew<R, G>, runs: usize) -> u32
-    ensures within { (1 ≤ result) × (result ≤ crew.now.plan.workers) }
-    ensures all { crew.now.plan.cut ≡ 1 → result ≡ crew.now.plan.workers }
+pub(crate) fn checkers<R, G>(job: &Job<R, G>, runs: usize) -> u32
+    ensures within { (1 ≤ result) × (result ≤ job.now.plan.workers) }
+    ensures all { job.now.plan.cut ≡ 1 → result ≡ job.now.plan.workers }
 {
-    crew.plan
-        .workers_for(runs.saturating_mul(crew.operations_each) / CHECKS)
+    job.plan
+        .workers_for(runs.saturating_mul(job.operations_each) / CHECKS)
 }
 
 // How many transactions of a batch are counted at most, and at least where there are so many.
