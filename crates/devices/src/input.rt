@@ -1,25 +1,42 @@
 //! Reading the bytes of a source.
-ghost use Rattle.std.specs.Prelude.{◌≡◌, ◌+◌, ◌<◌, ◌≤◌, ◌⊎◌, ◌↔◌, true, false, Err, IfOk, OnOk, IfErr, is_err, take, drop, vec_len, []};
+ghost use Rattle.std.specs.Prelude.{◌≡◌, ◌+◌, ◌<◌, ◌≤◌, ◌↔◌, true, false, Err, IfOk, OnOk, is_err, take, drop, vec_len, []};
 ghost use Rattle.std.specs.Io.KnownBytes.{Consumes, IsAtEnd};
-ghost use Rattle.faults.specs.Faults.{input_fault, memory_fault};
 ghost use Rattle.devices.specs.Devices.{ReadsUpTo};
+ghost use Rattle.devices.specs.declared.input.Unread.TheVariants as unread;
 
 use crate::source::{Failed, Source};
-use faults::{Code, Fault};
 use std::alloc::{AllocError, Global};
 
 /// How many bytes a fetch has room for, where as many may still be read.
 const PIECE: usize = 65_536;
 
-/// Reads all bytes to the end of the source, but at most `most`. The fault is one of memory, or of
-/// the input where a fetch failed.
-pub fn read_input<R: Source>(alloc: Global, source: &mut R, most: usize) -> Result<Vec<u8>, Fault>
+/// Why a source wasn't read to its end.
+#[derive(Clone, Copy, Debug, Drop, PartialEq, Eq)]
+pub enum Unread {
+    /// A request for memory was refused.
+    NoMemory,
+    /// A fetch failed.
+    Failed,
+}
+
+impl From<AllocError> for Unread {
+    ghost use Rattle.devices.specs.declared.input.Unread.TheVariants.{NoMemory};
+
+    ghost from_gives = { λ _ unread. unread ≡ NoMemory };
+
+    fn from(_refused: AllocError) -> Unread {
+        Unread::NoMemory
+    }
+}
+
+/// Reads all bytes to the end of the source, but at most `most`. The source may be read in part where
+/// it isn't read to its end.
+pub fn read_input<R: Source>(alloc: Global, source: &mut R, most: usize) -> Result<Vec<u8>, Unread>
     requires unended { R.has_ended source.old ≡ false }
     requires unread { R.has_failed source.old ≡ false }
     ensures bytes { IfOk result (λ bytes. ReadsUpTo most (R.remaining source.old)
         (R.remaining source.new) bytes.items) }
-    ensures faults { IfErr result (λ fault. (fault ≡ memory_fault) ⊎ (fault ≡ input_fault)) }
-    ensures mark { R.has_failed source.new ≡ true ↔ result ≡ Err input_fault }
+    ensures mark { R.has_failed source.new ≡ true ↔ result ≡ Err unread.Failed }
 {
     let mut bytes = buffer(alloc, source.expected(), most);
     let mut filled = 0;
@@ -28,7 +45,7 @@ pub fn read_input<R: Source>(alloc: Global, source: &mut R, most: usize) -> Resu
         match fetch_at(source, &mut bytes, filled) {
             Ok(0) => break,
             Ok(count) => filled += count,
-            Err(Failed) => return Err(Code::Input.outside()),
+            Err(Failed) => return Err(Unread::Failed),
         }
     }
     bytes.truncate(filled);

@@ -7,7 +7,7 @@ mod output;
 mod sink;
 mod source;
 
-pub use input::read_input;
+pub use input::{Unread, read_input};
 pub use marked::Marked;
 pub use output::{write_text, write_texts};
 pub use sink::Sink;

@@ -2,6 +2,7 @@
 #![tactic(auto)]
 
 mod carrying;
+mod io;
 pub mod laws;
 mod location;
 mod streams;

@@ -7,21 +7,18 @@ ghost use Rattle.ordtx.specs.Streams.{AnswersStream, IsRead, IsRefusal, OfRead};
 ghost use Rattle.ordtx.specs.declared.carrying.Uncarried.TheVariants as uncarried;
 
 use crate::carrying::{Uncarried, carried_into_of, carried_of};
+use crate::io::{read_document, write_text, write_texts};
 use crate::location::{Located, location_of};
 use crate::texts::{
     audit_of, check_at_once_of, check_of, explanation_of, plain_parts_of, plain_report_of,
     report_of,
 };
-use devices::{Sink, Source, read_input, write_text, write_texts};
+use devices::{Sink, Source};
 use faults::Fault;
 use plan::Plan;
-use rules::MAX_BYTES;
 use speculate::Gate;
 use std::alloc::Global;
 use std::thread::Threads;
-
-// One byte more than a document may have, so that a longer input is seen to be longer.
-const MOST_READ: usize = MAX_BYTES + 1;
 
 /// Reads a document from the source, runs its transactions, and writes the report to the sink.
 ///
@@ -50,7 +47,7 @@ pub fn run_stream<T: Threads + Sync, R: Source, W: Sink, G: Gate>(
     ensures { AnswersStream IsReportOf IsFaultOf (λ fault. fault)
         R.Source source.old source.new W.Sink sink.old sink.new result }
 {
-    let document = read_input(alloc, source, MOST_READ)?;
+    let document = read_document(alloc, source)?;
     let parts = report_of(threads, alloc, document, plan, gate)?;
     write_texts(sink, &parts)
 }
@@ -73,7 +70,7 @@ pub fn audit_stream<T: Threads + Sync, R: Source, W: Sink, G: Gate>(
     ensures { AnswersStream IsAuditOf IsFaultOf (λ fault. fault)
         R.Source source.old source.new W.Sink sink.old sink.new result }
 {
-    let document = read_input(alloc, source, MOST_READ)?;
+    let document = read_document(alloc, source)?;
     let parts = audit_of(threads, alloc, document, plan, gate)?;
     write_texts(sink, &parts)
 }
@@ -96,7 +93,7 @@ pub fn explain_stream<T: Threads + Sync, R: Source, W: Sink, G: Gate>(
     ensures { AnswersStream (IsExplainedOf false) IsFaultOf (λ fault. fault)
         R.Source source.old source.new W.Sink sink.old sink.new result }
 {
-    let document = read_input(alloc, source, MOST_READ)?;
+    let document = read_document(alloc, source)?;
     let parts = explanation_of(threads, alloc, document, plan, false, gate)?;
     write_texts(sink, &parts)
 }
@@ -119,7 +116,7 @@ pub fn explain_audit_stream<T: Threads + Sync, R: Source, W: Sink, G: Gate>(
     ensures { AnswersStream (IsExplainedOf true) IsFaultOf (λ fault. fault)
         R.Source source.old source.new W.Sink sink.old sink.new result }
 {
-    let document = read_input(alloc, source, MOST_READ)?;
+    let document = read_document(alloc, source)?;
     let parts = explanation_of(threads, alloc, document, plan, true, gate)?;
     write_texts(sink, &parts)
 }
@@ -140,7 +137,7 @@ pub fn serial_stream<R: Source, W: Sink>(
     ensures { AnswersStream IsPlainReportOf IsFaultOf (λ fault. fault)
         R.Source source.old source.new W.Sink sink.old sink.new result }
 {
-    let document = read_input(alloc, source, MOST_READ)?;
+    let document = read_document(alloc, source)?;
     let text = plain_report_of(alloc, document)?;
     write_text(sink, text.as_bytes())
 }
@@ -163,7 +160,7 @@ pub fn serial_at_once_stream<T: Threads + Sync, R: Source, W: Sink>(
     ensures { AnswersStream IsPlainReportOf IsFaultOf (λ fault. fault)
         R.Source source.old source.new W.Sink sink.old sink.new result }
 {
-    let document = read_input(alloc, source, MOST_READ)?;
+    let document = read_document(alloc, source)?;
     let parts = plain_parts_of(threads, alloc, document, plan)?;
     write_texts(sink, &parts)
 }
@@ -189,7 +186,7 @@ pub fn carry_stream<T: Threads + Sync, R: Source, W: Sink>(
     ensures { AnswersStream IsCarriedOf (λ bytes. IsRefusal (IsCarryFaultOf bytes)) uncarried.First
         R.Source source.old source.new W.Sink sink.old sink.new result }
 {
-    let document = read_input(alloc, source, MOST_READ)?;
+    let document = read_document(alloc, source)?;
     let text = carried_of(threads, alloc, document, plan)?;
     write_text(sink, text.as_bytes())?;
     Ok(())
@@ -237,8 +234,8 @@ pub fn carry_into_stream<T: Threads + Sync, R: Source, S: Source, W: Sink>(
         → IsRead (S.remaining next.old) (S.remaining next.new) }
     ensures next_input { S.has_failed next.new ≡ true ↔ result ≡ Err (uncarried.Next input_fault) }
 {
-    let first = read_input(alloc, source, MOST_READ)?;
-    let next = match read_input(alloc, next, MOST_READ) {
+    let first = read_document(alloc, source)?;
+    let next = match read_document(alloc, next) {
         Ok(document) => document,
         Err(fault) => return Err(Uncarried::Next(fault)),
     };
@@ -263,7 +260,7 @@ pub fn check_stream<R: Source, W: Sink>(
     ensures { AnswersStream IsCheckOf IsFaultOf (λ fault. fault)
         R.Source source.old source.new W.Sink sink.old sink.new result }
 {
-    let document = read_input(alloc, source, MOST_READ)?;
+    let document = read_document(alloc, source)?;
     let text = check_of(alloc, document.as_slice())?;
     write_text(sink, text.as_bytes())
 }
@@ -285,7 +282,7 @@ pub fn check_at_once_stream<T: Threads + Sync, R: Source, W: Sink>(
     ensures { AnswersStream IsCheckOf IsFaultOf (λ fault. fault)
         R.Source source.old source.new W.Sink sink.old sink.new result }
 {
-    let document = read_input(alloc, source, MOST_READ)?;
+    let document = read_document(alloc, source)?;
     let text = check_at_once_of(threads, alloc, document, plan)?;
     write_text(sink, text.as_bytes())
 }
@@ -318,7 +315,7 @@ pub fn locate_stream<R: Source, W: Sink>(
     ensures fault { IfErr result (λ fault.
         (fault ≡ memory_fault) ⊎ (fault ≡ input_fault) ⊎ (fault ≡ output_fault)) }
 {
-    let document = read_input(alloc, source, MOST_READ)?;
+    let document = read_document(alloc, source)?;
     let (text, located) = location_of(alloc, document.as_slice())?;
     write_text(sink, text.as_bytes())?;
     Ok(located)

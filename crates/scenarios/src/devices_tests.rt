@@ -1,7 +1,6 @@
 //! Tests of reading a source up to a number of bytes, and of writing a text in pieces.
 use crate::memory::{TestSink, TestSource};
-use devices::{Source, read_input, write_text};
-use ordtx::Code;
+use devices::{Failed, Source, Unread, read_input, write_text};
 use std::alloc::AllocGlobal;
 use std::process::Abort;
 
@@ -34,9 +33,9 @@ fn reads_so_many_bytes_at_most(rt: HostRuntime) {
 }
 
 #[test]
-fn a_failed_fetch_is_of_the_input(rt: HostRuntime) {
+fn a_failed_fetch_ends_the_reading(rt: HostRuntime) {
     let mut source = TestSource::new(TEXT, 7, 20);
-    assert!(rt; read_input(rt.alloc(), &mut source, 31) == Err(Code::Input.outside()));
+    assert!(rt; read_input(rt.alloc(), &mut source, 31) == Err(Unread::Failed));
     assert!(rt; source.failed());
 }
 
@@ -48,8 +47,8 @@ fn writes_a_text_in_pieces(rt: HostRuntime) {
 }
 
 #[test]
-fn a_failed_put_is_of_the_output(rt: HostRuntime) {
+fn a_failed_put_leaves_a_beginning(rt: HostRuntime) {
     let mut sink = TestSink::new(&rt, 4, 10);
-    assert!(rt; write_text(&mut sink, TEXT) == Err(Code::Output.outside()));
+    assert!(rt; write_text(&mut sink, TEXT) == Err(Failed));
     assert!(rt; Some(sink.taken()) == TEXT.get(..10));
 }

@@ -22,7 +22,7 @@ returns-in_err-text-clause-answer g c =
     let input = g.S.Source.remaining c.args.next.now in
     handed_on returned.result error (λ r. AnswersStream (λ first text. OfRead (λ next. IsCarriedIntoOf first next text) input)
     (λ first e. OfRead (λ next. IsRefusal (IsCarryIntoFaultOf first next) e) input) uncarried.First g.R.Source
-    c.args.source.now c.read_input.new.source g.W.Sink c.args.sink.now c.args.sink.now r) returned.ensures.1
+    c.args.source.now c.read_document.new.source g.W.Sink c.args.sink.now c.args.sink.now r) returned.ensures.1
     (document_refused _ error read.bytes read.mark c.requires.unwritten (of_bytes error input_fault refused.code refl)
     (of_bytes error output_fault refused.code refl)
     (λ _. of_read (λ next. IsRefusal (IsCarryIntoFaultOf c.in_ok-first.first.items next) error) _ _ _ c.in-Ok.ensures.bytes

@@ -16,7 +16,7 @@ returns-in_err-write_text g c =
     let returned = c.from_residual-in_err-write_text in
     let first = ap uncarried.First wrote.fault in
     handed_on returned.result _ (λ r. AnswersStream IsCarriedOf (λ bytes. IsRefusal (IsCarryFaultOf bytes)) uncarried.First g.R.Source
-    c.args.source.now c.read_input.new.source g.W.Sink c.args.sink.now c.write_text.new.sink r) returned.ensures.1
+    c.args.source.now c.read_document.new.source g.W.Sink c.args.sink.now c.write_text.new.sink r) returned.ensures.1
     (answered one_first _ _ (Err (uncarried.First c.in_err-write_text.field-0.0)) read.bytes read.mark tt wrote.beginning first
     (λ _. ap Err first, λ _. wrote.mark.1 (ap Err wrote.fault)) (search rules))
 
