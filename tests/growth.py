@@ -16,6 +16,10 @@ BOUND = '{"name":"d","kind":"directory","start":[["k","v"]]}'
 
 PLANS = (["--workers", "4"], ["--workers", "16", "--cut", "1"])
 
+# What `locate` prints of a fault after 160,000 operations.
+LATE_FAULT = (b"fault 6 transaction 1 at /transactions/0/160000 line 1 column 4000081\n"
+              b'"depposit" is no operation of an account; did you mean "deposit"?\n')
+
 # Threads that one pass may start, which a document of any size may have more.
 A_PASS = 16
 
@@ -252,11 +256,11 @@ def try_late_fault(program):
     steps = [op("a", "deposit", 7)] * 160_000 + [op("a", "depposit", 7)]
     with tempfile.TemporaryFile() as given:
         given.write(document([ACCOUNT], [block(*steps)], version=4))
-        given.seek(0)
-        done = subprocess.run([program.path, "check"], stdin=given, capture_output=True,
-                              preexec_fn=lambda: resource.setrlimit(resource.RLIMIT_AS, (1 << 26, 1 << 26)))
-    program.compare("a late fault in 64 MB", ["check"], (done.stdout, done.returncode, done.stderr),
-                    (b"", 1, b"fault 6 transaction 1\n"))
+        for words, expected in ((["check"], (b"", 1, b"fault 6 transaction 1\n")), (["locate"], (LATE_FAULT, 1, b""))):
+            given.seek(0)
+            done = subprocess.run([program.path, *words], stdin=given, capture_output=True,
+                                  preexec_fn=lambda: resource.setrlimit(resource.RLIMIT_AS, (1 << 26, 1 << 26)))
+            program.compare("a late fault in 64 MB", words, (done.stdout, done.returncode, done.stderr), expected)
 
 
 def try_plan(program, library, plan):

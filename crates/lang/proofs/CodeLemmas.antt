@@ -2,8 +2,6 @@
 use Rattle.std.proofs.Common.{◌≡◌, ◌≢◌, true, Some, Result, Ok, Err, refl, subst, ap, ◌∙◌}
 use Rattle.serde_json.specs.Data.{Data}
 use Rattle.faults.specs.Faults.{is_of_reading, memory_fault}
-use Rattle.faults.specs.declared.fault.Code.{Code}
-use Rattle.faults.specs.declared.fault.Code.TheVariants as code
 use Rattle.faults.specs.declared.fault.Fault.{Fault}
 use Rattle.rules.specs.Failures.{fault_of}
 use Rattle.rules.specs.declared.failure.Failure.{Failure}
@@ -29,13 +27,3 @@ fault_code (Err found) e is =
 -- a document's first fault
 pub first_fault_code : (d : Data) (e : Fault) → first_fault (placed d) ≡ Some e → is_of_reading e.code ≡ true
 first_fault_code d e is = fault_code (seek no_counts (placed d)) e is
-
--- a fault that is of reading where it isn't the memory's, is
-pub memory_or : (e : Fault) → (e ≢ memory_fault → is_of_reading e.code ≡ true) → is_of_reading e.code ≡ true
-memory_or e other = by e.code refl
-  where
-    by : (k : Code) → e.code ≡ k → is_of_reading k ≡ true
-    by (code.Wrong w) is = refl
-    by code.Memory is = refl
-    by code.Input is = subst (λ k. is_of_reading k ≡ true) is (other (λ same. absurd cc))
-    by code.Output is = subst (λ k. is_of_reading k ≡ true) is (other (λ same. absurd cc))

@@ -1,19 +1,23 @@
 -- What is said of a document's first fault.
-use Rattle.std.proofs.Common.{◌≡◌, ℕ, ◌<◌, ◌≤◌, None, Some, Result, Ok, Err, List, length, inl, inr, subst, sym, ap, ◌∙◌}
+use Rattle.std.proofs.Common.{◌≡◌, ℕ, ◌<◌, ◌≤◌, ◌++◌, None, Some, Result, Ok, Err, List, length, inl, inr}
+use Rattle.std.proofs.Common.{refl, string_bytes, subst, sym, ap, ◌∙◌}
 use Rattle.serde_json.specs.Data.{Data, null}
+use Rattle.serde_json.specs.View.{view}
 use Rattle.faults.specs.declared.fault.Fault.{Fault}
 use Rattle.rules.specs.Failures.{fault_of}
 use Rattle.rules.specs.Limits.{limits_of}
 use Rattle.rules.specs.declared.limits.TheConstants.{MAX_BYTES}
 use Rattle.rules.specs.declared.rule.CountRule.TheVariants.{Bytes}
 use Rattle.rules.specs.declared.rule.Rule.TheVariants.{Few}
+use Rattle.mistakes.specs.Within.{place_within}
 use Rattle.mistakes.specs.Words.{IsSaid}
 use Rattle.spelling.specs.declared.counts.Counts.{Counts}
 use Rattle.spelling.specs.Demand.{no_counts}
 use Rattle.spelling.specs.Places.{Found, fault_in, first_fault, placed, seek}
+use Rattle.lang.specs.declared.misread.Misread.{Misread}
 use Rattle.lang.specs.declared.places.Place.{Place}
 use Rattle.lang.specs.declared.places.Place.TheVariants.{Whole, Pointer, LineColumn}
-use Rattle.lang.specs.Found.{IsFoundAt, IsMistake, IsShort, IsToldOf, IsTooLong, Shows, Tells}
+use Rattle.lang.specs.Found.{IsFirstIn, IsFoundAt, IsMistake, IsShort, IsToldAt, IsToldOf, IsTooLong, Shows, Tells, found_by, part_at}
 use Rattle.lang.specs.Reading.{reading, spelled_by, value_of, version_by}
 use Rattle.lang.proofs.SpelledLemmas.{found_there, reads_short, refused_for_first}
 
@@ -61,6 +65,21 @@ mistake_told bytes d fault found place words start reads short known begun faile
     by Whole shows = inr (short, at _ shows)
     by (Pointer text position) shows = (short, subst (λ p. 0 < length p) (sym shows.1) shows.0, at _ (sym shows.1))
     by (LineColumn position) shows = absurd shows
+
+-- what is said of a rule that a part doesn't keep is said of the fault
+pub misread_told : (bytes : List ℕ) (d : Data) (fault : Fault) (misread : Misread) (place : Place) (words : List ℕ) (start : Counts)
+    → reading bytes ≡ Err fault → IsShort bytes → value_of bytes ≡ Some d
+    → start ≡ no_counts → IsFirstIn start (placed d) d misread
+    → IsToldAt (view misread.part) misread.rule (string_bytes misread.pointer) place words
+    → IsMistake bytes fault place words
+misread_told bytes d fault misread place words start reads short known begun first said =
+    let pointer = string_bytes misread.pointer in
+    let told = subst (λ part. IsToldAt part misread.rule pointer place words) first.1 said in
+    mistake_told bytes d fault (found_by misread) place words start reads short known begun first.0 (
+      pointer ++ place_within misread.rule (part_at pointer d),
+      told.shown,
+      record { rule = misread.rule; transaction = misread.transaction; broken = refl; at = refl; said = told.said },
+    )
 
 -- what is said of too many bytes is said of the fault, too
 pub length_told : (bytes : List ℕ) (fault : Fault) (place : Place) (words : List ℕ) → place ≡ Whole → IsTooLong bytes words

@@ -1,7 +1,8 @@
 -- What is said of a document's first fault: where it is, and in words which rule isn't kept.
-use Rattle.std.specs.Prelude.{◌≡◌, ◌<◌, ◌≤◌, ◌⊎◌, ◌++◌, ℕ, List, [], length, None, Some, Err, string_bytes, unwrap_or}
+use Rattle.std.specs.Prelude.{◌≡◌, ◌<◌, ◌≤◌, ◌⊎◌, ◌++◌, ℕ, List, [], codes, length, None, Some, Err, string_bytes, unwrap_or}
 use Rattle.serde_json.specs.Data.{Data, null}
 use Rattle.serde_json.specs.Find.{pointer as points_to}
+use Rattle.serde_json.specs.View.{view}
 use Rattle.faults.specs.declared.fault.Fault.{Fault}
 use Rattle.rules.specs.Failures.{fault_of}
 use Rattle.rules.specs.declared.failure.Failure.TheVariants.{Broken}
@@ -10,10 +11,12 @@ use Rattle.rules.specs.declared.rule.CountRule.TheVariants.{Bytes}
 use Rattle.rules.specs.declared.rule.Rule.TheVariants.{Few, Json}
 use Rattle.mistakes.specs.Words.{IsSaid}
 use Rattle.mistakes.specs.Within.{place_within}
-use Rattle.spelling.specs.Places.{Found}
+use Rattle.spelling.specs.declared.counts.Counts.{Counts}
+use Rattle.spelling.specs.Places.{Found, Placed, seek}
 use Rattle.language.specs.Document.{read_document}
 use Rattle.rules.specs.declared.limits.TheConstants.{LAST_VERSION, MAX_BYTES}
 use Rattle.lang.specs.Reading.{most_bytes, value_of, version_by}
+use Rattle.lang.specs.declared.misread.Misread.{Misread}
 use Rattle.lang.specs.declared.places.Place.{Place}
 use Rattle.lang.specs.declared.places.Place.TheVariants.{Whole, Pointer, LineColumn}
 
@@ -62,11 +65,29 @@ Shows pointer Whole = pointer ≡ []
 Shows pointer (Pointer text position) = (0 < length pointer) × (string_bytes text ≡ pointer)
 Shows pointer (LineColumn position) = ⊥
 
--- that is said of a rule of the part to which a pointer leads, at the place that is shown
-pub record IsToldAt (value : Data) (rule : Rule) (pointer : List ℕ) (place : Place) (words : List ℕ) : Type 0 where
-  pub shown : Shows (pointer ++ place_within rule (part_at pointer value)) place
-  pub said : IsSaid rule (part_at pointer value) words
+-- that is said of a rule of this part, to which the pointer leads, at the place that is shown
+pub record IsToldAt (part : Data) (rule : Rule) (pointer : List ℕ) (place : Place) (words : List ℕ) : Type 0 where
+  pub shown : Shows (pointer ++ place_within rule part) place
+  pub said : IsSaid rule part words
 
 -- that is said of what was found in a value, at the place that is shown
 abbrev pub Tells : Data → Found → Place → List ℕ → Type 0
 Tells value found place words = (pointer : List ℕ) × Shows pointer place × IsToldOf value found pointer words
+
+-- ---- a value that is read a part at a time
+
+-- the rule that isn't kept, and where
+abbrev pub found_by : Misread → Found
+found_by misread = record { failure = Broken misread.rule misread.transaction; pointer = string_bytes misread.pointer }
+
+-- it is the first rule that a value doesn't keep, with the part of which it is asked
+abbrev pub IsFirstIn : Counts → Placed → Data → Misread → Type 0
+IsFirstIn start asked value misread =
+    (seek start asked ≡ Err (found_by misread)) × (view misread.part ≡ part_at (string_bytes misread.pointer) value)
+
+-- the same rule of the same part, seen from a value from which this token leads to the one before
+pub record IsBelow (token : List ℕ) (inner outer : Misread) : Type 0 where
+  pub rule : outer.rule ≡ inner.rule
+  pub transaction : outer.transaction ≡ inner.transaction
+  pub pointer : string_bytes outer.pointer ≡ codes "/" ++ token ++ string_bytes inner.pointer
+  pub part : view outer.part ≡ view inner.part

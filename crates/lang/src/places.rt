@@ -1,26 +1,24 @@
 //! Where a document's first fault is, and what it is in words.
-ghost use Rattle.std.specs.Prelude.{◌≡◌, ◌≢◌, Err, IfErr, IfOk, string_bytes};
+ghost use Rattle.std.specs.Prelude.{◌≡◌, Err, IfErr, IfOk, string_bytes};
 ghost use Rattle.serde_json.specs.View.{view};
 ghost use Rattle.faults.specs.Faults.{memory_fault};
-ghost use Rattle.rules.specs.declared.failure.Failure.TheVariants as failure;
 ghost use Rattle.serde_json.specs.Data.{null};
 ghost use Rattle.rules.specs.declared.rule.CountRule.TheVariants.{Bytes};
 ghost use Rattle.rules.specs.declared.rule.Rule.TheVariants.{Few};
 ghost use Rattle.mistakes.specs.Words.{IsSaid};
-ghost use Rattle.lang.specs.Found.{IsMistake, IsToldAt, Shows, Tells};
+ghost use Rattle.lang.specs.Found.{IsMistake, IsShort, IsToldAt, Shows};
 ghost use Rattle.lang.specs.declared.places.Place.TheVariants.{Whole};
 ghost use Rattle.lang.specs.Reading.{reading};
-ghost use Rattle.spelling.specs.Answer.{found_of, pointer_text};
 
-use crate::document::{read_parts, too_long_for, utf8_of};
+use crate::document::{misread_singly, read_parts, too_long_for, utf8_of};
+use crate::misread::{Misread, misread_of};
 use crate::positions::{Position, position_of};
 use faults::{Code, Fault};
 use mistakes::{place_within, words};
-use rules::{CountRule, Failure, LAST_VERSION, MAX_BYTES, Rule};
+use rules::{CountRule, LAST_VERSION, MAX_BYTES, Rule};
 use serde_json::Value;
 use spelling::hashing::NameHashing;
 use spelling::state::State;
-use spelling::unmet::Unmet;
 use std::alloc::{AllocError, Global};
 
 /// Where a document's first fault is.
@@ -57,6 +55,22 @@ pub fn locate(alloc: Global, bytes: &[u8], fault: Fault) -> Result<Mistake, Faul
     if let Some(version) = too_long_for(alloc, bytes)? {
         return Ok(too_long(alloc, version)?);
     }
+    if let Some(misread) = misread_singly(alloc, bytes)? {
+        let mistake = mistake_of(alloc, bytes, &misread)?;
+        return Ok(mistake);
+    }
+    locate_in_tree(alloc, bytes, fault)
+}
+
+// The place and the words of the fault, by a tree of the whole document. There are no more bytes than
+// a document of its version may have.
+fn locate_in_tree(alloc: Global, bytes: &[u8], fault: Fault) -> Result<Mistake, Fault>
+    requires read { reading bytes.now ≡ Err fault }
+    requires short { IsShort bytes.now }
+    ensures mistake { IfOk result (λ mistake. IsMistake bytes.now fault mistake.place
+        (string_bytes mistake.words)) }
+    ensures err { IfErr result (λ refused. refused ≡ memory_fault) }
+{
     let value = match Value::from_slice(alloc, bytes) {
         Ok(value) => value,
         Err(error) => {
@@ -81,7 +95,11 @@ pub fn locate(alloc: Global, bytes: &[u8], fault: Fault) -> Result<Mistake, Faul
             place: Place::Whole,
             words: String::new(alloc),
         }),
-        Err(unmet) => mistake_in(alloc, bytes, &value, &unmet),
+        Err(unmet) => {
+            let misread = misread_of(alloc, unmet, value)?;
+            let mistake = mistake_of(alloc, bytes, &misread)?;
+            Ok(mistake)
+        }
     }
 }
 
@@ -98,44 +116,14 @@ fn too_long(alloc: Global, version: u8) -> Result<Mistake, AllocError>
     })
 }
 
-// What is said of a rule that the value of these bytes doesn't keep.
-fn mistake_in(alloc: Global, bytes: &[u8], value: &Value, unmet: &Unmet) -> Result<Mistake, Fault>
-    ensures told { IfOk result (λ mistake. (unmet.now.failure ≢ failure.NoMemory)
-        × Tells (view value.now) (found_of unmet.now) mistake.place (string_bytes mistake.words)) }
-    ensures err { IfErr result (λ refused. refused ≡ memory_fault) }
+// What is said of a rule that a part of the value of these bytes doesn't keep.
+fn mistake_of(alloc: Global, bytes: &[u8], misread: &Misread) -> Result<Mistake, AllocError>
+    ensures { IfOk result (λ mistake. IsToldAt (view misread.now.part) misread.now.rule
+        (string_bytes misread.now.pointer) mistake.place (string_bytes mistake.words)) }
 {
-    let Failure::Broken(rule, _) = unmet.failure else {
-        return Err(Code::Memory.outside());
-    };
-    let pointer = pointer_of(unmet);
-    let mistake = mistake_at(alloc, bytes, value, rule, pointer)?;
-    Ok(mistake)
-}
-
-// The pointer to the part of which a rule is asked.
-fn pointer_of(unmet: &Unmet) -> &str
-    ensures { result.now ≡ pointer_text unmet.now.pointer }
-{
-    match &unmet.pointer {
-        Some(pointer) => pointer.as_str(),
-        None => "",
-    }
-}
-
-// What is said of a rule that isn't kept by the part to which a pointer leads.
-fn mistake_at(
-    alloc: Global,
-    bytes: &[u8],
-    value: &Value,
-    rule: Rule,
-    pointer: &str,
-) -> Result<Mistake, AllocError>
-    ensures { IfOk result (λ mistake. IsToldAt (view value.now) rule pointer.now mistake.place
-        (string_bytes mistake.words)) }
-{
-    let part = value.pointer(pointer).unwrap_or(&Value::Null);
-    let words = words(alloc, rule, part)?;
-    let within = place_within(alloc, rule, part)?;
+    let words = words(alloc, misread.rule, &misread.part)?;
+    let within = place_within(alloc, misread.rule, &misread.part)?;
+    let pointer = misread.pointer.as_str();
     let lead = format!(in alloc; "{pointer}{within}")?;
     let place = place_of(alloc, bytes, lead)?;
     Ok(Mistake { place, words })

@@ -503,7 +503,7 @@ pub(crate) fn pull_operation(
 // ---- values
 
 /// The value of a number's text.
-pub(crate) fn number_value(text: &str) -> Result<Value, Stop>
+pub fn number_value(text: &str) -> Result<Value, Stop>
     ensures { IfOk result (λ v. (x : Num) × (number_of text.now ≡ Some x) × (view v ≡ number x)) }
 {
     let number = number_of(text).ok_or(Stop::OtherForm)?;
@@ -551,7 +551,7 @@ fn pull_items(alloc: Global, reader: &mut Reader<'_>, depth: usize) -> Result<Ve
 
 /// The members of an object up to its end, with those that were found before.
 #[cycle(values)]
-pub(crate) fn pull_members(
+pub fn pull_members(
     alloc: Global,
     reader: &mut Reader<'_>,
     depth: usize,

@@ -1,14 +1,13 @@
-use Rattle.std.proofs.Common.{◌≡◌, ◌≢◌, Ok, Some, map, subst, sym, ap, ◌∙◌, arith, rules}
+use Rattle.std.proofs.Common.{◌≡◌, Ok, Some, map, subst, sym, ap, ◌∙◌, arith, rules}
 use Rattle.batch.specs.Limits.{IsBatch}
 use Rattle.batch.specs.Views.{block_view}
 use Rattle.spelling.specs.Answer.{IsMet}
 use Rattle.spelling.specs.Asked.{document_shape_asked}
-use Rattle.spelling.specs.Places.{first_fault, placed}
-use Rattle.faults.specs.Faults.{memory_fault}
+use Rattle.spelling.specs.Places.{fault_in, first_fault, placed}
 use Rattle.lang.specs.Reading.{document_of, document_with, spelled_by}
 use Rattle.spelling.specs.Scope.{numbers_of, setting_of}
 use Rattle.spelling.specs.Spelled.{Document}
-use Rattle.lang.proofs.CodeLemmas.{first_fault_code, memory_or}
+use Rattle.lang.proofs.CodeLemmas.{first_fault_code}
 use Rattle.pull.proofs.DocumentLemmas.{failed_first, met_first, same_document}
 use Rattle.lang.proofs.FaultlessBatch.{faultless_is_batch}
 use Rattle.lang.proofs.RefusedLemmas.{refused_for}
@@ -47,14 +46,13 @@ pub returns-in-Err : goal.returns-in-Err
 returns-in-Err c =
     let answer = c.in_ok-answer.ensures in
     let d = answer.0 in
-    let e = c.in-Err.fault in
+    let e = c.in-Err.misread in
     let failed = matched_err c.in_ok-answer.answer e _ _ c.in-Err.is answer.2 in
     let bytes = c.args.bytes.now in
     let known = answer.1 in
     let counts = c.new-state.ensures.counts in
     let shape = subst (λ s. IsMet s (document_shape_asked d) s) (sym counts) (c.requires d known) in
-    let first : e ≢ memory_fault → first_fault (placed d) ≡ Some e =
-    λ other. failed_first _ (placed d) e counts (failed shape other) in (
-      λ other. refused_for bytes d e known (first other),
-      memory_or e (λ other. first_fault_code d e (first other)),
-    )
+    let fault = c.fault.result in
+    let first : first_fault (placed d) ≡ Some fault =
+    failed_first _ (placed d) fault counts (ap fault_in (failed shape).0 ∙ ap (λ x. Some x) (sym c.fault.ensures)) in
+    (λ other. refused_for bytes d fault known first, first_fault_code d fault first)

@@ -1,19 +1,24 @@
-use Rattle.std.proofs.Common.{◌≡◌, ◌≤◌, ◌∷◌, [], Some, ap, map, refl, subst, sym, ◌∙◌, arith, rules}
+use Rattle.std.proofs.Common.{◌≡◌, ◌≤◌, ◌∷◌, [], ap, map, refl, subst, ◌∙◌, arith, rules}
+use Rattle.std.specs.Prelude.{codes}
 use Rattle.json.specs.Token.{Token}
+use Rattle.serde_json.specs.Data.{array}
 use Rattle.serde_json.specs.Events.{items_len}
-use Rattle.serde_json.specs.View.{items_view}
-use Rattle.serde_json.proofs.Views.{items_len-items_view}
+use Rattle.serde_json.specs.View.{items_view, view}
+use Rattle.serde_json.specs.declared.value.Value.{Array}
+use Rattle.serde_json.proofs.Views.{items_len-items_view, view-Array}
 use Rattle.batch.specs.Views.{block_view}
-use Rattle.spelling.specs.Answer.{AreMet, IsFirstOf, IsFound}
+use Rattle.spelling.specs.Answer.{AreMet, IsFound, pointer_text}
 use Rattle.spelling.specs.Asked.{declared_by}
 use Rattle.rules.specs.Limits.{limits_of}
-use Rattle.spelling.specs.Places.{fault_in, objects_placed, transactions_placed}
+use Rattle.spelling.specs.Places.{member_named, objects_placed, placed, transactions_placed}
 use Rattle.spelling.specs.Scope.{numbers_of, setting_of}
 use Rattle.spelling.specs.Spelled.{starts_of}
 use Rattle.pull.specs.Pulled.{ReadsItems, in_order}
 use Rattle.pull.proofs.DocumentLemmas.{same_parts}
 use Rattle.pull.proofs.PulledDocument.{in_order_met, version_is}
-use Rattle.lang.proofs.CodeLemmas.{not_refused}
+use Rattle.lang.specs.Found.{IsFirstIn, part_at}
+use Rattle.lang.proofs.MisreadLemmas.{first_below, misread_first}
+use Rattle.lang.proofs.PointerLemmas.{objects_pointed, transactions_pointed}
 use Rattle.lang.proofs.RangeLaws.{nothing_later}
 use Rattle.lang.proofs.SinglyLemmas.{matched_err, matched_ok, objects_failed, transactions_failed}
 use Rattle.lang.proofs.singly.each_part.Goals as goal
@@ -29,12 +34,19 @@ returns-in-Err c =
     let new = c.pull_end_object.new.reader in
     let unmet = c.in-Err.unmet in
     let ended : c.pass_items.new.reader ≡ Token.end_object ∷ new = grind (arith, rules) in
-    let failed : IsFound start (objects_placed version [] 0 os) unmet = c.in-Err.ensures.unmet in (
+    let failed : IsFound start (objects_placed version [] 0 os) unmet = c.in-Err.ensures.unmet in
+    let inner = c.in_ok-inner-in-Err.inner in
+    let told = c.in_ok-inner-in-Err.ensures in
+    let misread = c.in_ok-misread-in-Err.misread in
+    let list : view (Array c.in_ok-version.objects) ≡ array os = view-Array c.in_ok-version.objects in
+    let first = misread_first start (objects_placed version [] 0 os) (array os) unmet inner failed told.other told.found
+    (told.part ∙ ap (part_at (pointer_text unmet.pointer)) list) in (
       in_order version os ts,
       nothing_later version os c.args.reader.now c.pull_head.new.reader (c.in_ok-version.ensures.reads) ts new
           (subst (λ l. ReadsItems 125 c.pull_head.new.reader ts l) ended rest.1),
-      λ shape other. objects_failed version os ts known.0 known.1 start shape _
-          (ap fault_in (failed (not_refused _ _ c.fault.ensures other)) ∙ ap (λ x. Some x) (sym c.fault.ensures)),
+      λ shape. first_below (member_named (codes "objects")) (in_order version os ts) (array os) (objects_pointed version os ts) start start
+          (objects_placed version [] 0 os) (placed (in_order version os ts)) inner misread
+          (objects_failed version os ts known.0 known.1 start shape) first c.in_ok-misread-in-Err.ensures,
     )
 
 pub returns-in-Ok-answer : goal.returns-in-Ok-answer
@@ -83,7 +95,7 @@ returns c =
     let os = items_view c.in_ok-version.objects.items in
     let answer = c.in_ok-answer.ensures in
     let ts = answer.0 in
-    let e = c.in-Err-answer.fault in
+    let e = c.in-Err-answer.inner in
     let failed = matched_err c.in_ok-answer.answer e _ _ c.in-Err-answer.is answer.2 in
     let start = c.args.state.now.counts in
     let mid = c.read_objects.new.counts in
@@ -92,10 +104,13 @@ returns c =
     let reads = subst (λ l. ReadsItems 125 c.pull_head.new.reader ts l) ended answer.1 in
     let met : AreMet start (objects_placed version [] 0 os) mid = c.in-Ok.ensures.met in
     let set : setting ≡ declared_by version os = c.in-Ok.ensures.setting in
-    let first : IsFirstOf mid (transactions_placed (declared_by version os) 0 ts) e =
-    subst (λ x. IsFirstOf mid (transactions_placed x 0 ts) e) set failed in (
+    let misread = c.in_ok-misread-in-Err-answer.misread in
+    let first : IsFirstIn mid (transactions_placed (declared_by version os) 0 ts) (array ts) e =
+    subst (λ x. IsFirstIn mid (transactions_placed x 0 ts) (array ts) e) set failed in (
       in_order version os ts,
       nothing_later version os c.args.reader.now c.pull_head.new.reader (c.in_ok-version.ensures.reads) ts new
           reads,
-      λ shape other. transactions_failed version os ts known.0 known.1 start shape mid e met (first other),
+      λ shape. first_below (member_named (codes "transactions")) (in_order version os ts) (array ts) (transactions_pointed version os ts)
+          mid start (transactions_placed (declared_by version os) 0 ts) (placed (in_order version os ts)) e misread
+          (transactions_failed version os ts known.0 known.1 start shape mid met) first c.in_ok-misread-in-Err-answer.ensures,
     )

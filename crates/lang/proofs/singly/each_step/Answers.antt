@@ -1,22 +1,26 @@
-use Rattle.std.proofs.Common.{◌≡◌, List, [], ◌∷◌, ◌++◌, Some, None, map, length, refl, sym, subst, ap, ap₂, ◌∙◌, ◌+◌, ◌-◌, arith, rules}
+use Rattle.std.proofs.Common.{◌≡◌, suc, List, [], ◌∷◌, ◌++◌, Some, None, decimal, map, length}
+use Rattle.std.proofs.Common.{refl, sym, subst, ap, ap₂, ◌∙◌, ◌+◌, ◌-◌, arith, rules}
 use Rattle.std.proofs.lemmas.List.{length-append, map-append}
 use Rattle.json.specs.Json.{after_end_array}
 use Rattle.serde_json.specs.Data.{array, item, no_items}
+use Rattle.serde_json.specs.Find.{get_item}
 use Rattle.meaning.specs.Trees as tree
 use Rattle.meaning.specs.declared.limits.TheConstants.{MAX_DEPTH}
 use Rattle.batch.specs.Views.{step_view, steps_of}
 use Rattle.batch.specs.declared.tree.Block.{roll-Block}
 use Rattle.batch.proofs.ViewLemmas.{block_view-is}
 use Rattle.spelling.specs.Asked.{scope_after}
-use Rattle.spelling.specs.Places.{block_placed, fault_in, item_at, seek, step_placed, steps_placed}
+use Rattle.spelling.specs.Places.{block_placed, item_at, seek, step_placed, steps_placed}
 use Rattle.spelling.specs.Scope.{Numbers, Scope, numbers_of, scope_of, setting_of}
 use Rattle.spelling.specs.Spelled.{block_of, spelled_map, steps_spelled}
 use Rattle.spelling.proofs.BlockLemmas.{block_asks, block_spells}
 use Rattle.spelling.proofs.ListLemmas.{in_front, in_front_none, in_front_push}
-use Rattle.spelling.proofs.PlaceLemmas.{part_met}
+use Rattle.spelling.proofs.PlaceLemmas.{part_met, part_unmet}
 use Rattle.pull.specs.Pulled.{ReadsValue}
 use Rattle.pull.proofs.PulledLemmas.{reads_item, reads_no_items, reads_shorter}
-use Rattle.lang.proofs.SinglyLemmas.{fault_inside, matched_err, matched_ok}
+use Rattle.lang.specs.Found.{IsBelow}
+use Rattle.lang.proofs.MisreadLemmas.{item_first}
+use Rattle.lang.proofs.SinglyLemmas.{matched_err, matched_ok}
 use Rattle.lang.proofs.singly.each_step.Goals as goal
 
 pub loop-alloc-init : goal.loop-alloc-init
@@ -30,6 +34,7 @@ loop-alloc-init c =
           (steps_placed (block_placed setting (MAX_DEPTH - 1)) setting s (length vs) ds)) (sym unseen) (sym none),
       λ ds. ap₂ (λ (s : Scope) (vs : List _). in_front (map step_view vs)
           (steps_spelled (block_of setting (MAX_DEPTH - 1)) setting s (numbers_of c.args.state.now.numbering) ds)) (sym unseen) (sym none),
+      λ k ds. ap (λ n. get_item n ds) (omega (arith, ap length none)),
     )
 
 pub loop-alloc-smaller : goal.loop-alloc-smaller
@@ -72,6 +77,7 @@ loop-alloc-preserved c =
           ∙ sym (in_front_push read (step_view x) (steps_spelled block setting next after ds))
           ∙ ap (λ ys. in_front ys (steps_spelled block setting next after ds))
           (sym (map-append step_view l.steps.items (x ∷ [])) ∙ ap (map step_view) (sym pushed)),
+      λ k ds. ap (λ n. get_item n (l.invariant.0 (item d ds))) (omega (arith, after_it)) ∙ l.invariant.4 (suc k) (item d ds),
     )
 
 pub returns-in-Err : goal.returns-in-Err
@@ -86,19 +92,25 @@ returns-in-Err c =
     let d = answer.0 in
     let mid = c.one_step.new.reader in
     let new = c.pass_items.new.reader in
-    let e = c.in-Err.found in
+    let e = c.in-Err.inner in
     let failed = matched_err c.in_ok-step.field-0 e _ _ c.in-Err.is answer.2 in
     let index = length l.steps.items in
     let rest = c.in_ok-pass_items-in-Err.ensures.ok in
     let ds = rest.0 in
-    let all = l.invariant.0 (item d ds) in (
+    let all = l.invariant.0 (item d ds) in
+    let part = step_placed places setting here d in
+    let later = steps_placed places setting (scope_after setting here d) (index + 1) ds in
+    let counted : c.len.result ≡ index = grind (arith, rules) in
+    let misread = c.in_ok-misread-in-Err.misread in
+    let seen : IsBelow (decimal index) e misread = subst (λ i. IsBelow (decimal i) e misread) counted c.in_ok-misread-in-Err.ensures in (
       all,
       l.invariant.1 (item d ds) new
           (reads_item 124 l.reader mid new d ds going.0 (subst (λ ts. ReadsValue 124 ts d mid) going.1 answer.1) rest.1),
-      λ other. ap (λ p. fault_in (seek start p)) (block_asks setting [] (array all) (MAX_DEPTH - 1) MAX_DEPTH all (omega arith) refl)
-          ∙ ap fault_in (l.invariant.2 (item d ds))
-          ∙ fault_inside l.state.counts (item_at index) (step_placed places setting here d)
-          (steps_placed places setting (scope_after setting here d) (index + 1) ds) e (failed other),
+      item_first all index d (omega (arith, counted)) (ap (λ n. get_item n all) (omega arith) ∙ l.invariant.4 0 (item d ds)) l.state.counts
+          start part
+          (block_placed setting MAX_DEPTH [] (array all)) e misread
+          (λ found is. ap (seek start) (block_asks setting [] (array all) (MAX_DEPTH - 1) MAX_DEPTH all (omega arith) refl)
+          ∙ l.invariant.2 (item d ds) ∙ part_unmet l.state.counts found (item_at index) part later is) failed seen,
     )
 
 pub returns : goal.returns

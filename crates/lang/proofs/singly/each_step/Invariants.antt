@@ -1,6 +1,7 @@
-use Rattle.std.proofs.Common.{◌≡◌, List, [], ◌-◌, length, map}
+use Rattle.std.proofs.Common.{◌≡◌, ℕ, List, [], ◌+◌, ◌-◌, length, map}
 use Rattle.json.specs.Token.{Token}
 use Rattle.serde_json.specs.Data.{Items}
+use Rattle.serde_json.specs.Find.{get_item}
 use Rattle.meaning.specs.declared.limits.TheConstants.{MAX_DEPTH}
 use Rattle.batch.specs.Views.{step_view}
 use Rattle.spelling.specs.Places.{block_placed, seek, steps_placed}
@@ -23,6 +24,7 @@ invariant-loop-alloc l =
     (numbers_of l.initial.state.numbering) (before ds)
     ≡ in_front (map step_view l.steps.items) (steps_spelled (block_of (setting_of l.declared) (MAX_DEPTH - 1)) (setting_of l.declared)
     (scope_of l.state.labels.entries) (numbers_of l.state.numbering) ds))
+    × ((k : ℕ) (ds : Items) → get_item (k + length l.steps.items) (before ds) ≡ get_item k ds)
 
 abbrev pub decreases-loop-alloc : goal.decreases-loop-alloc
 decreases-loop-alloc l = length l.reader

@@ -1,17 +1,20 @@
-use Rattle.std.proofs.Common.{◌≡◌, List, [], ◌∷◌, ◌++◌, Some, None, map, length, refl, sym, subst, ap, ◌∙◌, ◌+◌, arith, rules}
+use Rattle.std.proofs.Common.{◌≡◌, suc, List, [], ◌∷◌, ◌++◌, Some, None, decimal, map, length, refl, sym, subst, ap, ◌∙◌, ◌+◌, arith, rules}
 use Rattle.std.proofs.lemmas.List.{map-append}
 use Rattle.json.specs.Json.{after_end_array}
 use Rattle.serde_json.specs.Data.{no_items, item}
+use Rattle.serde_json.specs.Find.{get_item}
 use Rattle.meaning.specs.Trees as tree
 use Rattle.batch.specs.Views.{block_view}
-use Rattle.spelling.specs.Places.{fault_in, item_at, transaction_placed, transactions_placed}
+use Rattle.spelling.specs.Places.{item_at, transaction_placed, transactions_placed}
 use Rattle.spelling.specs.Scope.{Numbers, numbers_of, setting_of}
 use Rattle.spelling.specs.Spelled.{blocks_of}
 use Rattle.pull.specs.Pulled.{ReadsValue}
-use Rattle.spelling.proofs.PlaceLemmas.{part_met}
+use Rattle.spelling.proofs.PlaceLemmas.{part_met, part_unmet}
 use Rattle.spelling.proofs.ListLemmas.{in_front, in_front_none, in_front_push}
 use Rattle.pull.proofs.PulledLemmas.{reads_item, reads_no_items, reads_shorter}
-use Rattle.lang.proofs.SinglyLemmas.{fault_inside, matched_err, matched_ok}
+use Rattle.lang.specs.Found.{IsBelow}
+use Rattle.lang.proofs.MisreadLemmas.{item_first}
+use Rattle.lang.proofs.SinglyLemmas.{matched_err, matched_ok}
 use Rattle.lang.proofs.singly.each_transaction.Goals as goal
 
 pub loop-alloc-init : goal.loop-alloc-init
@@ -25,6 +28,7 @@ loop-alloc-init c =
       c.requires.labels,
       λ ds. omega arith,
       omega arith,
+      λ k ds. ap (λ n. get_item n ds) (omega arith),
     )
 
 pub loop-alloc-smaller : goal.loop-alloc-smaller
@@ -62,6 +66,7 @@ loop-alloc-preserved c =
       done.2,
       λ ds. l.invariant.5 (item d ds) ∙ omega arith,
       omega (arith, ap (λ limits. limits.transactions) c.of-limits.ensures),
+      λ k ds. ap (λ n. get_item n (l.invariant.0 (item d ds))) (omega arith) ∙ l.invariant.7 (suc k) (item d ds),
     )
 
 pub returns-in-Err : goal.returns-in-Err
@@ -73,16 +78,23 @@ returns-in-Err c =
     let d = answer.0 in
     let mid = c.one_transaction.new.reader in
     let new = c.pass_items.new.reader in
-    let e = c.in-Err.fault in
+    let e = c.in-Err.inner in
     let failed = matched_err c.in_ok-block.field-0 e _ _ c.in-Err.is answer.2 in
     let rest = c.in_ok-pass_items-in-Err.ensures.ok in
-    let ds = rest.0 in (
-      l.invariant.0 (item d ds),
+    let ds = rest.0 in
+    let all = l.invariant.0 (item d ds) in
+    let part = transaction_placed (l.number + 1) setting d in
+    let later = transactions_placed setting (l.number + 1) ds in
+    let misread = c.in_ok-misread-in-Err.misread in
+    let seen : IsBelow (decimal l.number) e misread =
+    subst (λ i. IsBelow (decimal i) e misread) (omega arith) c.in_ok-misread-in-Err.ensures in (
+      all,
       l.invariant.1 (item d ds) new
           (reads_item 125 l.reader mid new d ds going.0 (subst (λ ts. ReadsValue 125 ts d mid) going.1 answer.1) rest.1),
-      λ other. ap fault_in (l.invariant.2 (item d ds))
-          ∙ fault_inside l.state.counts (item_at l.number) (transaction_placed (l.number + 1) setting d)
-          (transactions_placed setting (l.number + 1) ds) e (failed other),
+      item_first all l.number d (omega arith) (ap (λ n. get_item n all) (omega arith) ∙ l.invariant.7 0 (item d ds)) l.state.counts
+          c.args.state.now.counts part
+          (transactions_placed setting 0 all) e misread
+          (λ found is. l.invariant.2 (item d ds) ∙ part_unmet l.state.counts found (item_at l.number) part later is) failed seen,
     )
 
 pub returns : goal.returns

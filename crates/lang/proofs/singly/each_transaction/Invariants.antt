@@ -1,7 +1,8 @@
-use Rattle.std.proofs.Common.{◌≡◌, ◌≤◌, List, [], ◌+◌, length, map}
+use Rattle.std.proofs.Common.{◌≡◌, ◌≤◌, ℕ, List, [], ◌+◌, length, map}
 use Rattle.json.specs.Token.{Token}
 use Rattle.serde_json.specs.Data.{Items}
 use Rattle.serde_json.specs.Events.{items_len}
+use Rattle.serde_json.specs.Find.{get_item}
 use Rattle.batch.specs.Views.{block_view}
 use Rattle.rules.specs.Limits.{limits_of}
 use Rattle.spelling.specs.Places.{seek, transactions_placed}
@@ -23,6 +24,7 @@ invariant-loop-alloc l =
     × (scope_of l.state.labels.entries ≡ [])
     × ((ds : Items) → items_len (before ds) ≡ l.number + items_len ds)
     × (l.number ≤ (limits_of l.declared.version).transactions)
+    × ((k : ℕ) (ds : Items) → get_item (k + l.number) (before ds) ≡ get_item k ds)
 
 abbrev pub decreases-loop-alloc : goal.decreases-loop-alloc
 decreases-loop-alloc l = length l.reader

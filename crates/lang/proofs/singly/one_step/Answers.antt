@@ -1,12 +1,19 @@
-use Rattle.std.proofs.Common.{Some, ap, sym, ◌∙◌}
+use Rattle.std.proofs.Common.{◌-◌}
 use Rattle.serde_json.specs.View.{view}
-use Rattle.spelling.specs.Places.{fault_in}
-use Rattle.lang.proofs.CodeLemmas.{not_refused}
+use Rattle.meaning.specs.declared.limits.TheConstants.{MAX_DEPTH}
+use Rattle.spelling.specs.Places.{block_placed, step_placed}
+use Rattle.spelling.specs.Scope.{scope_of, setting_of}
+use Rattle.lang.proofs.MisreadLemmas.{misread_first}
 use Rattle.lang.proofs.singly.one_step.Goals as goal
 
-pub returns : goal.returns
-returns c = (
-  view c.in_ok-value.value,
-  c.in_ok-value.ensures,
-  λ other. ap fault_in (c.in-Err.ensures.unmet (not_refused _ _ c.fault.ensures other)) ∙ ap (λ x. Some x) (sym c.fault.ensures),
-)
+pub returns-in_ok-misread-in-Err : goal.returns-in_ok-misread-in-Err
+returns-in_ok-misread-in-Err c =
+    let d = view c.in_ok-value.value in
+    let setting = setting_of c.args.declared.now in
+    let asked = step_placed (block_placed setting (MAX_DEPTH - 1)) setting (scope_of c.args.state.now.labels.entries) d in
+    let told = c.in_ok-misread-in-Err.ensures in (
+      d,
+      c.in_ok-value.ensures,
+      misread_first c.args.state.now.counts asked d c.in-Err.unmet c.in_ok-misread-in-Err.misread
+          c.in-Err.ensures.unmet told.other told.found told.part,
+    )

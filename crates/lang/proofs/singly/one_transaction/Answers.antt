@@ -1,13 +1,17 @@
-use Rattle.std.proofs.Common.{◌≡◌, [], ◌∷◌, Some, ap, sym, subst, ◌∙◌, arith}
+use Rattle.std.proofs.Common.{◌≡◌, ℕ, List, [], ◌∷◌, Err, ap, string_bytes, sym, subst, ◌∙◌, arith, rules}
 use Rattle.json.specs.Reads.{token_of}
 use Rattle.serde_json.specs.Data.{array}
+use Rattle.serde_json.specs.View.{view}
 use Rattle.meaning.specs.declared.limits.TheConstants.{MAX_DEPTH}
-use Rattle.rules.specs.Failures.{fault_of}
-use Rattle.spelling.specs.Places.{fault_in}
+use Rattle.rules.specs.declared.failure.Failure.TheVariants.{Broken}
+use Rattle.rules.specs.declared.rule.Rule.TheVariants.{Shape}
+use Rattle.rules.specs.declared.rule.ShapeRule.TheVariants.{Block}
+use Rattle.spelling.specs.Places.{Found}
 use Rattle.spelling.specs.Scope.{setting_of}
 use Rattle.spelling.proofs.BlockLemmas.{no_array}
 use Rattle.pull.specs.Pulled.{ReadsValue}
 use Rattle.pull.proofs.PulledLemmas.{IfOk_then, reads_array}
+use Rattle.lang.specs.Found.{part_at}
 use Rattle.lang.proofs.NoListLemmas.{no_list}
 use Rattle.lang.proofs.singly.one_transaction.Goals as goal
 
@@ -25,12 +29,17 @@ returns-in-BeginArray c =
 pub returns : goal.returns
 returns c =
     let first : c.args.reader.now ≡ token_of c.in_ok-token.token ∷ c.next.new.self = grind arith in
-    let passed = c.in_ok-pass_from.ensures.ok in
-    let d = passed.0 in
-    let new = c.pass_from.new.reader in
-    let none = no_list 125 c.in_ok-token.token c.next.new.self d new c.in_default.not-BeginArray passed.1 in (
+    let value = c.in_ok-value_from.field-0 in
+    let read = c.in_ok-value_from.ensures in
+    let d = view value in
+    let new = c.value_from.new.reader in
+    let none = no_list 125 c.in_ok-token.token c.next.new.self d new c.in_default.not-BeginArray read in
+    let empty : string_bytes c.new.result ≡ [] = grind (arith, rules) in
+    let told : List ℕ → Found = λ p. record { failure = Broken (Shape Block) c.args.number; pointer = p } in (
       d,
-      subst (λ ts. ReadsValue 125 ts d new) (sym first) passed.1,
-      λ other. ap fault_in (no_array (setting_of c.args.declared.now) [] d MAX_DEPTH _ none)
-          ∙ ap (λ x. Some x) (sym (c.fault.ensures ∙ ap fault_of c.broken-broken.ensures)),
+      subst (λ ts. ReadsValue 125 ts d new) (sym first) read,
+      (
+        no_array (setting_of c.args.declared.now) [] d MAX_DEPTH _ none ∙ ap (λ p. Err (told p)) (sym empty),
+        ap (λ p. part_at p d) (sym empty),
+      ),
     )
