@@ -43,16 +43,16 @@ prove:
 	$(RT) ci
 	@echo "The proofs, must-fail edits, tests and programs took $$(( ($$(date +%s) - $$(cat bin/begun) + 30) / 60 )) minutes."
 	cp crates/ordtx_cli/out/ordtx_cli bin/ordtx
-	cp crates/refusals/out/refusals bin/refusals
+	cp crates/tests_memory/out/tests_memory bin/tests_memory
 	$(MAKE) try
 
-try: bin/ordtx bin/refusals
+try: bin/ordtx bin/tests_memory
 	@echo "Trying the program: documents, command lines, failing devices, refused memory."
-	tests/run bin/ordtx bin/refusals
+	tests/run bin/ordtx bin/tests_memory
 
-bin/refusals: $(SOURCES)
-	RT=$(RT) tools/prove refusals
-	cp crates/refusals/out/refusals bin/refusals
+bin/tests_memory: $(SOURCES)
+	RT=$(RT) tools/prove tests_memory
+	cp crates/tests_memory/out/tests_memory bin/tests_memory
 
 bench: bin/ordtx
 	RT=$(RT) bench/claims

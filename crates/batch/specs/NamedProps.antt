@@ -2,9 +2,9 @@
 use Rattle.std.specs.Prelude.{List, [], ◌∷◌}
 use Rattle.std.proofs.Props.{props}
 use Rattle.objects.specs.declared.call.Call.{Call}
-use Rattle.words.specs.Verbs.{ItemsAre, phrase_of}
-use Rattle.words.specs.declared.verb.Phrase.{Phrase}
-use Rattle.words.specs.declared.verb.Phrase.TheVariants.{OfAmount, OfItem, OfPair, Alone}
+use Rattle.vocabulary.specs.Verbs.{ItemsAre, phrase_of}
+use Rattle.vocabulary.specs.declared.verb.Phrase.{Phrase}
+use Rattle.vocabulary.specs.declared.verb.Phrase.TheVariants.{OfAmount, OfItem, OfPair, Alone}
 use Rattle.objects.specs.declared.value.Value.{Value}
 use Rattle.objects.specs.declared.value.Value.TheVariants as value
 use Rattle.meaning.specs.declared.template.Argument.{Argument}

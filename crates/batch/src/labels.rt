@@ -8,7 +8,7 @@ use atoms::{AccountReply, CounterReply, DirectoryReply, Item, MaxReply, QueueRep
 use meaning::{End, Held, Test};
 use objects::Reply;
 use serial::NoMemory;
-use words::Word;
+use vocabulary::Word;
 
 /// Adds what the label of a step holds, where the step has one. A step without a label takes no
 /// memory. On `NoMemory` the labels are as before.

@@ -9,13 +9,13 @@ use Rattle.objects.specs.declared.value.Value.{Value}
 use Rattle.objects.specs.declared.value.Value.TheVariants as value
 use Rattle.meaning.specs.WellFormed.{size_of}
 use Rattle.meaning.specs.Words.{Names, joined, members}
-use Rattle.words.specs.Words.{kind_text}
+use Rattle.vocabulary.specs.Words.{kind_text}
 use Rattle.batch.specs.Limits.{entries_in}
 use Rattle.carry.specs.declared.document.Misfit.{Misfit}
 use Rattle.carry.specs.declared.document.Unfit.{Unfit}
 use Rattle.carry.specs.declared.document.Unfit.TheVariants.{Start, TooMany}
 use Rattle.meaning.specs.declared.limits.TheConstants.{MAX_START}
-use Rattle.rules.specs.Limits.{limits_of}
+use Rattle.doc_rules.specs.Limits.{limits_of}
 use Rattle.carry.specs.declared.document.TheConstants.{FIRST_CARRIED}
 
 -- the version of a document into which objects of a document of this version are carried

@@ -7,10 +7,10 @@ use Rattle.objects.specs.Objects.{kind_of_value}
 use Rattle.objects.specs.declared.value.Value.{Value}
 use Rattle.meaning.specs.Batch.{final_state}
 use Rattle.meaning.specs.Words.{Names}
-use Rattle.words.specs.Words.{kind_text}
+use Rattle.vocabulary.specs.Words.{kind_text}
 use Rattle.batch.specs.Names.{Texts, names_of}
-use Rattle.spelling.specs.Scope.{Table, is_listed, place_of}
-use Rattle.spelling.specs.Spelled.{Document}
+use Rattle.doc_tree.specs.Scope.{Table, is_listed, place_of}
+use Rattle.doc_tree.specs.Spelled.{Document}
 use Rattle.carry.specs.Carried.{carried_version, object_text}
 use Rattle.carry.specs.declared.starts.NamedObjects.{NamedObjects}
 use Rattle.carry.specs.declared.starts.Start.{Start}

@@ -5,18 +5,18 @@ ghost use Rattle.meaning.specs.WellFormed.{size_of};
 ghost use Rattle.meaning.specs.Words.{joined, members};
 ghost use Rattle.batch.specs.Limits.{entries_in};
 ghost use Rattle.batch.specs.Names.{names_of};
-ghost use Rattle.rules.specs.Limits.{limits_of};
+ghost use Rattle.doc_rules.specs.Limits.{limits_of};
 ghost use Rattle.carry.specs.Carried.{carried_text, carried_version, document_head, first_unfit, item_text, object_text, object_texts, pair_text, start_text, unfit_after};
 
 use atoms::{Directory, ItemSet, Queue};
 use batch::Names;
+use doc_rules::Limits;
 use meaning::limits::MAX_START;
 use objects::{Objects, Value};
 use report::{item_name, object_name};
-use rules::Limits;
 use serial::NoMemory;
 use std::alloc::Global;
-use words::kind_text;
+use vocabulary::kind_text;
 
 /// No carried document is of an earlier version, whatever the one is that it is carried from.
 pub const FIRST_CARRIED: u8 = 4;

@@ -5,18 +5,18 @@ ghost use Rattle.std.specs.Str.{bytes_eq};
 ghost use Rattle.batch.specs.Names.{texts_of};
 ghost use Rattle.meaning.specs.Words.{joined as joined_texts};
 ghost use Rattle.carry.specs.Carried.{first_unfit};
-ghost use Rattle.spelling.specs.Scope.{is_listed};
+ghost use Rattle.doc_tree.specs.Scope.{is_listed};
 ghost use Rattle.carry.specs.Joined.{added, are_of_one_kind, ended, first_clash, joined, named_view, object_text_of, own, start_at, start_view, value_of};
 
 use crate::document::{Misfit, entries_in, unfit_after, write_object};
 use batch::Names;
+use doc_tree::hashing::{NameHashing, Texts};
 use indexmap::IndexSet;
 use objects::{Objects, Value};
 use report::object_name;
 use serial::NoMemory;
-use spelling::hashing::{NameHashing, Texts};
 use std::alloc::Global;
-use words::kind_text;
+use vocabulary::kind_text;
 
 /// Objects, with the names of their batch.
 #[derive(Clone, Copy, Debug, Drop)]

@@ -14,7 +14,7 @@ use Rattle.batch.specs.Limits.{entries_in}
 use Rattle.batch.specs.Names.{AreNames, is_name}
 use Rattle.meaning.specs.WellFormed.{size_of}
 use Rattle.meaning.specs.declared.limits.TheConstants.{MAX_START}
-use Rattle.rules.specs.Limits.{limits_of}
+use Rattle.doc_rules.specs.Limits.{limits_of}
 use Rattle.carry.specs.Carried.{first_unfit, unfit_or}
 use Rattle.carry.specs.declared.document.Unfit.TheVariants.{Start, TooMany}
 use Rattle.carry_laws.specs.Carrying.{HasItem, SomeHasItem, object_names}

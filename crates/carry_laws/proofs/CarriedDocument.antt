@@ -6,10 +6,10 @@ use Rattle.objects.specs.Entries.{State}
 use Rattle.meaning.specs.Words.{Names}
 use Rattle.batch.specs.Limits.{all_entries_in, entries_in}
 use Rattle.batch.specs.Names.{Texts, names_of}
-use Rattle.spelling.specs.Asked as asked
-use Rattle.spelling.specs.Asked.{kind_in}
-use Rattle.spelling.specs.Scope.{Numbers, no_numbers}
-use Rattle.spelling.specs.Spelled.{document_in, parts_in, start_of, starts_of}
+use Rattle.doc_tree.specs.Asked as asked
+use Rattle.doc_tree.specs.Asked.{kind_in}
+use Rattle.doc_tree.specs.Scope.{Numbers, no_numbers}
+use Rattle.doc_tree.specs.Spelled.{document_in, parts_in, start_of, starts_of}
 use Rattle.carry.specs.Carried.{first_unfit}
 use Rattle.carry_laws.specs.CarriedData.{carried_data, object_data, objects_data, start_data}
 use Rattle.carry_laws.specs.Carrying.{IsCarriedVersion, object_names}
@@ -17,12 +17,12 @@ use Rattle.carry_laws.specs.Laws.{StartsWith}
 use Rattle.carry_laws.specs.Same.{AreSame}
 use Rattle.carry_laws.proofs.Carriable.{IsApart, first_fits}
 use Rattle.carry_laws.proofs.CarriedFaultless.{kind_is}
-use Rattle.merging.proofs.NumberedTexts.{Grows, grows_both, grows_none}
+use Rattle.doc_merge.proofs.NumberedTexts.{Grows, grows_both, grows_none}
 use Rattle.carry_laws.proofs.SpelledStarts.{SpellsValue, value_spelled}
 use Rattle.carry_laws.proofs.TextLength.{all_few}
 use Rattle.carry_laws.proofs.Versions.{is_version}
-use Rattle.pull.proofs.PulledDocument.{version_is}
-use Rattle.rules.proofs.LimitLemmas.{limits_within}
+use Rattle.doc_tokens.proofs.PulledDocument.{version_is}
+use Rattle.doc_rules.proofs.LimitLemmas.{limits_within}
 
 -- By later tables the objects are the same. So many texts are new at most.
 record SpellsState (names : Names) (values : State) (before : Numbers) (spelled : State × Numbers) : Type 0 where

@@ -13,15 +13,15 @@ use Rattle.meaning.proofs.Keeping.{batch_keeps}
 use Rattle.batch.specs.Names.{AreNames, names_of}
 use Rattle.faults.specs.Faults.{wrong_outside}
 use Rattle.lang.specs.Reading.{Document, most_bytes, reading, spelled_by, value_of}
-use Rattle.rules.specs.Limits.{limits_of}
-use Rattle.spelling.specs.Asked.{document_shape_asked, kind_in, objects_in, part, setting_in, transactions_in, version_in}
-use Rattle.spelling.specs.Demand.{no_counts}
-use Rattle.spelling.specs.Scope.{Numbers, no_numbers}
-use Rattle.spelling.specs.Spelled.{document_in, parts_in, start_of, starts_of}
-use Rattle.spelling.proofs.Demands.{asked, faultless, objects_asked, transactions_asked}
-use Rattle.spelling.proofs.MetLemmas.{first_met, passed}
+use Rattle.doc_rules.specs.Limits.{limits_of}
+use Rattle.doc_tree.specs.Asked.{document_shape_asked, kind_in, objects_in, part, setting_in, transactions_in, version_in}
+use Rattle.doc_tree.specs.Demand.{no_counts}
+use Rattle.doc_tree.specs.Scope.{Numbers, no_numbers}
+use Rattle.doc_tree.specs.Spelled.{document_in, parts_in, start_of, starts_of}
+use Rattle.doc_tree.proofs.Demands.{asked, faultless, objects_asked, transactions_asked}
+use Rattle.doc_tree.proofs.MetLemmas.{first_met, passed}
 use Rattle.faults.specs.declared.fault.Wrong.TheVariants.{TooMany}
-use Rattle.spelling.proofs.DistinctTexts.{items_differ, objects_differ}
+use Rattle.doc_tree.proofs.DistinctTexts.{items_differ, objects_differ}
 use Rattle.lang.proofs.FaultlessBatch.{faultless_is_batch, few}
 use Rattle.carry.specs.Carried.{carried_version, first_unfit}
 use Rattle.carry_laws.specs.Carrying.{CanBeCarried}
@@ -32,7 +32,7 @@ use Rattle.carry_laws.proofs.LimitsSince.{limits_since}
 use Rattle.carry_laws.proofs.NamedEnd.{end_named}
 use Rattle.carry_laws.proofs.NamedTexts.{named_objects_fit}
 use Rattle.carry_laws.proofs.Versions.{IsVersion, carried_known, version_known}
-use Rattle.spelling.specs.Places.{first_fault, placed}
+use Rattle.doc_tree.specs.Places.{first_fault, placed}
 use Rattle.lang.proofs.SpelledLemmas.{spelled_faultless}
 
 -- a document that was read is that of the value, which has no fault

@@ -17,18 +17,18 @@ use Rattle.objects.specs.declared.kind.Kind.TheVariants as kind
 use Rattle.objects.specs.declared.value.Value.{Value}
 use Rattle.objects.specs.declared.value.Value.TheVariants as value
 use Rattle.meaning.specs.Words.{Names, members}
-use Rattle.words.specs.Words.{kind_text}
+use Rattle.vocabulary.specs.Words.{kind_text}
 use Rattle.batch.specs.Limits.{entries_in}
 use Rattle.batch.specs.Names.{is_name}
-use Rattle.spelling.specs.Asked.{document_shape_asked, element_asked, entry_asked}
-use Rattle.spelling.specs.Asked.{kind_in, object_kind, object_name_asked, object_shape_asked, pair_asked}
-use Rattle.spelling.specs.Asked.{number_start, signed_start, version_in}
-use Rattle.spelling.specs.Demand.{check, no_counts}
-use Rattle.spelling.specs.Scope.{Table, is_listed}
-use Rattle.words.specs.Words.{kind_of_text}
-use Rattle.spelling.proofs.Checks.{check_met}
+use Rattle.doc_tree.specs.Asked.{document_shape_asked, element_asked, entry_asked}
+use Rattle.doc_tree.specs.Asked.{kind_in, object_kind, object_name_asked, object_shape_asked, pair_asked}
+use Rattle.doc_tree.specs.Asked.{number_start, signed_start, version_in}
+use Rattle.doc_tree.specs.Demand.{check, no_counts}
+use Rattle.doc_tree.specs.Scope.{Table, is_listed}
+use Rattle.vocabulary.specs.Words.{kind_of_text}
+use Rattle.doc_tree.proofs.Checks.{check_met}
 use Rattle.meaning.specs.declared.limits.TheConstants.{MAX_START}
-use Rattle.rules.specs.Limits.{limits_of}
+use Rattle.doc_rules.specs.Limits.{limits_of}
 use Rattle.meaning.specs.WellFormed.{size_of}
 use Rattle.carry.specs.Carried.{first_unfit}
 use Rattle.carry_laws.specs.CarriedData.{carried_data, items_data, object_data, objects_data, pairs_data, start_data}
@@ -38,10 +38,10 @@ use Rattle.carry_laws.proofs.Carriable.{IsApart, first_fits}
 use Rattle.carry_laws.proofs.ItemsOf.{members_few}
 use Rattle.carry_laws.proofs.Listed.{AreNamedBoth, AreWritable, IsNamed, IsWritable}
 use Rattle.carry_laws.proofs.Meeting.{AreNew, Counts, Meet, all_new, meet_fewer, meet_none, meet_start, meet_test, new_after, with_new}
-use Rattle.spelling.proofs.Demands.{array_start_asked, asked, elements_asked, entries_asked, object_asked, objects_asked, pairs_asked}
-use Rattle.spelling.proofs.Demands.{start_asked, met_faultless}
-use Rattle.spelling.specs.Places.{first_fault, placed}
-use Rattle.pull.proofs.PulledDocument.{version_is, version_read}
+use Rattle.doc_tree.proofs.Demands.{array_start_asked, asked, elements_asked, entries_asked, object_asked, objects_asked, pairs_asked}
+use Rattle.doc_tree.proofs.Demands.{start_asked, met_faultless}
+use Rattle.doc_tree.specs.Places.{first_fault, placed}
+use Rattle.doc_tokens.proofs.PulledDocument.{version_is, version_read}
 use Rattle.carry_laws.proofs.Versions.{each_version, is_version}
 
 -- ---- kinds

@@ -1,8 +1,8 @@
 -- The law of carrying over.
 use Rattle.std.proofs.Common.{◌≤◌, length, refl, subst}
 use Rattle.serde_json.specs.Data.{no_items}
-use Rattle.rules.specs.Limits.{limits_of}
-use Rattle.spelling.specs.Spelled.{document_in}
+use Rattle.doc_rules.specs.Limits.{limits_of}
+use Rattle.doc_tree.specs.Spelled.{document_in}
 use Rattle.carry.specs.Carried.{carried_text}
 use Rattle.carry_laws.specs.CarriedData.{carried_data, objects_data}
 use Rattle.carry_laws.specs.Carrying.{object_names}
@@ -14,7 +14,7 @@ use Rattle.carry_laws.proofs.CarriedReads.{carried_value}
 use Rattle.carry_laws.proofs.NamedTexts.{distinct_apart}
 use Rattle.carry_laws.proofs.TextLength.{carried_length}
 use Rattle.carry_laws.proofs.Versions.{is_version}
-use Rattle.pull.proofs.PulledDocument.{version_is}
+use Rattle.doc_tokens.proofs.PulledDocument.{version_is}
 use Rattle.lang.proofs.SpelledLemmas.{reads_as}
 
 pub carried_is_read : CarriedLaw

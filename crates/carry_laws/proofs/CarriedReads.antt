@@ -15,7 +15,7 @@ use Rattle.objects.specs.Entries.{State}
 use Rattle.objects.specs.declared.value.Value.{Value}
 use Rattle.objects.specs.declared.value.Value.TheVariants as value
 use Rattle.meaning.specs.Words.{Names, members}
-use Rattle.rules.specs.declared.limits.TheConstants.{LAST_VERSION}
+use Rattle.doc_rules.specs.declared.limits.TheConstants.{LAST_VERSION}
 use Rattle.carry.specs.Carried.{carried_text}
 use Rattle.carry_laws.specs.CarriedData.{carried_data, items_data, object_data, objects_data, pairs_data, start_data}
 use Rattle.carry_laws.proofs.CarriedJson.{carried_json, carried_lexed, items_json, object_json, objects_json, pairs_json, start_json}

@@ -18,10 +18,10 @@ use Rattle.objects.specs.declared.kind.Kind.TheVariants as kind
 use Rattle.objects.specs.declared.value.Value.{Value}
 use Rattle.objects.specs.declared.value.Value.TheVariants as value
 use Rattle.meaning.specs.Words.{Names, members, joined}
-use Rattle.words.specs.Words.{kind_text}
+use Rattle.vocabulary.specs.Words.{kind_text}
 use Rattle.batch.specs.Names.{is_name, is_name_byte}
 use Rattle.meaning.specs.declared.limits.TheConstants.{MAX_START}
-use Rattle.rules.specs.declared.limits.TheConstants.{LAST_VERSION}
+use Rattle.doc_rules.specs.declared.limits.TheConstants.{LAST_VERSION}
 use Rattle.carry.specs.Carried.{carried_text, document_head, item_text, list_text, object_text, object_texts, pair_text, quoted, start_text}
 use Rattle.carry_laws.proofs.Listed.{AreNamedBoth, AreWritable, IsNamed, IsWritable}
 use Rattle.carry_laws.proofs.NamesPlain.{high_byte}

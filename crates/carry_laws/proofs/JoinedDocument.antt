@@ -7,17 +7,17 @@ use Rattle.serde_json.specs.Events.{items_len}
 use Rattle.objects.specs.declared.kind.Kind.{Kind}
 use Rattle.meaning.specs.declared.limits.TheConstants.{MAX_ENTRIES}
 use Rattle.batch.specs.Limits.{entries_in}
-use Rattle.spelling.specs.Asked.{declared_by, document_shape_asked, objects_in, setting_in, transactions_in, version_in}
-use Rattle.rules.specs.Limits.{limits_of}
-use Rattle.pull.proofs.PulledDocument.{version_is, version_read}
-use Rattle.spelling.specs.Demand.{check, no_counts}
-use Rattle.spelling.specs.Places.{first_fault, placed}
-use Rattle.spelling.specs.Scope.{Numbers, Table, no_numbers}
-use Rattle.spelling.specs.Spelled.{blocks_of, document_in, parts_in}
-use Rattle.spelling.proofs.Checks.{check_met, check_parts}
-use Rattle.spelling.proofs.Demands.{asked, faultless, met_faultless, object_asked, objects_asked, transactions_asked}
-use Rattle.spelling.proofs.ListLemmas.{kinds_of_starts, same_setting}
-use Rattle.spelling.proofs.MetLemmas.{What, count, count-append, first_met, passed}
+use Rattle.doc_tree.specs.Asked.{declared_by, document_shape_asked, objects_in, setting_in, transactions_in, version_in}
+use Rattle.doc_rules.specs.Limits.{limits_of}
+use Rattle.doc_tokens.proofs.PulledDocument.{version_is, version_read}
+use Rattle.doc_tree.specs.Demand.{check, no_counts}
+use Rattle.doc_tree.specs.Places.{first_fault, placed}
+use Rattle.doc_tree.specs.Scope.{Numbers, Table, no_numbers}
+use Rattle.doc_tree.specs.Spelled.{blocks_of, document_in, parts_in}
+use Rattle.doc_tree.proofs.Checks.{check_met, check_parts}
+use Rattle.doc_tree.proofs.Demands.{asked, faultless, met_faultless, object_asked, objects_asked, transactions_asked}
+use Rattle.doc_tree.proofs.ListLemmas.{kinds_of_starts, same_setting}
+use Rattle.doc_tree.proofs.MetLemmas.{What, count, count-append, first_met, passed}
 use Rattle.lang.proofs.FaultlessBatch.{few}
 use Rattle.carry.specs.Carried.{first_unfit}
 use Rattle.carry.specs.Joined.{Named, StartOf, added, first_clash, joined, name_of, value_of}

@@ -10,7 +10,7 @@ use Rattle.json.specs.Tree.{ItemsHaveNumbers}
 use Rattle.json.proofs.Printed.Numbers.{lex-number}
 use Rattle.meaning.specs.Words.{joined}
 use Rattle.batch.specs.Names.{is_name}
-use Rattle.rules.specs.declared.limits.TheConstants.{LAST_VERSION}
+use Rattle.doc_rules.specs.declared.limits.TheConstants.{LAST_VERSION}
 use Rattle.carry.specs.Carried.{document_head}
 use Rattle.carry.specs.Joined.{StartOf, name_of, object_text_of}
 use Rattle.carry.specs.Transactions.{item_texts, transactions_of, tree_of, joined_text}

@@ -4,9 +4,9 @@ use Rattle.meaning.specs.Batch.{final_state}
 use Rattle.lang.specs.Reading.{Document, reading}
 use Rattle.lang.proofs.FaultlessBatch.{faultless_is_batch}
 use Rattle.serde_json.specs.Data.{Data}
-use Rattle.spelling.specs.Asked.{transactions_in, version_in}
-use Rattle.spelling.specs.Places.{first_fault, placed}
-use Rattle.spelling.specs.Spelled.{document_in}
+use Rattle.doc_tree.specs.Asked.{transactions_in, version_in}
+use Rattle.doc_tree.specs.Places.{first_fault, placed}
+use Rattle.doc_tree.specs.Spelled.{document_in}
 use Rattle.carry.specs.Joined.{starts_into, version_into}
 use Rattle.carry_laws.specs.Carrying.{IsCarriedVersion}
 use Rattle.carry_laws.specs.Laws.{JoinedLaw, JoinedStartsLaw}
@@ -15,7 +15,7 @@ use Rattle.carry_laws.proofs.JoinedReads.{joined_value}
 use Rattle.carry_laws.proofs.JoinedSpelled.{starts_names, starts_same}
 use Rattle.carry_laws.proofs.JoinedStarts.{AreAllNamed, joined_apart, joined_can_start}
 use Rattle.carry_laws.proofs.NamedTexts.{distinct_apart}
-use Rattle.spelling.proofs.DistinctTexts.{items_differ}
+use Rattle.doc_tree.proofs.DistinctTexts.{items_differ}
 use Rattle.carry_laws.proofs.NamedEnd.{end_named}
 use Rattle.carry_laws.proofs.NextTree.{next_transactions}
 use Rattle.carry_laws.proofs.Versions.{carried_known}

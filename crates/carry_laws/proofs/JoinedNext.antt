@@ -6,11 +6,11 @@ use Rattle.std.specs.List.{AllByRecursion}
 use Rattle.serde_json.specs.Data.{Data}
 use Rattle.meaning.specs.Batch.{final_state}
 use Rattle.batch.specs.Names.{names_of}
-use Rattle.spelling.specs.Asked.{objects_in, setting_in, transactions_in, version_in}
-use Rattle.spelling.specs.Places.{first_fault, placed}
-use Rattle.spelling.specs.Scope.{Numbers, Table, no_numbers, number_of, with_text}
-use Rattle.spelling.specs.Spelled.{Document, blocks_of, document_in, parts_in, starts_of}
-use Rattle.spelling.proofs.DistinctTexts.{objects_differ}
+use Rattle.doc_tree.specs.Asked.{objects_in, setting_in, transactions_in, version_in}
+use Rattle.doc_tree.specs.Places.{first_fault, placed}
+use Rattle.doc_tree.specs.Scope.{Numbers, Table, no_numbers, number_of, with_text}
+use Rattle.doc_tree.specs.Spelled.{Document, blocks_of, document_in, parts_in, starts_of}
+use Rattle.doc_tree.proofs.DistinctTexts.{objects_differ}
 use Rattle.lang.specs.Reading.{reading, value_of}
 use Rattle.lang.proofs.FaultlessBatch.{faultless_is_batch}
 use Rattle.carry.specs.Carried.{first_unfit}
@@ -19,11 +19,11 @@ use Rattle.carry.specs.Transactions.{joined_text}
 use Rattle.carry_laws.specs.Carrying.{IsCarriedVersion, object_names}
 use Rattle.carry_laws.specs.Joined.{spelled_starts, starts_data}
 use Rattle.carry_laws.specs.Laws.{IsNextWith, JoinedReadLaw, MayBeJoined, text_into}
-use Rattle.merging.specs.Renumbered.{number_in}
+use Rattle.doc_merge.specs.Renumbered.{number_in}
 use Rattle.carry_laws.proofs.Among.{Apart}
 use Rattle.carry_laws.proofs.CarriedEnd.{of_reading}
-use Rattle.merging.proofs.Growing.{Begins, begins_none, blocks_longer}
-use Rattle.rules.specs.Limits.{limits_of}
+use Rattle.doc_merge.proofs.Growing.{Begins, begins_none, blocks_longer}
+use Rattle.doc_rules.specs.Limits.{limits_of}
 use Rattle.carry_laws.proofs.JoinedDocument.{Read, declared, few_starts, joined_of, joined_reads, next_of, parts_met, starts_with}
 use Rattle.carry_laws.proofs.JoinedLaws.{end_is_named, into_known, starts_are_named}
 use Rattle.carry_laws.proofs.JoinedReads.{joined_value}
@@ -32,8 +32,8 @@ use Rattle.carry_laws.proofs.JoinedSpelled.{starts_few, starts_later, starts_nam
 use Rattle.carry_laws.proofs.JoinedStarts.{IsApartStart, joined_apart, joined_can_start}
 use Rattle.carry_laws.proofs.NamedTexts.{distinct_apart, names_from}
 use Rattle.carry_laws.proofs.NextTree.{next_transactions}
-use Rattle.merging.proofs.NumberedTexts.{number_back}
-use Rattle.merging.proofs.Renumbering.{Sends, blocks_again, number_sent}
+use Rattle.doc_merge.proofs.NumberedTexts.{number_back}
+use Rattle.doc_merge.proofs.Renumbering.{Sends, blocks_again, number_sent}
 use Rattle.carry_laws.proofs.StartTexts.{starts_longer, starts_reasons}
 use Rattle.lang.proofs.SpelledLemmas.{reads_as}
 

@@ -8,7 +8,7 @@ use Rattle.json.specs.Tree.{depth, items_depth}
 use Rattle.json.proofs.Printed.Trees.{value-json_tokens}
 use Rattle.serde_json.specs.Data.{Items}
 use Rattle.serde_json.specs.Read.{max_depth, of_items, of_json, read}
-use Rattle.rules.specs.declared.limits.TheConstants.{LAST_VERSION}
+use Rattle.doc_rules.specs.declared.limits.TheConstants.{LAST_VERSION}
 use Rattle.lang.specs.Reading.{value_of}
 use Rattle.carry.specs.Joined.{StartOf}
 use Rattle.carry.specs.Transactions.{joined_text, transactions_of, tree_of}

@@ -11,17 +11,17 @@ use Rattle.objects.specs.Objects.{kind_of_value}
 use Rattle.objects.specs.declared.kind.Kind.{Kind}
 use Rattle.objects.specs.declared.kind.Kind.TheVariants as kind
 use Rattle.objects.specs.declared.value.Value.{Value}
-use Rattle.words.specs.Words.{kind_of_text, kind_text}
-use Rattle.words.specs.Verbs.{verb_of_text}
-use Rattle.words.specs.declared.verb.ItemVerb.TheVariants.{Enq}
-use Rattle.words.specs.declared.verb.LoneVerb.TheVariants.{Deq, Length}
-use Rattle.words.specs.declared.verb.Verb.{Verb}
-use Rattle.words.specs.declared.verb.Verb.TheVariants.{OfItem, Alone}
+use Rattle.vocabulary.specs.Words.{kind_of_text, kind_text}
+use Rattle.vocabulary.specs.Verbs.{verb_of_text}
+use Rattle.vocabulary.specs.declared.verb.ItemVerb.TheVariants.{Enq}
+use Rattle.vocabulary.specs.declared.verb.LoneVerb.TheVariants.{Deq, Length}
+use Rattle.vocabulary.specs.declared.verb.Verb.{Verb}
+use Rattle.vocabulary.specs.declared.verb.Verb.TheVariants.{OfItem, Alone}
 use Rattle.batch.specs.Names.{names_of}
-use Rattle.spelling.specs.Asked.{kinds_of}
-use Rattle.rules.specs.declared.limits.TheConstants.{LAST_VERSION}
-use Rattle.spelling.specs.Scope.{Setting, Table, is_listed, place_of}
-use Rattle.spelling.proofs.TableLemmas.{listed_text}
+use Rattle.doc_tree.specs.Asked.{kinds_of}
+use Rattle.doc_rules.specs.declared.limits.TheConstants.{LAST_VERSION}
+use Rattle.doc_tree.specs.Scope.{Setting, Table, is_listed, place_of}
+use Rattle.doc_tree.proofs.TableLemmas.{listed_text}
 use Rattle.lang.proofs.Bound.{found, within}
 use Rattle.carry.specs.Joined.{Named, StartOf, added, are_of_one_kind, ended, first_clash, joined, name_of, own, start_at, start_of}
 use Rattle.carry.specs.Joined.{value_of}
@@ -31,7 +31,7 @@ use Rattle.carry_laws.specs.Joined.{starts_data}
 use Rattle.carry_laws.proofs.Among.{Among, Apart, each_of, of_each}
 use Rattle.carry_laws.proofs.CarriedFaultless.{kind_back, kind_is}
 use Rattle.carry_laws.proofs.NamedTexts.{names_from}
-use Rattle.merging.proofs.NumberedTexts.{first_listed, listed_at, listed_kept}
+use Rattle.doc_merge.proofs.NumberedTexts.{first_listed, listed_at, listed_kept}
 use Rattle.carry_laws.proofs.LaterNames.{name_later}
 use Rattle.carry_laws.proofs.LimitsSince.{limits_since}
 use Rattle.carry_laws.proofs.OtherSetting.{Declares}

@@ -4,12 +4,12 @@ use Rattle.std.specs.List.{AllByRecursion}
 use Rattle.objects.specs.Entries.{State}
 use Rattle.batch.specs.Limits.{all_entries_in, entries_in}
 use Rattle.batch.specs.Names.{Texts, names_of}
-use Rattle.spelling.specs.Asked as asked
-use Rattle.spelling.specs.Asked.{kind_in}
-use Rattle.spelling.specs.Scope.{Numbers, no_numbers}
-use Rattle.spelling.specs.Spelled.{start_of, starts_of}
+use Rattle.doc_tree.specs.Asked as asked
+use Rattle.doc_tree.specs.Asked.{kind_in}
+use Rattle.doc_tree.specs.Scope.{Numbers, no_numbers}
+use Rattle.doc_tree.specs.Spelled.{start_of, starts_of}
 use Rattle.meaning.specs.declared.limits.TheConstants.{MAX_ENTRIES}
-use Rattle.rules.proofs.LimitLemmas.{limits_within}
+use Rattle.doc_rules.proofs.LimitLemmas.{limits_within}
 use Rattle.carry.specs.Carried.{first_unfit}
 use Rattle.carry.specs.Joined.{StartOf, name_of, value_of}
 use Rattle.carry_laws.specs.CarriedData.{object_data, start_data}
@@ -19,7 +19,7 @@ use Rattle.carry_laws.specs.Same.{AreSameStarts}
 use Rattle.carry_laws.proofs.Carriable.{first_fits}
 use Rattle.carry_laws.proofs.CarriedFaultless.{kind_is}
 use Rattle.carry_laws.proofs.JoinedStarts.{IsApartStart}
-use Rattle.merging.proofs.NumberedTexts.{Grows, grows_both, grows_none}
+use Rattle.doc_merge.proofs.NumberedTexts.{Grows, grows_both, grows_none}
 use Rattle.carry_laws.proofs.SpelledStarts.{SpellsValue, value_spelled}
 use Rattle.carry_laws.proofs.TextLength.{all_few}
 

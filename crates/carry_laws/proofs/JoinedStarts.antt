@@ -11,7 +11,7 @@ use Rattle.objects.specs.declared.value.Value.{Value}
 use Rattle.batch.specs.Limits.{entries_in}
 use Rattle.batch.specs.Named.{AllNamedValues, IsNamedValue}
 use Rattle.batch.specs.Names.{AreNames, Texts, is_name, names_of}
-use Rattle.spelling.specs.Scope.{Table, is_listed, place_of}
+use Rattle.doc_tree.specs.Scope.{Table, is_listed, place_of}
 use Rattle.carry.specs.Carried.{first_unfit}
 use Rattle.carry.specs.Joined.{Named, StartOf, added, joined, name_of, own, start_at, start_of, value_of}
 use Rattle.carry_laws.specs.Carrying.{HasItem}

@@ -3,9 +3,9 @@ use Rattle.std.proofs.Common.{◌≡◌, ℕ, ◌≤◌, Bool, true, false, cond
 use Rattle.std.specs.Prelude.{nat_le}
 use Rattle.std.proofs.lemmas.Bool.{leb-true, leb-false}
 use Rattle.meaning.specs.declared.limits.TheConstants.{MAX_ENTRIES, MAX_NODES, MAX_OBJECTS, MAX_OPERATIONS, MAX_TRANSACTIONS}
-use Rattle.rules.specs.Limits.{limits_of, since}
-use Rattle.rules.specs.declared.limits.Limits.{Limits}
-use Rattle.rules.specs.declared.limits.TheConstants.{MAX_BYTES}
+use Rattle.doc_rules.specs.Limits.{limits_of, since}
+use Rattle.doc_rules.specs.declared.limits.Limits.{Limits}
+use Rattle.doc_rules.specs.declared.limits.TheConstants.{MAX_BYTES}
 
 -- each limit is at most that of the other limits
 pub record Within (limits most : Limits) : Type 0 where

@@ -6,11 +6,11 @@ use Rattle.std.specs.List.{AllByRecursion}
 use Rattle.std.specs.Str.{bytes_eq}
 use Rattle.std.proofs.lemmas.Bool.{false_from_ne_true, lt-ltb, or_parts}
 use Rattle.std.proofs.lemmas.Slice.Eq.{bytes_eq-Decides}
-use Rattle.rules.specs.declared.rule.CountRule.TheVariants.{Entries}
-use Rattle.rules.specs.declared.rule.Rule.{Rule}
-use Rattle.spelling.specs.Demand.{Demand, and_then, broken_at, check, holds, limited, no_counts, one_more_start}
-use Rattle.rules.specs.Limits.{limits_of}
-use Rattle.spelling.specs.Scope.{Table, is_listed, with_text}
+use Rattle.doc_rules.specs.declared.rule.CountRule.TheVariants.{Entries}
+use Rattle.doc_rules.specs.declared.rule.Rule.{Rule}
+use Rattle.doc_tree.specs.Demand.{Demand, and_then, broken_at, check, holds, limited, no_counts, one_more_start}
+use Rattle.doc_rules.specs.Limits.{limits_of}
+use Rattle.doc_tree.specs.Scope.{Table, is_listed, with_text}
 
 abbrev type_of : {A : Type 0} → A → Type 0
 type_of {A} a = A

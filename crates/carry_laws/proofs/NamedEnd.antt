@@ -8,7 +8,7 @@ use Rattle.objects.specs.declared.call.Call.TheVariants as to
 use Rattle.objects.specs.declared.call.Reply.{Reply}
 use Rattle.objects.specs.declared.value.Value.{Value}
 use Rattle.objects.specs.declared.value.Value.TheVariants as value
-use Rattle.words.proofs.Verbs.{directory_items, queue_items, set_items}
+use Rattle.vocabulary.proofs.Verbs.{directory_items, queue_items, set_items}
 use Rattle.meaning.specs.declared.end.End.TheVariants.{Ended, Aborted}
 use Rattle.meaning.specs.declared.held.Held.{Held}
 use Rattle.meaning.specs.Trees.{Block, NoStep, Steps, Step, Operation, Fill, If, Subaction, Abort, Parallel, Handlers, ForReason}
@@ -37,13 +37,14 @@ use Rattle.std.specs.FinMap as finite_map
 use Rattle.std.specs.List.{All}
 use Rattle.std.specs.Option.{ForSome, option_and_then}
 use Rattle.std.specs.Prelude.{is_some, option_map}
-use Rattle.words.proofs.Verbs.{amount_phrase, item_phrase, pair_phrase}
-use Rattle.words.specs.Verbs.{ItemsAre, amount_call, item_call, pair_call}
-use Rattle.words.specs.declared.verb.AmountVerb.{AmountVerb}
-use Rattle.words.specs.declared.verb.ItemVerb.{ItemVerb}
-use Rattle.words.specs.declared.verb.PairVerb.{PairVerb}
+use Rattle.vocabulary.proofs.Verbs.{amount_phrase, item_phrase, pair_phrase}
+use Rattle.vocabulary.specs.Verbs.{ItemsAre, amount_call, item_call, pair_call}
+use Rattle.vocabulary.specs.declared.verb.AmountVerb.{AmountVerb}
+use Rattle.vocabulary.specs.declared.verb.ItemVerb.{ItemVerb}
+use Rattle.vocabulary.specs.declared.verb.PairVerb.{PairVerb}
 use Rattle.meaning.specs.Records.{Taken, TakenChild, TakenChildren, TakenHandler, TakenStep}
-use Rattle.meaning.specs.OneThread.{Run, Ran, labels_of, state_of, label_if, operate, operate_made, operate_filled, choose, is_for, choose_handler, act}
+use Rattle.meaning.specs.OneThread.{Run, Ran, labels_of, state_of, label_if, operate, operate_made, operate_filled, choose, is_for}
+use Rattle.meaning.specs.OneThread.{choose_handler, act}
 use Rattle.meaning.specs.OneThread.{go_on, go_on_children, one, one_step}
 use Rattle.meaning.specs.OneThread.{one_handler, one_children}
 use Rattle.meaning.specs.Batch.{block_at, settled, state_at}

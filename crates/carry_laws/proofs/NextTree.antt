@@ -18,7 +18,7 @@ use Rattle.serde_json.specs.Data.{Data, Items, Members, Num, array, no_items, no
 use Rattle.serde_json.specs.Find as looked
 use Rattle.serde_json.specs.Read.{number_of, of_items, of_json, of_members, read}
 use Rattle.serde_json.proofs.Views.{get_member-put, get_member-put_other}
-use Rattle.spelling.specs.Asked.{transactions_in}
+use Rattle.doc_tree.specs.Asked.{transactions_in}
 use Rattle.lang.specs.Reading.{value_of}
 use Rattle.carry.specs.Transactions.{transactions_of, tree_of}
 use Rattle.carry.proofs.Reading.{member_numbers}

@@ -16,52 +16,52 @@ use Rattle.meaning.specs.declared.template.Argument.{Argument}
 use Rattle.meaning.specs.declared.template.Argument.TheVariants as argument
 use Rattle.meaning.specs.declared.template.Template.TheVariants as template
 use Rattle.meaning.specs.declared.template.Template.TheVariants.{Given}
-use Rattle.rules.specs.declared.rule.CountRule.TheVariants.{Nodes, Operations}
-use Rattle.rules.specs.declared.rule.ArgumentRule.TheVariants as argument_rule
-use Rattle.rules.specs.declared.rule.NameRule.{NameRule}
-use Rattle.rules.specs.declared.rule.NameRule.TheVariants as names
-use Rattle.rules.specs.declared.rule.OperandPlace.{OperandPlace}
-use Rattle.rules.specs.declared.rule.OperandPlace.TheVariants.{Third, Fourth}
-use Rattle.rules.specs.declared.rule.SourceRule.TheVariants as source
-use Rattle.rules.specs.Subjects.{fits_item, fits_number}
-use Rattle.rules.specs.declared.rule.Rule.{Rule}
-use Rattle.rules.specs.declared.rule.Rule.TheVariants.{Depth, KnownObject, KnownOperation, Name, Shape}
-use Rattle.rules.specs.declared.rule.Rule.TheVariants as rule
-use Rattle.rules.specs.declared.rule.ShapeRule.TheVariants as shape
-use Rattle.words.specs.Verbs.{amount_call, verb_of_text}
-use Rattle.words.specs.declared.verb.Verb.{Verb}
-use Rattle.words.specs.declared.verb.Verb.TheVariants.{OfAmount, OfItem, OfPair, Alone}
-use Rattle.words.specs.declared.verb.LoneVerb.TheVariants.{Balance}
+use Rattle.doc_rules.specs.declared.rule.CountRule.TheVariants.{Nodes, Operations}
+use Rattle.doc_rules.specs.declared.rule.ArgumentRule.TheVariants as argument_rule
+use Rattle.doc_rules.specs.declared.rule.NameRule.{NameRule}
+use Rattle.doc_rules.specs.declared.rule.NameRule.TheVariants as names
+use Rattle.doc_rules.specs.declared.rule.OperandPlace.{OperandPlace}
+use Rattle.doc_rules.specs.declared.rule.OperandPlace.TheVariants.{Third, Fourth}
+use Rattle.doc_rules.specs.declared.rule.SourceRule.TheVariants as source
+use Rattle.doc_rules.specs.Subjects.{fits_item, fits_number}
+use Rattle.doc_rules.specs.declared.rule.Rule.{Rule}
+use Rattle.doc_rules.specs.declared.rule.Rule.TheVariants.{Depth, KnownObject, KnownOperation, Name, Shape}
+use Rattle.doc_rules.specs.declared.rule.Rule.TheVariants as rule
+use Rattle.doc_rules.specs.declared.rule.ShapeRule.TheVariants as shape
+use Rattle.vocabulary.specs.Verbs.{amount_call, verb_of_text}
+use Rattle.vocabulary.specs.declared.verb.Verb.{Verb}
+use Rattle.vocabulary.specs.declared.verb.Verb.TheVariants.{OfAmount, OfItem, OfPair, Alone}
+use Rattle.vocabulary.specs.declared.verb.LoneVerb.TheVariants.{Balance}
 use Rattle.meaning.specs.declared.limits.TheConstants.{MAX_DEPTH}
-use Rattle.rules.specs.declared.subject.Subject.{Subject}
-use Rattle.rules.specs.declared.subject.Subject.TheVariants.{Outcome, Reply}
-use Rattle.spelling.specs.declared.steps.Sort.{Sort}
-use Rattle.spelling.specs.declared.steps.Sort.TheVariants.{Operation as an_operation, If as an_if, Sub as a_sub, Abort as an_abort}
-use Rattle.spelling.specs.declared.steps.Sort.TheVariants.{Parallel as a_parallel}
-use Rattle.spelling.specs.Demand.{Demand, and_then, broken_at, check, holds, in_transaction, limited, one_more_node}
-use Rattle.spelling.specs.Demand.{one_more_operation, one_more_start}
-use Rattle.rules.specs.Limits.{limits_of}
-use Rattle.spelling.specs.Look.{has, or_empty, text_member, whole, within}
-use Rattle.spelling.specs.Scope.{Numbers, Scope, Setting, is_listed, kind_named, label_number, number_of, place_of, with_label}
-use Rattle.spelling.specs.Scope.{with_item, with_reason}
-use Rattle.spelling.specs.Asked.{abort_asked, abort_shape_asked, amount_asked, amount_item, argument_asked, arguments_asked, call_named}
-use Rattle.spelling.specs.Asked.{children_in, else_reason, handlers_are_members, has_count, has_fills, index_of, is_else, is_source}
-use Rattle.spelling.specs.Asked.{item_asked, name_item, reason_asked, source_asked}
-use Rattle.spelling.specs.Asked.{handlers_in, holds_item, holds_number, holds_word}
-use Rattle.spelling.specs.Asked.{if_label, if_shape_asked, is_abort, label_asked, label_in, object_of, operation_asked}
-use Rattle.spelling.specs.Asked.{operation_shape_asked}
-use Rattle.spelling.specs.Asked.{or_no_items, parallel_shape_asked, part, scope_after, scope_after_by, seen_asked, sort_of}
-use Rattle.spelling.specs.Asked.{sub_shape_asked, subject_of, target_asked, test_asked, verb_at, verb_in}
-use Rattle.spelling.specs.Spelled.{Spelling, block_of, block_of_if, blocks_of, children_spelled, handlers_spelled, if_of, item_of}
-use Rattle.spelling.specs.Spelled.{item_template, operation_step, pair_template, refusal_of, source_of, template_of}
-use Rattle.spelling.specs.Spelled.{members_of}
-use Rattle.spelling.specs.Spelled.{operation_of, or_no_step, or_zero, parallel_of, spelled_map, step_of, step_of_by, steps_spelled, sub_of}
-use Rattle.spelling.specs.Spelled.{sub_step, target_of, test_of, tried}
-use Rattle.spelling.proofs.Checks.{check_met, check_parts}
-use Rattle.spelling.proofs.Demands.{Asks, array_asked, block_asked, block_asked_if, children_asked, handlers_asked, if_asked}
-use Rattle.spelling.proofs.Demands.{members_asked, parallel_asked, step_asked, step_asked_by, steps_asked, sub_asked, transaction_asked}
-use Rattle.spelling.proofs.Demands.{transactions_asked}
-use Rattle.spelling.proofs.MetLemmas.{What, count}
+use Rattle.doc_rules.specs.declared.subject.Subject.{Subject}
+use Rattle.doc_rules.specs.declared.subject.Subject.TheVariants.{Outcome, Reply}
+use Rattle.doc_tree.specs.declared.steps.Sort.{Sort}
+use Rattle.doc_tree.specs.declared.steps.Sort.TheVariants.{Operation as an_operation, If as an_if, Sub as a_sub, Abort as an_abort}
+use Rattle.doc_tree.specs.declared.steps.Sort.TheVariants.{Parallel as a_parallel}
+use Rattle.doc_tree.specs.Demand.{Demand, and_then, broken_at, check, holds, in_transaction, limited, one_more_node}
+use Rattle.doc_tree.specs.Demand.{one_more_operation, one_more_start}
+use Rattle.doc_rules.specs.Limits.{limits_of}
+use Rattle.doc_tree.specs.Look.{has, or_empty, text_member, whole, within}
+use Rattle.doc_tree.specs.Scope.{Numbers, Scope, Setting, is_listed, kind_named, label_number, number_of, place_of, with_label}
+use Rattle.doc_tree.specs.Scope.{with_item, with_reason}
+use Rattle.doc_tree.specs.Asked.{abort_asked, abort_shape_asked, amount_asked, amount_item, argument_asked, arguments_asked, call_named}
+use Rattle.doc_tree.specs.Asked.{children_in, else_reason, handlers_are_members, has_count, has_fills, index_of, is_else, is_source}
+use Rattle.doc_tree.specs.Asked.{item_asked, name_item, reason_asked, source_asked}
+use Rattle.doc_tree.specs.Asked.{handlers_in, holds_item, holds_number, holds_word}
+use Rattle.doc_tree.specs.Asked.{if_label, if_shape_asked, is_abort, label_asked, label_in, object_of, operation_asked}
+use Rattle.doc_tree.specs.Asked.{operation_shape_asked}
+use Rattle.doc_tree.specs.Asked.{or_no_items, parallel_shape_asked, part, scope_after, scope_after_by, seen_asked, sort_of}
+use Rattle.doc_tree.specs.Asked.{sub_shape_asked, subject_of, target_asked, test_asked, verb_at, verb_in}
+use Rattle.doc_tree.specs.Spelled.{Spelling, block_of, block_of_if, blocks_of, children_spelled, handlers_spelled, if_of, item_of}
+use Rattle.doc_tree.specs.Spelled.{item_template, operation_step, pair_template, refusal_of, source_of, template_of}
+use Rattle.doc_tree.specs.Spelled.{members_of}
+use Rattle.doc_tree.specs.Spelled.{operation_of, or_no_step, or_zero, parallel_of, spelled_map, step_of, step_of_by, steps_spelled, sub_of}
+use Rattle.doc_tree.specs.Spelled.{sub_step, target_of, test_of, tried}
+use Rattle.doc_tree.proofs.Checks.{check_met, check_parts}
+use Rattle.doc_tree.proofs.Demands.{Asks, array_asked, block_asked, block_asked_if, children_asked, handlers_asked, if_asked}
+use Rattle.doc_tree.proofs.Demands.{members_asked, parallel_asked, step_asked, step_asked_by, steps_asked, sub_asked, transaction_asked}
+use Rattle.doc_tree.proofs.Demands.{transactions_asked}
+use Rattle.doc_tree.proofs.MetLemmas.{What, count}
 use Rattle.lang.proofs.Faultless.{if_shape_counts, parallel_shape_counts, seen_counts}
 use Rattle.carry_laws.proofs.Meeting.{Counts}
 
@@ -403,7 +403,10 @@ module _ (old new : Setting) (declares : Declares old new) where
   arguments_kept scope (OfAmount v) op =
       let shape = holds (has_count 3 op) (rule.Argument (argument_rule.Count (OfAmount v))) ∷ [] in
       kept_so _ _ _ (SameCall scope (OfAmount v) op) (λ same numbers.
-      ap (λ b. (cond b (template.OfAmount v (source_of scope 2 op)) (Given (amount_call v (amount_of (or_zero (amount_item 2 op))))), numbers))
+      ap (λ b. (
+        cond b (template.OfAmount v (source_of scope 2 op)) (Given (amount_call v (amount_of (or_zero (amount_item 2 op))))),
+        numbers,
+      ))
       same)
       (kept_before shape (amount_asked old.version scope op) (amount_asked new.version scope op) _ refl (amount_kept scope op))
   arguments_kept scope (OfItem v) op =

@@ -8,7 +8,7 @@ use Rattle.std.specs.FinMap as finite_map
 use Rattle.atoms.specs.Item.{item_cmp}
 use Rattle.atoms.specs.declared.item.Item.{Item}
 use Rattle.atoms.proofs.Items.{alike_is, alike_itself, apart_not, items_total}
-use Rattle.spelling.specs.Spelled.{bind_all, put_all}
+use Rattle.doc_tree.specs.Spelled.{bind_all, put_all}
 use Rattle.carry_laws.proofs.Among.{Among, Apart}
 use Rattle.carry_laws.proofs.ItemsOf.{or_later}
 

@@ -12,8 +12,8 @@ use Rattle.objects.specs.declared.value.Value.TheVariants as value
 use Rattle.meaning.specs.Words.{Names, members}
 use Rattle.batch.specs.Limits.{entries_in}
 use Rattle.batch.specs.Names.{Texts, names_of}
-use Rattle.spelling.specs.Scope.{Numbers, with_item}
-use Rattle.spelling.specs.Spelled.{bind_all, entries_of, or_zero, pairs_of, put_all, start_of}
+use Rattle.doc_tree.specs.Scope.{Numbers, with_item}
+use Rattle.doc_tree.specs.Spelled.{bind_all, entries_of, or_zero, pairs_of, put_all, start_of}
 use Rattle.meaning.specs.WellFormed.{size_of}
 use Rattle.meaning.specs.declared.limits.TheConstants.{MAX_START}
 use Rattle.carry_laws.specs.CarriedData.{items_data, pairs_data, start_data}
@@ -22,7 +22,7 @@ use Rattle.carry_laws.proofs.Among.{Among, Apart, among_from_map, among_map, apa
 use Rattle.carry_laws.proofs.Carriable.{IsApart}
 use Rattle.carry_laws.proofs.CarriedFaultless.{number_back, signed_back}
 use Rattle.carry_laws.proofs.ItemsOf.{among_bound, among_contained, bound_among, contained_among, members_few}
-use Rattle.merging.proofs.NumberedTexts.{Grows, grows_both, grows_none, grows_text, item_named, one_more}
+use Rattle.doc_merge.proofs.NumberedTexts.{Grows, grows_both, grows_none, grows_text, item_named, one_more}
 use Rattle.carry_laws.proofs.PutIn.{bound_there, had_or_bound, had_or_put, put_there}
 
 -- the names of both

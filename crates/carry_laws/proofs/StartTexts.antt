@@ -5,13 +5,13 @@ use Rattle.serde_json.specs.Data.{Data, Items, no_items, item}
 use Rattle.serde_json.specs.Find.{as_array}
 use Rattle.objects.specs.declared.kind.Kind.{Kind}
 use Rattle.objects.specs.declared.kind.Kind.TheVariants as kind
-use Rattle.spelling.specs.Asked.{element_asked, entry_asked, key_of, kind_in, object_name, object_name_asked, object_shape_asked}
-use Rattle.spelling.specs.Asked.{or_no_items, pair_asked, part, text_of, value_of}
-use Rattle.spelling.specs.Scope.{Numbers, Table, with_item, with_text}
-use Rattle.spelling.specs.Spelled.{entries_of, pair_of, pairs_of, start_of, starts_of}
-use Rattle.spelling.proofs.Demands.{array_start_asked, elements_asked, entries_asked, object_asked, objects_asked, pairs_asked, start_asked}
-use Rattle.spelling.proofs.MetLemmas.{What, count, count-append}
-use Rattle.merging.proofs.Growing.{Longer, longer_item, longer_none, longer_on}
+use Rattle.doc_tree.specs.Asked.{element_asked, entry_asked, key_of, kind_in, object_name, object_name_asked, object_shape_asked}
+use Rattle.doc_tree.specs.Asked.{or_no_items, pair_asked, part, text_of, value_of}
+use Rattle.doc_tree.specs.Scope.{Numbers, Table, with_item, with_text}
+use Rattle.doc_tree.specs.Spelled.{entries_of, pair_of, pairs_of, start_of, starts_of}
+use Rattle.doc_tree.proofs.Demands.{array_start_asked, elements_asked, entries_asked, object_asked, objects_asked, pairs_asked, start_asked}
+use Rattle.doc_tree.proofs.MetLemmas.{What, count, count-append}
+use Rattle.doc_merge.proofs.Growing.{Longer, longer_item, longer_none, longer_on}
 
 -- two texts at most for each entry that is counted
 abbrev twice : ℕ → ℕ

@@ -4,10 +4,10 @@ use Rattle.std.proofs.Common.{arith}
 use Rattle.std.specs.Prelude.{codes, nat_le, option_and_then, unwrap_or}
 use Rattle.std.proofs.lemmas.Bool.{and_parts, leb-true}
 use Rattle.serde_json.specs.Data.{Data}
-use Rattle.rules.specs.Limits.{limits_of}
-use Rattle.rules.specs.declared.limits.TheConstants.{LAST_VERSION}
-use Rattle.spelling.specs.Asked.{version_in}
-use Rattle.spelling.specs.Look.{whole_member, within}
+use Rattle.doc_rules.specs.Limits.{limits_of}
+use Rattle.doc_rules.specs.declared.limits.TheConstants.{LAST_VERSION}
+use Rattle.doc_tree.specs.Asked.{version_in}
+use Rattle.doc_tree.specs.Look.{whole_member, within}
 use Rattle.carry.specs.Carried.{carried_version}
 use Rattle.carry_laws.specs.Carrying.{IsCarriedVersion}
 

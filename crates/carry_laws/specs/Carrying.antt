@@ -12,8 +12,8 @@ use Rattle.meaning.specs.Words.{Names}
 use Rattle.batch.specs.Names.{AreNames, is_name}
 use Rattle.carry.specs.Carried.{first_unfit}
 use Rattle.carry.specs.declared.document.TheConstants.{FIRST_CARRIED}
-use Rattle.rules.specs.Limits.{limits_of}
-use Rattle.rules.specs.declared.limits.TheConstants.{LAST_VERSION}
+use Rattle.doc_rules.specs.Limits.{limits_of}
+use Rattle.doc_rules.specs.declared.limits.TheConstants.{LAST_VERSION}
 
 -- a version of documents that objects are carried into
 abbrev pub IsCarriedVersion : ℕ → Type 0

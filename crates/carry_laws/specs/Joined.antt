@@ -4,8 +4,8 @@ use Rattle.serde_json.specs.Data.{Data, array, member, no_items, item, Items, no
 use Rattle.objects.specs.Entries.{State}
 use Rattle.meaning.specs.Words.{Names}
 use Rattle.batch.specs.Names.{names_of}
-use Rattle.spelling.specs.Scope.{Numbers, no_numbers}
-use Rattle.spelling.specs.Spelled.{starts_of}
+use Rattle.doc_tree.specs.Scope.{Numbers, no_numbers}
+use Rattle.doc_tree.specs.Spelled.{starts_of}
 use Rattle.carry.specs.Joined.{StartOf}
 use Rattle.carry_laws.specs.CarriedData.{object_data}
 

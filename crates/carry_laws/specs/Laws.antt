@@ -5,9 +5,9 @@ use Rattle.meaning.specs.Words.{Names}
 use Rattle.meaning.specs.Batch.{final_state}
 use Rattle.lang.specs.Reading.{Document, reading, value_of}
 use Rattle.serde_json.specs.Data.{Data}
-use Rattle.spelling.specs.Asked as asked
-use Rattle.spelling.specs.Asked.{transactions_in}
-use Rattle.spelling.specs.Scope.{Numbers}
+use Rattle.doc_tree.specs.Asked as asked
+use Rattle.doc_tree.specs.Asked.{transactions_in}
+use Rattle.doc_tree.specs.Scope.{Numbers}
 use Rattle.carry.specs.Carried.{carried_text, carried_version, first_unfit}
 use Rattle.carry.specs.Joined.{StartOf, first_clash, name_of, starts_into, value_of as start_value, version_into}
 use Rattle.carry.specs.Transactions.{joined_text}
@@ -18,9 +18,9 @@ use Rattle.std.specs.Str.{bytes_eq}
 use Rattle.batch.specs.Named.{AllNamed, AllNamedValues}
 use Rattle.batch.specs.Names.{AreNames, Texts, names_of}
 use Rattle.carry_laws.specs.Carrying.{CanBeCarried, IsCarriedVersion, object_names}
-use Rattle.merging.specs.Renumbered.{renumbered}
+use Rattle.doc_merge.specs.Renumbered.{renumbered}
 use Rattle.carry_laws.specs.Same.{AreSame, AreSameStarts}
-use Rattle.rules.specs.Limits.{limits_of}
+use Rattle.doc_rules.specs.Limits.{limits_of}
 
 -- The document is of this version, starts with the same objects under the same names, and has no transaction.
 pub record StartsWith (version : ℕ) (names : Names) (values : State) (document : Document) : Type 0 where

@@ -2,7 +2,8 @@
 use Rattle.std.proofs.Common.{◌≡◌, ℕ, suc, zero, ◌+◌, ◌<◌, ◌≤◌, ◌↔◌, arith, true, List, [], ◌∷◌, ◌++◌, length, take, set, get_or}
 use Rattle.std.proofs.Common.{sym, ap, ◌∙◌, subst}
 use Rattle.std.proofs.lemmas.Simd.{map-map}
-use Rattle.std.proofs.lemmas.List.{get_or-map, get_or-set_other, length-map, length-set, length-take, map-append, map-set, take-append-le, take_more}
+use Rattle.std.proofs.lemmas.List.{get_or-map, get_or-set_other, length-map, length-set, length-take, map-append, map-set, take-append-le}
+use Rattle.std.proofs.lemmas.List.{take_more}
 use Rattle.objects.specs.declared.entry.Entry.{Entry}
 use Rattle.committed.specs.declared.marks.MarkedEntry.{MarkedEntry}
 use Rattle.objects.specs.Entries.{CommutesWith, AllCommute, CommuteForward}

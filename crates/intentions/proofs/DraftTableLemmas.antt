@@ -83,10 +83,12 @@ put-last places drafts object h q = by_test (nat_eq object q) refl
         → drafts_in (placed_at places object (length drafts)) (drafts ++ drafted object h ∷ []) q ≡ cond b (Some h)
         (drafts_in places drafts q)
     by_test true e =
-        ap (λ b. option_and_then (draft_of q) (option_and_then (slice_get (drafts ++ drafted object h ∷ [])) (cond b (Some (length drafts)) (places q)))) e
+        ap (λ b. option_and_then (draft_of q) (option_and_then (slice_get (drafts ++ drafted object h ∷ []))
+        (cond b (Some (length drafts)) (places q)))) e
         ∙ ap (option_and_then (draft_of q)) (get-last drafts (drafted object h)) ∙ ap (λ b. cond b (Some h) None) e
     by_test false e =
-        ap (λ b. option_and_then (draft_of q) (option_and_then (slice_get (drafts ++ drafted object h ∷ [])) (cond b (Some (length drafts)) (places q)))) e
+        ap (λ b. option_and_then (draft_of q) (option_and_then (slice_get (drafts ++ drafted object h ∷ []))
+        (cond b (Some (length drafts)) (places q)))) e
         ∙ by_place e (places q)
 
 -- the place past the end has no draft

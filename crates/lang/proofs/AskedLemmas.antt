@@ -2,12 +2,12 @@
 use Rattle.std.specs.Prelude.{codes}
 use Rattle.std.proofs.Common.{◌≡◌, List, [], Ok, Err, ◌∙◌}
 use Rattle.serde_json.specs.Data.{Data}
-use Rattle.spelling.specs.declared.counts.Counts.{Counts}
-use Rattle.rules.specs.declared.failure.Failure.{Failure}
-use Rattle.spelling.specs.Asked.{document_shape_asked, objects_in, setting_in, transactions_in, version_in}
-use Rattle.spelling.specs.Demand.{Demand, check}
-use Rattle.spelling.specs.Places.{Placed, found_here, inside, member_named, nothing, objects_placed, placed, seek, transactions_placed}
-use Rattle.spelling.proofs.PlaceLemmas.{own_first, own_unmet, part_met}
+use Rattle.doc_tree.specs.declared.counts.Counts.{Counts}
+use Rattle.doc_rules.specs.declared.failure.Failure.{Failure}
+use Rattle.doc_tree.specs.Asked.{document_shape_asked, objects_in, setting_in, transactions_in, version_in}
+use Rattle.doc_tree.specs.Demand.{Demand, check}
+use Rattle.doc_tree.specs.Places.{Placed, found_here, inside, member_named, nothing, objects_placed, placed, seek, transactions_placed}
+use Rattle.doc_tree.proofs.PlaceLemmas.{own_first, own_unmet, part_met}
 
 module _ (d : Data) (start : Counts) where
   abbrev shape : List Demand

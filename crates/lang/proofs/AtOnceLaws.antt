@@ -5,14 +5,14 @@ use Rattle.std.proofs.lemmas.List.{drop-drop, drop_more, take-append-drop, take_
 use Rattle.std.specs.Prelude.{IfOk}
 use Rattle.json.specs.Lex.{tokens}
 use Rattle.json.specs.Token.{Token, begin_array, end_array, end_object}
-use Rattle.spelling.specs.Scope.{Setting}
-use Rattle.cuts.specs.Whole.{is_left}
-use Rattle.cuts.proofs.Places.{tokens_cut}
-use Rattle.pull.specs.Ranges.{AreRead, Reached, left_by}
-use Rattle.pull.proofs.RangeLemmas.{array_whole, read_on}
-use Rattle.pull.specs.declared.stop.Stop.{Stop}
-use Rattle.merging.specs.RangeReads.{AreMerged, IsReadAlone, text_of}
-use Rattle.merging.specs.declared.ranges.RangeRead.{RangeRead}
+use Rattle.doc_tree.specs.Scope.{Setting}
+use Rattle.doc_cuts.specs.Whole.{is_left}
+use Rattle.doc_cuts.proofs.Places.{tokens_cut}
+use Rattle.doc_tokens.specs.Ranges.{AreRead, Reached, left_by}
+use Rattle.doc_tokens.proofs.RangeLemmas.{array_whole, read_on}
+use Rattle.doc_tokens.specs.declared.stop.Stop.{Stop}
+use Rattle.doc_merge.specs.RangeReads.{AreMerged, IsReadAlone, text_of}
+use Rattle.doc_merge.specs.declared.ranges.RangeRead.{RangeRead}
 use Rattle.lang.specs.AtOnce.{AreReadAlone, EndsAtComma, EndsText, Follow}
 
 -- the text from a place on is the range up to a comma, the comma, and what is after it

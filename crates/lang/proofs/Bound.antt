@@ -13,7 +13,8 @@ use Rattle.objects.specs.declared.kind.Kind.{Kind}
 use Rattle.objects.specs.Objects.{kind_of_call}
 use Rattle.meaning.specs.declared.test.Test.{Test}
 use Rattle.meaning.specs.declared.test.Test.TheVariants.{Is, AtLeast, IsItem}
-use Rattle.meaning.specs.WellFormed.{Label, OfVerb, OfSubaction, CallFits, VerbFits, ArgumentFits, ArgumentsFit, IsSeenWith, IsWellFormedStep}
+use Rattle.meaning.specs.WellFormed.{Label, OfVerb, OfSubaction, CallFits, VerbFits, ArgumentFits, ArgumentsFit, IsSeenWith}
+use Rattle.meaning.specs.WellFormed.{IsWellFormedStep}
 use Rattle.meaning.specs.WellFormed.{added_by, added_if, kind_of_verb, label_has, operations_of_step, test_fits}
 use Rattle.meaning.specs.Amounts.{amount_of}
 use Rattle.meaning.specs.Filling.{template_verb}
@@ -28,29 +29,29 @@ use Rattle.atoms.specs.declared.amount.Amount.{Amount}
 use Rattle.atoms.specs.declared.item.Item.{Item}
 use Rattle.objects.specs.declared.call.Call.{Call}
 use Rattle.batch.specs.Limits.{depth_of_step, nodes_of_step}
-use Rattle.rules.specs.declared.rule.OperandPlace.{OperandPlace}
-use Rattle.rules.specs.declared.rule.OperandPlace.TheVariants.{Third, Fourth}
-use Rattle.rules.specs.declared.rule.SourceRule.{SourceRule}
-use Rattle.rules.specs.declared.rule.SourceRule.TheVariants.{Number, Item as HasItem}
-use Rattle.words.specs.declared.verb.AmountVerb.{AmountVerb}
-use Rattle.words.specs.declared.verb.ItemVerb.{ItemVerb}
-use Rattle.words.specs.declared.verb.PairVerb.{PairVerb}
-use Rattle.spelling.specs.Demand.{Demand}
-use Rattle.spelling.specs.Look.{or_empty}
-use Rattle.words.specs.declared.verb.LoneVerb.TheVariants.{Balance}
-use Rattle.words.specs.declared.verb.Verb.{Verb}
-use Rattle.words.specs.declared.verb.Verb.TheVariants.{OfAmount, OfItem, OfPair, Alone}
-use Rattle.rules.specs.declared.subject.Subject.{Subject}
-use Rattle.rules.specs.declared.subject.Subject.TheVariants.{Reply, Outcome}
-use Rattle.spelling.specs.Scope.{Numbers, Scope, Setting, Table, is_listed, kind_named, label_number, named, place_of}
-use Rattle.rules.specs.Subjects.{fits_item, fits_number, fits_word}
-use Rattle.words.specs.Verbs.{amount_call, has_item, has_number, phrase_verb, verb_of, verb_of_text}
-use Rattle.words.proofs.Verbs.{HasKind, amount_phrase, item_phrase, lone_phrase, named_has, pair_phrase}
-use Rattle.spelling.specs.Asked.{amount_asked, argument_asked, arguments_asked, call_named, index_of, is_source, object_of, source_asked}
-use Rattle.spelling.specs.Asked.{source_label, subject_of, target_asked, verb_at, verb_in}
-use Rattle.spelling.specs.Spelled.{argument_of, item_template, operation_step, or_zero, pair_template, source_of, target_of, template_of}
-use Rattle.spelling.proofs.MetLemmas.{AllMet, first_met, rest_met}
-use Rattle.merging.proofs.NumberedTexts.{fit_same}
+use Rattle.doc_rules.specs.declared.rule.OperandPlace.{OperandPlace}
+use Rattle.doc_rules.specs.declared.rule.OperandPlace.TheVariants.{Third, Fourth}
+use Rattle.doc_rules.specs.declared.rule.SourceRule.{SourceRule}
+use Rattle.doc_rules.specs.declared.rule.SourceRule.TheVariants.{Number, Item as HasItem}
+use Rattle.vocabulary.specs.declared.verb.AmountVerb.{AmountVerb}
+use Rattle.vocabulary.specs.declared.verb.ItemVerb.{ItemVerb}
+use Rattle.vocabulary.specs.declared.verb.PairVerb.{PairVerb}
+use Rattle.doc_tree.specs.Demand.{Demand}
+use Rattle.doc_tree.specs.Look.{or_empty}
+use Rattle.vocabulary.specs.declared.verb.LoneVerb.TheVariants.{Balance}
+use Rattle.vocabulary.specs.declared.verb.Verb.{Verb}
+use Rattle.vocabulary.specs.declared.verb.Verb.TheVariants.{OfAmount, OfItem, OfPair, Alone}
+use Rattle.doc_rules.specs.declared.subject.Subject.{Subject}
+use Rattle.doc_rules.specs.declared.subject.Subject.TheVariants.{Reply, Outcome}
+use Rattle.doc_tree.specs.Scope.{Numbers, Scope, Setting, Table, is_listed, kind_named, label_number, named, place_of}
+use Rattle.doc_rules.specs.Subjects.{fits_item, fits_number, fits_word}
+use Rattle.vocabulary.specs.Verbs.{amount_call, has_item, has_number, phrase_verb, verb_of, verb_of_text}
+use Rattle.vocabulary.proofs.Verbs.{HasKind, amount_phrase, item_phrase, lone_phrase, named_has, pair_phrase}
+use Rattle.doc_tree.specs.Asked.{amount_asked, argument_asked, arguments_asked, call_named, index_of, is_source, object_of, source_asked}
+use Rattle.doc_tree.specs.Asked.{source_label, subject_of, target_asked, verb_at, verb_in}
+use Rattle.doc_tree.specs.Spelled.{argument_of, item_template, operation_step, or_zero, pair_template, source_of, target_of, template_of}
+use Rattle.doc_tree.proofs.MetLemmas.{AllMet, first_met, rest_met}
+use Rattle.doc_merge.proofs.NumberedTexts.{fit_same}
 
 -- ---- places
 

@@ -3,12 +3,12 @@ use Rattle.std.proofs.Common.{◌≡◌, ◌≢◌, true, Some, Result, Ok, Err,
 use Rattle.serde_json.specs.Data.{Data}
 use Rattle.faults.specs.Faults.{is_of_reading, memory_fault}
 use Rattle.faults.specs.declared.fault.Fault.{Fault}
-use Rattle.rules.specs.Failures.{fault_of}
-use Rattle.rules.specs.declared.failure.Failure.{Failure}
-use Rattle.rules.specs.declared.failure.Failure.TheVariants.{Broken, NoMemory}
-use Rattle.spelling.specs.declared.counts.Counts.{Counts}
-use Rattle.spelling.specs.Demand.{no_counts}
-use Rattle.spelling.specs.Places.{Found, fault_in, first_fault, placed, seek}
+use Rattle.doc_rules.specs.Failures.{fault_of}
+use Rattle.doc_rules.specs.declared.failure.Failure.{Failure}
+use Rattle.doc_rules.specs.declared.failure.Failure.TheVariants.{Broken, NoMemory}
+use Rattle.doc_tree.specs.declared.counts.Counts.{Counts}
+use Rattle.doc_tree.specs.Demand.{no_counts}
+use Rattle.doc_tree.specs.Places.{Found, fault_in, first_fault, placed, seek}
 
 -- the fault of what wasn't read
 pub failure_code : (failure : Failure) → is_of_reading (fault_of failure).code ≡ true

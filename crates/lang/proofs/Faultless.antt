@@ -8,57 +8,58 @@ use Rattle.serde_json.specs.Data.{Data, Items, no_items, item, Members, no_membe
 use Rattle.serde_json.specs.Find.{get, as_array, as_str}
 use Rattle.objects.specs.declared.kind.Kind.{Kind}
 use Rattle.meaning.specs.declared.test.Test.{Test}
-use Rattle.words.specs.declared.word.Word.{Word}
+use Rattle.vocabulary.specs.declared.word.Word.{Word}
 use Rattle.meaning.specs.Trees as tree
 use Rattle.meaning.specs.Trees.{Handlers, Children, for_reasons, handlers_of}
 use Rattle.meaning.specs.WellFormed as well
 use Rattle.meaning.specs.Filling.{template_verb}
-use Rattle.rules.specs.Subjects.{fits_item, fits_number}
-use Rattle.rules.specs.declared.rule.ArgumentRule.TheVariants.{Amount}
-use Rattle.rules.specs.declared.rule.NameRule.{NameRule}
-use Rattle.rules.specs.declared.rule.NameRule.TheVariants as names
-use Rattle.rules.specs.declared.rule.OperandPlace.{OperandPlace}
-use Rattle.rules.specs.declared.rule.OperandPlace.TheVariants.{Third, Fourth}
-use Rattle.rules.specs.declared.rule.Rule.TheVariants.{Argument}
-use Rattle.rules.specs.declared.rule.SourceRule.TheVariants.{Number, Item as HasItem}
-use Rattle.meaning.specs.WellFormed.{Label, OfVerb, OfSubaction, VerbFits, IsWellFormed, IsWellFormedStep, AreWellFormed, AreWellFormedHandlers}
+use Rattle.doc_rules.specs.Subjects.{fits_item, fits_number}
+use Rattle.doc_rules.specs.declared.rule.ArgumentRule.TheVariants.{Amount}
+use Rattle.doc_rules.specs.declared.rule.NameRule.{NameRule}
+use Rattle.doc_rules.specs.declared.rule.NameRule.TheVariants as names
+use Rattle.doc_rules.specs.declared.rule.OperandPlace.{OperandPlace}
+use Rattle.doc_rules.specs.declared.rule.OperandPlace.TheVariants.{Third, Fourth}
+use Rattle.doc_rules.specs.declared.rule.Rule.TheVariants.{Argument}
+use Rattle.doc_rules.specs.declared.rule.SourceRule.TheVariants.{Number, Item as HasItem}
+use Rattle.meaning.specs.WellFormed.{Label, OfVerb, OfSubaction, VerbFits, IsWellFormed, IsWellFormedStep, AreWellFormed}
+use Rattle.meaning.specs.WellFormed.{AreWellFormedHandlers}
 use Rattle.meaning.specs.WellFormed.{added_by, added_if, added_by_children}
 use Rattle.batch.specs.Limits as limits
 use Rattle.batch.specs.Views.{Tried, steps_of, children_of}
-use Rattle.words.specs.declared.verb.Verb.{Verb}
-use Rattle.words.specs.declared.verb.Verb.TheVariants.{OfAmount, OfItem, OfPair, Alone}
-use Rattle.rules.specs.declared.subject.Subject.{Subject}
-use Rattle.rules.specs.declared.subject.Subject.TheVariants.{Reply, Outcome}
-use Rattle.spelling.specs.Demand.{Demand, holds, one_more_operation, one_more_node}
-use Rattle.rules.specs.declared.rule.Rule.TheVariants.{Depth}
-use Rattle.spelling.specs.Look.{has, text_member}
-use Rattle.spelling.specs.Scope.{Numbers, Scope, Setting, is_named, named, with_label, with_labels, with_reason}
-use Rattle.rules.specs.Subjects.{fits_word}
-use Rattle.words.specs.Words.{word_of_text}
-use Rattle.spelling.specs.Asked
-use Rattle.spelling.specs.Asked.{part, label_in, object_of, call_named, verb_in, target_asked, operation_asked, operation_shape_asked}
-use Rattle.spelling.specs.Asked.{argument_asked, arguments_asked, amount_asked, amount_item, else_reason, index_of, is_source, item_asked}
-use Rattle.spelling.specs.Asked.{label_asked, source_asked}
-use Rattle.spelling.specs.Spelled.{operation_of, refusal_of, target_of, template_of}
-use Rattle.spelling.proofs.MetLemmas.{AllMet, What, count, count-append, first_met, rest_met}
-use Rattle.spelling.proofs.LabelLemmas.{is_named-append}
+use Rattle.vocabulary.specs.declared.verb.Verb.{Verb}
+use Rattle.vocabulary.specs.declared.verb.Verb.TheVariants.{OfAmount, OfItem, OfPair, Alone}
+use Rattle.doc_rules.specs.declared.subject.Subject.{Subject}
+use Rattle.doc_rules.specs.declared.subject.Subject.TheVariants.{Reply, Outcome}
+use Rattle.doc_tree.specs.Demand.{Demand, holds, one_more_operation, one_more_node}
+use Rattle.doc_rules.specs.declared.rule.Rule.TheVariants.{Depth}
+use Rattle.doc_tree.specs.Look.{has, text_member}
+use Rattle.doc_tree.specs.Scope.{Numbers, Scope, Setting, is_named, named, with_label, with_labels, with_reason}
+use Rattle.doc_rules.specs.Subjects.{fits_word}
+use Rattle.vocabulary.specs.Words.{word_of_text}
+use Rattle.doc_tree.specs.Asked
+use Rattle.doc_tree.specs.Asked.{part, label_in, object_of, call_named, verb_in, target_asked, operation_asked, operation_shape_asked}
+use Rattle.doc_tree.specs.Asked.{argument_asked, arguments_asked, amount_asked, amount_item, else_reason, index_of, is_source, item_asked}
+use Rattle.doc_tree.specs.Asked.{label_asked, source_asked}
+use Rattle.doc_tree.specs.Spelled.{operation_of, refusal_of, target_of, template_of}
+use Rattle.doc_tree.proofs.MetLemmas.{AllMet, What, count, count-append, first_met, rest_met}
+use Rattle.doc_tree.proofs.LabelLemmas.{is_named-append}
 use Rattle.std.proofs.lemmas.List.{append-nil, map-append, length-append}
 use Rattle.std.proofs.Common.{append_assoc}
 use Rattle.meaning.specs.Trees.{NoStep, Steps}
-use Rattle.spelling.specs.declared.steps.Sort.{Sort}
-use Rattle.spelling.specs.declared.steps.Sort.TheVariants.{Operation as an_operation, If as an_if, Sub as a_sub, Abort as an_abort}
-use Rattle.spelling.specs.declared.steps.Sort.TheVariants.{Parallel as a_parallel}
-use Rattle.spelling.specs.Asked.{abort_asked, abort_shape_asked, children_in}
-use Rattle.spelling.specs.Asked.{handlers_in, holds_item, holds_number, holds_word, if_label, if_shape_asked}
-use Rattle.spelling.specs.Asked.{labels_of, or_no_items, parallel_shape_asked, reason_asked}
-use Rattle.spelling.specs.Asked.{scope_after, scope_after_by, seen_asked, sort_of}
-use Rattle.spelling.specs.Asked.{sub_shape_asked, subject_of, test_asked, tested_word}
-use Rattle.spelling.specs.Spelled.{abort_of, block_of, block_of_if, children_spelled, handlers_spelled, if_of, member_of, members_of}
-use Rattle.spelling.specs.Spelled.{or_no_step, parallel_of, step_of, step_of_by, steps_spelled, sub_of, test_of}
+use Rattle.doc_tree.specs.declared.steps.Sort.{Sort}
+use Rattle.doc_tree.specs.declared.steps.Sort.TheVariants.{Operation as an_operation, If as an_if, Sub as a_sub, Abort as an_abort}
+use Rattle.doc_tree.specs.declared.steps.Sort.TheVariants.{Parallel as a_parallel}
+use Rattle.doc_tree.specs.Asked.{abort_asked, abort_shape_asked, children_in}
+use Rattle.doc_tree.specs.Asked.{handlers_in, holds_item, holds_number, holds_word, if_label, if_shape_asked}
+use Rattle.doc_tree.specs.Asked.{labels_of, or_no_items, parallel_shape_asked, reason_asked}
+use Rattle.doc_tree.specs.Asked.{scope_after, scope_after_by, seen_asked, sort_of}
+use Rattle.doc_tree.specs.Asked.{sub_shape_asked, subject_of, test_asked, tested_word}
+use Rattle.doc_tree.specs.Spelled.{abort_of, block_of, block_of_if, children_spelled, handlers_spelled, if_of, member_of, members_of}
+use Rattle.doc_tree.specs.Spelled.{or_no_step, parallel_of, step_of, step_of_by, steps_spelled, sub_of, test_of}
 use Rattle.lang.proofs.Bound.{AreSeen, arguments_fit, bound, fits, some_of, step_adds, step_fits, subject_of_label, subjects, verb_fits}
 use Rattle.lang.proofs.Bound.{verb_is}
-use Rattle.spelling.proofs.Demands.{array_asked, block_asked, block_asked_if, children_asked, handlers_asked, if_asked, member_asked}
-use Rattle.spelling.proofs.Demands.{members_asked, parallel_asked, step_asked, step_asked_by, steps_asked, sub_asked}
+use Rattle.doc_tree.proofs.Demands.{array_asked, block_asked, block_asked_if, children_asked, handlers_asked, if_asked, member_asked}
+use Rattle.doc_tree.proofs.Demands.{members_asked, parallel_asked, step_asked, step_asked_by, steps_asked, sub_asked}
 
 -- ---- what is known of a part: over objects of these kinds, with these labels, within so many levels, and what it counts
 

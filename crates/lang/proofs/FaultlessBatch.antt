@@ -18,31 +18,31 @@ use Rattle.meaning.specs.Trees as tree
 use Rattle.meaning.specs.WellFormed.{largest, size_of}
 use Rattle.meaning.specs.Running.{all_operations}
 use Rattle.batch.specs.Limits.{AllWellFormed, AllShallow, IsBatch, all_nodes, all_entries_in, entries_in}
-use Rattle.spelling.specs.Demand.{no_counts}
-use Rattle.spelling.specs.Look
-use Rattle.spelling.specs.Look.{whole}
+use Rattle.doc_tree.specs.Demand.{no_counts}
+use Rattle.doc_tree.specs.Look
+use Rattle.doc_tree.specs.Look.{whole}
 use Rattle.meaning.specs.declared.limits.TheConstants.{MAX_DEPTH, MAX_ENTRIES, MAX_NODES, MAX_OPERATIONS, MAX_START}
-use Rattle.rules.specs.Limits.{limits_of}
-use Rattle.spelling.specs.Scope.{Numbers, Setting, Table, no_numbers}
-use Rattle.spelling.specs.Asked.{document_shape_asked, element_asked}
-use Rattle.spelling.specs.Asked.{entry_asked, kind_in, kinds_of, names_of, object_name, object_name_asked, object_shape_asked}
-use Rattle.spelling.specs.Asked.{objects_in, or_no_items, pair_asked, part, setting_in}
-use Rattle.spelling.specs.Asked.{signed_within}
-use Rattle.spelling.specs.Asked.{text_of, key_of, transactions_in, version_in}
-use Rattle.spelling.specs.Scope.{with_item, with_text}
-use Rattle.spelling.specs.Spelled.{bind_all, block_of, blocks_of, document_in, entries_of, or_zero, pair_of, pairs_of, parts_in, put_all}
-use Rattle.spelling.specs.Spelled.{start_of, starts_of}
+use Rattle.doc_rules.specs.Limits.{limits_of}
+use Rattle.doc_tree.specs.Scope.{Numbers, Setting, Table, no_numbers}
+use Rattle.doc_tree.specs.Asked.{document_shape_asked, element_asked}
+use Rattle.doc_tree.specs.Asked.{entry_asked, kind_in, kinds_of, names_of, object_name, object_name_asked, object_shape_asked}
+use Rattle.doc_tree.specs.Asked.{objects_in, or_no_items, pair_asked, part, setting_in}
+use Rattle.doc_tree.specs.Asked.{signed_within}
+use Rattle.doc_tree.specs.Asked.{text_of, key_of, transactions_in, version_in}
+use Rattle.doc_tree.specs.Scope.{with_item, with_text}
+use Rattle.doc_tree.specs.Spelled.{bind_all, block_of, blocks_of, document_in, entries_of, or_zero, pair_of, pairs_of, parts_in, put_all}
+use Rattle.doc_tree.specs.Spelled.{start_of, starts_of}
 use Rattle.lang.proofs.Faultless.{block_good, counted, most_labels}
 use Rattle.lang.proofs.Later.{blocks_later, values_later}
-use Rattle.rules.proofs.LimitLemmas.{limits_within}
-use Rattle.spelling.proofs.ListLemmas.{kinds_of_starts}
-use Rattle.spelling.proofs.MetLemmas.{AllMet, What, count, count-append, first_met, passed, rest_met}
+use Rattle.doc_rules.proofs.LimitLemmas.{limits_within}
+use Rattle.doc_tree.proofs.ListLemmas.{kinds_of_starts}
+use Rattle.doc_tree.proofs.MetLemmas.{AllMet, What, count, count-append, first_met, passed, rest_met}
 use Rattle.lang.proofs.Numbered.{blocks_numbered}
 use Rattle.lang.proofs.NumberedStarts.{objects_named, starts_numbered}
 use Rattle.lang.proofs.Tables.{grows_behind, grows_on, texts_in}
-use Rattle.spelling.proofs.Demands.{array_start_asked, asked, block_asked, elements_asked, entries_asked, object_asked, objects_asked}
-use Rattle.spelling.proofs.Demands.{pairs_asked, start_asked, transactions_asked, faultless}
-use Rattle.spelling.specs.Places.{first_fault, placed}
+use Rattle.doc_tree.proofs.Demands.{array_start_asked, asked, block_asked, elements_asked, entries_asked, object_asked, objects_asked}
+use Rattle.doc_tree.proofs.Demands.{pairs_asked, start_asked, transactions_asked, faultless}
+use Rattle.doc_tree.specs.Places.{first_fault, placed}
 
 -- ---- transactions
 

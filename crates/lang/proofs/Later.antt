@@ -4,9 +4,9 @@ use Rattle.atoms.specs.declared.item.Item.{Item}
 use Rattle.objects.specs.declared.call.Call.{Call}
 use Rattle.objects.specs.declared.value.Value.{Value}
 use Rattle.objects.specs.declared.value.Value.TheVariants as value
-use Rattle.words.specs.Verbs.{ItemsAre, phrase_of}
-use Rattle.words.specs.declared.verb.Phrase.{Phrase}
-use Rattle.words.specs.declared.verb.Phrase.TheVariants.{OfAmount, OfItem, OfPair, Alone}
+use Rattle.vocabulary.specs.Verbs.{ItemsAre, phrase_of}
+use Rattle.vocabulary.specs.declared.verb.Phrase.{Phrase}
+use Rattle.vocabulary.specs.declared.verb.Phrase.TheVariants.{OfAmount, OfItem, OfPair, Alone}
 use Rattle.meaning.specs.declared.template.Argument.{Argument}
 use Rattle.meaning.specs.declared.template.Argument.TheVariants as argument
 use Rattle.meaning.specs.declared.template.Refusal.{Refusal}

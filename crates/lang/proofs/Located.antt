@@ -4,16 +4,16 @@ use Rattle.std.proofs.Common.{refl, string_bytes, subst, sym, ap, ◌∙◌}
 use Rattle.serde_json.specs.Data.{Data, null}
 use Rattle.serde_json.specs.View.{view}
 use Rattle.faults.specs.declared.fault.Fault.{Fault}
-use Rattle.rules.specs.Failures.{fault_of}
-use Rattle.rules.specs.Limits.{limits_of}
-use Rattle.rules.specs.declared.limits.TheConstants.{MAX_BYTES}
-use Rattle.rules.specs.declared.rule.CountRule.TheVariants.{Bytes}
-use Rattle.rules.specs.declared.rule.Rule.TheVariants.{Few}
-use Rattle.mistakes.specs.Within.{place_within}
-use Rattle.mistakes.specs.Words.{IsSaid}
-use Rattle.spelling.specs.declared.counts.Counts.{Counts}
-use Rattle.spelling.specs.Demand.{no_counts}
-use Rattle.spelling.specs.Places.{Found, fault_in, first_fault, placed, seek}
+use Rattle.doc_rules.specs.Failures.{fault_of}
+use Rattle.doc_rules.specs.Limits.{limits_of}
+use Rattle.doc_rules.specs.declared.limits.TheConstants.{MAX_BYTES}
+use Rattle.doc_rules.specs.declared.rule.CountRule.TheVariants.{Bytes}
+use Rattle.doc_rules.specs.declared.rule.Rule.TheVariants.{Few}
+use Rattle.doc_mistakes.specs.Within.{place_within}
+use Rattle.doc_mistakes.specs.Words.{IsSaid}
+use Rattle.doc_tree.specs.declared.counts.Counts.{Counts}
+use Rattle.doc_tree.specs.Demand.{no_counts}
+use Rattle.doc_tree.specs.Places.{Found, fault_in, first_fault, placed, seek}
 use Rattle.lang.specs.declared.misread.Misread.{Misread}
 use Rattle.lang.specs.declared.places.Place.{Place}
 use Rattle.lang.specs.declared.places.Place.TheVariants.{Whole, Pointer, LineColumn}

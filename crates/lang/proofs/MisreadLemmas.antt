@@ -4,14 +4,14 @@ use Rattle.std.specs.Prelude.{codes, unwrap_or}
 use Rattle.serde_json.specs.Data.{Data, Items, array, null}
 use Rattle.serde_json.specs.Find.{get_item, pointer as points_to}
 use Rattle.serde_json.specs.View.{view}
-use Rattle.rules.specs.declared.failure.Failure.{Failure}
-use Rattle.rules.specs.declared.failure.Failure.TheVariants.{Broken, NoMemory}
-use Rattle.spelling.specs.declared.counts.Counts.{Counts}
-use Rattle.spelling.specs.declared.unmet.Unmet.{Unmet}
-use Rattle.spelling.specs.Answer.{IsFound, found_of, pointer_text}
-use Rattle.spelling.specs.Demand.{check}
-use Rattle.spelling.specs.Places.{Found, Placed, Token, below, found_here, found_inside, go_on, here, inside, item_at, itself, nothing}
-use Rattle.spelling.specs.Places.{seek, token_text}
+use Rattle.doc_rules.specs.declared.failure.Failure.{Failure}
+use Rattle.doc_rules.specs.declared.failure.Failure.TheVariants.{Broken, NoMemory}
+use Rattle.doc_tree.specs.declared.counts.Counts.{Counts}
+use Rattle.doc_tree.specs.declared.unmet.Unmet.{Unmet}
+use Rattle.doc_tree.specs.Answer.{IsFound, found_of, pointer_text}
+use Rattle.doc_tree.specs.Demand.{check}
+use Rattle.doc_tree.specs.Places.{Found, Placed, Token, below, found_here, found_inside, go_on, here, inside, item_at, itself, nothing}
+use Rattle.doc_tree.specs.Places.{seek, token_text}
 use Rattle.lang.specs.declared.misread.Misread.{Misread}
 use Rattle.lang.specs.Found.{IsBelow, IsFirstIn, found_by, part_at}
 use Rattle.lang.proofs.PointerLemmas.{IsPath, item_pointed}

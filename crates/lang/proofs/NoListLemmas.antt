@@ -10,8 +10,8 @@ use Rattle.json.proofs.Grammar.{value_is}
 use Rattle.serde_json.specs.Data.{Data, Items, Members, Num, number, object}
 use Rattle.serde_json.specs.Find.{as_array}
 use Rattle.serde_json.specs.Read.{converted, number_of, of_json}
-use Rattle.pull.specs.Pulled.{ReadsValue}
-use Rattle.pull.proofs.PulledLemmas.{of_object}
+use Rattle.doc_tokens.specs.Pulled.{ReadsValue}
+use Rattle.doc_tokens.proofs.PulledLemmas.{of_object}
 
 -- the items of what was read, where it is an array
 abbrev list_in : Option (Data × List token.Token) → Option Items

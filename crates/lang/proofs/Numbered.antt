@@ -19,51 +19,51 @@ use Rattle.batch.specs.Names.{Texts, is_name}
 use Rattle.batch.specs.Named.{AllNamed, AreNamed, AreNamedHandlers, HasReason, HasText, IsNamed, IsNamedArgument, IsNamedCall}
 use Rattle.batch.specs.Named.{IsNamedRefusal, IsNamedStep, IsNamedTemplate, IsNamedTest}
 use Rattle.batch.specs.Views.{Tried, children_of, steps_of}
-use Rattle.spelling.specs.declared.steps.Sort.{Sort}
-use Rattle.spelling.specs.declared.steps.Sort.TheVariants.{Operation as an_operation, If as an_if, Sub as a_sub, Abort as an_abort}
-use Rattle.spelling.specs.declared.steps.Sort.TheVariants.{Parallel as a_parallel}
-use Rattle.words.specs.declared.verb.ItemVerb.{ItemVerb}
-use Rattle.words.specs.declared.verb.AmountVerb.{AmountVerb}
-use Rattle.words.specs.declared.verb.LoneVerb.{LoneVerb}
-use Rattle.words.specs.declared.verb.PairVerb.{PairVerb}
-use Rattle.rules.specs.declared.subject.Subject.{Subject}
-use Rattle.rules.specs.declared.subject.Subject.TheVariants.{Outcome}
-use Rattle.words.specs.declared.verb.Verb.{Verb}
-use Rattle.words.specs.declared.verb.Verb.TheVariants.{OfAmount, OfItem, OfPair, Alone}
-use Rattle.rules.specs.declared.rule.OperandPlace.{OperandPlace}
-use Rattle.rules.specs.declared.rule.OperandPlace.TheVariants.{Third, Fourth}
-use Rattle.rules.specs.declared.rule.SourceRule.TheVariants.{Item as HasItem}
-use Rattle.rules.specs.Subjects.{fits_item}
-use Rattle.rules.specs.declared.rule.ArgumentRule.TheVariants.{Count}
-use Rattle.rules.specs.declared.rule.NameRule.{NameRule}
-use Rattle.rules.specs.declared.rule.NameRule.TheVariants as names
-use Rattle.rules.specs.declared.rule.Rule.TheVariants as rule
+use Rattle.doc_tree.specs.declared.steps.Sort.{Sort}
+use Rattle.doc_tree.specs.declared.steps.Sort.TheVariants.{Operation as an_operation, If as an_if, Sub as a_sub, Abort as an_abort}
+use Rattle.doc_tree.specs.declared.steps.Sort.TheVariants.{Parallel as a_parallel}
+use Rattle.vocabulary.specs.declared.verb.ItemVerb.{ItemVerb}
+use Rattle.vocabulary.specs.declared.verb.AmountVerb.{AmountVerb}
+use Rattle.vocabulary.specs.declared.verb.LoneVerb.{LoneVerb}
+use Rattle.vocabulary.specs.declared.verb.PairVerb.{PairVerb}
+use Rattle.doc_rules.specs.declared.subject.Subject.{Subject}
+use Rattle.doc_rules.specs.declared.subject.Subject.TheVariants.{Outcome}
+use Rattle.vocabulary.specs.declared.verb.Verb.{Verb}
+use Rattle.vocabulary.specs.declared.verb.Verb.TheVariants.{OfAmount, OfItem, OfPair, Alone}
+use Rattle.doc_rules.specs.declared.rule.OperandPlace.{OperandPlace}
+use Rattle.doc_rules.specs.declared.rule.OperandPlace.TheVariants.{Third, Fourth}
+use Rattle.doc_rules.specs.declared.rule.SourceRule.TheVariants.{Item as HasItem}
+use Rattle.doc_rules.specs.Subjects.{fits_item}
+use Rattle.doc_rules.specs.declared.rule.ArgumentRule.TheVariants.{Count}
+use Rattle.doc_rules.specs.declared.rule.NameRule.{NameRule}
+use Rattle.doc_rules.specs.declared.rule.NameRule.TheVariants as names
+use Rattle.doc_rules.specs.declared.rule.Rule.TheVariants as rule
 use Rattle.meaning.specs.Amounts.{amount_of}
 use Rattle.meaning.specs.declared.limits.TheConstants.{MAX_DEPTH}
-use Rattle.spelling.specs.Demand.{Demand, holds, in_transaction, one_more_node, one_more_operation}
-use Rattle.spelling.specs.Look.{has, or_empty, text_member}
-use Rattle.spelling.specs.Scope.{Numbers, Scope, Setting, number_of, with_item, with_label, with_reason}
-use Rattle.words.specs.Verbs.{ItemsAre, amount_call, item_call, lone_call, pair_call}
-use Rattle.words.proofs.Verbs.{amount_phrase, item_phrase, lone_phrase, pair_phrase}
-use Rattle.spelling.specs.Asked.{abort_asked, abort_shape_asked, amount_item, argument_asked, arguments_asked}
-use Rattle.spelling.specs.Asked.{call_named, children_in, handlers_in, has_count, holds_item, holds_number}
-use Rattle.spelling.specs.Asked.{holds_word, if_label, if_shape_asked, item_asked, label_asked, label_in}
-use Rattle.spelling.specs.Asked.{name_item, object_of, operation_asked, operation_shape_asked, or_no_items}
-use Rattle.spelling.specs.Asked.{parallel_shape_asked, part, reason_asked, scope_after, seen_asked, sort_of}
-use Rattle.spelling.specs.Asked.{sub_shape_asked, subject_of, target_asked, test_asked}
-use Rattle.spelling.specs.Asked.{else_reason, index_of, is_source, source_asked, verb_in}
-use Rattle.spelling.specs.Spelled.{abort_of, argument_of, block_of, block_of_if, blocks_of, children_spelled, handlers_spelled, if_of}
-use Rattle.spelling.specs.Spelled.{item_of, item_template, members_of, operation_of, operation_step, or_no_step, or_zero, pair_template}
-use Rattle.spelling.specs.Spelled.{parallel_of, reason_of, refusal_of, source_of, spelled_map, step_of, target_of, template_of}
-use Rattle.spelling.specs.Spelled.{step_of_by, steps_spelled}
-use Rattle.spelling.specs.Spelled.{sub_of, test_of}
+use Rattle.doc_tree.specs.Demand.{Demand, holds, in_transaction, one_more_node, one_more_operation}
+use Rattle.doc_tree.specs.Look.{has, or_empty, text_member}
+use Rattle.doc_tree.specs.Scope.{Numbers, Scope, Setting, number_of, with_item, with_label, with_reason}
+use Rattle.vocabulary.specs.Verbs.{ItemsAre, amount_call, item_call, lone_call, pair_call}
+use Rattle.vocabulary.proofs.Verbs.{amount_phrase, item_phrase, lone_phrase, pair_phrase}
+use Rattle.doc_tree.specs.Asked.{abort_asked, abort_shape_asked, amount_item, argument_asked, arguments_asked}
+use Rattle.doc_tree.specs.Asked.{call_named, children_in, handlers_in, has_count, holds_item, holds_number}
+use Rattle.doc_tree.specs.Asked.{holds_word, if_label, if_shape_asked, item_asked, label_asked, label_in}
+use Rattle.doc_tree.specs.Asked.{name_item, object_of, operation_asked, operation_shape_asked, or_no_items}
+use Rattle.doc_tree.specs.Asked.{parallel_shape_asked, part, reason_asked, scope_after, seen_asked, sort_of}
+use Rattle.doc_tree.specs.Asked.{sub_shape_asked, subject_of, target_asked, test_asked}
+use Rattle.doc_tree.specs.Asked.{else_reason, index_of, is_source, source_asked, verb_in}
+use Rattle.doc_tree.specs.Spelled.{abort_of, argument_of, block_of, block_of_if, blocks_of, children_spelled, handlers_spelled, if_of}
+use Rattle.doc_tree.specs.Spelled.{item_of, item_template, members_of, operation_of, operation_step, or_no_step, or_zero, pair_template}
+use Rattle.doc_tree.specs.Spelled.{parallel_of, reason_of, refusal_of, source_of, spelled_map, step_of, target_of, template_of}
+use Rattle.doc_tree.specs.Spelled.{step_of_by, steps_spelled}
+use Rattle.doc_tree.specs.Spelled.{sub_of, test_of}
 use Rattle.lang.proofs.Later.{argument_later, block_later, handlers_later, step_later, template_later, test_later}
-use Rattle.merging.proofs.NumberedTexts.{number_below}
+use Rattle.doc_merge.proofs.NumberedTexts.{number_below}
 use Rattle.lang.proofs.Tables.{Grows, Numbered, grows_before, grows_behind, grows_item, grows_none, grows_on, grows_reason}
 use Rattle.lang.proofs.Tables.{texts_in}
-use Rattle.spelling.proofs.Demands.{array_asked, block_asked, block_asked_if, children_asked, handlers_asked, if_asked, member_asked}
-use Rattle.spelling.proofs.Demands.{members_asked, parallel_asked, step_asked, step_asked_by, steps_asked, sub_asked, transaction_asked}
-use Rattle.spelling.proofs.Demands.{transactions_asked}
+use Rattle.doc_tree.proofs.Demands.{array_asked, block_asked, block_asked_if, children_asked, handlers_asked, if_asked, member_asked}
+use Rattle.doc_tree.proofs.Demands.{members_asked, parallel_asked, step_asked, step_asked_by, steps_asked, sub_asked, transaction_asked}
+use Rattle.doc_tree.proofs.Demands.{transactions_asked}
 
 -- ---- given calls
 

@@ -14,17 +14,17 @@ use Rattle.objects.specs.declared.kind.Kind.{Kind}
 use Rattle.objects.specs.declared.kind.Kind.TheVariants as kind
 use Rattle.batch.specs.Names.{AreNames, Texts, is_name}
 use Rattle.batch.specs.Named.{AllNamedValues, HasText, IsNamedValue}
-use Rattle.spelling.specs.Scope.{Numbers, Table, with_item, with_text}
-use Rattle.spelling.specs.Asked.{element_asked, entry_asked, key_of, kind_in, names_of}
-use Rattle.spelling.specs.Asked.{object_name, object_name_asked, object_shape_asked, or_no_items, pair_asked}
-use Rattle.spelling.specs.Asked.{part, text_of, value_of}
-use Rattle.spelling.specs.Spelled.{bind_all, entries_of, item_of, pairs_of, put_all, start_of, starts_of}
+use Rattle.doc_tree.specs.Scope.{Numbers, Table, with_item, with_text}
+use Rattle.doc_tree.specs.Asked.{element_asked, entry_asked, key_of, kind_in, names_of}
+use Rattle.doc_tree.specs.Asked.{object_name, object_name_asked, object_shape_asked, or_no_items, pair_asked}
+use Rattle.doc_tree.specs.Asked.{part, text_of, value_of}
+use Rattle.doc_tree.specs.Spelled.{bind_all, entries_of, item_of, pairs_of, put_all, start_of, starts_of}
 use Rattle.lang.proofs.Later.{value_later}
-use Rattle.spelling.proofs.MetLemmas.{AllMet, first_met, rest_met}
-use Rattle.merging.proofs.NumberedTexts.{number_below}
+use Rattle.doc_tree.proofs.MetLemmas.{AllMet, first_met, rest_met}
+use Rattle.doc_merge.proofs.NumberedTexts.{number_below}
 use Rattle.lang.proofs.Tables.{Numbered, grows_behind, grows_both, grows_item, grows_none, grows_on, texts_in}
-use Rattle.spelling.proofs.Demands.{array_start_asked, elements_asked, entries_asked, object_asked, objects_asked, pairs_asked}
-use Rattle.spelling.proofs.Demands.{start_asked}
+use Rattle.doc_tree.proofs.Demands.{array_start_asked, elements_asked, entries_asked, object_asked, objects_asked, pairs_asked}
+use Rattle.doc_tree.proofs.Demands.{start_asked}
 
 AllHave : Texts → List Item → Type 0
 AllHave texts [] = ⊤

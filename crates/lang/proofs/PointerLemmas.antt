@@ -12,7 +12,7 @@ use Rattle.serde_json.specs.Data.{Data, Items, array}
 use Rattle.serde_json.specs.Find.{get_item, index_of, pointer as points_to, step, unescape, walk}
 use Rattle.serde_json.specs.Read.{is_integer}
 use Rattle.serde_json.proofs.Paths.{Lacks, walk_last, walk_part}
-use Rattle.pull.specs.Pulled.{in_order}
+use Rattle.doc_tokens.specs.Pulled.{in_order}
 
 -- a pointer is empty, or begins with the mark of a token
 abbrev pub IsPath : List ℕ → Type 0

@@ -4,14 +4,14 @@ use Rattle.std.proofs.Common.{append-nil, ◌∙◌}
 use Rattle.json.specs.Lex.{tokens}
 use Rattle.json.specs.Token.{Token, begin_array, end_object}
 use Rattle.serde_json.specs.Data.{Items}
-use Rattle.spelling.specs.Scope.{Numbers, setting_of}
-use Rattle.spelling.specs.declared.counts.Counts.{Counts}
-use Rattle.spelling.specs.declared.declared.Declared.{Declared}
-use Rattle.cuts.specs.Whole.{is_left}
-use Rattle.cuts.proofs.Places.{tokens_cut}
-use Rattle.pull.specs.Pulled.{ReadsItems, ReadsValue, in_order}
-use Rattle.pull.specs.Ranges.{AreRead, IsBegun, Reached}
-use Rattle.pull.proofs.RangeLemmas.{begun_on}
+use Rattle.doc_tree.specs.Scope.{Numbers, setting_of}
+use Rattle.doc_tree.specs.declared.counts.Counts.{Counts}
+use Rattle.doc_tree.specs.declared.declared.Declared.{Declared}
+use Rattle.doc_cuts.specs.Whole.{is_left}
+use Rattle.doc_cuts.proofs.Places.{tokens_cut}
+use Rattle.doc_tokens.specs.Pulled.{ReadsItems, ReadsValue, in_order}
+use Rattle.doc_tokens.specs.Ranges.{AreRead, IsBegun, Reached}
+use Rattle.doc_tokens.proofs.RangeLemmas.{begun_on}
 use Rattle.lang.proofs.RangeEnds.{next_text}
 
 -- the text up to e was read, and then the range after the comma at e, up to f

@@ -6,18 +6,18 @@ use Rattle.json.specs.Lex.{tokens}
 use Rattle.serde_json.specs.Data.{Data}
 use Rattle.serde_json.specs.Find.{as_object}
 use Rattle.serde_json.specs.Read.{read as read_text}
-use Rattle.rules.specs.declared.failure.Failure.{Failure}
+use Rattle.doc_rules.specs.declared.failure.Failure.{Failure}
 use Rattle.faults.specs.Faults.{wrong_outside}
 use Rattle.faults.specs.declared.fault.Wrong.TheVariants.{Shape}
-use Rattle.spelling.specs.declared.counts.Counts.{Counts}
+use Rattle.doc_tree.specs.declared.counts.Counts.{Counts}
 use Rattle.faults.specs.declared.fault.Fault.{Fault}
-use Rattle.spelling.specs.Asked.{document_shape_asked}
-use Rattle.spelling.specs.Demand.{check, no_counts}
-use Rattle.spelling.specs.Places.{fault_in, first_fault, here, placed}
+use Rattle.doc_tree.specs.Asked.{document_shape_asked}
+use Rattle.doc_tree.specs.Demand.{check, no_counts}
+use Rattle.doc_tree.specs.Places.{fault_in, first_fault, here, placed}
 use Rattle.lang.specs.Reading.{spelled_by, value_of}
 use Rattle.lang.proofs.AskedLemmas.{shape_failed}
-use Rattle.pull.specs.Pulled.{ReadsValue}
-use Rattle.pull.proofs.PulledLemmas.{reads_text}
+use Rattle.doc_tokens.specs.Pulled.{ReadsValue}
+use Rattle.doc_tokens.proofs.PulledLemmas.{reads_text}
 use Rattle.lang.proofs.SpelledLemmas.{refuses}
 
 no_text : (bytes : List ℕ) (b : Bool) (value : Option Data) → is_utf8 bytes ≡ b → (IsUtf8 bytes → ⊥) → cond b value None ≡ None

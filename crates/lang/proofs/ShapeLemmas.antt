@@ -3,17 +3,17 @@ use Rattle.std.proofs.Common.{◌≡◌, true, false, Ok, Err, refl}
 use Rattle.std.specs.Prelude.{codes, is_some, nat_le}
 use Rattle.serde_json.specs.Data.{Data}
 use Rattle.serde_json.specs.Events.{items_len}
-use Rattle.spelling.specs.declared.counts.Counts.{Counts}
-use Rattle.rules.specs.Forms.{member_names}
-use Rattle.rules.specs.declared.form.Form.TheVariants as form
-use Rattle.rules.specs.declared.rule.CountRule.TheVariants as counted
-use Rattle.rules.specs.declared.rule.Rule.TheVariants.{Few, Shape}
-use Rattle.rules.specs.declared.rule.ShapeRule.TheVariants.{Members, Objects, Transactions, Version}
-use Rattle.spelling.specs.Asked.{document_shape_asked, objects_in, transactions_in, version_in, version_of}
-use Rattle.spelling.specs.Demand.{broken_at, check}
-use Rattle.rules.specs.declared.limits.Limits.{Limits}
-use Rattle.spelling.specs.Look.{has_only, list_member}
-use Rattle.rules.specs.Limits.{limits_of}
+use Rattle.doc_tree.specs.declared.counts.Counts.{Counts}
+use Rattle.doc_rules.specs.Forms.{member_names}
+use Rattle.doc_rules.specs.declared.form.Form.TheVariants as form
+use Rattle.doc_rules.specs.declared.rule.CountRule.TheVariants as counted
+use Rattle.doc_rules.specs.declared.rule.Rule.TheVariants.{Few, Shape}
+use Rattle.doc_rules.specs.declared.rule.ShapeRule.TheVariants.{Members, Objects, Transactions, Version}
+use Rattle.doc_tree.specs.Asked.{document_shape_asked, objects_in, transactions_in, version_in, version_of}
+use Rattle.doc_tree.specs.Demand.{broken_at, check}
+use Rattle.doc_rules.specs.declared.limits.Limits.{Limits}
+use Rattle.doc_tree.specs.Look.{has_only, list_member}
+use Rattle.doc_rules.specs.Limits.{limits_of}
 
 -- ---- a document
 

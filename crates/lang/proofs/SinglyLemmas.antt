@@ -2,16 +2,16 @@
 use Rattle.std.proofs.Common.{◌≡◌, ◌≤◌, ℕ, [], Option, None, Some, Result, Ok, Err, subst, ◌∙◌}
 use Rattle.std.specs.Prelude.{IfSome, MatchOption, MatchResult, codes}
 use Rattle.serde_json.specs.Data.{Items}
-use Rattle.spelling.specs.declared.counts.Counts.{Counts}
-use Rattle.rules.specs.declared.limits.TheConstants.{LAST_VERSION}
-use Rattle.spelling.specs.Answer.{AreMet, IsMet}
-use Rattle.spelling.specs.Asked.{declared_by, document_shape_asked}
-use Rattle.spelling.specs.Places.{Found, found_inside, member_named, nothing, objects_placed, placed, seek}
-use Rattle.spelling.specs.Places.{transactions_placed}
-use Rattle.pull.specs.Pulled.{in_order}
+use Rattle.doc_tree.specs.declared.counts.Counts.{Counts}
+use Rattle.doc_rules.specs.declared.limits.TheConstants.{LAST_VERSION}
+use Rattle.doc_tree.specs.Answer.{AreMet, IsMet}
+use Rattle.doc_tree.specs.Asked.{declared_by, document_shape_asked}
+use Rattle.doc_tree.specs.Places.{Found, found_inside, member_named, nothing, objects_placed, placed, seek}
+use Rattle.doc_tree.specs.Places.{transactions_placed}
+use Rattle.doc_tokens.specs.Pulled.{in_order}
 use Rattle.lang.proofs.AskedLemmas.{after_objects, after_shape, behind, objects, transactions}
-use Rattle.pull.proofs.PulledDocument.{version_read}
-use Rattle.spelling.proofs.PlaceLemmas.{part_unmet}
+use Rattle.doc_tokens.proofs.PulledDocument.{version_read}
+use Rattle.doc_tree.proofs.PlaceLemmas.{part_unmet}
 
 -- what is said of a result that is known
 pub matched_ok : {T E : Type 0} (r : Result T E) (x : T) (P : T → Type 0) (Q : E → Type 0) → r ≡ Ok x → MatchResult r P Q → P x

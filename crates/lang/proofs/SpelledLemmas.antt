@@ -5,16 +5,16 @@ use Rattle.serde_json.specs.Data.{Data}
 use Rattle.faults.specs.Faults.{wrong_outside}
 use Rattle.faults.specs.declared.fault.Fault.{Fault}
 use Rattle.faults.specs.declared.fault.Wrong.TheVariants.{TooMany}
-use Rattle.spelling.specs.declared.counts.Counts.{Counts}
-use Rattle.spelling.specs.Asked.{version_in}
-use Rattle.spelling.specs.Demand.{no_counts}
-use Rattle.rules.specs.Failures.{fault_of}
-use Rattle.rules.specs.Limits.{limits_of}
-use Rattle.spelling.specs.Places.{Found, fault_in, first_fault, placed, seek}
-use Rattle.spelling.specs.Spelled.{Document, document_in}
-use Rattle.language.specs.Document.{read_document}
-use Rattle.language.specs.Laws.{spelled_or_found}
-use Rattle.language.proofs.DocumentLemmas.{documents_read}
+use Rattle.doc_tree.specs.declared.counts.Counts.{Counts}
+use Rattle.doc_tree.specs.Asked.{version_in}
+use Rattle.doc_tree.specs.Demand.{no_counts}
+use Rattle.doc_rules.specs.Failures.{fault_of}
+use Rattle.doc_rules.specs.Limits.{limits_of}
+use Rattle.doc_tree.specs.Places.{Found, fault_in, first_fault, placed, seek}
+use Rattle.doc_tree.specs.Spelled.{Document, document_in}
+use Rattle.doc_language.specs.Document.{read_document}
+use Rattle.doc_language.specs.Laws.{spelled_or_found}
+use Rattle.doc_language.proofs.DocumentLemmas.{documents_read}
 use Rattle.lang.specs.Reading.{most_bytes, reading, spelled_by, value_of, version_by, without_place}
 
 -- without the place, the two definitions say the same

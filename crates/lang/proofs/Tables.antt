@@ -3,9 +3,9 @@ use Rattle.std.proofs.Common.{◌≡◌, ◌≤◌, ℕ, Bool, true, false, cond
 use Rattle.std.proofs.lemmas.List.{length-append}
 use Rattle.std.proofs.lemmas.List.Folds.{list_all-append}
 use Rattle.batch.specs.Names.{AreNames, Texts, is_name}
-use Rattle.spelling.specs.Demand.{Demand}
-use Rattle.spelling.specs.Scope.{Numbers, Table, is_listed, with_item, with_reason, with_text}
-use Rattle.spelling.proofs.MetLemmas.{AllMet, first_met, rest_met}
+use Rattle.doc_tree.specs.Demand.{Demand}
+use Rattle.doc_tree.specs.Scope.{Numbers, Table, is_listed, with_item, with_reason, with_text}
+use Rattle.doc_tree.proofs.MetLemmas.{AllMet, first_met, rest_met}
 
 with_more : (text : List ℕ) (table : Table) → length table ≤ length (with_text text table)
 with_more text table = by (is_listed text table)

@@ -1,9 +1,9 @@
 -- Ranges of a document that threads read.
 use Rattle.std.specs.Prelude.{⊤, ◌≡◌, ◌<◌, ◌⊎◌, ℕ, ◌+◌, List, [], ◌∷◌, length, slice_index}
-use Rattle.spelling.specs.Scope.{Setting}
-use Rattle.pull.specs.declared.ranges.RangeEnd.TheVariants.{Transaction, Document}
-use Rattle.merging.specs.RangeReads.{IsReadAlone}
-use Rattle.merging.specs.declared.ranges.RangeRead.{RangeRead}
+use Rattle.doc_tree.specs.Scope.{Setting}
+use Rattle.doc_tokens.specs.declared.ranges.RangeEnd.TheVariants.{Transaction, Document}
+use Rattle.doc_merge.specs.RangeReads.{IsReadAlone}
+use Rattle.doc_merge.specs.declared.ranges.RangeRead.{RangeRead}
 
 -- each range of the text was read alone
 abbrev pub AreReadAlone : Setting → List ℕ → List RangeRead → Type 0

@@ -4,17 +4,17 @@ use Rattle.serde_json.specs.Data.{Data, null}
 use Rattle.serde_json.specs.Find.{pointer as points_to}
 use Rattle.serde_json.specs.View.{view}
 use Rattle.faults.specs.declared.fault.Fault.{Fault}
-use Rattle.rules.specs.Failures.{fault_of}
-use Rattle.rules.specs.declared.failure.Failure.TheVariants.{Broken}
-use Rattle.rules.specs.declared.rule.Rule.{Rule}
-use Rattle.rules.specs.declared.rule.CountRule.TheVariants.{Bytes}
-use Rattle.rules.specs.declared.rule.Rule.TheVariants.{Few, Json}
-use Rattle.mistakes.specs.Words.{IsSaid}
-use Rattle.mistakes.specs.Within.{place_within}
-use Rattle.spelling.specs.declared.counts.Counts.{Counts}
-use Rattle.spelling.specs.Places.{Found, Placed, seek}
-use Rattle.language.specs.Document.{read_document}
-use Rattle.rules.specs.declared.limits.TheConstants.{LAST_VERSION, MAX_BYTES}
+use Rattle.doc_rules.specs.Failures.{fault_of}
+use Rattle.doc_rules.specs.declared.failure.Failure.TheVariants.{Broken}
+use Rattle.doc_rules.specs.declared.rule.Rule.{Rule}
+use Rattle.doc_rules.specs.declared.rule.CountRule.TheVariants.{Bytes}
+use Rattle.doc_rules.specs.declared.rule.Rule.TheVariants.{Few, Json}
+use Rattle.doc_mistakes.specs.Words.{IsSaid}
+use Rattle.doc_mistakes.specs.Within.{place_within}
+use Rattle.doc_tree.specs.declared.counts.Counts.{Counts}
+use Rattle.doc_tree.specs.Places.{Found, Placed, seek}
+use Rattle.doc_language.specs.Document.{read_document}
+use Rattle.doc_rules.specs.declared.limits.TheConstants.{LAST_VERSION, MAX_BYTES}
 use Rattle.lang.specs.Reading.{most_bytes, value_of, version_by}
 use Rattle.lang.specs.declared.misread.Misread.{Misread}
 use Rattle.lang.specs.declared.places.Place.{Place}

@@ -6,17 +6,17 @@ use Rattle.serde_json.specs.Read.{read as read_text}
 use Rattle.batch.specs.declared.batch.Batch.{Batch}
 use Rattle.batch.specs.Names.{texts_of}
 use Rattle.batch.specs.Views.{block_view}
-use Rattle.spelling.specs.declared.declared.Parts.{Parts}
-use Rattle.spelling.specs.declared.state.Numbering.{Numbering}
+use Rattle.doc_tree.specs.declared.declared.Parts.{Parts}
+use Rattle.doc_tree.specs.declared.state.Numbering.{Numbering}
 use Rattle.faults.specs.declared.fault.Wrong.TheVariants.{NotJson, TooMany}
 use Rattle.faults.specs.declared.fault.Fault.{Fault}
 use Rattle.faults.specs.Faults.{is_of_reading, memory_fault, wrong_outside}
-use Rattle.rules.specs.Failures.{fault_of}
-use Rattle.rules.specs.Limits.{limits_of}
-use Rattle.spelling.specs.Asked.{version_in}
-use Rattle.spelling.specs.Places.{Found}
-pub use Rattle.spelling.specs.Spelled.{Document}
-use Rattle.language.specs.Document.{read_document}
+use Rattle.doc_rules.specs.Failures.{fault_of}
+use Rattle.doc_rules.specs.Limits.{limits_of}
+use Rattle.doc_tree.specs.Asked.{version_in}
+use Rattle.doc_tree.specs.Places.{Found}
+pub use Rattle.doc_tree.specs.Spelled.{Document}
+use Rattle.doc_language.specs.Document.{read_document}
 
 -- the value that the bytes write, or none
 abbrev pub value_of : List ℕ → Option Data

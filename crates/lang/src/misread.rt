@@ -2,16 +2,16 @@
 ghost use Rattle.std.specs.Prelude.{◌≡◌, ◌≢◌, IfOk};
 ghost use Rattle.std.specs.Fmt.{decimal};
 ghost use Rattle.serde_json.specs.View.{view};
-ghost use Rattle.rules.specs.declared.failure.Failure.TheVariants as failure;
-ghost use Rattle.rules.specs.Failures.{fault_of};
-ghost use Rattle.spelling.specs.Answer.{found_of, pointer_text};
+ghost use Rattle.doc_rules.specs.declared.failure.Failure.TheVariants as failure;
+ghost use Rattle.doc_rules.specs.Failures.{fault_of};
+ghost use Rattle.doc_tree.specs.Answer.{found_of, pointer_text};
 ghost use Rattle.lang.specs.Found.{IsBelow, found_by, part_at};
 
+use doc_rules::{Failure, Rule};
+use doc_tree::unmet::Unmet;
 use faults::Fault;
-use rules::{Failure, Rule};
 use serde_json::Value;
 use serial::NoMemory;
-use spelling::unmet::Unmet;
 use std::alloc::Global;
 
 /// The first rule that a value doesn't keep: in the transaction of this number, or outside of them

@@ -2,10 +2,10 @@
 //!
 //! No contract says which they are: they are for readers of a message.
 
+use doc_mistakes::shown_token;
+use doc_tokens::notes::MAX_NESTING;
 use json::{Reader, Scratch, Token};
 use memchr::{memchr_iter, memrchr};
-use mistakes::shown_token;
-use pull::notes::MAX_NESTING;
 use std::alloc::{AllocError, Global};
 
 /// A line and a column of a text. Both count from 1, and columns count bytes. The column is 0 where

@@ -8,22 +8,22 @@ ghost use Rattle.json.specs.Lex.{tokens};
 ghost use Rattle.json.specs.Token.{Token, begin_array};
 ghost use Rattle.serde_json.specs.Data.{Data};
 ghost use Rattle.batch.specs.Views.{block_view};
-ghost use Rattle.pull.specs.Pulled.{ReadsValue};
-ghost use Rattle.pull.specs.Ranges.{AreRead, IsBegun, left_by, reached};
-ghost use Rattle.spelling.specs.Answer.{AreMet};
-ghost use Rattle.spelling.specs.Asked.{setting_in};
-ghost use Rattle.rules.specs.Limits.{limits_of};
-ghost use Rattle.spelling.specs.Places.{placed};
-ghost use Rattle.spelling.specs.Scope.{numbers_of, scope_of, setting_of};
-ghost use Rattle.spelling.specs.Spelled.{parts_in, spelled};
+ghost use Rattle.doc_tokens.specs.Pulled.{ReadsValue};
+ghost use Rattle.doc_tokens.specs.Ranges.{AreRead, IsBegun, left_by, reached};
+ghost use Rattle.doc_tree.specs.Answer.{AreMet};
+ghost use Rattle.doc_tree.specs.Asked.{setting_in};
+ghost use Rattle.doc_rules.specs.Limits.{limits_of};
+ghost use Rattle.doc_tree.specs.Places.{placed};
+ghost use Rattle.doc_tree.specs.Scope.{numbers_of, scope_of, setting_of};
+ghost use Rattle.doc_tree.specs.Spelled.{parts_in, spelled};
 
 use batch::Block;
-use cuts::next_cut;
+use doc_cuts::next_cut;
+use doc_tokens::ranges::{RangeEnd, pull_first_range, pull_range};
+use doc_tokens::stop::Stop;
+use doc_tree::declared::{Declared, Parts};
+use doc_tree::state::State;
 use json::{Reader, Scratch};
-use pull::ranges::{RangeEnd, pull_first_range, pull_range};
-use pull::stop::Stop;
-use spelling::declared::{Declared, Parts};
-use spelling::state::State;
 use std::alloc::Global;
 
 /// Where a range ends that begins here: at the first cut after so many bytes, or with the text.

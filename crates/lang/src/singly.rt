@@ -8,30 +8,32 @@ ghost use Rattle.serde_json.specs.Data.{Data, Items, array};
 ghost use Rattle.serde_json.specs.Events.{items_len};
 ghost use Rattle.serde_json.specs.View.{view};
 ghost use Rattle.batch.specs.Views.{block_view, step_view};
-ghost use Rattle.spelling.specs.Answer.{AreMet, IsMet};
+ghost use Rattle.doc_tree.specs.Answer.{AreMet, IsMet};
 ghost use Rattle.lang.specs.Found.{IsFirstIn};
-ghost use Rattle.spelling.specs.Asked.{document_shape_asked, scope_after, setting_in};
-ghost use Rattle.pull.specs.Pulled.{ReadsItems, ReadsValue};
-ghost use Rattle.spelling.specs.Places.{block_placed, placed, step_placed, transaction_placed, transactions_placed};
-ghost use Rattle.spelling.specs.Scope.{numbers_of, scope_of, setting_of};
-ghost use Rattle.spelling.specs.Spelled.{block_of, blocks_of, parts_in, spelled, step_of};
-ghost use Rattle.rules.specs.Limits.{limits_of};
+ghost use Rattle.doc_tree.specs.Asked.{document_shape_asked, scope_after, setting_in};
+ghost use Rattle.doc_tokens.specs.Pulled.{ReadsItems, ReadsValue};
+ghost use Rattle.doc_tree.specs.Places.{block_placed, placed, step_placed, transaction_placed, transactions_placed};
+ghost use Rattle.doc_tree.specs.Scope.{numbers_of, scope_of, setting_of};
+ghost use Rattle.doc_tree.specs.Spelled.{block_of, blocks_of, parts_in, spelled, step_of};
+ghost use Rattle.doc_rules.specs.Limits.{limits_of};
 ghost use Rattle.meaning.specs.declared.limits.TheConstants.{MAX_DEPTH};
 
 use crate::misread::{Misread, misread_of};
 use batch::{Block, Step};
+use doc_rules::{Limits, Rule, ShapeRule};
+use doc_tokens::pass::pass_items;
+use doc_tokens::pull::{
+    PART_DEPTH, number_value, pull_end_object, pull_head, pull_members, pull_value,
+};
+use doc_tokens::stop::Stop;
+use doc_tree::declared::{Declared, Parts};
+use doc_tree::labels::leave_block;
+use doc_tree::starts::read_objects;
+use doc_tree::state::State;
+use doc_tree::steps::read_step;
 use json::{Reader, Token};
 use meaning::limits::MAX_DEPTH;
-use pull::pass::pass_items;
-use pull::pull::{PART_DEPTH, number_value, pull_end_object, pull_head, pull_members, pull_value};
-use pull::stop::Stop;
-use rules::{Limits, Rule, ShapeRule};
 use serde_json::{Map, Value};
-use spelling::declared::{Declared, Parts};
-use spelling::labels::leave_block;
-use spelling::starts::read_objects;
-use spelling::state::State;
-use spelling::steps::read_step;
 use std::alloc::Global;
 
 /// The next step of a transaction, by a tree of it alone, or its first fault.

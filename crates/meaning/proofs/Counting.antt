@@ -13,7 +13,8 @@ use Rattle.meaning.specs.declared.template.Refusal.{Refusal}
 use Rattle.meaning.specs.declared.held.Held.{Held}
 use Rattle.meaning.specs.Records.{Taken, TakenStep, TakenChild, TakenHandler, TakenChildren, entries, entries_of_step, entries_of_child}
 use Rattle.meaning.specs.Records.{entries_of_handler, entries_of_children}
-use Rattle.meaning.specs.OneThread.{Run, Ran, record_of, operate, operate_made, operate_filled, choose, is_for, choose_handler, act, go_on, go_on_children, one, one_step}
+use Rattle.meaning.specs.OneThread.{Run, Ran, record_of, operate, operate_made, operate_filled, choose, is_for, choose_handler, act}
+use Rattle.meaning.specs.OneThread.{go_on, go_on_children, one, one_step}
 use Rattle.meaning.specs.OneThread.{one_handler, one_children}
 use Rattle.meaning.specs.WellFormed.{operations, operations_of_step, operations_of_handlers, operations_of_children}
 use Rattle.meaning.specs.Running.{EntriesCountLaw}

@@ -12,16 +12,16 @@ use Rattle.atoms.specs.declared.item_set.SetCall.TheVariants as set
 use Rattle.atoms.specs.declared.queue.QueueCall.TheVariants as queue
 use Rattle.atoms.specs.declared.directory.DirectoryCall.TheVariants as directory
 use Rattle.atoms.specs.declared.max_register.MaxCall.TheVariants as max
-use Rattle.words.proofs.Verbs.{amount_phrase, item_phrase, pair_phrase}
-use Rattle.words.specs.Verbs.{amount_call, item_call, pair_call, phrase_verb, verb_of}
-use Rattle.words.specs.declared.verb.AmountVerb.{AmountVerb}
-use Rattle.words.specs.declared.verb.AmountVerb.TheVariants.{Deposit, Withdraw, Add, Sub, Raise}
-use Rattle.words.specs.declared.verb.ItemVerb.{ItemVerb}
-use Rattle.words.specs.declared.verb.ItemVerb.TheVariants.{Insert, Remove, Has, Enq, Unbind, Lookup}
-use Rattle.words.specs.declared.verb.PairVerb.{PairVerb}
-use Rattle.words.specs.declared.verb.PairVerb.TheVariants.{Bind, Put}
-use Rattle.words.specs.declared.verb.Verb.{Verb}
-use Rattle.words.specs.declared.verb.Verb.TheVariants as verb
+use Rattle.vocabulary.proofs.Verbs.{amount_phrase, item_phrase, pair_phrase}
+use Rattle.vocabulary.specs.Verbs.{amount_call, item_call, pair_call, phrase_verb, verb_of}
+use Rattle.vocabulary.specs.declared.verb.AmountVerb.{AmountVerb}
+use Rattle.vocabulary.specs.declared.verb.AmountVerb.TheVariants.{Deposit, Withdraw, Add, Sub, Raise}
+use Rattle.vocabulary.specs.declared.verb.ItemVerb.{ItemVerb}
+use Rattle.vocabulary.specs.declared.verb.ItemVerb.TheVariants.{Insert, Remove, Has, Enq, Unbind, Lookup}
+use Rattle.vocabulary.specs.declared.verb.PairVerb.{PairVerb}
+use Rattle.vocabulary.specs.declared.verb.PairVerb.TheVariants.{Bind, Put}
+use Rattle.vocabulary.specs.declared.verb.Verb.{Verb}
+use Rattle.vocabulary.specs.declared.verb.Verb.TheVariants as verb
 use Rattle.meaning.specs.declared.held.Held.{Held}
 use Rattle.meaning.specs.declared.template.Template.{Template}
 use Rattle.meaning.specs.declared.template.Template.TheVariants.{Given, OfAmount, OfItem, OfPair}

@@ -13,10 +13,11 @@ use Rattle.meaning.specs.declared.template.Argument.{Argument}
 use Rattle.meaning.specs.declared.template.Argument.TheVariants as argument
 use Rattle.meaning.specs.declared.template.Template.{Template}
 use Rattle.meaning.specs.declared.template.Template.TheVariants.{Given, OfAmount, OfItem, OfPair}
-use Rattle.words.specs.Verbs.{has_item, has_number, verb_of}
+use Rattle.vocabulary.specs.Verbs.{has_item, has_number, verb_of}
 use Rattle.meaning.specs.declared.held.Held.{Held}
 use Rattle.meaning.specs.Records.{Taken, TakenChild, TakenHandler, TakenChildren}
-use Rattle.meaning.specs.OneThread.{Run, Ran, outcome_of, labels_of, label_if, operate, operate_made, operate_filled, choose, act, go_on_children, one, one_handler}
+use Rattle.meaning.specs.OneThread.{Run, Ran, outcome_of, labels_of, label_if, operate, operate_made, operate_filled, choose, act}
+use Rattle.meaning.specs.OneThread.{go_on_children, one, one_handler}
 use Rattle.meaning.specs.OneThread.{one_children}
 use Rattle.meaning.specs.WellFormed.{Label, OfVerb, OfSubaction, label_has, test_fits, ArgumentFits, added_if, added_by_children}
 use Rattle.meaning.specs.Running.{IsReplyTo, IsHeldBy, AreHeldBy, IsBoundTo, IsArgumentBound, StepLabelsLaw, ChildrenLabelsLaw}

@@ -13,14 +13,16 @@ use Rattle.objects.specs.declared.call.Call.TheVariants as to
 use Rattle.objects.specs.declared.call.Reply.{Reply}
 use Rattle.meaning.specs.declared.end.End.TheVariants.{Ended, Aborted}
 use Rattle.objects.specs.Entries.{State, kinds, reply_at, after_call}
-use Rattle.meaning.specs.Trees.{Block, NoStep, Steps, Operation, Fill, If, Subaction, Abort, Parallel, ForReason, Otherwise, GoOn, Pass, NoChild}
+use Rattle.meaning.specs.Trees.{Block, NoStep, Steps, Operation, Fill, If, Subaction, Abort, Parallel, ForReason, Otherwise, GoOn, Pass}
+use Rattle.meaning.specs.Trees.{NoChild}
 use Rattle.meaning.specs.Trees.{Child}
 use Rattle.meaning.specs.Labels.{holds}
 use Rattle.meaning.specs.Filling.{fill}
 use Rattle.meaning.specs.declared.template.Refusal.{Refusal}
 use Rattle.meaning.specs.declared.held.Held.{Held}
 use Rattle.meaning.specs.Records.{Taken, TakenStep, TakenChild, TakenHandler, TakenChildren}
-use Rattle.meaning.specs.OneThread.{Run, Ran, state_of, operate, operate_made, operate_filled, choose, is_for, choose_handler, act, go_on, go_on_children, one, one_step}
+use Rattle.meaning.specs.OneThread.{Run, Ran, state_of, operate, operate_made, operate_filled, choose, is_for, choose_handler, act, go_on}
+use Rattle.meaning.specs.OneThread.{go_on_children, one, one_step}
 use Rattle.meaning.specs.OneThread.{one_handler, one_children}
 use Rattle.meaning.specs.Batch.{settled, block_at, state_at}
 use Rattle.meaning.specs.WellFormed.{CallFits, operations, size_of, largest, largest_amount, StateHasRoom}

@@ -13,7 +13,8 @@ use Rattle.meaning.specs.declared.template.Refusal.{Refusal}
 use Rattle.meaning.specs.declared.held.Held.{Held}
 use Rattle.meaning.specs.Records.{Taken, TakenStep, TakenChild, TakenHandler, TakenChildren, kept, kept_of_step, kept_of_child}
 use Rattle.meaning.specs.Records.{kept_of_handler, kept_of_children}
-use Rattle.meaning.specs.OneThread.{Run, Ran, record_of, state_of, operate, operate_made, operate_filled, choose, is_for, choose_handler, act, go_on, go_on_children, one}
+use Rattle.meaning.specs.OneThread.{Run, Ran, record_of, state_of, operate, operate_made, operate_filled, choose, is_for, choose_handler}
+use Rattle.meaning.specs.OneThread.{act, go_on, go_on_children, one}
 use Rattle.meaning.specs.OneThread.{one_step, one_handler, one_children}
 use Rattle.meaning.specs.Laws.{NetLaw, ChildrenNetLaw}
 

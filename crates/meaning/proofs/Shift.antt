@@ -14,7 +14,8 @@ use Rattle.meaning.specs.declared.held.Held.{Held}
 use Rattle.meaning.specs.declared.held.Held.TheVariants.{Replied}
 use Rattle.meaning.specs.Records.{Taken, TakenStep, Performed, Filled, Acted, InParallel, TakenChild, TakenHandler, TakenChildren, entries}
 use Rattle.meaning.specs.Records.{entries_of_step, entries_of_child, entries_of_handler, entries_of_children}
-use Rattle.meaning.specs.OneThread.{Run, Ran, record_of, outcome_of, state_of, label_if, operate, operate_made, operate_filled, as_branch, choose, as_handler, is_for}
+use Rattle.meaning.specs.OneThread.{Run, Ran, record_of, outcome_of, state_of, label_if, operate, operate_made, operate_filled, as_branch}
+use Rattle.meaning.specs.OneThread.{choose, as_handler, is_for}
 use Rattle.meaning.specs.OneThread.{choose_handler, after_abort, act, as_step, before_rest, go_on, before_younger, go_on_children, one}
 use Rattle.meaning.specs.OneThread.{one_step, one_handler, one_children}
 use Rattle.meaning.specs.Laws.{ShiftLaw, ChildrenShiftLaw, carried}

@@ -10,10 +10,10 @@ use Rattle.atoms.specs.declared.account.AccountReply.TheVariants as account
 use Rattle.atoms.specs.declared.item_set.SetReply.TheVariants as set
 use Rattle.atoms.specs.declared.queue.QueueReply.TheVariants as queue
 use Rattle.atoms.specs.declared.directory.DirectoryReply.TheVariants as directory
-use Rattle.words.specs.Verbs.{amount_call, item_call, pair_call, verb_of}
-use Rattle.words.specs.declared.verb.PairVerb.{PairVerb}
-use Rattle.words.specs.declared.verb.Verb.{Verb}
-use Rattle.words.specs.declared.verb.Verb.TheVariants as verb
+use Rattle.vocabulary.specs.Verbs.{amount_call, item_call, pair_call, verb_of}
+use Rattle.vocabulary.specs.declared.verb.PairVerb.{PairVerb}
+use Rattle.vocabulary.specs.declared.verb.Verb.{Verb}
+use Rattle.vocabulary.specs.declared.verb.Verb.TheVariants as verb
 use Rattle.meaning.specs.declared.held.Held.{Held}
 use Rattle.meaning.specs.declared.held.Held.TheVariants.{Replied, Outcome}
 use Rattle.meaning.specs.declared.template.Argument.{Argument}

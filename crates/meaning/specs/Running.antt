@@ -5,8 +5,8 @@ use Rattle.objects.specs.declared.value.Value.{Value}
 use Rattle.objects.specs.declared.kind.Kind.{Kind}
 use Rattle.objects.specs.declared.call.Reply.{Reply}
 use Rattle.objects.specs.declared.call.Call.{Call}
-use Rattle.words.specs.Verbs.{has_item, has_number, verb_of}
-use Rattle.words.specs.declared.verb.Verb.{Verb}
+use Rattle.vocabulary.specs.Verbs.{has_item, has_number, verb_of}
+use Rattle.vocabulary.specs.declared.verb.Verb.{Verb}
 use Rattle.meaning.specs.declared.template.Argument.{Argument}
 use Rattle.meaning.specs.declared.template.Argument.TheVariants as argument
 use Rattle.meaning.specs.declared.template.Template.{Template}
@@ -22,7 +22,8 @@ use Rattle.meaning.specs.declared.held.Held.{Held}
 use Rattle.meaning.specs.declared.held.Held.TheVariants.{Replied, Outcome}
 use Rattle.meaning.specs.OneThread.{record_of, outcome_of, labels_of, state_of, one, one_step, one_handler, one_children}
 use Rattle.meaning.specs.Batch.{state_at}
-use Rattle.meaning.specs.WellFormed.{Label, OfVerb, OfSubaction, CallFits, VerbFits, label_has, ArgumentsFit, test_fits, added_by, added_by_children, operations}
+use Rattle.meaning.specs.WellFormed.{Label, OfVerb, OfSubaction, CallFits, VerbFits, label_has, ArgumentsFit, test_fits, added_by}
+use Rattle.meaning.specs.WellFormed.{added_by_children, operations}
 use Rattle.meaning.specs.WellFormed.{operations_of_step, operations_of_handlers, operations_of_children, largest, largest_amount}
 use Rattle.meaning.specs.WellFormed.{StateHasRoom}
 use Rattle.meaning.specs.declared.limits.TheConstants.{MAX_OPERATIONS, MAX_START}

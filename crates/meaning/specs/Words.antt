@@ -17,12 +17,12 @@ use Rattle.objects.specs.declared.call.Reply.{Reply}
 use Rattle.objects.specs.declared.call.Reply.TheVariants as reply
 use Rattle.objects.specs.declared.value.Value.{Value}
 use Rattle.objects.specs.declared.value.Value.TheVariants as value
-use Rattle.words.specs.Verbs.{phrase_of, verb_text}
-use Rattle.words.specs.Words.{word_text}
-use Rattle.words.specs.declared.verb.Phrase.{Phrase}
-use Rattle.words.specs.declared.verb.Phrase.TheVariants as phrase
-use Rattle.words.specs.declared.verb.Verb.TheVariants.{OfAmount, OfItem, OfPair, Alone}
-use Rattle.words.specs.declared.word.Word.TheVariants as word
+use Rattle.vocabulary.specs.Verbs.{phrase_of, verb_text}
+use Rattle.vocabulary.specs.Words.{word_text}
+use Rattle.vocabulary.specs.declared.verb.Phrase.{Phrase}
+use Rattle.vocabulary.specs.declared.verb.Phrase.TheVariants as phrase
+use Rattle.vocabulary.specs.declared.verb.Verb.TheVariants.{OfAmount, OfItem, OfPair, Alone}
+use Rattle.vocabulary.specs.declared.word.Word.TheVariants as word
 
 -- the texts of a batch's numbers
 pub record Names : Type 0 where

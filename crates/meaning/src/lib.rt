@@ -12,4 +12,4 @@ pub use end::End;
 pub use held::Held;
 pub use template::{Argument, Refusal, Template};
 pub use test::Test;
-pub use words::Word;
+pub use vocabulary::Word;

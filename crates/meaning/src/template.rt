@@ -1,7 +1,7 @@
 //! Calls whose arguments come from labels, and what a refused call does.
 use atoms::Item;
 use objects::Call;
-use words::{AmountVerb, ItemVerb, PairVerb};
+use vocabulary::{AmountVerb, ItemVerb, PairVerb};
 
 /// An item that a call takes: this one, or the one that the reply of a label has.
 #[derive(Clone, Copy, Debug, PartialEq, Eq)]

@@ -3,7 +3,7 @@ use Rattle.std.proofs.Common.{◌≡◌, ℕ, ◌+◌, ◌≤◌, Bool, true, fa
 use Rattle.std.proofs.lemmas.List.{length-append}
 use Rattle.batch.specs.Names.{names_of}
 use Rattle.objects.specs.Entries.{State}
-use Rattle.spelling.specs.Scope.{Table, is_listed}
+use Rattle.doc_tree.specs.Scope.{Table, is_listed}
 use Rattle.carry.specs.Joined.{Named, StartOf, added, joined, own, start_of}
 
 own_length : (first next : Named) (n : ℕ) (values : State) → length (own first next n values) ≡ length values

@@ -6,7 +6,7 @@ use Rattle.std.specs.Str.{bytes_eq}
 use Rattle.serde_json.specs.Data.{Data}
 use Rattle.faults.specs.Faults.{wrong_outside}
 use Rattle.faults.specs.declared.fault.Wrong.TheVariants.{TooMany}
-use Rattle.spelling.proofs.DistinctTexts.{objects_differ}
+use Rattle.doc_tree.proofs.DistinctTexts.{objects_differ}
 use Rattle.lang.specs.Reading.{Document, most_bytes, reading, spelled_by, value_of}
 use Rattle.lang.proofs.SpelledLemmas.{spelled_faultless}
 

@@ -16,12 +16,12 @@ use Rattle.carry.specs.Joined.{StartOf, starts_into, version_into}
 use Rattle.carry.specs.Transactions.{joined_text}
 use Rattle.carry.specs.declared.document.Misfit.{Misfit}
 use Rattle.faults.specs.declared.fault.Wrong.{Wrong}
-use Rattle.why.specs.Why.{IsWhyText}
-use Rattle.why.proofs.Determined.{determined}
+use Rattle.explain.specs.Why.{IsWhyText}
+use Rattle.explain.proofs.Determined.{determined}
 use Rattle.faults.specs.Faults.{wrong_outside}
 use Rattle.lang.specs.Reading.{Document, reading}
 use Rattle.faults.specs.declared.fault.Fault.{Fault}
-use Rattle.rules.specs.Limits.{limits_of}
+use Rattle.doc_rules.specs.Limits.{limits_of}
 use Rattle.ordtx.specs.Answers.{IsReportOf, IsAuditOf, IsPlainReportOf, IsCheckOf, IsFaultOf, IsCarriedOf, IsUnfitOf, IsCarryFaultOf}
 use Rattle.ordtx.specs.Answers.{end_of, unfit_wrong, IsShownOf, IsWhyOf, IsExplainedOf, Refusal, of_first, of_next, of_object, AreRead}
 use Rattle.ordtx.specs.Answers.{IsCarriedIntoOf, IsCarryIntoFaultOf, IsNextFaultOf, IsTooLongInto, IsUnfitInto, name_at}

@@ -17,7 +17,7 @@ use Rattle.carry.specs.declared.document.Misfit.{Misfit}
 use Rattle.carry.specs.declared.document.Unfit.{Unfit}
 use Rattle.carry.specs.declared.document.Unfit.TheVariants as unfit
 use Rattle.faults.specs.Faults.{code_number, wrong_outside}
-use Rattle.why.specs.Why.{IsWhyText}
+use Rattle.explain.specs.Why.{IsWhyText}
 use Rattle.lang.specs.Found.{IsMistake}
 use Rattle.faults.specs.declared.fault.Wrong.{Wrong}
 use Rattle.faults.specs.declared.fault.Wrong.TheVariants as wrong
@@ -25,7 +25,7 @@ use Rattle.faults.specs.declared.fault.Fault.{Fault}
 use Rattle.lang.specs.declared.places.Place.{Place}
 use Rattle.lang.specs.declared.positions.Position.{Position}
 use Rattle.lang.specs.declared.places.Place.TheVariants.{Whole, Pointer, LineColumn}
-use Rattle.rules.specs.Limits.{limits_of}
+use Rattle.doc_rules.specs.Limits.{limits_of}
 use Rattle.ordtx.specs.declared.carrying.Uncarried.{Uncarried}
 use Rattle.ordtx.specs.declared.location.Located.{Located}
 use Rattle.ordtx.specs.declared.location.Located.TheVariants.{Faultless, Faulty}

@@ -13,15 +13,15 @@ use carry::{
     NamedObjects, Start, Unfit, carried, carried_into, carried_version, first_clash, first_misfit,
     first_unfit, join, name_table, start_name,
 };
+use doc_rules::Limits;
+use doc_tree::hashing::{NameHashing, Texts};
 use faults::{Code, Fault, Wrong};
 use lang::read_at_once;
 use objects::Objects;
 use one_thread::plain;
 use plan::Plan;
 use report::object_name;
-use rules::Limits;
 use serial::NoMemory;
-use spelling::hashing::{NameHashing, Texts};
 use std::alloc::Global;
 use std::thread::Threads;
 

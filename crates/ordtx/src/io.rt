@@ -6,8 +6,8 @@ ghost use Rattle.devices.specs.Devices.{ReadsUpTo};
 ghost use Rattle.faults.specs.Faults.{input_fault, memory_fault, output_fault};
 
 use devices::{Failed, Sink, Source, Unread, read_input};
+use doc_rules::MAX_BYTES;
 use faults::{Code, Fault};
-use rules::MAX_BYTES;
 use std::alloc::Global;
 
 // One byte more than a document may have, so that a longer input is seen to be longer.

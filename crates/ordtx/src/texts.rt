@@ -7,6 +7,7 @@ ghost use Rattle.ordtx.specs.Texts.{GivesParts, GivesText};
 ghost use Rattle.ordtx.specs.Answers.{IsAuditOf, IsCheckOf, IsExplainedOf, IsFaultOf, IsPlainReportOf, IsReportOf, IsShownOf};
 
 use batch::Batch;
+use explain::render_why;
 use faults::Fault;
 use lang::{read, read_at_once};
 use one_thread::plain;
@@ -18,7 +19,6 @@ use speculate::Gate;
 use std::alloc::Global;
 use std::mem::forget;
 use std::thread::Threads;
-use why::render_why;
 
 // The batch of a document, whose bytes are freed: what comes next takes memory.
 pub(crate) fn batch_of(alloc: Global, document: Vec<u8>) -> Result<Batch, Fault>

@@ -13,7 +13,7 @@ use Rattle.objects.specs.declared.value.Value.{Value}
 use Rattle.meaning.specs.Trees as meant
 use Rattle.meaning.specs.Shown.{Shown, end_of}
 use Rattle.meaning.specs.Words.{Names, value_text}
-use Rattle.words.specs.Words.{kind_text}
+use Rattle.vocabulary.specs.Words.{kind_text}
 use Rattle.meaning.specs.declared.end.End.{End}
 use Rattle.meaning.specs.Texts.{line, outcome_text, steps_text, transactions_text, objects_text, plain_text, check_text}
 use Rattle.batch.specs.Views.{block_view, record_view, steps_view}

@@ -1,5 +1,6 @@
 -- The lines of a report from one of its cuts on. No public contract names them.
-use Rattle.std.specs.Prelude.{◌≡◌, ℕ, zero, suc, ◌+◌, ◌-◌, ◌<◌, ◌≤◌, nat_lt, if◌then◌else◌, min, List, [], ◌∷◌, ◌++◌, codes, drop, length, map}
+use Rattle.std.specs.Prelude.{◌≡◌, ℕ, zero, suc, ◌+◌, ◌-◌, ◌<◌, ◌≤◌, nat_lt, if◌then◌else◌, min, List, [], ◌∷◌, ◌++◌, codes, drop, length}
+use Rattle.std.specs.Prelude.{map}
 use Rattle.std.specs.Prelude.{slice_index_or}
 use Rattle.std.specs.Fmt.{decimal}
 use Rattle.objects.specs.Entries.{State}
@@ -24,7 +25,8 @@ abbrev pub first_from : Names → ℕ → List Block → List Record → ℕ →
 first_from names n (block ∷ blocks) (done ∷ records) zero =
     line (codes "T " ++ decimal n ++ outcome_text names done.outcome)
     ++ steps_from names (decimal n) 0 block.steps.items done.taken.items done.outcome
-first_from names n (block ∷ blocks) (done ∷ records) (suc i) = steps_from names (decimal n) i block.steps.items done.taken.items done.outcome
+first_from names n (block ∷ blocks) (done ∷ records) (suc i) = steps_from names (decimal n) i block.steps.items done.taken.items
+    done.outcome
 first_from names n blocks records i = []
 
 -- those of the e-th transaction, counted from 0

@@ -3,7 +3,7 @@ ghost use Rattle.std.specs.Prelude.{◌≡◌, ◌+◌, ◌++◌, ◌^◌, ◌<�
 ghost use Rattle.objects.specs.Objects.{kind_of_value};
 ghost use Rattle.meaning.specs.Running.{all_operations};
 ghost use Rattle.meaning.specs.Words.{value_text};
-ghost use Rattle.words.specs.Words.{kind_text};
+ghost use Rattle.vocabulary.specs.Words.{kind_text};
 ghost use Rattle.meaning.specs.Texts.{line, outcome_text, counts_text, plain_text, text, audit_text, check_text};
 ghost use Rattle.batch.specs.Names.{names_of};
 ghost use Rattle.batch.specs.Views.{block_view, record_view};
@@ -22,7 +22,7 @@ use objects::{Objects, Value};
 use serial::NoMemory;
 use std::alloc::Global;
 use std::ops::Range;
-use words::kind_text;
+use vocabulary::kind_text;
 
 /// The report of rounds of speculative runs.
 ///

@@ -2,7 +2,7 @@
 ghost use Rattle.std.specs.Prelude.{◌≡◌, ◌++◌, ◌<◌, OnOk, codes, string_bytes};
 ghost use Rattle.std.specs.Fmt.{decimal, signed_decimal};
 ghost use Rattle.meaning.specs.Words.{call_text, reply_text};
-ghost use Rattle.words.specs.Verbs.{verb_text};
+ghost use Rattle.vocabulary.specs.Verbs.{verb_text};
 ghost use Rattle.batch.specs.Names.{names_of};
 
 use crate::names::item_name;
@@ -12,7 +12,7 @@ use atoms::{
 use batch::Names;
 use objects::{Call, Reply};
 use serial::NoMemory;
-use words::{Phrase, Verb, Word, phrase_of};
+use vocabulary::{Phrase, Verb, Word, phrase_of};
 
 /// Writes the words of a call.
 pub fn write_call(out: &mut String, names: &Names, call: &Call) -> Result<(), NoMemory>

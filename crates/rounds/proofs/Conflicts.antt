@@ -16,7 +16,8 @@ use Rattle.meaning.proofs.Batches.{standing_run}
 use Rattle.committed.specs.Summaries.{entries_of, IsSummary}
 use Rattle.committed.proofs.SummaryLemmas.{stands-summary, past-summary}
 use Rattle.rounds.specs.declared.pending_run.PendingRun.{PendingRun}
-use Rattle.rounds.specs.PendingRuns.{left_by, AreSumsOf, IsCommittable, IsPendingOf, net_in, IsListed, own_net, own_nets, HoldsPast, AreSpanned}
+use Rattle.rounds.specs.PendingRuns.{left_by, AreSumsOf, IsCommittable, IsPendingOf, net_in, IsListed, own_net, own_nets, HoldsPast}
+use Rattle.rounds.specs.PendingRuns.{AreSpanned}
 use Rattle.committed.specs.Spans.{AreIn}
 use Rattle.rounds.specs.declared.pending_run.Net.{Net}
 use Rattle.rounds.specs.declared.pending_run.Net.TheVariants.{Summed, Listed, Recorded}

@@ -45,7 +45,8 @@ starts_more past runs i starts more nets pushed all so_far each k lt = elim (dec
 ]
 
 -- the list begins with what comes before a net
-whole : (past : List Entry) (runs : List PendingRun) (i : ℕ) → past ++ all_left runs ≡ (past ++ all_left (take i runs)) ++ all_left (drop i runs)
+whole : (past : List Entry) (runs : List PendingRun) (i : ℕ) → past ++ all_left runs ≡ (past ++ all_left (take i runs))
+    ++ all_left (drop i runs)
 whole past runs i = ap (λ es. past ++ es) (ap all_left (sym (take-append-drop i runs)) ∙ nets_append (take i runs) (drop i runs))
     ∙ sym (append_assoc past (all_left (take i runs)) (all_left (drop i runs)))
 

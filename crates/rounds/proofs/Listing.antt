@@ -192,7 +192,8 @@ pub not_grown : (b : ℕ) (window : Window) → HasGrown b window window
 not_grown b window = record { first = refl; longer = omega arith; same = λ i d from lt inside. refl; still = λ i from valid. valid }
 
 -- the first that doesn't keep is where the next opening is
-pub opens_at_conflict : (start : State) (blocks : List Block) (b place : ℕ) → b ≤ place → place ≤ length blocks → AllKeep start blocks b place
+pub opens_at_conflict : (start : State) (blocks : List Block) (b place : ℕ) → b ≤ place → place ≤ length blocks
+    → AllKeep start blocks b place
     → ¬ Keeps start blocks place b → IsNextOpening start blocks b place
 opens_at_conflict start blocks b place low within keep conflict = record {
   within = within;

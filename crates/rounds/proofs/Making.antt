@@ -38,7 +38,8 @@ times_numbers i xs ys = ap (times i) (map-append (λ (m : NumberedRun). m.number
 -- one run more
 pub made_more : (batch : Batch) (state : State) (listed : List Entry) (numbers : List ℕ) (i : ℕ) (m : NumberedRun)
     (made more : List NumberedRun) → i < length numbers → m.number ≡ get_or numbers i 0 → more ≡ made ++ m ∷ []
-    → AreMade batch state listed (take i numbers) made → IsMade batch state listed m → AreMade batch state listed (take (i + 1) numbers) more
+    → AreMade batch state listed (take i numbers) made → IsMade batch state listed m
+    → AreMade batch state listed (take (i + 1) numbers) more
 made_more batch state listed numbers i m made more lt is pushed so_far here = record {
   each = All-same (IsMade batch state listed) more (made ++ m ∷ []) pushed (All-push (IsMade batch state listed) made m so_far.each here);
   dealt = λ j.

@@ -210,7 +210,8 @@ pub record IsOpening (batch : Batch) (at : Opening) : Type 0 where
 
 -- the entries of transaction i, run at opening b, commute forward with all that the round from b to m commits
 abbrev pub Stands : Batch → ℕ → ℕ → ℕ → Type 0
-Stands batch b m i = AllCommute (entries (record_of (alone (start_of batch) (blocks_of batch) i b))) (nets (start_of batch) (blocks_of batch) b (m - b))
+Stands batch b m i = AllCommute (entries (record_of (alone (start_of batch) (blocks_of batch) i b)))
+    (nets (start_of batch) (blocks_of batch) b (m - b))
 
 -- A round leads from one opening to the next. Of the valid runs that it doesn't commit those stay so that hold past what it did.
 pub record IsRound (batch : Batch) (old new : Opening) : Type 0 where

@@ -1,5 +1,5 @@
 use Rattle.std.proofs.Common.{◌≡◌, ◌≤◌, drop}
-use Rattle.rules.specs.Limits.{limits_of}
+use Rattle.doc_rules.specs.Limits.{limits_of}
 use Rattle.carry.specs.Carried.{first_unfit}
 use Rattle.carry.proofs.document.first_unfit.Given as goal
 

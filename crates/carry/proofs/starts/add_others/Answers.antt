@@ -2,7 +2,7 @@ use Rattle.std.proofs.Common.{◌≡◌, ◌∙◌, ◌+◌, ◌++◌, ◌∷◌
 use Rattle.std.specs.Option.{option_copied}
 use Rattle.std.specs.Prelude.{if◌then◌else◌}
 use Rattle.batch.specs.Names.{names_of, texts_of}
-use Rattle.spelling.specs.Scope.{is_listed}
+use Rattle.doc_tree.specs.Scope.{is_listed}
 use Rattle.carry.specs.Joined.{StartOf, added, named_view, start_of, start_view}
 use Rattle.carry.proofs.Adding.{pushed}
 use Rattle.carry.proofs.Walking.{next_value}

@@ -1,7 +1,7 @@
 use Rattle.std.proofs.Common.{sym, ap, ◌∙◌}
 use Rattle.std.specs.Prelude.{option_and_then}
-use Rattle.spelling.specs.Scope.{place_of}
-use Rattle.spelling.proofs.TableLemmas.{place_of-keys}
+use Rattle.doc_tree.specs.Scope.{place_of}
+use Rattle.doc_tree.proofs.TableLemmas.{place_of-keys}
 use Rattle.carry.specs.Joined.{named_view, start_at}
 use Rattle.carry.proofs.starts.ended.Goals as goal
 

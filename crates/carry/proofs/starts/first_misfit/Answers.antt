@@ -15,7 +15,8 @@ returns-in-Some-unfit_after c =
     let here = slice_get-map value_of (map start_view starts) place
     ∙ ap (option_map value_of) (slice_get-map start_view starts place ∙ ap (option_map start_view) there) in
     sym (unfit_here (map value_of (map start_view starts)) place c.in-Some.start.now.value.now here c.args.version
-    c.loop-place.entries c.in-Some-unfit_after.unfit (sym c.unfit_after.ensures.unfit ∙ c.in-Some-unfit_after.is)) ∙ c.loop-place.invariant.1
+    c.loop-place.entries c.in-Some-unfit_after.unfit (sym c.unfit_after.ensures.unfit ∙ c.in-Some-unfit_after.is))
+    ∙ c.loop-place.invariant.1
 
 pub loop-place-preserved : goal.loop-place-preserved
 loop-place-preserved c =

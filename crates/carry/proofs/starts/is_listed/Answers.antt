@@ -1,5 +1,5 @@
 use Rattle.std.proofs.Common.{sym, ◌∙◌}
-use Rattle.spelling.proofs.TableLemmas.{is_listed-keys}
+use Rattle.doc_tree.proofs.TableLemmas.{is_listed-keys}
 use Rattle.carry.proofs.starts.is_listed.Goals as goal
 
 pub returns-in-Some : goal.returns-in-Some

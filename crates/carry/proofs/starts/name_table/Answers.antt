@@ -2,8 +2,8 @@ use Rattle.std.proofs.Common.{◌≡◌, ◌<◌, ◌∙◌, [], Some, ap, arith
 use Rattle.std.specs.Prelude.{slice_get}
 use Rattle.std.proofs.lemmas.Option.{slice_get-get_or}
 use Rattle.batch.specs.Names.{texts_of}
-use Rattle.spelling.specs.Scope.{with_text}
-use Rattle.spelling.proofs.TableLemmas.{texts_of-insert}
+use Rattle.doc_tree.specs.Scope.{with_text}
+use Rattle.doc_tree.proofs.TableLemmas.{texts_of-insert}
 use Rattle.carry.proofs.Adding.{table_grows}
 use Rattle.carry.proofs.starts.name_table.Goals as goal
 

@@ -4,11 +4,11 @@ use Rattle.std.specs.Prelude.{false, true, slice_index, slice_range, IfSome}
 use Rattle.json.specs.Lex.{tokens}
 use Rattle.json.specs.Token.{begin_array}
 use Rattle.batch.specs.Views.{block_view}
-use Rattle.cuts.specs.Whole.{is_open}
-use Rattle.cuts.proofs.Places.{tokens_opened}
-use Rattle.pull.specs.Ranges.{IsHead, reached}
-use Rattle.pull.proofs.RangeLemmas.{head_longer, head_whole}
-use Rattle.spelling.specs.Scope.{numbers_of, setting_of}
+use Rattle.doc_cuts.specs.Whole.{is_open}
+use Rattle.doc_cuts.proofs.Places.{tokens_opened}
+use Rattle.doc_tokens.specs.Ranges.{IsHead, reached}
+use Rattle.doc_tokens.proofs.RangeLemmas.{head_longer, head_whole}
+use Rattle.doc_tree.specs.Scope.{numbers_of, setting_of}
 use Rattle.lang.specs.AtOnce.{Follow}
 use Rattle.lang.proofs.AtOnceLaws.{all_alone, all_through}
 use Rattle.lang.proofs.at_once.pull_at_once.Goals as goal

@@ -1,14 +1,14 @@
 use Rattle.std.proofs.Common.{◌≡◌, ◌≢◌, Some, Err, sym, subst, ap, ◌∙◌}
 use Rattle.serde_json.specs.Data.{object}
-use Rattle.spelling.specs.Asked.{document_shape_asked}
-use Rattle.spelling.specs.Demand.{check, no_counts}
-use Rattle.spelling.specs.Places.{fault_in, here}
+use Rattle.doc_tree.specs.Asked.{document_shape_asked}
+use Rattle.doc_tree.specs.Demand.{check, no_counts}
+use Rattle.doc_tree.specs.Places.{fault_in, here}
 use Rattle.faults.specs.Faults.{memory_fault}
-use Rattle.pull.specs.Passed.{AreNoted}
+use Rattle.doc_tokens.specs.Passed.{AreNoted}
 use Rattle.lang.specs.Reading.{spelled_by, value_of}
-use Rattle.spelling.proofs.Checks.{passed_on}
-use Rattle.pull.proofs.NoteLemmas.{noted_shape}
-use Rattle.pull.proofs.PulledLemmas.{pick}
+use Rattle.doc_tree.proofs.Checks.{passed_on}
+use Rattle.doc_tokens.proofs.NoteLemmas.{noted_shape}
+use Rattle.doc_tokens.proofs.PulledLemmas.{pick}
 use Rattle.lang.proofs.RefusedLemmas.{no_object_shape, refused_for, shape_first}
 use Rattle.lang.proofs.SinglyLemmas.{matched_some}
 use Rattle.lang.proofs.document.check_shape.Goals as goal

@@ -1,5 +1,5 @@
 use Rattle.std.proofs.Common.{Ok, ap, refl, ◌∙◌, arith}
-use Rattle.rules.specs.Limits.{limits_of}
+use Rattle.doc_rules.specs.Limits.{limits_of}
 use Rattle.lang.proofs.GivenLemmas.{gives_batch, gives_short, gives_too_many, given_version}
 use Rattle.lang.proofs.document.judged.Goals as goal
 

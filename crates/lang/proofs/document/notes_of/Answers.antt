@@ -1,6 +1,6 @@
 use Rattle.std.proofs.Common.{◌≡◌, [], subst, arith, rules}
 use Rattle.json.specs.Lex.{tokens}
-use Rattle.pull.specs.Pulled.{ReadsValue}
+use Rattle.doc_tokens.specs.Pulled.{ReadsValue}
 use Rattle.lang.proofs.RefusedLemmas.{no_value, value_known}
 use Rattle.lang.proofs.document.notes_of.Goals as goal
 

@@ -1,5 +1,5 @@
 use Rattle.std.proofs.Common.{arith}
-use Rattle.pull.proofs.PulledLemmas.{IfOk_then}
+use Rattle.doc_tokens.proofs.PulledLemmas.{IfOk_then}
 use Rattle.lang.proofs.RefusedLemmas.{value_known}
 use Rattle.lang.proofs.document.pull_bytes.Goals as goal
 

@@ -1,11 +1,11 @@
 use Rattle.std.proofs.Common.{◌≡◌, map, subst, sym, ◌∙◌, arith, rules}
 use Rattle.batch.specs.Limits.{IsBatch}
 use Rattle.batch.specs.Views.{block_view}
-use Rattle.spelling.specs.Places.{placed}
+use Rattle.doc_tree.specs.Places.{placed}
 use Rattle.lang.specs.Reading.{document_of, document_with}
-use Rattle.spelling.specs.Scope.{numbers_of, setting_of}
-use Rattle.spelling.specs.Spelled.{Document}
-use Rattle.pull.proofs.DocumentLemmas.{met_first, same_document}
+use Rattle.doc_tree.specs.Scope.{numbers_of, setting_of}
+use Rattle.doc_tree.specs.Spelled.{Document}
+use Rattle.doc_tokens.proofs.DocumentLemmas.{met_first, same_document}
 use Rattle.lang.proofs.FaultlessBatch.{faultless_is_batch}
 use Rattle.lang.proofs.document.pull_once.Goals as goal
 

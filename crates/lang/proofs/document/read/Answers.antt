@@ -1,5 +1,5 @@
 use Rattle.std.proofs.Common.{Err, sym, ap, ◌∙◌, arith}
-use Rattle.rules.proofs.LimitLemmas.{limits_within}
+use Rattle.doc_rules.proofs.LimitLemmas.{limits_within}
 use Rattle.lang.specs.Reading.{value_of, version_by}
 use Rattle.lang.proofs.SpelledLemmas.{reads_long}
 use Rattle.lang.proofs.document.read.Goals as goal

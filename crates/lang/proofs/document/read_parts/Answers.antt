@@ -2,12 +2,12 @@ use Rattle.std.specs.Prelude.{codes}
 use Rattle.std.proofs.Common.{ap₂, map, ◌∙◌}
 use Rattle.serde_json.specs.View.{items_view, view}
 use Rattle.batch.specs.Views.{block_view}
-use Rattle.spelling.specs.Asked.{declared_by}
-use Rattle.spelling.specs.Places.{member_named, nothing, placed}
-use Rattle.spelling.specs.Scope.{numbers_of, setting_of}
-use Rattle.spelling.proofs.PlaceLemmas.{found_in, part_met, raised}
+use Rattle.doc_tree.specs.Asked.{declared_by}
+use Rattle.doc_tree.specs.Places.{member_named, nothing, placed}
+use Rattle.doc_tree.specs.Scope.{numbers_of, setting_of}
+use Rattle.doc_tree.proofs.PlaceLemmas.{found_in, part_met, raised}
 use Rattle.lang.proofs.AskedLemmas.{after_objects, after_shape, behind, objects, shape_failed, transactions}
-use Rattle.pull.proofs.DocumentLemmas.{same_parts}
+use Rattle.doc_tokens.proofs.DocumentLemmas.{same_parts}
 use Rattle.lang.proofs.document.read_parts.Goals as goal
 
 pub returns-in_err-shape-clause-unmet : goal.returns-in_err-shape-clause-unmet

@@ -1,5 +1,5 @@
 use Rattle.std.proofs.Common.{◌<◌, length, subst}
-use Rattle.rules.specs.Limits.{limits_of}
+use Rattle.doc_rules.specs.Limits.{limits_of}
 use Rattle.lang.proofs.GivenLemmas.{gives_short, gives_too_many}
 use Rattle.lang.proofs.SinglyLemmas.{matched_none, matched_some}
 use Rattle.lang.proofs.SpelledLemmas.{spelled_as}

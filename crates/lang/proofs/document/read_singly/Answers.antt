@@ -1,14 +1,14 @@
 use Rattle.std.proofs.Common.{◌≡◌, Ok, Some, map, subst, sym, ap, ◌∙◌, arith, rules}
 use Rattle.batch.specs.Limits.{IsBatch}
 use Rattle.batch.specs.Views.{block_view}
-use Rattle.spelling.specs.Answer.{IsMet}
-use Rattle.spelling.specs.Asked.{document_shape_asked}
-use Rattle.spelling.specs.Places.{fault_in, first_fault, placed}
+use Rattle.doc_tree.specs.Answer.{IsMet}
+use Rattle.doc_tree.specs.Asked.{document_shape_asked}
+use Rattle.doc_tree.specs.Places.{fault_in, first_fault, placed}
 use Rattle.lang.specs.Reading.{document_of, document_with, spelled_by}
-use Rattle.spelling.specs.Scope.{numbers_of, setting_of}
-use Rattle.spelling.specs.Spelled.{Document}
+use Rattle.doc_tree.specs.Scope.{numbers_of, setting_of}
+use Rattle.doc_tree.specs.Spelled.{Document}
 use Rattle.lang.proofs.CodeLemmas.{first_fault_code}
-use Rattle.pull.proofs.DocumentLemmas.{failed_first, met_first, same_document}
+use Rattle.doc_tokens.proofs.DocumentLemmas.{failed_first, met_first, same_document}
 use Rattle.lang.proofs.FaultlessBatch.{faultless_is_batch}
 use Rattle.lang.proofs.RefusedLemmas.{refused_for}
 use Rattle.lang.proofs.SinglyLemmas.{matched_err, matched_ok}

@@ -5,17 +5,17 @@ use Rattle.serde_json.specs.Events.{items_len}
 use Rattle.serde_json.specs.View.{items_view, view}
 use Rattle.serde_json.specs.declared.value.Value.{Value}
 use Rattle.serde_json.proofs.Views.{items_len-items_view}
-use Rattle.rules.specs.declared.rule.CountRule.TheVariants as counted
-use Rattle.rules.specs.declared.rule.Rule.TheVariants.{Few}
-use Rattle.spelling.specs.Answer.{IsFirst}
-use Rattle.spelling.specs.Demand.{broken_at}
-use Rattle.spelling.specs.Asked.{document_shape_asked, objects_in, or_no_items, transactions_in, version_in, version_of}
-use Rattle.rules.specs.Limits.{limits_of}
-use Rattle.rules.specs.declared.limits.Limits.{Limits}
-use Rattle.rules.specs.Forms.{member_names}
-use Rattle.rules.specs.declared.form.Form.TheVariants as form
-use Rattle.spelling.specs.Look.{has_only, list_member}
-use Rattle.spelling.proofs.Checks.{passed_on}
+use Rattle.doc_rules.specs.declared.rule.CountRule.TheVariants as counted
+use Rattle.doc_rules.specs.declared.rule.Rule.TheVariants.{Few}
+use Rattle.doc_tree.specs.Answer.{IsFirst}
+use Rattle.doc_tree.specs.Demand.{broken_at}
+use Rattle.doc_tree.specs.Asked.{document_shape_asked, objects_in, or_no_items, transactions_in, version_in, version_of}
+use Rattle.doc_rules.specs.Limits.{limits_of}
+use Rattle.doc_rules.specs.declared.limits.Limits.{Limits}
+use Rattle.doc_rules.specs.Forms.{member_names}
+use Rattle.doc_rules.specs.declared.form.Form.TheVariants as form
+use Rattle.doc_tree.specs.Look.{has_only, list_member}
+use Rattle.doc_tree.proofs.Checks.{passed_on}
 use Rattle.lang.proofs.ShapeLemmas.{many_objects, many_transactions, no_objects, no_transactions, no_version, other_part, shape_met}
 use Rattle.lang.proofs.document.shape_of.Goals as goal
 
@@ -45,7 +45,8 @@ returns-in_default-list_member-clause-first c other =
 
 pub returns-in_default-list_member-2-clause-first : goal.returns-in_default-list_member-2-clause-first
 returns-in_default-list_member-2-clause-first c other =
-    no_transactions c.args.counts.now (view c.args.value.now) (of_form _ c.members.ensures ∙ sym c.has_only.ensures ∙ c.in_ok-demand.ensures)
+    no_transactions c.args.counts.now (view c.args.value.now)
+    (of_form _ c.members.ensures ∙ sym c.has_only.ensures ∙ c.in_ok-demand.ensures)
     (ap is_some (sym c.in-Some.ensures)) (ap is_some (sym c.in-Some-list_member.ensures))
     (ap is_some (sym c.in_default-list_member-2.ensures)) ∙ ap Err (sym c.broken-in_default-list_member-2.ensures)
 

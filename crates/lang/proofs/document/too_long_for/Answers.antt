@@ -1,6 +1,6 @@
 use Rattle.std.proofs.Common.{◌∙◌, ap, arith}
-use Rattle.rules.proofs.LimitLemmas.{first_bytes}
-use Rattle.rules.specs.Limits.{limits_of}
+use Rattle.doc_rules.proofs.LimitLemmas.{first_bytes}
+use Rattle.doc_rules.specs.Limits.{limits_of}
 use Rattle.lang.specs.Reading.{value_of, version_by}
 use Rattle.lang.proofs.document.too_long_for.Goals as goal
 

@@ -1,6 +1,6 @@
 use Rattle.std.proofs.Common.{sym, subst, ap, ◌∙◌}
-use Rattle.pull.specs.Passed.{AreNoted}
-use Rattle.pull.proofs.NoteLemmas.{no_object_version, noted_version_in}
+use Rattle.doc_tokens.specs.Passed.{AreNoted}
+use Rattle.doc_tokens.proofs.NoteLemmas.{no_object_version, noted_version_in}
 use Rattle.lang.specs.Reading.{version_by}
 use Rattle.lang.proofs.SinglyLemmas.{matched_none, matched_some}
 use Rattle.lang.proofs.document.version_by.Goals as goal

@@ -1,5 +1,5 @@
 use Rattle.std.proofs.Common.{refl, arith}
-use Rattle.spelling.specs.Demand.{no_counts}
+use Rattle.doc_tree.specs.Demand.{no_counts}
 use Rattle.lang.proofs.Located.{length_told, long_by, misread_told}
 use Rattle.lang.proofs.SinglyLemmas.{matched_none, matched_some, told_some}
 use Rattle.lang.proofs.places.locate.Goals as goal

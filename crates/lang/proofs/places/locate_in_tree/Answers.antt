@@ -5,7 +5,7 @@ use Rattle.std.proofs.lemmas.Str.{IsUtf8-from_is_utf8, is_utf8-from_IsUtf8}
 use Rattle.serde_json.specs.Read.{read as read_text}
 use Rattle.serde_json.specs.Errors.{IsMemory}
 use Rattle.serde_json.specs.View.{view}
-use Rattle.spelling.specs.Places.{placed}
+use Rattle.doc_tree.specs.Places.{placed}
 use Rattle.lang.specs.Reading.{value_of}
 use Rattle.lang.proofs.Located.{misread_told, not_all_met}
 use Rattle.lang.proofs.MisreadLemmas.{misread_first}

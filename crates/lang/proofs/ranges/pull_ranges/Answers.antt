@@ -4,9 +4,9 @@ use Rattle.std.specs.Prelude.{slice_index, slice_range}
 use Rattle.json.specs.Lex.{tokens}
 use Rattle.json.specs.Token.{end_array, end_object}
 use Rattle.batch.specs.Views.{block_view}
-use Rattle.pull.specs.Ranges.{IsBegun, left_by, reached}
-use Rattle.pull.proofs.RangeLemmas.{begun_whole}
-use Rattle.spelling.specs.Scope.{numbers_of}
+use Rattle.doc_tokens.specs.Ranges.{IsBegun, left_by, reached}
+use Rattle.doc_tokens.proofs.RangeLemmas.{begun_whole}
+use Rattle.doc_tree.specs.Scope.{numbers_of}
 use Rattle.lang.proofs.RangeLaws.{begun_further}
 use Rattle.lang.proofs.ranges.pull_ranges.Goals as goal
 

@@ -2,9 +2,9 @@ use Rattle.std.proofs.Common.{◌≡◌, ◌≤◌, ◌<◌, ◌-◌, [], length
 use Rattle.std.specs.Prelude.{slice_index}
 use Rattle.json.specs.Lex.{tokens}
 use Rattle.batch.specs.Views.{block_view}
-use Rattle.pull.specs.Ranges.{IsBegun, left_by, reached}
-use Rattle.rules.specs.Limits.{limits_of}
-use Rattle.spelling.specs.Scope.{numbers_of, scope_of}
+use Rattle.doc_tokens.specs.Ranges.{IsBegun, left_by, reached}
+use Rattle.doc_rules.specs.Limits.{limits_of}
+use Rattle.doc_tree.specs.Scope.{numbers_of, scope_of}
 use Rattle.lang.proofs.ranges.pull_ranges.Given as goal
 
 -- the document was read up to the end of a range, after which comes a comma or nothing

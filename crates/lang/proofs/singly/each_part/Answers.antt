@@ -7,15 +7,15 @@ use Rattle.serde_json.specs.View.{items_view, view}
 use Rattle.serde_json.specs.declared.value.Value.{Array}
 use Rattle.serde_json.proofs.Views.{items_len-items_view, view-Array}
 use Rattle.batch.specs.Views.{block_view}
-use Rattle.spelling.specs.Answer.{AreMet, IsFound, pointer_text}
-use Rattle.spelling.specs.Asked.{declared_by}
-use Rattle.rules.specs.Limits.{limits_of}
-use Rattle.spelling.specs.Places.{member_named, objects_placed, placed, transactions_placed}
-use Rattle.spelling.specs.Scope.{numbers_of, setting_of}
-use Rattle.spelling.specs.Spelled.{starts_of}
-use Rattle.pull.specs.Pulled.{ReadsItems, in_order}
-use Rattle.pull.proofs.DocumentLemmas.{same_parts}
-use Rattle.pull.proofs.PulledDocument.{in_order_met, version_is}
+use Rattle.doc_tree.specs.Answer.{AreMet, IsFound, pointer_text}
+use Rattle.doc_tree.specs.Asked.{declared_by}
+use Rattle.doc_rules.specs.Limits.{limits_of}
+use Rattle.doc_tree.specs.Places.{member_named, objects_placed, placed, transactions_placed}
+use Rattle.doc_tree.specs.Scope.{numbers_of, setting_of}
+use Rattle.doc_tree.specs.Spelled.{starts_of}
+use Rattle.doc_tokens.specs.Pulled.{ReadsItems, in_order}
+use Rattle.doc_tokens.proofs.DocumentLemmas.{same_parts}
+use Rattle.doc_tokens.proofs.PulledDocument.{in_order_met, version_is}
 use Rattle.lang.specs.Found.{IsFirstIn, part_at}
 use Rattle.lang.proofs.MisreadLemmas.{first_below, misread_first}
 use Rattle.lang.proofs.PointerLemmas.{objects_pointed, transactions_pointed}

@@ -9,15 +9,15 @@ use Rattle.meaning.specs.declared.limits.TheConstants.{MAX_DEPTH}
 use Rattle.batch.specs.Views.{step_view, steps_of}
 use Rattle.batch.specs.declared.tree.Block.{roll-Block}
 use Rattle.batch.proofs.ViewLemmas.{block_view-is}
-use Rattle.spelling.specs.Asked.{scope_after}
-use Rattle.spelling.specs.Places.{block_placed, item_at, seek, step_placed, steps_placed}
-use Rattle.spelling.specs.Scope.{Numbers, Scope, numbers_of, scope_of, setting_of}
-use Rattle.spelling.specs.Spelled.{block_of, spelled_map, steps_spelled}
-use Rattle.spelling.proofs.BlockLemmas.{block_asks, block_spells}
-use Rattle.spelling.proofs.ListLemmas.{in_front, in_front_none, in_front_push}
-use Rattle.spelling.proofs.PlaceLemmas.{part_met, part_unmet}
-use Rattle.pull.specs.Pulled.{ReadsValue}
-use Rattle.pull.proofs.PulledLemmas.{reads_item, reads_no_items, reads_shorter}
+use Rattle.doc_tree.specs.Asked.{scope_after}
+use Rattle.doc_tree.specs.Places.{block_placed, item_at, seek, step_placed, steps_placed}
+use Rattle.doc_tree.specs.Scope.{Numbers, Scope, numbers_of, scope_of, setting_of}
+use Rattle.doc_tree.specs.Spelled.{block_of, spelled_map, steps_spelled}
+use Rattle.doc_tree.proofs.BlockLemmas.{block_asks, block_spells}
+use Rattle.doc_tree.proofs.ListLemmas.{in_front, in_front_none, in_front_push}
+use Rattle.doc_tree.proofs.PlaceLemmas.{part_met, part_unmet}
+use Rattle.doc_tokens.specs.Pulled.{ReadsValue}
+use Rattle.doc_tokens.proofs.PulledLemmas.{reads_item, reads_no_items, reads_shorter}
 use Rattle.lang.specs.Found.{IsBelow}
 use Rattle.lang.proofs.MisreadLemmas.{item_first}
 use Rattle.lang.proofs.SinglyLemmas.{matched_err, matched_ok}

@@ -4,11 +4,11 @@ use Rattle.serde_json.specs.Data.{Items}
 use Rattle.serde_json.specs.Find.{get_item}
 use Rattle.meaning.specs.declared.limits.TheConstants.{MAX_DEPTH}
 use Rattle.batch.specs.Views.{step_view}
-use Rattle.spelling.specs.Places.{block_placed, seek, steps_placed}
-use Rattle.pull.specs.Pulled.{ReadsItems}
-use Rattle.spelling.specs.Scope.{numbers_of, scope_of, setting_of}
-use Rattle.spelling.specs.Spelled.{block_of, steps_spelled}
-use Rattle.spelling.proofs.ListLemmas.{in_front}
+use Rattle.doc_tree.specs.Places.{block_placed, seek, steps_placed}
+use Rattle.doc_tokens.specs.Pulled.{ReadsItems}
+use Rattle.doc_tree.specs.Scope.{numbers_of, scope_of, setting_of}
+use Rattle.doc_tree.specs.Spelled.{block_of, steps_spelled}
+use Rattle.doc_tree.proofs.ListLemmas.{in_front}
 use Rattle.lang.proofs.singly.each_step.Given as goal
 
 -- what was read comes before any items that follow

@@ -5,13 +5,13 @@ use Rattle.serde_json.specs.Data.{no_items, item}
 use Rattle.serde_json.specs.Find.{get_item}
 use Rattle.meaning.specs.Trees as tree
 use Rattle.batch.specs.Views.{block_view}
-use Rattle.spelling.specs.Places.{item_at, transaction_placed, transactions_placed}
-use Rattle.spelling.specs.Scope.{Numbers, numbers_of, setting_of}
-use Rattle.spelling.specs.Spelled.{blocks_of}
-use Rattle.pull.specs.Pulled.{ReadsValue}
-use Rattle.spelling.proofs.PlaceLemmas.{part_met, part_unmet}
-use Rattle.spelling.proofs.ListLemmas.{in_front, in_front_none, in_front_push}
-use Rattle.pull.proofs.PulledLemmas.{reads_item, reads_no_items, reads_shorter}
+use Rattle.doc_tree.specs.Places.{item_at, transaction_placed, transactions_placed}
+use Rattle.doc_tree.specs.Scope.{Numbers, numbers_of, setting_of}
+use Rattle.doc_tree.specs.Spelled.{blocks_of}
+use Rattle.doc_tokens.specs.Pulled.{ReadsValue}
+use Rattle.doc_tree.proofs.PlaceLemmas.{part_met, part_unmet}
+use Rattle.doc_tree.proofs.ListLemmas.{in_front, in_front_none, in_front_push}
+use Rattle.doc_tokens.proofs.PulledLemmas.{reads_item, reads_no_items, reads_shorter}
 use Rattle.lang.specs.Found.{IsBelow}
 use Rattle.lang.proofs.MisreadLemmas.{item_first}
 use Rattle.lang.proofs.SinglyLemmas.{matched_err, matched_ok}

@@ -4,12 +4,12 @@ use Rattle.serde_json.specs.Data.{Items}
 use Rattle.serde_json.specs.Events.{items_len}
 use Rattle.serde_json.specs.Find.{get_item}
 use Rattle.batch.specs.Views.{block_view}
-use Rattle.rules.specs.Limits.{limits_of}
-use Rattle.spelling.specs.Places.{seek, transactions_placed}
-use Rattle.pull.specs.Pulled.{ReadsItems}
-use Rattle.spelling.specs.Scope.{numbers_of, scope_of, setting_of}
-use Rattle.spelling.specs.Spelled.{blocks_of}
-use Rattle.spelling.proofs.ListLemmas.{in_front}
+use Rattle.doc_rules.specs.Limits.{limits_of}
+use Rattle.doc_tree.specs.Places.{seek, transactions_placed}
+use Rattle.doc_tokens.specs.Pulled.{ReadsItems}
+use Rattle.doc_tree.specs.Scope.{numbers_of, scope_of, setting_of}
+use Rattle.doc_tree.specs.Spelled.{blocks_of}
+use Rattle.doc_tree.proofs.ListLemmas.{in_front}
 use Rattle.lang.proofs.singly.each_transaction.Given as goal
 
 -- what was read comes before any items that follow

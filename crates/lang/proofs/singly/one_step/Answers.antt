@@ -1,8 +1,8 @@
 use Rattle.std.proofs.Common.{◌-◌}
 use Rattle.serde_json.specs.View.{view}
 use Rattle.meaning.specs.declared.limits.TheConstants.{MAX_DEPTH}
-use Rattle.spelling.specs.Places.{block_placed, step_placed}
-use Rattle.spelling.specs.Scope.{scope_of, setting_of}
+use Rattle.doc_tree.specs.Places.{block_placed, step_placed}
+use Rattle.doc_tree.specs.Scope.{scope_of, setting_of}
 use Rattle.lang.proofs.MisreadLemmas.{misread_first}
 use Rattle.lang.proofs.singly.one_step.Goals as goal
 

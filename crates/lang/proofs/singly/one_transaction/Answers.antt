@@ -3,14 +3,14 @@ use Rattle.json.specs.Reads.{token_of}
 use Rattle.serde_json.specs.Data.{array}
 use Rattle.serde_json.specs.View.{view}
 use Rattle.meaning.specs.declared.limits.TheConstants.{MAX_DEPTH}
-use Rattle.rules.specs.declared.failure.Failure.TheVariants.{Broken}
-use Rattle.rules.specs.declared.rule.Rule.TheVariants.{Shape}
-use Rattle.rules.specs.declared.rule.ShapeRule.TheVariants.{Block}
-use Rattle.spelling.specs.Places.{Found}
-use Rattle.spelling.specs.Scope.{setting_of}
-use Rattle.spelling.proofs.BlockLemmas.{no_array}
-use Rattle.pull.specs.Pulled.{ReadsValue}
-use Rattle.pull.proofs.PulledLemmas.{IfOk_then, reads_array}
+use Rattle.doc_rules.specs.declared.failure.Failure.TheVariants.{Broken}
+use Rattle.doc_rules.specs.declared.rule.Rule.TheVariants.{Shape}
+use Rattle.doc_rules.specs.declared.rule.ShapeRule.TheVariants.{Block}
+use Rattle.doc_tree.specs.Places.{Found}
+use Rattle.doc_tree.specs.Scope.{setting_of}
+use Rattle.doc_tree.proofs.BlockLemmas.{no_array}
+use Rattle.doc_tokens.specs.Pulled.{ReadsValue}
+use Rattle.doc_tokens.proofs.PulledLemmas.{IfOk_then, reads_array}
 use Rattle.lang.specs.Found.{part_at}
 use Rattle.lang.proofs.NoListLemmas.{no_list}
 use Rattle.lang.proofs.singly.one_transaction.Goals as goal

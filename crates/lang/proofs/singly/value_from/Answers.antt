@@ -4,8 +4,8 @@ use Rattle.serde_json.specs.Data.{boolean, no_members, null, number, object, str
 use Rattle.serde_json.specs.View.{members_view, view}
 use Rattle.serde_json.specs.declared.value.Value.{String, Bool, Null, the_lemmas}
 use Rattle.serde_json.proofs.Views.{view-Object}
-use Rattle.pull.specs.Pulled.{ReadsMembers, ReadsValue}
-use Rattle.pull.proofs.PulledLemmas.{IfOk_then, reads_boolean, reads_null, reads_number, reads_object, reads_string}
+use Rattle.doc_tokens.specs.Pulled.{ReadsMembers, ReadsValue}
+use Rattle.doc_tokens.proofs.PulledLemmas.{IfOk_then, reads_boolean, reads_null, reads_number, reads_object, reads_string}
 use Rattle.lang.proofs.singly.value_from.Goals as goal
 
 pub returns-in_ok-from_str-in-String : goal.returns-in_ok-from_str-in-String

@@ -2,8 +2,8 @@ use Rattle.std.proofs.Common.{◌≡◌, ◌<◌, ◌≤◌, ◌∙◌, Some, ap
 use Rattle.std.proofs.lemmas.List.{length-map}
 use Rattle.std.proofs.lemmas.Str.{IsUtf8-string_bytes}
 use Rattle.lang.specs.Reading.{document_of}
-use Rattle.rules.specs.Limits.{limits_of}
-use Rattle.rules.specs.declared.limits.Limits.{Limits}
+use Rattle.doc_rules.specs.Limits.{limits_of}
+use Rattle.doc_rules.specs.declared.limits.Limits.{Limits}
 use Rattle.carry.specs.Carried.{carried_version}
 use Rattle.carry.specs.Joined.{Named, joined, start_view, starts_into, version_into}
 use Rattle.carry.specs.Transactions.{joined_text}

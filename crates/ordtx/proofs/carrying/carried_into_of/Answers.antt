@@ -22,7 +22,8 @@ returns g c =
           (λ text is. subst (λ bytes. IsCarriedIntoOf c.args.first.items bytes (string_bytes text)) c.as_slice-4.ensures.value
           (is c.args.first.items first reads)) given.text;
       fault = IfErr-weaker c.carried_into_batch.result _ _
-          (λ refused is. λ of_memory. subst (λ bytes. IsCarryIntoFaultOf c.args.first.items bytes (refusal_of refused)) c.as_slice-4.ensures.value
+          (λ refused is. λ of_memory. subst (λ bytes. IsCarryIntoFaultOf c.args.first.items bytes (refusal_of refused))
+          c.as_slice-4.ensures.value
           (is of_memory c.args.first.items first reads)) given.fault;
       code = given.code;
     }

@@ -1,4 +1,5 @@
-use Rattle.std.proofs.Common.{◌≡◌, ◌<◌, ◌≤◌, ◌+◌, ◌-◌, ◌%◌, ◌++◌, length, min, take, refl, sym, ap, ◌∙◌, arith, append-nil, append_assoc, string_bytes}
+use Rattle.std.proofs.Common.{◌≡◌, ◌<◌, ◌≤◌, ◌+◌, ◌-◌, ◌%◌, ◌++◌, length, min, take, refl, sym, ap, ◌∙◌, arith, append-nil, append_assoc}
+use Rattle.std.proofs.Common.{string_bytes}
 use Rattle.std.specs.Prelude.{[], codes, option_copied}
 use Rattle.std.specs.Fmt.{decimal}
 use Rattle.meaning.specs.Texts.{handler_block, handler_path, part, reason_of, steps_text}
@@ -98,7 +99,8 @@ write_block-returns-clause-lines t c =
 
 pub write_step-truncate-requires : goal.write_step-truncate-requires
 write_step-truncate-requires t c =
-    λ _. cut_place c.args.path.now c.write_step_at.new.path (decimal (c.args.number % 10)) c.len-block_length.result c.len-block_length.ensures
+    λ _. cut_place c.args.path.now c.write_step_at.new.path (decimal (c.args.number % 10)) c.len-block_length.result
+    c.len-block_length.ensures
     (c.in_ok-write_step_at.ensures.path ∙ c.in_ok-write_natural.ensures)
 
 pub write_step-returns-clause-path : goal.write_step-returns-clause-path

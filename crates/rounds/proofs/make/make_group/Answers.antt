@@ -20,7 +20,8 @@ loop-number-preserved g c =
     let listed = c.args.nets.now in
     let passes = c.passes_list-passes.result in
     let made : NumberedRun = record { number = number; run = c.in_ok-run.run'; passes = passes } in
-    let is_pending : IsPendingOf (meaning batch number state) made.run.value = subst (IsPendingOf (meaning batch number state)) (sym c.in_ok-run.ensures.ok)
+    let is_pending : IsPendingOf (meaning batch number state) made.run.value = subst (IsPendingOf (meaning batch number state))
+    (sym c.in_ok-run.ensures.ok)
     (subst (λ s. IsPendingOf (meaning batch number s) c.make.new.pending) shown c.in_ok-make.ensures.made) in
     let is_made : IsMade batch state listed made =
     (is_pending, λ so. subst (Passes listed) (sym c.in_ok-run.ensures.ok) (c.passes_list-passes.ensures so)) in

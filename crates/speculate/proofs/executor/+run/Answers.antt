@@ -68,8 +68,10 @@ run_steps-loop-place-preserved-in-Op g t c =
     let put : IsPutAt was.items at done now.items = elim c.if-place-len.branch [
       | run_steps-then-place-len+in-Filled-1 w ↦ put_over was now at done (omega (arith, w.if-place-len.true, c.len.ensures)) w.taken-is
       | run_steps-then-place-len+in-If-1 w ↦ put_over was now at done (omega (arith, w.if-place-len.true, c.len.ensures)) w.taken-is
-      | run_steps-then-place-len+in-Sub+in-Some-1 w ↦ put_over was now at done (omega (arith, w.if-place-len.true, c.len.ensures)) w.taken-is
-      | run_steps-then-place-len+in-Sub+in-None-1 w ↦ put_over was now at done (omega (arith, w.if-place-len.true, c.len.ensures)) w.taken-is
+      | run_steps-then-place-len+in-Sub+in-Some-1 w ↦ put_over was now at done (omega (arith, w.if-place-len.true, c.len.ensures))
+          w.taken-is
+      | run_steps-then-place-len+in-Sub+in-None-1 w ↦ put_over was now at done (omega (arith, w.if-place-len.true, c.len.ensures))
+          w.taken-is
       | run_steps-then-place-len+in-Parallel-1 w ↦ put_over was now at done (omega (arith, w.if-place-len.true, c.len.ensures)) w.taken-is
       | run_steps-then-place-len+in-Op-1 w ↦ put_over was now at done (omega (arith, w.if-place-len.true, c.len.ensures)) w.taken-is
       | run_steps-else-place-len+in_ok-push w ↦
@@ -221,13 +223,15 @@ run_child-keep-requires-clause-room g t c = λ commute. net_has_room (subaction_
 
 pub run_child-returns-in-Some-2-clause-shows : goal.run_child-returns-in-Some-2-clause-shows
 run_child-returns-in-Some-2-clause-shows g t c =
-    kept_shows (subaction_view c.args.sibling.child.now) c.args.labels.now.items c.args.kept.now c.keep.new.kept c.in-Some.run' c.args.view.now
+    kept_shows (subaction_view c.args.sibling.child.now) c.args.labels.now.items c.args.kept.now c.keep.new.kept c.in-Some.run'
+    c.args.view.now
     c.keep.new.view c.in-Some-2.tried (c.requires.ahead c.in-Some.run' c.in-Some.is)
     (c.in_ok-tried.ensures.taken_in c.in-Some-2.tried c.in-Some-2.is)
 
 pub run_child-returns-in-Some-2-clause-kept : goal.run_child-returns-in-Some-2-clause-kept
 run_child-returns-in-Some-2-clause-kept g t c = λ run is.
-    kept_listed (subaction_view c.args.sibling.child.now) c.args.labels.now.items c.args.kept.now c.keep.new.kept c.in-Some.run' c.args.view.now
+    kept_listed (subaction_view c.args.sibling.child.now) c.args.labels.now.items c.args.kept.now c.keep.new.kept c.in-Some.run'
+    c.args.view.now
     c.keep.new.view c.in-Some-2.tried (c.requires.ahead c.in-Some.run' c.in-Some.is)
     (c.in_ok-tried.ensures.taken_in c.in-Some-2.tried c.in-Some-2.is)
 
@@ -345,7 +349,8 @@ run_anew-returns-clause-shows g t c = c.in_ok-tried.ensures.shows
 
 pub run_anew-returns-clause-kept : goal.run_anew-returns-clause-kept
 run_anew-returns-clause-kept g t c =
-    added_listed (subaction_view c.args.sibling.child.now) c.args.labels.now.items c.args.view.now c.run_subaction.new.view c.in_ok-tried.tried
+    added_listed (subaction_view c.args.sibling.child.now) c.args.labels.now.items c.args.view.now c.run_subaction.new.view
+    c.in_ok-tried.tried
     c.net-before.result.now c.in_ok-tried.ensures.shows c.net-before.ensures c.args.kept.now c.list_since.new.kept
     c.in_ok-list_since.ensures
 

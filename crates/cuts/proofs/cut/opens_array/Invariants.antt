@@ -1,7 +1,0 @@
-use Rattle.std.proofs.Common.{◌≡◌, drop}
-use Rattle.cuts.specs.Cuts.{opens_array}
-use Rattle.cuts.proofs.cut.opens_array.Given as goal
-
--- only white space was passed
-abbrev pub invariant-loop-byte : goal.invariant-loop-byte
-invariant-loop-byte l = opens_array l.text ≡ opens_array (drop l.byte-index l.text)

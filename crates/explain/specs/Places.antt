@@ -1,0 +1,14 @@
+-- The operations of a run in memory. No public contract names it.
+use Rattle.std.specs.Prelude.{◌≡◌, ◌++◌, List, map, string_bytes}
+use Rattle.explain.specs.Why.{Placed}
+use Rattle.explain.specs.declared.places.PlacedOperation.{PlacedOperation}
+
+abbrev pub place_view : PlacedOperation → Placed
+place_view place = record { path = string_bytes place.path; entry = place.entry; left = place.left }
+
+abbrev pub places_view : List PlacedOperation → List Placed
+places_view places = map place_view places
+
+-- these operations were added to the list, after those before
+abbrev pub AreAdded : List PlacedOperation → List PlacedOperation → List Placed → Type 0
+AreAdded old new these = places_view new ≡ places_view old ++ these

@@ -1,7 +1,0 @@
-use Rattle.std.proofs.Common.{◌≡◌, ◌<◌, ℕ}
-use Rattle.merging.specs.Renumbered.{new_number}
-use Rattle.merging.proofs.tables.are_places.Given as goal
-
--- the numbers so far are their own places
-abbrev pub invariant-loop-place : goal.invariant-loop-place
-invariant-loop-place l = (n : ℕ) → n < l.place → new_number l.numbers n ≡ n

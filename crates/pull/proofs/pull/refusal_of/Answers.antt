@@ -1,6 +1,0 @@
-use Rattle.std.proofs.Common.{refl}
-use Rattle.pull.proofs.PulledSteps.{no_reason_met}
-use Rattle.pull.proofs.pull.refusal_of.Goals as goal
-
-pub returns-in-None : goal.returns-in-None
-returns-in-None c = rw c.in-None.is (no_reason_met c.args.version c.args.state.now.counts, refl, refl)

@@ -1,7 +1,0 @@
-use Rattle.std.proofs.Common.{rules}
-use Rattle.spelling.specs.Asked.{label_asked}
-use Rattle.spelling.proofs.labels.add_new_label.Goals as goal
-
-pub returns-clause-met : goal.returns-clause-met
-unfolding label_asked
-returns-clause-met c = search rules

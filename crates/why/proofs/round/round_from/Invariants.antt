@@ -1,5 +1,0 @@
-use Rattle.why.proofs.Passing.{HavePassed}
-use Rattle.why.proofs.round.round_from.Given as goal
-
-abbrev pub invariant-loop-place : goal.invariant-loop-place
-invariant-loop-place g l = HavePassed l.batch l.opened l.place l.passed.items l.nets

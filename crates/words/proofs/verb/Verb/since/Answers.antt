@@ -1,5 +1,0 @@
-use Rattle.std.proofs.Common.{rules}
-use Rattle.words.proofs.verb.Verb.since.Goals as goal
-
-pub returns-in-Alone-Length : goal.returns-in-Alone-Length
-returns-in-Alone-Length c = search rules

@@ -1,5 +1,0 @@
-use Rattle.std.proofs.Common.{rules}
-use Rattle.words.proofs.verb.phrase_of.Goals as goal
-
-pub returns-in-Directory-Put : goal.returns-in-Directory-Put
-returns-in-Directory-Put c = search rules
