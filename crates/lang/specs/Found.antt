@@ -74,7 +74,7 @@ pub record IsToldAt (part : Data) (rule : Rule) (pointer : List ℕ) (place : Pl
 abbrev pub Tells : Data → Found → Place → List ℕ → Type 0
 Tells value found place words = (pointer : List ℕ) × Shows pointer place × IsToldOf value found pointer words
 
--- ---- a value that is read a part at a time
+-- ---- a value that is read a part at a time; no public contract names it
 
 -- the rule that isn't kept, and where
 abbrev pub found_by : Misread → Found

@@ -1,4 +1,4 @@
-use Rattle.std.proofs.Common.{◌≡◌, ◌∷◌, ap, sym, subst, ◌-◌, rules}
+use Rattle.std.proofs.Common.{◌≡◌, ◌∷◌, ap, sym, subst, rules}
 use Rattle.json.specs.Reads.{token_of}
 use Rattle.serde_json.specs.Data.{boolean, no_members, null, number, object, string}
 use Rattle.serde_json.specs.View.{members_view, view}
